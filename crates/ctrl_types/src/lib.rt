@@ -1,0 +1,14 @@
+//! The words of the control interface: ids, kinds, flags, lists, `which` and errors. Nothing here takes memory.
+#![tactic(auto)]
+
+mod errno;
+mod flags;
+mod ids;
+mod kind;
+mod which;
+
+pub use errno::{Errno, Fault};
+pub use flags::Flags;
+pub use ids::{CtrlId, ExtControl, FhId, Pair, RequestId};
+pub use kind::Kind;
+pub use which::Which;
