@@ -1,4 +1,5 @@
--- Control classes, and what the field `which` of a control list means.
+-- Control classes (`V4L2_CTRL_ID2CLASS`), and what the field `which` of a control list means (Linux userspace API, "struct
+-- v4l2_ext_controls"; that no bit is masked off is of this project).
 use Rattle.std.specs.Prelude.{ℕ, ◌==◌, if◌then◌else◌, bit_and, Result, Ok, Err}
 use Rattle.ctrl_types.specs.declared.errno.Errno.{Errno}
 use Rattle.ctrl_types.specs.declared.errno.Errno.TheVariants.{EINVAL}

@@ -9,7 +9,7 @@ pub enum Errno {
     EBADF,
     /// A growth was refused.
     ENOMEM,
-    /// The control can't be read, or not written, in this way.
+    /// The control is read-only and was set, or write-only and was read.
     EACCES,
     /// Something else holds it now.
     EBUSY,
@@ -17,7 +17,7 @@ pub enum Errno {
     EINVAL,
     /// A limit is reached.
     ENOSPC,
-    /// A value lies outside the control's range.
+    /// A menu's index lies outside its range, or a new range isn't one.
     ERANGE,
 }
 

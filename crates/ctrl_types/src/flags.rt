@@ -9,12 +9,19 @@ pub struct Flags(u32);
 
 bitflag_items! {
     impl Flags: u32 {
+        /// The control can't be used: a list that names it is refused.
         const DISABLED = 0x1;
+        /// The control can't be set now, since something else holds it.
         const GRABBED = 0x2;
+        /// The control can be read and not set.
         const READ_ONLY = 0x4;
+        /// Setting the control may change others of its cluster.
         const UPDATE = 0x8;
+        /// The control's value has no effect now; it may be set.
         const INACTIVE = 0x10;
+        /// The control can be set and not read.
         const WRITE_ONLY = 0x40;
+        /// Each set of the control counts as a change, also one to the value that it has.
         const EXECUTE_ON_WRITE = 0x200;
     }
 }

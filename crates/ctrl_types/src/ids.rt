@@ -14,11 +14,13 @@ impl CtrlId {
     }
 }
 
-/// The id of an open file handle: the number, from 0, of the step that opened it.
+/// The id of an open file handle (of this project): the number, from 0, of the step that opened it. It is never given again,
+/// and 4294967295 never is one.
 #[derive(Clone, Copy, Debug, PartialEq, Eq, PartialOrd, Ord, Hash)]
 pub struct FhId(pub u32);
 
-/// The id of a media request: the number, from 0, of the step that allocated it.
+/// The id of a media request (of this project): the number, from 0, of the step that allocated it. It is never given again,
+/// and 4294967295 never is one.
 #[derive(Clone, Copy, Debug, PartialEq, Eq, PartialOrd, Ord, Hash)]
 pub struct RequestId(pub u32);
 
@@ -31,7 +33,7 @@ pub struct ExtControl {
     pub value: i64,
 }
 
-/// A value for the control with this number.
+/// A value for the control with this number (of this project).
 #[derive(Clone, Copy, Debug, PartialEq, Eq)]
 pub struct Pair {
     /// The control's number in its device.

@@ -1,0 +1,4 @@
+pub mod Grid
+pub mod Masks
+pub mod Settling
+pub mod WellFormed

@@ -1,0 +1,4 @@
+pub mod Control
+pub mod Grid
+pub mod Settle
+pub mod Faults

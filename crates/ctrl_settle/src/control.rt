@@ -1,0 +1,168 @@
+ghost use Rattle.std.specs.Prelude.{◌≡◌, ◌↔◌, IsOk, IfOk, IfErr};
+ghost use Rattle.ctrl_settle.specs.Control.{described};
+ghost use Rattle.ctrl_settle.specs.Faults.{IsFirstFault, IsWellFormed};
+ghost use Rattle.ctrl_settle.specs.Settle.{settle};
+
+use crate::description::Description;
+use crate::fault::CtrlFault;
+use bitflags::Flags as FlagSet;
+use ctrl_types::{CtrlId, Errno, Flags, Kind};
+use std::marker::Model;
+
+/// A control with which nothing is wrong (Linux userspace API, "struct v4l2_query_ext_ctrl").
+#[derive(Clone, Copy, Debug, PartialEq, Eq)]
+pub struct Ctrl {
+    description: Description,
+}
+
+impl Model for Ctrl {
+    ghost use Rattle.ctrl_settle.specs.Control.{Control};
+    ghost use Rattle.ctrl_settle.specs.Faults.{IsWellFormed};
+
+    ghost Value = { Control };
+
+    ghost view = { λ c. c.description };
+
+    ghost invariant = { λ c. IsWellFormed c.description };
+
+    ghost inverse = { λ c. record { description = c } };
+}
+
+impl Ctrl {
+    /// Makes a control of a driver's description (Linux driver API, "V4L2 Controls", "Custom Controls").
+    ///
+    /// - `id`: the number by which userspace asks for it; any.
+    /// - `kind`: what values it takes.
+    /// - `minimum`, `maximum`: the least and the greatest value; of a `Bitmask` 0 and the mask.
+    /// - `step`: how far the values of a number lie apart, 1 or more; 1 for a `Boolean` and the menus, 0 for a `Button`
+    ///   and a `Bitmask`.
+    /// - `default_value`: the value at the start, one that the control takes as it is.
+    /// - `skip`: bit i leaves out item i of a menu; 0 for other kinds.
+    /// - `flags`: what holds of it, kept as given; a `Button` has WRITE_ONLY and EXECUTE_ON_WRITE besides.
+    /// - `is_private`: handlers that add this control's handler don't show it.
+    ///
+    /// The first of these faults is answered (of this project), and nothing is made:
+    ///
+    /// - 1 `BadRange`: the minimum lies above the maximum.
+    /// - 2 `ZeroStep`: the step of an `Integer` or an `Integer64` is 0.
+    /// - 4 `KindBounds`: bounds and step aren't of the kind (`Integer`: 32-bit numbers; `Boolean`: 0, 1, step 1;
+    ///   `Button`: 0, 0, step 0; `Menu` and `IntegerMenu`: within 0 and 63, step 1; `Bitmask`: 0, a mask of 32 bits that
+    ///   isn't 0, step 0), or `skip` isn't 0 where the kind is no menu, or GRABBED or INACTIVE is among the flags.
+    /// - 3 `BadDefault`: the default doesn't settle to itself.
+    pub fn new(
+        id: CtrlId,
+        kind: Kind,
+        minimum: i64,
+        maximum: i64,
+        step: u64,
+        default_value: i64,
+        skip: u64,
+        flags: Flags,
+        is_private: bool,
+    ) -> Result<Ctrl, CtrlFault>
+        ensures ok { IsOk result ↔ IsWellFormed
+            (described id kind minimum maximum step default_value skip flags is_private) }
+        ensures value { IfOk result (λ c. c ≡
+            described id kind minimum maximum step default_value skip flags is_private) }
+        ensures fault { IfErr result (IsFirstFault
+            (described id kind minimum maximum step default_value skip flags is_private)) }
+    {
+        let flags = match kind {
+            Kind::Button => flags.union(Flags::WRITE_ONLY.union(Flags::EXECUTE_ON_WRITE)),
+            _ => flags,
+        };
+        let description = Description {
+            id,
+            kind,
+            minimum,
+            maximum,
+            step,
+            default_value,
+            skip,
+            flags,
+            is_private,
+        };
+        description.check()?;
+        Ok(Ctrl { description })
+    }
+
+    /// The number by which userspace asks for the control.
+    pub fn id(&self) -> CtrlId
+        ensures id { result ≡ self.now.id }
+        ensures well_formed { IsWellFormed self.now }
+    {
+        self.description.id
+    }
+
+    /// What values the control takes (Linux userspace API, "enum v4l2_ctrl_type").
+    pub fn kind(&self) -> Kind
+        ensures { result ≡ self.now.kind }
+    {
+        self.description.kind
+    }
+
+    /// The least value (Linux userspace API, "struct v4l2_query_ext_ctrl", as for the next three).
+    pub fn minimum(&self) -> i64
+        ensures { result ≡ self.now.minimum }
+    {
+        self.description.minimum
+    }
+
+    /// The greatest value; of a bitmask the mask.
+    pub fn maximum(&self) -> i64
+        ensures { result ≡ self.now.maximum }
+    {
+        self.description.maximum
+    }
+
+    /// How far the values of a number lie apart; 1 of a boolean and a menu, 0 of a button and a bitmask.
+    pub fn step(&self) -> u64
+        ensures { result ≡ self.now.step }
+    {
+        self.description.step
+    }
+
+    /// The value at the start.
+    pub fn default_value(&self) -> i64
+        ensures { result ≡ self.now.default_value }
+    {
+        self.description.default_value
+    }
+
+    /// The items that a menu leaves out: bit i stands for item i (Linux driver API, "V4L2 Controls", "Menu Controls").
+    pub fn skip(&self) -> u64
+        ensures { result ≡ self.now.skip }
+    {
+        self.description.skip
+    }
+
+    /// What holds of the control from the start, a button's own flags included (Linux userspace API, "Control Flags").
+    pub fn flags(&self) -> Flags
+        ensures { result ≡ self.now.flags }
+    {
+        self.description.flags
+    }
+
+    /// Whether handlers that add this control's handler leave it out (Linux driver API, "V4L2 Controls", "Preventing
+    /// Controls inheritance").
+    pub fn is_private(&self) -> bool
+        ensures { result ≡ self.now.is_private }
+    {
+        self.description.is_private
+    }
+}
+
+/// The value that `control` takes when `value` is asked for, which may be any number (Linux driver API, "V4L2
+/// Controls"; the rounding is this project's).
+///
+/// An `Integer` and an `Integer64` take the nearest of minimum, minimum + step, .. that isn't above the maximum, of two
+/// equally near the larger. A `Boolean` takes 1 for every number but 0, a `Bitmask` the bits of the number that are in
+/// its mask (two's complement), a `Button` 0, and a `Menu` and an `IntegerMenu` an index as it is.
+///
+/// Refused with ERANGE (34) where the index lies outside a menu's bounds, and with EINVAL (22) where the menu skips it.
+pub fn settle(control: &Ctrl, value: i64) -> Result<i64, Errno>
+    ensures settled { result ≡ settle control.now value }
+    ensures well_formed { IsWellFormed control.now }
+{
+    control.description.settle(value)
+}

@@ -1,0 +1,146 @@
+ghost use Rattle.std.specs.Prelude.{◌≡◌, ◌<◌, ◌≤ℤ◌, ◌↔◌, IsTrue, MatchResult};
+ghost use Rattle.ctrl_settle.specs.Faults.{FitsKind, HasBounds, HasItems, IsFirstFault, IsWellFormed, has_grid};
+ghost use Rattle.ctrl_settle.specs.Grid.{IsNearest, grid_value, nearest};
+ghost use Rattle.ctrl_settle.specs.Settle.{item, settle};
+
+use crate::fault::CtrlFault;
+use bitflags::Flags as FlagSet;
+use ctrl_types::{CtrlId, Errno, Flags, Kind};
+use std::marker::Model;
+
+/// What a driver says of a control, not checked yet.
+#[derive(Clone, Copy, Debug, PartialEq, Eq)]
+pub struct Description {
+    pub id: CtrlId,
+    pub kind: Kind,
+    pub minimum: i64,
+    pub maximum: i64,
+    pub step: u64,
+    pub default_value: i64,
+    pub skip: u64,
+    pub flags: Flags,
+    pub is_private: bool,
+}
+
+impl Model for Description {
+    ghost use Rattle.ctrl_settle.specs.Control.{Control};
+
+    ghost Value = { Control };
+
+    ghost view = { λ d. record { id = d.id; kind = d.kind; minimum = d.minimum; maximum = d.maximum; step = d.step; default_value = d.default_value; skip = d.skip; flags = d.flags; is_private = d.is_private } };
+
+    ghost inverse = { λ c. record { id = c.id; kind = c.kind; minimum = c.minimum; maximum = c.maximum; step = c.step; default_value = c.default_value; skip = c.skip; flags = c.flags; is_private = c.is_private } };
+}
+
+impl Description {
+    /// The first fault of the description, in the order in which they are looked for.
+    pub fn check(&self) -> Result<(), CtrlFault>
+        ensures { MatchResult result (λ _. IsWellFormed self.now) (IsFirstFault self.now) }
+    {
+        if self.minimum > self.maximum {
+            return Err(CtrlFault::BadRange);
+        }
+        if self.has_grid() && self.step == 0 {
+            return Err(CtrlFault::ZeroStep);
+        }
+        if !self.fits_kind() {
+            return Err(CtrlFault::KindBounds);
+        }
+        if self.settle(self.default_value) != Ok(self.default_value) {
+            return Err(CtrlFault::BadDefault);
+        }
+        Ok(())
+    }
+
+    fn has_grid(&self) -> bool
+        ensures { result ≡ has_grid self.now.kind }
+    {
+        matches!(self.kind, Kind::Integer | Kind::Integer64)
+    }
+
+    fn fits_kind(&self) -> bool
+        ensures { IsTrue result ↔ FitsKind self.now }
+    {
+        let can_skip = matches!(self.kind, Kind::Menu | Kind::IntegerMenu);
+        self.has_bounds()
+            && (can_skip || self.skip == 0)
+            && !self.flags.intersects(Flags::GRABBED.union(Flags::INACTIVE))
+    }
+
+    fn has_bounds(&self) -> bool
+        ensures { IsTrue result ↔ HasBounds self.now.kind self.now }
+    {
+        let (minimum, maximum, step) = (self.minimum, self.maximum, self.step);
+        match self.kind {
+            Kind::Integer => i32::try_from(minimum).is_ok() && i32::try_from(maximum).is_ok(),
+            Kind::Integer64 => true,
+            Kind::Boolean => minimum == 0 && maximum == 1 && step == 1,
+            Kind::Button => minimum == 0 && maximum == 0 && step == 0,
+            Kind::Menu | Kind::IntegerMenu => minimum >= 0 && maximum <= 63 && step == 1,
+            Kind::Bitmask => minimum == 0
+                && (1..=i64::from(u32::MAX)).contains(&maximum)
+                && step == 0,
+        }
+    }
+
+    /// The value that the control takes for `value`, or why it takes none.
+    #[tactic(auto, unfolding(crate::specs::Settle::settle))]
+    pub fn settle(&self, value: i64) -> Result<i64, Errno>
+        requires in_order { self.now.minimum ≤ℤ self.now.maximum }
+        requires stepped { IsTrue (has_grid self.now.kind) → 0 < self.now.step }
+        requires bounds { HasBounds self.now.kind self.now }
+        ensures { result ≡ settle self.now value }
+    {
+        match self.kind {
+            Kind::Integer | Kind::Integer64 => Ok(self.nearest(value)),
+            Kind::Boolean => Ok(i64::from(value != 0)),
+            Kind::Bitmask => Ok(value & self.maximum),
+            Kind::Button => Ok(0),
+            Kind::Menu | Kind::IntegerMenu => self.item(value),
+        }
+    }
+
+    fn item(&self, value: i64) -> Result<i64, Errno>
+        requires { HasItems self.now }
+        ensures { result ≡ item self.now value }
+    {
+        if value < self.minimum || self.maximum < value {
+            return Err(Errno::ERANGE);
+        }
+        if self.skip >> value & 1 == 1 {
+            return Err(Errno::EINVAL);
+        }
+        Ok(value)
+    }
+
+    fn nearest(&self, value: i64) -> i64
+        requires in_order { self.now.minimum ≤ℤ self.now.maximum }
+        requires stepped { 0 < self.now.step }
+        ensures { result ≡ nearest self.now value }
+    {
+        let above = self.nearest_step(value) * self.step;
+        (i128::from(self.minimum) + i128::from(above)) as i64
+    }
+
+    /// How many steps above the minimum the nearest value lies.
+    fn nearest_step(&self, value: i64) -> u64
+        requires in_order { self.now.minimum ≤ℤ self.now.maximum }
+        requires stepped { 0 < self.now.step }
+        ensures { IsNearest self.now value (grid_value self.now result) }
+    {
+        if value <= self.minimum {
+            return 0;
+        }
+        let last = self.maximum.abs_diff(self.minimum) / self.step;
+        let asked = value.abs_diff(self.minimum);
+        let below = asked / self.step;
+        let past = asked % self.step;
+        if below >= last {
+            last
+        } else if past < self.step - past {
+            below
+        } else {
+            below + 1
+        }
+    }
+}

@@ -1,0 +1,38 @@
+//! What follows from the definitions of settling. Each law is the contract of a function that does nothing.
+
+ghost use Rattle.std.specs.Prelude.{◌≡◌, ◌⊎◌, ℤ, ◌≤ℤ◌, FitsSigned};
+ghost use Rattle.std.specs.Int.{w64};
+ghost use Rattle.ctrl_settle.specs.Control.{Control};
+ghost use Rattle.ctrl_settle.specs.Faults.{IsFirstFault, IsWellFormed};
+ghost use Rattle.ctrl_settle.specs.Grid.{IsNearest, nearest};
+ghost use Rattle.ctrl_settle.specs.Settle.{IsSettled, settle};
+ghost use Rattle.ctrl_settle.specs.declared.fault.CtrlFault.{CtrlFault};
+
+/// Where the minimum isn't above the maximum, each number has a nearest value of the grid, and `nearest` is one.
+pub fn nearest_is_nearest()
+    ensures { (c : Control) (v : ℤ) → c.minimum ≤ℤ c.maximum → IsNearest c v (nearest c v) }
+{}
+
+/// There is no other.
+pub fn nearest_is_the_only_one()
+    ensures { (c : Control) (v g : ℤ) → IsNearest c v g → g ≡ nearest c v }
+{}
+
+/// What a control took it takes again as it is.
+pub fn settled_values_stay()
+    ensures { (c : Control) (v w : ℤ) → IsWellFormed c → settle c v ≡ Ok w → IsSettled c w }
+{}
+
+/// What a control takes lies within its bounds, and so fits 64 bits.
+pub fn settled_values_fit()
+    ensures within { (c : Control) (v w : ℤ) → IsWellFormed c → settle c v ≡ Ok w
+        → (c.minimum ≤ℤ w) × (w ≤ℤ c.maximum) }
+    ensures fits { (c : Control) (v w : ℤ) → IsWellFormed c → settle c v ≡ Ok w → FitsSigned w64 w }
+{}
+
+/// A control is well formed, or has a first fault: one of these alone, and one fault alone.
+pub fn well_formed_or_first_fault()
+    ensures cases { (c : Control) → IsWellFormed c ⊎ ((f : CtrlFault) × IsFirstFault c f) }
+    ensures only_one { (c : Control) (f : CtrlFault) → IsFirstFault c f → IsWellFormed c → ⊥ }
+    ensures unique { (c : Control) (f g : CtrlFault) → IsFirstFault c f → IsFirstFault c g → f ≡ g }
+{}

@@ -1,0 +1,13 @@
+//! Controls and the values that they take: a driver's description is checked once, and from then on each value asked
+//! for settles to one that the control allows. Nothing here takes memory.
+#![tactic(auto)]
+
+mod control;
+mod description;
+mod fault;
+pub mod laws;
+#[cfg(test)]
+mod tests;
+
+pub use control::{Ctrl, settle};
+pub use fault::CtrlFault;

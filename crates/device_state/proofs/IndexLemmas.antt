@@ -1,0 +1,67 @@
+-- A refusal has an index exactly where the ask is one about a list.
+use Rattle.std.proofs.Common.{◌≡◌, ℕ, ℤ, Bool, true, false, if◌then◌else◌, List, [], ◌∷◌, Option, None, Some, Result, Ok, Err, is_some, refl, sym, subst, inl, inr}
+use Rattle.ctrl_types.specs.declared.errno.Errno.{Errno}
+use Rattle.ctrl_types.specs.declared.errno.Fault.{Fault}
+use Rattle.ctrl_types.specs.declared.ids.ExtControl.{ExtControl}
+use Rattle.ctrl_types.specs.declared.ids.FhId.{FhId}
+use Rattle.device_state.specs.declared.ask.Ask.{Ask}
+use Rattle.device_state.specs.declared.ask.Ask.TheVariants as asks
+use Rattle.device_state.specs.declared.ask.Reply.{Reply}
+use Rattle.device_state.specs.Plan.{PlanData}
+use Rattle.device_state.specs.Steps.{Past, shown}
+use Rattle.device_state.specs.Values.{Values, now}
+use Rattle.device_state.specs.Answers.{Answer, answer_of, list_answer, get_one, set_one, set_settled, refused, refused_at, is_list, no_memory, MayAnswer}
+
+-- where the answer is a refusal, whether it has an index is b
+HasIndex : Bool → Answer → Type 0
+HasIndex b (Ok reply) = Unit {0}
+HasIndex b (Err fault) = is_some fault.index ≡ b
+
+either : (b t : Bool) (x y : Answer) → HasIndex b x → HasIndex b y → HasIndex b (if t then x else y)
+either b true x y h k = h
+either b false x y h k = k
+
+accepted : (b : Bool) (reply : Reply) → HasIndex b (Ok reply)
+unfolding HasIndex
+accepted b reply = tt
+
+plain : (errno : Errno) → HasIndex false (refused errno)
+unfolding HasIndex
+plain errno = refl
+
+at : (errno : Errno) (index : ℕ) → HasIndex true (refused_at errno index)
+unfolding HasIndex
+at errno index = refl
+
+got : (plan : PlanData) (values : Values) (entry : ExtControl) (found : Option ℕ) → HasIndex true (get_one plan values entry found)
+got plan values entry None = at _ _
+got plan values entry (Some c) = search (either, at, accepted)
+
+settled : (past : Past) (entry : ExtControl) (value : Result ℤ Errno) → HasIndex true (set_settled past entry value)
+settled past entry (Err errno) = at _ _
+settled past entry (Ok value) = search (either, at, accepted)
+
+put : (plan : PlanData) (past : Past) (entry : ExtControl) (found : Option ℕ) → HasIndex true (set_one plan past entry found)
+put plan past entry None = at _ _
+put plan past entry (Some c) = search (either, at, settled)
+
+listed : (past : Past) (fh : FhId) (which : ℕ) (list : List ExtControl) (one : ExtControl → Answer) → ((e : ExtControl) → HasIndex true (one e)) → HasIndex true (list_answer past fh which list one)
+listed past fh which [] one h = search (either, at)
+listed past fh which (entry ∷ rest) one h = search (either, at, h)
+
+answered : (plan : PlanData) (past : Past) (ask : Ask) → HasIndex (is_list ask) (answer_of plan past ask)
+answered plan past (asks.OpenFh handler) = search (either, plain, accepted)
+answered plan past (asks.GetCtrls fh which request list) =
+    listed past fh which list _ (λ e. got plan (now plan past) e (shown plan past fh e.id))
+answered plan past (asks.SetCtrls fh which request list) =
+    listed past fh which list _ (λ e. put plan past e (shown plan past fh e.id))
+
+lacking : (ask : Ask) → HasIndex (is_list ask) (no_memory ask)
+lacking (asks.OpenFh handler) = plain _
+lacking (asks.GetCtrls fh which request list) = at _ _
+lacking (asks.SetCtrls fh which request list) = at _ _
+
+pub index_of_lists : (plan : PlanData) (past : Past) (ask : Ask) (fault : Fault) → MayAnswer plan past ask (Err fault) → is_some fault.index ≡ is_list ask
+unfolding HasIndex
+index_of_lists plan past ask fault (inl is) = subst (HasIndex (is_list ask)) (sym is) (answered plan past ask)
+index_of_lists plan past ask fault (inr lack) = subst (HasIndex (is_list ask)) (sym lack.1) (lacking ask)

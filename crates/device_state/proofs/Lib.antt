@@ -1,0 +1,5 @@
+pub mod ListLemmas
+pub mod PastLemmas
+pub mod OverlayLemmas
+pub mod KeptLemmas
+pub mod IndexLemmas

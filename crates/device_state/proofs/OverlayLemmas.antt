@@ -1,0 +1,67 @@
+-- What pairs make of the values.
+use Rattle.std.proofs.Common.{◌≡◌, ◌≢◌, ℕ, ℤ, pos, ◌<◌, ◌==◌, true, false, List, [], ◌∷◌, length, map, get_or, slice_set, None, Some, Ok, inl, inr, ◌⊎◌, subst, refl, ap, sym, ◌∙◌, arith, zero-add, if◌then◌else◌}
+use Rattle.std.specs.List.{enumerate_from}
+use Rattle.std.proofs.lemmas.List.{length-map, ext_get_or, length-set, get_or-map, get_or-set_same, get_or-set_other}
+use Rattle.std.proofs.lemmas.Bool.Decides.{eqb_tells}
+use Rattle.std.proofs.lemmas.List.FromFn.{length-enumerate_from, get_or-enumerate_from}
+use Rattle.ctrl_types.specs.declared.ids.Pair.{Pair}
+use Rattle.ctrl_settle.specs.Settle.{settle}
+use Rattle.device_state.specs.declared.ask.Step.{Step}
+use Rattle.device_state.specs.declared.ask.Step.TheVariants.{OpenFh, Set}
+use Rattle.device_state.specs.Plan.{PlanData, control}
+use Rattle.device_state.specs.Steps.{Past}
+use Rattle.device_state.specs.Values.{Values, overlaid, overlay, last_value, now, now_after}
+
+-- a value for each control, as before
+pub length_overlay : (plan : PlanData) (values : Values) (pairs : List Pair) → length (overlay plan values pairs) ≡ length values
+unfolding overlay
+length_overlay plan values pairs = length-map (enumerate_from 0 values) _ ∙ length-enumerate_from 0 values
+
+-- a step leaves as many values
+length_now_after : (plan : PlanData) (step : Step) (values : Values) → length (now_after plan step values) ≡ length values
+length_now_after plan (Set fh pairs) values = length_overlay plan values pairs
+length_now_after plan (OpenFh handler) values = refl
+
+-- there is a value for each control of the plan
+pub length_now : (plan : PlanData) (past : Past) → length (now plan past) ≡ length plan.controls
+unfolding now
+length_now plan [] = length-map plan.controls _
+length_now plan (e ∷ older) = length_now_after plan e.step (now plan older) ∙ length_now plan older
+
+-- what the pair makes of the value at a place
+overlaid_at : (plan : PlanData) (c i : ℕ) (asked value old : ℤ) → settle (control plan c) asked ≡ Ok value
+    → overlaid (control plan i) old (if c == i then Some asked else None) ≡ (if c == i then value else old)
+overlaid_at plan c i asked value old settled = by (eqb_tells c i)
+  where
+    by : ((c == i) ≡ true × (c ≡ i)) ⊎ ((c == i) ≡ false × (c ≢ i))
+        → overlaid (control plan i) old (if c == i then Some asked else None) ≡ (if c == i then value else old)
+    by (inl same) = rw (same.0, ← same.1, settled) refl
+    by (inr other) = rw other.0 refl
+
+-- a write at one place, read at another or the same
+read_set : (values : Values) (c i : ℕ) (value : ℤ) → c < length values
+    → get_or (slice_set values c value) i (pos 0) ≡ (if c == i then value else get_or values i (pos 0))
+read_set values c i value within = by (eqb_tells c i)
+  where
+    by : ((c == i) ≡ true × (c ≡ i)) ⊎ ((c == i) ≡ false × (c ≢ i))
+        → get_or (slice_set values c value) i (pos 0) ≡ (if c == i then value else get_or values i (pos 0))
+    by (inl same) = rw same.0 (subst (λ (k : ℕ). get_or (slice_set values c value) k (pos 0) ≡ value) same.1 (get_or-set_same values c value (pos 0) within))
+    by (inr other) = rw other.0 (get_or-set_other values c i value (pos 0) (λ e. other.1 (sym e)))
+
+-- where one pair is laid over the values, its control takes what its value settles to, and no other changes
+pub overlay_one : (plan : PlanData) (values : Values) (c : ℕ) (asked value : ℤ) → c < length values → settle (control plan c) asked ≡ Ok value
+    → overlay plan values (record { control = c; value = asked } ∷ []) ≡ slice_set values c value
+unfolding overlay
+overlay_one plan values c asked value within settled =
+    let pairs : List Pair = record { control = c; value = asked } ∷ [] in
+    let f : ℕ × ℤ → ℤ = λ v. overlaid (control plan v.0) v.1 (last_value pairs v.0) in
+    let lengths : length (map f (enumerate_from 0 values)) ≡ length values = length-map (enumerate_from 0 values) f ∙ length-enumerate_from 0 values in
+    ext_get_or (pos 0) (map f (enumerate_from 0 values)) (slice_set values c value) (lengths ∙ sym (length-set values c value))
+    (λ i lt.
+    let there : i < length values = omega (arith, lengths) in
+    let there' : i < length (enumerate_from 0 values) = omega (arith, length-enumerate_from 0 values) in
+    get_or-map f (enumerate_from 0 values) i (0, pos 0) (pos 0) there'
+    ∙ ap f (get_or-enumerate_from 0 values i (0, pos 0) there)
+    ∙ ap (λ (n : ℕ). f (n, get_or values i (pos 0))) (zero-add i)
+    ∙ overlaid_at plan c i asked value (get_or values i (pos 0)) settled
+    ∙ sym (read_set values c i value within))

@@ -1,0 +1,146 @@
+-- What an ask is answered after a history, and the step that it adds (Linux userspace API, "ioctl VIDIOC_G_EXT_CTRLS,
+-- VIDIOC_S_EXT_CTRLS, VIDIOC_TRY_EXT_CTRLS"; the order of the refusals and the index are of this project).
+use Rattle.std.specs.Prelude.{◌≡◌, ℕ, ℤ, Bool, true, false, ◌==◌, ◌&&◌, nat_le, if◌then◌else◌, List, [], ◌∷◌, length, map, Option, None, Some, is_some, unwrap_or, Result, Ok, Err, IsOk, IsTrue, ◌⊎◌}
+use Rattle.ctrl_types.specs.declared.errno.Errno.{Errno}
+use Rattle.ctrl_types.specs.declared.errno.Errno.TheVariants.{EBADF, ENOMEM, EACCES, EINVAL, ENOSPC}
+use Rattle.ctrl_types.specs.declared.errno.Fault.{Fault}
+use Rattle.ctrl_types.specs.Classes.{which_of}
+use Rattle.ctrl_types.specs.declared.which.Which.{Which}
+use Rattle.ctrl_types.specs.declared.which.Which.TheVariants.{Current}
+use Rattle.ctrl_types.specs.Flags.{contains}
+use Rattle.ctrl_types.specs.declared.flags.TheConstants.Flags.{DISABLED, READ_ONLY, WRITE_ONLY}
+use Rattle.ctrl_types.specs.declared.ids.ExtControl.{ExtControl}
+use Rattle.ctrl_types.specs.declared.ids.FhId.{FhId}
+use Rattle.ctrl_types.specs.declared.ids.Pair.{Pair}
+use Rattle.ctrl_settle.specs.Settle.{settle}
+use Rattle.device_state.specs.declared.ask.Ask.{Ask}
+use Rattle.device_state.specs.declared.ask.Ask.TheVariants as asks
+use Rattle.device_state.specs.declared.ask.Reply.{Reply}
+use Rattle.device_state.specs.declared.ask.Reply.TheVariants.{Fh, Controls}
+use Rattle.device_state.specs.declared.ask.Step.{Step}
+use Rattle.device_state.specs.declared.ask.Step.TheVariants as steps
+use Rattle.device_state.specs.declared.limits.TheConstants.{MAX_FILE_HANDLES, MAX_STEPS}
+use Rattle.device_state.specs.Plan.{PlanData, control}
+use Rattle.device_state.specs.Steps.{Past, opened, handler_of, shown}
+use Rattle.device_state.specs.Values.{Values, value_at, now}
+
+-- what a call answers
+abbrev pub Answer : Type 0
+Answer = Result Reply Fault
+
+-- a refusal of an ask that isn't a list
+abbrev pub refused : Errno → Answer
+refused errno = Err (record { errno = errno; index = None })
+
+-- a refusal of a list, with the index that it answers
+abbrev pub refused_at : Errno → ℕ → Answer
+refused_at errno index = Err (record { errno = errno; index = Some index })
+
+-- no further step is kept
+abbrev pub is_full : Past → Bool
+is_full past = nat_le MAX_STEPS (length past)
+
+-- no further file handle can be opened
+abbrev pub are_all_open : Past → Bool
+are_all_open past = nat_le MAX_FILE_HANDLES (length (opened past))
+
+-- Opening on a handler: EINVAL where there is no such handler; ENOSPC where as many file handles are open as can be; ENOSPC where no further
+-- step is kept. Else the file handle, whose id is the number of this step.
+abbrev pub open_answer : PlanData → Past → ℕ → Answer
+open_answer plan past handler =
+    if nat_le (length plan.handlers) handler then refused EINVAL
+    else if are_all_open past then refused ENOSPC
+    else if is_full past then refused ENOSPC
+    else Ok (Fh (record { 0 = length past }))
+
+-- the present values are asked for
+abbrev pub is_current : Result Which Errno → Bool
+is_current (Ok Current) = true
+is_current _ = false
+
+-- a list of one, about the present values
+abbrev pub is_one_current : ℕ → List ExtControl → Bool
+is_one_current which list = is_current (which_of which) && (length list == 1)
+
+-- Getting one control: EINVAL where it isn't shown or is DISABLED; EACCES where it is WRITE_ONLY. Else its present value.
+abbrev pub get_one : PlanData → Values → ExtControl → Option ℕ → Answer
+get_one plan values entry None = refused_at EINVAL 1
+get_one plan values entry (Some c) =
+    if contains (control plan c).flags DISABLED then refused_at EINVAL 1
+    else if contains (control plan c).flags WRITE_ONLY then refused_at EACCES 1
+    else Ok (Controls (record { id = entry.id; value = value_at values c } ∷ []))
+
+-- Setting a control to what its value settles to: the errno where it doesn't settle, ENOSPC where no further step is kept.
+abbrev pub set_settled : Past → ExtControl → Result ℤ Errno → Answer
+set_settled past entry (Err errno) = refused_at errno 1
+set_settled past entry (Ok value) =
+    if is_full past then refused_at ENOSPC 1
+    else Ok (Controls (record { id = entry.id; value = value } ∷ []))
+
+-- Setting one control: EINVAL where it isn't shown or is DISABLED; EACCES where it is READ_ONLY; then as its value settles.
+abbrev pub set_one : PlanData → Past → ExtControl → Option ℕ → Answer
+set_one plan past entry None = refused_at EINVAL 1
+set_one plan past entry (Some c) =
+    if contains (control plan c).flags DISABLED then refused_at EINVAL 1
+    else if contains (control plan c).flags READ_ONLY then refused_at EACCES 1
+    else set_settled past entry (settle (control plan c) entry.value)
+
+-- A list: EBADF where the file handle isn't open; EINVAL, as yet, where it isn't a list of one about the present values.
+-- The index is the number of entries.
+abbrev pub list_answer : Past → FhId → ℕ → List ExtControl → (ExtControl → Answer) → Answer
+list_answer past fh which [] one =
+    if is_some (handler_of past fh) then refused_at EINVAL 0 else refused_at EBADF 0
+list_answer past fh which (entry ∷ rest) one =
+    if is_some (handler_of past fh) then
+    (if is_one_current which (entry ∷ rest) then one entry else refused_at EINVAL (length (entry ∷ rest)))
+    else refused_at EBADF (length (entry ∷ rest))
+
+-- the answer where memory suffices
+abbrev pub answer_of : PlanData → Past → Ask → Answer
+answer_of plan past (asks.OpenFh handler) = open_answer plan past handler
+answer_of plan past (asks.GetCtrls fh which request list) =
+    list_answer past fh which list (λ entry. get_one plan (now plan past) entry (shown plan past fh entry.id))
+answer_of plan past (asks.SetCtrls fh which request list) =
+    list_answer past fh which list (λ entry. set_one plan past entry (shown plan past fh entry.id))
+
+-- ENOMEM may take the place of an accepted opening, and for a list that of every answer after the checks of the file
+-- handle, of `which` and of the count.
+abbrev pub list_is_read : Past → FhId → ℕ → List ExtControl → Bool
+list_is_read past fh which list = is_some (handler_of past fh) && is_one_current which list
+
+abbrev pub MayLackMemory : PlanData → Past → Ask → Type 0
+MayLackMemory plan past (asks.OpenFh handler) = IsOk (open_answer plan past handler)
+MayLackMemory plan past (asks.GetCtrls fh which request list) = IsTrue (list_is_read past fh which list)
+MayLackMemory plan past (asks.SetCtrls fh which request list) = IsTrue (list_is_read past fh which list)
+
+-- want of memory, as the ask is told it
+abbrev pub no_memory : Ask → Answer
+no_memory (asks.OpenFh handler) = refused ENOMEM
+no_memory (asks.GetCtrls fh which request list) = refused_at ENOMEM (length list)
+no_memory (asks.SetCtrls fh which request list) = refused_at ENOMEM (length list)
+
+-- whether an ask is one about a list
+abbrev pub is_list : Ask → Bool
+is_list (asks.OpenFh handler) = false
+is_list (asks.GetCtrls fh which request list) = true
+is_list (asks.SetCtrls fh which request list) = true
+
+-- an answer that the ask may get after this past
+abbrev pub MayAnswer : PlanData → Past → Ask → Answer → Type 0
+MayAnswer plan past ask answer =
+    (answer ≡ answer_of plan past ask) ⊎ (MayLackMemory plan past ask × (answer ≡ no_memory ask))
+
+-- the pairs of a list: each entry's control, with the value as it was given
+abbrev pub pairs_of : PlanData → Past → FhId → List ExtControl → List Pair
+pairs_of plan past fh list = map (λ entry. record { control = unwrap_or (shown plan past fh entry.id) 0; value = entry.value }) list
+
+-- the step that an ask adds where it is accepted
+abbrev pub step_of : PlanData → Past → Ask → Option Step
+step_of plan past (asks.OpenFh handler) = Some (steps.OpenFh handler)
+step_of plan past (asks.GetCtrls fh which request list) = None
+step_of plan past (asks.SetCtrls fh which request list) = Some (steps.Set fh (pairs_of plan past fh list))
+
+-- the step that it adds where this is its answer
+abbrev pub taken : PlanData → Past → Ask → Answer → Option Step
+taken plan past ask (Ok reply) = step_of plan past ask
+taken plan past ask (Err fault) = None

@@ -1,0 +1,13 @@
+pub use Rattle.history.specs.Past
+pub use Rattle.ctrl_types.specs.Classes
+pub use Rattle.ctrl_types.specs.Flags
+pub use Rattle.ctrl_settle.specs.Control
+pub use Rattle.ctrl_settle.specs.Settle
+pub mod Plan
+pub mod Steps
+pub mod Values
+pub mod Answers
+pub mod Legal
+pub mod Device
+pub mod Builder
+pub mod Kept

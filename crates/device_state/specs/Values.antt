@@ -1,0 +1,49 @@
+-- The present values (Linux userspace API, "Extended Controls API").
+use Rattle.std.specs.Prelude.{ℕ, ℤ, pos, ◌==◌, if◌then◌else◌, List, [], ◌∷◌, map, Option, None, Some, slice_index_or}
+use Rattle.std.specs.Option.{option_or}
+use Rattle.std.specs.Result.{result_unwrap_or}
+use Rattle.std.specs.List.{enumerate_from}
+use Rattle.ctrl_types.specs.declared.ids.Pair.{Pair}
+use Rattle.ctrl_settle.specs.Control.{Control}
+use Rattle.ctrl_settle.specs.Settle.{settle}
+use Rattle.device_state.specs.declared.ask.Step.{Step}
+use Rattle.device_state.specs.declared.ask.Step.TheVariants.{Set}
+use Rattle.device_state.specs.Plan.{PlanData, control}
+use Rattle.device_state.specs.Steps.{Past}
+
+-- a value for each control, in the order of their numbers
+abbrev pub Values : Type 0
+Values = List ℤ
+
+-- the value of one control
+abbrev pub value_at : Values → ℕ → ℤ
+value_at values c = slice_index_or values c (pos 0)
+
+-- the last value that a list of pairs gives a control
+abbrev pub last_value : List Pair → ℕ → Option ℤ
+last_value [] c = None
+last_value (p ∷ pairs) c = option_or (last_value pairs c) (if p.control == c then Some p.value else None)
+
+-- what a control's value becomes: what is asked for settles, and what doesn't settle leaves the value
+abbrev pub overlaid : Control → ℤ → Option ℤ → ℤ
+overlaid ctrl value None = value
+overlaid ctrl value (Some asked) = result_unwrap_or (settle ctrl asked) value
+
+-- Pairs laid over values: each control takes the last value that the pairs give it, settled. Each control is a cluster of its
+-- own as yet: a value that doesn't settle leaves its control as it was.
+unfoldable pub overlay : PlanData → Values → List Pair → Values
+overlay plan values pairs = map (λ v. overlaid (control plan v.0) v.1 (last_value pairs v.0)) (enumerate_from 0 values)
+
+-- the values before the first step
+abbrev pub defaults : PlanData → Values
+defaults plan = map (λ c. c.default_value) plan.controls
+
+-- what a step makes of the present values
+abbrev pub now_after : PlanData → Step → Values → Values
+now_after plan (Set fh pairs) values = overlay plan values pairs
+now_after plan _ values = values
+
+-- the present values after a history: the defaults at first, and then what each step makes of them
+unfoldable pub now : PlanData → Past → Values
+now plan [] = defaults plan
+now plan (e ∷ older) = now_after plan e.step (now plan older)
