@@ -1,0 +1,158 @@
+//! The words of a script: what is a command, and what isn't.
+
+use crate::streams::expect;
+use ctl_script::{MAX_INPUT, Outcome};
+use std::test::Fail;
+
+#[test]
+fn lines_that_are_no_command(rt: HostRuntime) -> Result<(), Fail> {
+    let lines: [&[u8]; 40] = [
+        b"set f cur hflip",
+        b"set f cur hflip=",
+        b"set f cur =1",
+        b"set f cur hflip==1",
+        b"set f cur hflip=1=",
+        b"set f cur hflip=+1",
+        b"set f cur hflip=--1",
+        b"set f cur hflip=-",
+        b"set f cur hflip=0x1",
+        b"set f cur hflip=9223372036854775808",
+        b"set f cur hflip=-9223372036854775809",
+        b"set f cur hflip=00000000000000000001",
+        b"set f cur flip=1",
+        b"set f cur HFLIP=1",
+        b"set f cur 0x=1",
+        b"set f cur 0x123456789=1",
+        b"set f cur 0X00980914=1",
+        b"set f cur 980914=1",
+        b"set f req: hflip=1",
+        b"set f req:a-b hflip=1",
+        b"set f now hflip=1",
+        b"set f 0 hflip=1",
+        b"set f",
+        b"set",
+        b"get f cur hflip=1",
+        b"get f",
+        b"get",
+        b"get f cur hflip,vflip",
+        b"open f",
+        b"open f 0 0",
+        b"open f -1",
+        b"open f 4294967296",
+        b"open f 00000000000",
+        b"open f 0x0",
+        b"open f_ 0",
+        b"open abcdefghijklmnopq 0",
+        b"open",
+        b"OPEN f 0",
+        b"alloc r",
+        b"==",
+    ];
+    for line in lines {
+        expect(&rt, line, b"line 1: not a command\n", Outcome::BadLine(1))?;
+    }
+    Ok(())
+}
+
+#[test]
+fn bytes_that_no_word_has(rt: HostRuntime) -> Result<(), Fail> {
+    let lines: [&[u8]; 8] = [
+        b"open f 0\t",
+        b"open\tf 0",
+        b"open f 0\r\n",
+        b"open f 0\0",
+        b"open f 0\xff",
+        b"open \xc3\xa9 0",
+        b"\0",
+        b"\t# a comment",
+    ];
+    for line in lines {
+        expect(&rt, line, b"line 1: not a command\n", Outcome::BadLine(1))?;
+    }
+    Ok(())
+}
+
+#[test]
+fn words_in_each_form(rt: HostRuntime) -> Result<(), Fail> {
+    let words: [(&[u8], &[u8]); 12] = [
+        (b"set f cur 0x00980903=10", b"ok 9"),
+        (b"set f cur 0x98090D=1", b"error 22 index 1"),
+        (b"get f 0x0 hue", b"ok 9"),
+        (b"get f cur 0x0098090d", b"error 22 index 1"),
+        (b"set f 0x00 vflip=-1", b"ok 1"),
+        (b"set f cur hue=-9223372036854775808", b"ok 0"),
+        (b"set f cur hue=9223372036854775807", b"ok 9"),
+        (b"set f cur hue=0000000000000000001", b"ok 0"),
+        (b"get f def hue", b"error 22 index 1"),
+        (b"get f user hue", b"error 22 index 1"),
+        (b"get f camera", b"error 22 index 0"),
+        (b"get f req:r hue vflip", b"error 22 index 2"),
+    ];
+    let mut script = Vec::from_slice(rt.alloc(), b"open f 0000000000\n")?;
+    let mut reply = Vec::from_slice(rt.alloc(), b"ok\n")?;
+    for (line, answer) in words {
+        script.extend_from_slice(line)?;
+        script.extend_from_slice(b"\n")?;
+        reply.extend_from_slice(answer)?;
+        reply.extend_from_slice(b"\n")?;
+    }
+    expect(&rt, script.as_slice(), reply.as_slice(), Outcome::Finished)
+}
+
+#[test]
+fn each_word_of_the_sample(rt: HostRuntime) -> Result<(), Fail> {
+    let script =
+        b"open f 0\nget f cur autogain gain hflip vflip hue brightness power button red blue\nget f cur hflip\nget f cur vflip\nget f cur hue\n";
+    expect(
+        &rt,
+        script,
+        b"ok\nerror 22 index 10\nok 0\nok 0\nok 0\n",
+        Outcome::Finished,
+    )
+}
+
+#[test]
+fn lines_that_are_skipped(rt: HostRuntime) -> Result<(), Fail> {
+    let script = b"\n   \n# open f 0\n  #open f 0\n   open   f  0  \n#\nget f cur hue\nget g";
+    expect(
+        &rt,
+        script,
+        b"ok\nok 0\nline 8: not a command\n",
+        Outcome::BadLine(8),
+    )
+}
+
+#[test]
+fn last_line_without_a_line_feed(rt: HostRuntime) -> Result<(), Fail> {
+    expect(
+        &rt,
+        b"open f 0\nget f cur hue",
+        b"ok\nok 0\n",
+        Outcome::Finished,
+    )
+}
+
+#[test]
+fn names_are_bound_again(rt: HostRuntime) -> Result<(), Fail> {
+    let script =
+        b"get f cur hue\nopen f 0\nopen f 9\nget f cur hue\nopen f 0\nset f cur hue=3\nopen abcdefghijklmnop 0\nget abcdefghijklmnop cur hue\nget F cur hue\n";
+    expect(
+        &rt,
+        script,
+        b"error 9 index 1\nok\nerror 22\nok 0\nok\nok 3\nok\nok 3\nerror 9 index 1\n",
+        Outcome::Finished,
+    )
+}
+
+#[test]
+fn empty_input(rt: HostRuntime) -> Result<(), Fail> {
+    expect(&rt, b"", b"", Outcome::Finished)
+}
+
+#[test]
+fn longest_input(rt: HostRuntime) -> Result<(), Fail> {
+    let mut text = vec![in rt.alloc(); b'#'; MAX_INPUT]?;
+    expect(&rt, text.as_slice(), b"", Outcome::Finished)?;
+    text.push(b'#')?;
+    expect(&rt, text.as_slice(), b"input too long\n", Outcome::TooLong)
+}

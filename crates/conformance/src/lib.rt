@@ -1,0 +1,16 @@
+//! Tests across the crates: scripts on the sample device with their reply lines, faults of readers, writers and memory,
+//! and the public calls of the device.
+#![tactic(auto)]
+
+#[cfg(test)]
+mod device;
+#[cfg(test)]
+mod faults;
+#[cfg(test)]
+mod grammar;
+#[cfg(test)]
+mod memory;
+#[cfg(test)]
+mod rows;
+#[cfg(test)]
+mod streams;

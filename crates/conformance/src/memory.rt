@@ -1,0 +1,169 @@
+//! Allocations that are refused. With ample memory each script answers as ever; where one allocation is refused (`rt try
+//! --test --fail-alloc 1..`), a refused command changes nothing and the same command again is answered as ever.
+
+use crate::rows::{Row, cut_line_row, first_path_row, unbound_handle_row, unknown_handler_row};
+use crate::streams::{Sink, Source};
+use ctl_script::{Outcome, run_script, sample_plan};
+use ctrl_types::{CtrlId, Errno, ExtControl, Fault, FhId};
+use device_state::{Ask, ControlList, Device, PlanFault, Reply};
+use std::alloc::{AllocError, Global};
+use std::process::Abort;
+
+// A fresh sample device. All that it can lack is memory.
+fn device<R: AllocGlobal + Abort>(rt: &R) -> Result<Device, AllocError> {
+    let plan = match sample_plan(rt.alloc()) {
+        Ok(plan) => plan,
+        Err(fault) => {
+            assert_eq!(rt; fault, PlanFault::Memory);
+            return Err(AllocError);
+        }
+    };
+    match Device::new(rt.alloc(), plan) {
+        Ok(device) => Ok(device),
+        Err((plan, errno)) => {
+            assert_eq!(rt; errno, Errno::ENOMEM);
+            assert_eq!(rt; plan.control_count(), 3);
+            Err(AllocError)
+        }
+    }
+}
+
+// How many bytes two texts begin with alike, up to the end of a line.
+fn alike(a: &[u8], b: &[u8]) -> usize {
+    let mut end = 0;
+    for (i, (x, y)) in a.iter().zip(b).enumerate() {
+        if x != y {
+            break;
+        }
+        if *x == b'\n' {
+            end = i + 1;
+        }
+    }
+    end
+}
+
+// Runs a script. Its lines are the row's up to one that lacked memory; such a line is answered by the device with its error,
+// or ends the run.
+fn answers<R: AllocGlobal + Abort>(rt: &R, row: &Row) -> Result<(), AllocError> {
+    let device = device(rt)?;
+    let mut source = Source::new(row.script);
+    let mut sink = Sink {
+        bytes: Vec::with_capacity(rt.alloc(), 256)?,
+        most: usize::MAX,
+        writes: 0,
+        fault: None,
+    };
+    let (device, outcome) = run_script(rt.alloc(), device, &mut source, &mut sink);
+    let bytes = sink.bytes.as_slice();
+    let same = alike(bytes, row.reply);
+    if same == bytes.len() && same == row.reply.len() {
+        assert_eq!(rt; outcome, row.outcome);
+        return Ok(());
+    }
+    assert!(rt; same <= bytes.len());
+    let rest = &bytes[same..];
+    if outcome == Outcome::Memory {
+        assert_eq!(rt; rest, b"no memory\n".as_slice());
+    } else {
+        assert!(rt; rest.starts_with(b"error 12"));
+    }
+    assert!(rt; device.steps().len() <= 3);
+    Err(AllocError)
+}
+
+// The first answer, and where that is want of memory, that the device stayed as it was, and the second answer.
+fn answered<R: AllocGlobal + Abort>(
+    rt: &R,
+    device: &mut Device,
+    ask: &Ask,
+    index: Option<u32>,
+) -> Result<Reply, Fault> {
+    let before = device.steps().len();
+    let answer = device.handle(0, ask);
+    let lacking = Fault {
+        errno: Errno::ENOMEM,
+        index,
+    };
+    match answer {
+        Err(fault) if fault == lacking => {
+            assert_eq!(rt; device.steps().len(), before);
+            device.handle(0, ask)
+        }
+        answer => answer,
+    }
+}
+
+fn one(alloc: Global, id: u32, value: i64) -> Result<ControlList, AllocError> {
+    let mut entries = Vec::with_capacity(alloc, 1)?;
+    entries.push(ExtControl {
+        id: CtrlId(id),
+        value,
+    })?;
+    Ok(ControlList::from_vec(entries))
+}
+
+fn is_value(answer: &Result<Reply, Fault>, value: i64) -> bool {
+    match answer {
+        Ok(Reply::Controls(list)) => match list.as_slice() {
+            [entry] => entry.value == value,
+            _ => false,
+        },
+        _ => false,
+    }
+}
+
+// The asks of the first path, each of which is answered as ever, at once or the second time.
+fn asks_again<R: AllocGlobal + Abort>(rt: &R) -> Result<(), AllocError> {
+    let mut device = device(rt)?;
+    let fh = FhId(0);
+    let hue = Ask::SetCtrls {
+        fh,
+        which: 0,
+        request: None,
+        list: one(rt.alloc(), 0x0098_0903, 10)?,
+    };
+    let read = Ask::GetCtrls {
+        fh,
+        which: 0,
+        request: None,
+        list: one(rt.alloc(), 0x0098_0903, 0)?,
+    };
+    let hflip = Ask::SetCtrls {
+        fh,
+        which: 0,
+        request: None,
+        list: one(rt.alloc(), 0x0098_0914, 7)?,
+    };
+    let opened = answered(rt, &mut device, &Ask::OpenFh { handler: 0 }, None);
+    assert!(rt; matches!(opened, Ok(Reply::Fh(FhId(0)))));
+    let answer = answered(rt, &mut device, &hue, Some(1));
+    assert!(rt; is_value(&answer, 9));
+    let answer = answered(rt, &mut device, &read, Some(1));
+    assert!(rt; is_value(&answer, 9));
+    let answer = answered(rt, &mut device, &hflip, Some(1));
+    assert!(rt; is_value(&answer, 1));
+    assert_eq!(rt; device.steps().len(), 3);
+    Ok(())
+}
+
+#[test]
+fn scripts_after_a_refused_allocation(rt: HostRuntime) {
+    for row in [
+        first_path_row(),
+        cut_line_row(),
+        unbound_handle_row(),
+        unknown_handler_row(),
+    ] {
+        if answers(&rt, &row).is_err() {
+            // no second allocation is refused
+            assert!(rt; answers(&rt, &row).is_ok());
+        }
+    }
+}
+
+#[test]
+fn asks_after_a_refused_allocation(rt: HostRuntime) {
+    if asks_again(&rt).is_err() {
+        assert!(rt; asks_again(&rt).is_ok());
+    }
+}

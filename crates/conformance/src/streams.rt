@@ -1,0 +1,130 @@
+//! Readers and writers over memory that fail when they are told to, and the run of a script on a fresh sample device.
+
+use ctl_script::{Outcome, run_script, sample_plan};
+use device_state::Device;
+use std::alloc::Global;
+use std::io;
+use std::io::{ErrorKind, Read, Write};
+use std::process::Abort;
+use std::test::Fail;
+
+/// Gives the bytes of a text, at most `most` a read. The read with the number `fault`, from 1, fails with this kind of error.
+#[derive(Drop)]
+pub struct Source<'a> {
+    pub text: &'a [u8],
+    pub most: usize,
+    pub reads: u32,
+    pub fault: Option<(u32, ErrorKind)>,
+}
+
+impl<'a> Source<'a> {
+    pub fn new(text: &'a [u8]) -> Source<'a> {
+        Source {
+            text,
+            most: 4096,
+            reads: 0,
+            fault: None,
+        }
+    }
+}
+
+impl Read for Source<'_> {
+    fn read(&mut self, buf: &mut [u8]) -> io::Result<usize> {
+        self.reads = self.reads.saturating_add(1);
+        if let Some((number, kind)) = self.fault {
+            if number == self.reads {
+                return Err(io::Error::from(kind));
+            }
+        }
+        let count = self.text.len().min(buf.len()).min(self.most);
+        let (given, rest) = self.text.split_at(count);
+        buf[..count].copy_from_slice(given);
+        self.text = rest;
+        Ok(count)
+    }
+}
+
+/// Interrupts every read.
+#[derive(Drop)]
+pub struct Interrupted {
+    pub reads: u32,
+}
+
+impl Read for Interrupted {
+    fn read(&mut self, _buf: &mut [u8]) -> io::Result<usize> {
+        self.reads = self.reads.saturating_add(1);
+        Err(io::Error::from(ErrorKind::Interrupted))
+    }
+}
+
+/// Takes bytes into a buffer of its own, at most `most` a write. The write with the number `fault`, from 1, fails with this
+/// kind of error, or takes nothing.
+#[derive(Drop)]
+pub struct Sink {
+    pub bytes: Vec<u8>,
+    pub most: usize,
+    pub writes: u32,
+    pub fault: Option<(u32, Option<ErrorKind>)>,
+}
+
+impl Sink {
+    /// A sink with room for some bytes, so that a write takes no memory.
+    pub fn new(alloc: Global, room: usize) -> Result<Sink, Fail> {
+        Ok(Sink {
+            bytes: Vec::with_capacity(alloc, room)?,
+            most: usize::MAX,
+            writes: 0,
+            fault: None,
+        })
+    }
+}
+
+impl Write for Sink {
+    fn write(&mut self, buf: &[u8]) -> io::Result<usize> {
+        self.writes = self.writes.saturating_add(1);
+        match self.fault {
+            Some((number, Some(kind))) if number == self.writes => {
+                return Err(io::Error::from(kind));
+            }
+            Some((number, None)) if number == self.writes => return Ok(0),
+            _ => {}
+        }
+        let count = buf.len().min(self.most);
+        self.bytes.extend_from_slice(&buf[..count])?;
+        Ok(count)
+    }
+
+    fn flush(&mut self) -> io::Result<()> {
+        Err(io::Error::from(ErrorKind::Other))
+    }
+}
+
+/// A fresh sample device.
+pub fn sample_device(alloc: Global) -> Result<Device, Fail> {
+    match Device::new(alloc, sample_plan(alloc)?) {
+        Ok(device) => Ok(device),
+        Err((_, errno)) => Err(Fail::from(errno)),
+    }
+}
+
+/// What a script prints on a fresh sample device, and how it ends.
+pub fn printed(alloc: Global, script: &[u8]) -> Result<(Vec<u8>, Outcome), Fail> {
+    let device = sample_device(alloc)?;
+    let mut source = Source::new(script);
+    let mut sink = Sink::new(alloc, 65536)?;
+    let (_, outcome) = run_script(alloc, device, &mut source, &mut sink);
+    Ok((sink.bytes, outcome))
+}
+
+/// Runs a script on a fresh sample device, and compares what it prints and how it ends.
+pub fn expect<R: AllocGlobal + Abort>(
+    rt: &R,
+    script: &[u8],
+    reply: &[u8],
+    outcome: Outcome,
+) -> Result<(), Fail> {
+    let (bytes, ended) = printed(rt.alloc(), script)?;
+    assert_eq!(rt; bytes.as_slice(), reply, "{script:?}");
+    assert_eq!(rt; ended, outcome, "{script:?}");
+    Ok(())
+}

@@ -1,0 +1,5 @@
+mod Digits
+mod Runs
+mod SampleLemmas
+mod Writes
+mod Lists

@@ -1,0 +1,20 @@
+-- How a device goes on while a script runs.
+use Rattle.std.proofs.Common.{ℕ, [], ◌++◌, refl, append_assoc, ◌∙◌, arith}
+use Rattle.std.proofs.lemmas.Grind.{common_steps}
+use Rattle.device_state.specs.Device.{DeviceData, Handles}
+use Rattle.device_state.specs.Answers.{Answer}
+use Rattle.device_state.specs.declared.ask.Ask.{Ask}
+use Rattle.ctl_script.specs.Run.{GoesOn}
+
+pub still : (d : DeviceData) → GoesOn d d
+still d = record { plan = refl; steps = ([], grind (arith, common_steps)) }
+
+pub onward : (a b c : DeviceData) → GoesOn a b → GoesOn b c → GoesOn a c
+onward a b c first second = record {
+  plan = second.plan ∙ first.plan;
+  steps = (first.steps.0 ++ second.steps.0, rw (second.steps.1, first.steps.1, append_assoc) refl);
+}
+
+-- an ask that is answered
+pub handled : (old new : DeviceData) (seat : ℕ) (ask : Ask) (answer : Answer) → Handles old new seat ask answer → GoesOn old new
+handled old new seat ask answer h = record { plan = h.plan; steps = (_, h.steps) }

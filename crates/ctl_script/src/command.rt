@@ -1,0 +1,128 @@
+ghost use Rattle.std.specs.Prelude.{◌≡◌};
+
+use crate::name::{Bindings, Name};
+use ctrl_types::{Fault, FhId, RequestId};
+use device_state::{Ask, ControlList, Reply};
+use std::alloc::AllocError;
+
+/// Which values a list speaks of.
+#[derive(Clone, Copy, Debug, PartialEq, Eq)]
+pub enum WhichWord {
+    /// Those of a number, with no request.
+    Number(u32),
+    /// Those of a request.
+    Request(Name),
+}
+
+/// A command of a script.
+#[derive(Debug, Drop)]
+pub enum Command {
+    /// `open FH N`: opens a file handle on a handler.
+    Open {
+        /// What the file handle is called.
+        fh: Name,
+        /// The handler's number.
+        handler: u32,
+    },
+    /// `get FH WHICH CTRL ..`: reads controls.
+    Get {
+        /// The file handle.
+        fh: Name,
+        /// Which values.
+        which: WhichWord,
+        /// The controls, with the value 0.
+        list: ControlList,
+    },
+    /// `set FH WHICH CTRL=V ..`: sets controls.
+    Set {
+        /// The file handle.
+        fh: Name,
+        /// Which values.
+        which: WhichWord,
+        /// The controls and their values.
+        list: ControlList,
+    },
+}
+
+// the number by which a list speaks of a request's values
+const REQUEST_VALUES: u32 = 0x0f01_0000;
+
+impl WhichWord {
+    // The number, and the request where it speaks of one.
+    fn fields(self, names: &Bindings) -> (u32, Option<RequestId>) {
+        match self {
+            WhichWord::Number(number) => (number, None),
+            WhichWord::Request(name) => {
+                let id = RequestId(names.requests.id_of(name));
+                (REQUEST_VALUES, Some(id))
+            }
+        }
+    }
+}
+
+/// What an accepted command binds.
+#[derive(Clone, Copy, Debug, PartialEq, Eq)]
+pub enum Binding {
+    /// Nothing.
+    None,
+    /// A file handle.
+    FileHandle(Name),
+}
+
+impl Binding {
+    /// Makes room for the binding, so that `bind` takes no memory.
+    pub fn enter(self, names: &mut Bindings) -> Result<(), AllocError> {
+        match self {
+            Binding::None => Ok(()),
+            Binding::FileHandle(name) => names.file_handles.enter(name),
+        }
+    }
+
+    /// Binds what the answer gives. A refused command binds nothing, and an earlier binding stays.
+    pub fn bind(self, names: &mut Bindings, answer: &Result<Reply, Fault>) {
+        if let (Binding::FileHandle(name), Ok(Reply::Fh(fh))) = (self, answer) {
+            names.file_handles.bind(name, fh.0);
+        }
+    }
+}
+
+impl Command {
+    ghost use Rattle.ctl_script.specs.Commands.{binding_of};
+
+    /// What the command binds where it is accepted.
+    pub fn binding(&self) -> Binding
+        ensures { result ≡ binding_of self.now }
+    {
+        match self {
+            Command::Open { fh, .. } => Binding::FileHandle(*fh),
+            _ => Binding::None,
+        }
+    }
+
+    /// What the command asks, with the ids that its names stand for.
+    pub fn ask(self, names: &Bindings) -> Ask {
+        match self {
+            Command::Open { fh: _, handler } => Ask::OpenFh { handler },
+            Command::Get { fh, which, list } => {
+                let (which, request) = which.fields(names);
+                let fh = FhId(names.file_handles.id_of(fh));
+                Ask::GetCtrls {
+                    fh,
+                    which,
+                    request,
+                    list,
+                }
+            }
+            Command::Set { fh, which, list } => {
+                let (which, request) = which.fields(names);
+                let fh = FhId(names.file_handles.id_of(fh));
+                Ask::SetCtrls {
+                    fh,
+                    which,
+                    request,
+                    list,
+                }
+            }
+        }
+    }
+}

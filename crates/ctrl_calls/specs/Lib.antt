@@ -1,0 +1,3 @@
+pub mod Counts
+pub mod Meanings
+pub mod Rows

@@ -1,0 +1,28 @@
+//! The driver's part in a cluster of controls: a validator that judges a row of values before it is set, and a
+//! notifier that is told the row after a change. Nothing here takes memory.
+#![tactic(auto)]
+
+mod calls;
+mod driver;
+mod judging;
+mod notifier;
+mod relation;
+mod row;
+mod telling;
+mod validator;
+mod verdict;
+mod work;
+
+pub use calls::Calls;
+pub use driver::{Driver, Notifies, Validates};
+pub use judging::Judging;
+pub use notifier::{Notifier, tell};
+pub use relation::{Relation, Relations};
+pub use row::{ClusterRow, MAX_MEMBERS};
+pub use telling::Telling;
+pub use validator::{Validator, ask};
+pub use verdict::Verdict;
+pub use work::Work;
+
+#[cfg(test)]
+mod tests;

@@ -1,0 +1,29 @@
+ghost use Rattle.std.specs.Prelude.{ℕ, ℤ, List};
+
+use crate::row::ClusterRow;
+
+/// What a device can keep as a notifier: a boxed closure, or a struct of a driver's own.
+pub trait Telling {
+    /// It may be called, on any row.
+    ghost callable: { Self → Type 0 };
+
+    /// This word may be its answer to the row.
+    ghost answers: { Self → List ℤ → ℕ → Type 0 };
+
+    /// Takes the row, and answers a word of the driver's own. The caller owes that it may be called.
+    fn tell(&self, row: ClusterRow) -> u64
+        requires { callable self.now }
+        ensures { answers self.now row result };
+}
+
+type BoxedTeller = Box<dyn Fn(ClusterRow) -> u64 + Send>;
+
+impl Telling for BoxedTeller {
+    ghost callable = { λ teller. BoxedTeller.IsAlwaysCallable teller };
+
+    ghost answers = { λ teller row word. BoxedTeller.post teller row word };
+
+    fn tell(&self, row: ClusterRow) -> u64 {
+        self(row)
+    }
+}

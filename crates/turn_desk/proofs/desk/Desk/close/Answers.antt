@@ -1,0 +1,24 @@
+use Rattle.std.proofs.Common.{◌++◌, map, arith, ap, ◌∙◌, subst}
+use Rattle.turn_desk.specs.Views.{IsWhole}
+use Rattle.turn_desk.specs.Ending.{IsEnded}
+use Rattle.turn_desk.proofs.Places.{closes_desk, reopens}
+use Rattle.turn_desk.proofs.Endings.{account_of, whole}
+use Rattle.turn_desk.proofs.desk.Desk.close.Goals as goal
+
+pub swap_new_seat-made-requires : goal.swap_new_seat-made-requires
+swap_new_seat-made-requires g c = (omega (arith, c.self.invariant.0), closes_desk _ _ _ _ _)
+
+pub store-requires : goal.store-requires
+store-requires g c =
+    let e = c.swap_new_seat-made.ensures in
+    (e.0, omega (arith, c.self.invariant.0), reopens _ _ _ _ _ _ _ _ (ap (λ m. m.0.closing) (e.1.2 (λ same. omega arith))))
+
+pub returns-clause-whole : goal.returns-clause-whole
+returns-clause-whole g c =
+    let t = g.T.Served in
+    let object = c.take_object.result in
+    let plan = t.plan c.self.inside.table.shared.key.value in
+    let opened = c.swap_new_seat-made.ensures.1.2 (λ same. omega (arith, c.len-given.ensures.few)) in
+    let accounts = c.gather.ensures.closer.accounts ∙ (λ i. map account_of (c.into_vec.ensures.seats i) ++ ap (λ m. m.0.accounts) opened i) in
+    let ended = subst (λ xs. IsEnded t.is_legal t.plan t.steps plan xs object) accounts c.take_object.ensures in
+    subst (λ p. IsWhole t.is_legal p c.args.seats (t.steps object)) (ap (λ d. d.plan) c.self.view_is) (whole t.is_legal t.plan t.steps plan c.args.seats object ended)

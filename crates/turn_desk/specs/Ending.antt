@@ -1,0 +1,35 @@
+-- What the seat that closes the desk knows.
+use Rattle.std.specs.Prelude.{◌≡◌, ℕ, ◌<◌, ◌≤◌, List, ◌++◌, Some, None, map, length}
+use Rattle.history.specs.declared.entry.Entry.{Entry}
+use Rattle.turn_desk.specs.declared.rule.Account.{Account}
+use Rattle.turn_desk.specs.declared.rule.View.{View}
+use Rattle.turn_desk.specs.Views.{SeatView, times, once_below}
+use Rattle.turn_desk.specs.Rule.{Each, IsAccount, numbers}
+use Rattle.turn_desk.specs.Plays.{account}
+
+-- the view has come to have the accounts of these seats too
+pub record HasGathered {P S : Type 0} (seats : List (SeatView P S)) (v w : View P S) : Type 0 where
+  pub accounts : w.accounts ≡ map (λ s. account s.number s.seen) seats ++ v.accounts
+  pub held : w.holding ≡ v.holding
+  pub closed : w.closing ≡ v.closing
+
+-- it closes the desk, and has as many accounts as seats were made
+pub record IsCloser {P S : Type 0} (v : View P S) : Type 0 where
+  pub count : ℕ
+  pub closes : v.closing ≡ Some count
+  pub unheld : v.holding ≡ None
+  pub enough : count ≤ length v.accounts
+
+-- the object that a closed desk leaves, by one that has all accounts
+pub record IsEnded {T P S : Type 0} (is_legal : P → List (Entry S) → Type 0) (plan_of : T → P) (steps_of : T → List (Entry S)) (plan : P) (accounts : List (Account S)) (object : T) : Type 0 where
+  pub planned : plan_of object ≡ plan
+  pub legal : is_legal plan (steps_of object)
+  pub whole : Each (IsAccount (steps_of object)) accounts
+  pub once : (x : ℕ) → times x (numbers accounts) ≡ once_below x (length accounts)
+  pub seats : Each (λ e. e.seat < length accounts) (steps_of object)
+
+-- of all seats those that are no longer left were taken in
+pub record IsGathering {P S : Type 0} (all left : List (SeatView P S)) (v w : View P S) : Type 0 where
+  pub taken : List (SeatView P S)
+  pub split : all ≡ left ++ taken
+  pub gathered : HasGathered taken v w

@@ -1,0 +1,7 @@
+pub mod Views
+pub mod Calls
+pub mod Seated
+pub mod Rule
+pub mod Plays
+pub mod Working
+pub mod Ending

@@ -1,0 +1,141 @@
+ghost use Rattle.std.specs.Prelude.{◌≡◌, ◌++◌, All, IfSome, IfOk};
+ghost use Rattle.std.specs.Option.{option_to_list};
+ghost use Rattle.turn_desk.specs.Views.{IsSeatOf};
+
+mod counter;
+mod front;
+mod pairs;
+mod short;
+
+use crate::{Desk, DeskFault, DeskSeat, MOST_SEATS, SeatList};
+use counter::{Answer, Ask, Counter};
+use history::Served;
+use std::alloc::{AllocError, Allocator, Global};
+use std::process::Abort;
+use std::sync::Wait;
+use std::test::Fail;
+
+// A desk over a new counter, with its first seat.
+pub fn open(rt: &impl Abort, alloc: Global) -> (Desk<Counter>, DeskSeat<Counter>)
+    ensures { IsSeatOf result.0 result.1 }
+{
+    match Desk::new(alloc, Counter::new(alloc, 1_000_000)) {
+        Ok(made) => made,
+        Err(_) => panic!(rt; "no memory for a desk"),
+    }
+}
+
+// A list of no seat, of one or of two.
+pub fn listed<T: Served>(
+    alloc: Global,
+    first: Option<DeskSeat<T>>,
+    second: Option<DeskSeat<T>>,
+) -> Option<SeatList<T>>
+    ensures { IfSome result (λ list. list ≡ option_to_list first ++ option_to_list second) }
+{
+    let mut seats = Vec::new(alloc);
+    if let Some(seat) = first {
+        seats.push(seat).ok()?;
+    }
+    if let Some(seat) = second {
+        seats.push(seat).ok()?;
+    }
+    Some(SeatList::from_vec(seats))
+}
+
+// Makes seats until the desk refuses one, and so twice as often as it should at most.
+fn make_all<T: Served, R: Wait>(
+    rt: &R,
+    alloc: Global,
+    desk: &Desk<T>,
+    first: DeskSeat<T>,
+) -> Result<Vec<DeskSeat<T>>, AllocError>
+    requires { IsSeatOf desk.now first }
+    ensures { IfOk result (λ seats. All (IsSeatOf desk.now) seats.items) }
+{
+    let mut seats = Vec::new(alloc);
+    let mut last = first;
+    for _ in 0..2 * MOST_SEATS {
+        let (back, next) = desk.another(rt, last);
+        seats.push(back)?;
+        match next {
+            Ok(seat) => last = seat,
+            Err(_) => return Ok(seats),
+        }
+    }
+    seats.push(last)?;
+    Ok(seats)
+}
+
+// A write is read back through another seat before the two meet.
+#[test]
+fn desk_read_back(rt: HostRuntime) -> Result<(), Fail> {
+    let (desk, first) = open(&rt, rt.alloc());
+    let (first, second) = desk.another(&rt, first);
+    let second = second?;
+    let (first, written) = desk.call(&rt, first, &Ask::Add(4));
+    let (mut second, read) = desk.call(&rt, second, &Ask::Read);
+    assert_eq!(rt; (written, read), (Answer::Sum(4), Answer::Sum(4)));
+    assert_eq!(rt;
+        (first.number(), second.number(), desk.front(&mut second)),
+        (0, 1, 1)
+    );
+    Ok(())
+}
+
+// The desk isn't closed without a seat, nor with one of two, and is with both.
+#[test]
+fn closes_with_all_seats_alone(rt: HostRuntime) -> Result<(), Fail> {
+    let (desk, first) = open(&rt, rt.alloc());
+    let nobody = listed(rt.alloc(), None, None).ok_or("memory")?;
+    let (desk, _, fault) = match desk.close(nobody) {
+        Err(back) => back,
+        Ok(_) => panic!(rt; "closed without its seat"),
+    };
+    assert_eq!(rt; fault, DeskFault::SeatsOut { given: 0, made: 1 });
+    let (first, second) = desk.another(&rt, first);
+    let second = second?;
+    let one = listed(rt.alloc(), Some(first), None).ok_or("memory")?;
+    let (desk, one, fault) = match desk.close(one) {
+        Err(back) => back,
+        Ok(_) => panic!(rt; "closed with one seat of two"),
+    };
+    assert_eq!(rt; fault, DeskFault::SeatsOut { given: 1, made: 2 });
+    let mut seats = one.into_vec();
+    seats.push(second).map_err(AllocError::from)?;
+    let closed = desk.close(SeatList::from_vec(seats));
+    assert!(rt; closed.is_ok());
+    Ok(())
+}
+
+// Two seats meet, and the closed desk's history has the entries of both.
+#[test]
+fn meets_and_closes(rt: HostRuntime) -> Result<(), Fail> {
+    let (desk, first) = open(&rt, rt.alloc());
+    let (first, second) = desk.another(&rt, first);
+    let (first, _) = desk.call(&rt, first, &Ask::Add(4));
+    let (second, refused) = desk.call(&rt, second?, &Ask::Add(1_000_000));
+    let (mut first, second) = desk.meet(first, second);
+    assert_eq!(rt; (refused, desk.front(&mut first)), (Answer::TooMuch, 1));
+    let both = listed(rt.alloc(), Some(second), Some(first)).ok_or("memory")?;
+    let counter = desk.close(both).ok().ok_or("seats are out")?;
+    assert_eq!(rt;
+        (counter.total(), counter.count(0), counter.count(1)),
+        (4, 1, 0)
+    );
+    Ok(())
+}
+
+// After the first seat there are 1,023 more. The next is refused, and the desk is closed with all.
+#[test]
+fn makes_all_seats(rt: HostRuntime) -> Result<(), Fail> {
+    let (desk, first) = open(&rt, rt.alloc());
+    let seats = make_all(&rt, rt.alloc(), &desk, first)?;
+    assert_eq!(rt; seats.len(), 1024);
+    for (i, seat) in seats.iter().enumerate() {
+        assert_eq!(rt; seat.number() as usize, i);
+    }
+    let closed = desk.close(SeatList::from_vec(seats));
+    assert!(rt; closed.is_ok());
+    Ok(())
+}
