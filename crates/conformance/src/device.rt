@@ -1,5 +1,6 @@
 //! The public calls of the device, with ample memory.
 
+use crate::driver::Plain;
 use bitflags::Flags as FlagSet;
 use ctrl_settle::Ctrl;
 use ctrl_types::{CtrlId, Errno, ExtControl, Fault, FhId, Flags, Kind};
@@ -23,7 +24,7 @@ fn number(id: u32, flags: Flags) -> Result<Ctrl, Fail> {
 }
 
 // One control of each flag on handler 0, and a handler without controls.
-fn plan(alloc: Global) -> Result<Plan, Fail> {
+fn plan(alloc: Global) -> Result<Plan<Plain>, Fail> {
     let mut builder = PlanBuilder::new(alloc);
     let handler = builder.handler()?;
     builder.handler()?;
@@ -41,7 +42,7 @@ fn plan(alloc: Global) -> Result<Plan, Fail> {
     }
 }
 
-fn device(alloc: Global) -> Result<Device, Fail> {
+fn device(alloc: Global) -> Result<Device<Plain>, Fail> {
     match Device::new(alloc, plan(alloc)?) {
         Ok(device) => Ok(device),
         Err((_, errno)) => Err(Fail::from(errno)),
@@ -63,7 +64,7 @@ fn value(answer: Result<Reply, Fault>) -> Result<Option<i64>, Fault> {
             [entry] => Ok(Some(entry.value)),
             _ => Ok(None),
         },
-        Ok(Reply::Fh(_)) => Ok(None),
+        Ok(_) => Ok(None),
         Err(fault) => Err(fault),
     }
 }
@@ -95,7 +96,7 @@ fn plan_and_find(rt: HostRuntime) -> Result<(), Fail> {
 
 #[test]
 fn refusals_of_the_builder(rt: HostRuntime) -> Result<(), Fail> {
-    let mut builder = PlanBuilder::new(rt.alloc());
+    let mut builder: PlanBuilder<Plain> = PlanBuilder::new(rt.alloc());
     let plain = number(PLAIN, Flags::empty())?;
     assert_eq!(rt; builder.control(0, plain), Err(PlanFault::UnknownNumber));
     for handler in 0..MAX_HANDLERS {

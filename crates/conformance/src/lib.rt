@@ -4,6 +4,7 @@
 
 #[cfg(test)]
 mod device;
+pub mod driver;
 #[cfg(test)]
 mod faults;
 #[cfg(test)]

@@ -1,6 +1,7 @@
 //! Allocations that are refused. With ample memory each script answers as ever; where one allocation is refused (`rt try
 //! --test --fail-alloc 1..`), a refused command changes nothing and the same command again is answered as ever.
 
+use crate::driver::{Plain, of_brightness, of_button};
 use crate::rows::{Row, cut_line_row, first_path_row, unbound_handle_row, unknown_handler_row};
 use crate::streams::{Sink, Source};
 use ctl_script::{Outcome, run_script, sample_plan};
@@ -10,8 +11,8 @@ use std::alloc::{AllocError, Global};
 use std::process::Abort;
 
 // A fresh sample device. All that it can lack is memory.
-fn device<R: AllocGlobal + Abort>(rt: &R) -> Result<Device, AllocError> {
-    let plan = match sample_plan(rt.alloc()) {
+fn device<R: AllocGlobal + Abort>(rt: &R) -> Result<Device<Plain>, AllocError> {
+    let plan = match sample_plan(rt.alloc(), of_button(), of_brightness()) {
         Ok(plan) => plan,
         Err(fault) => {
             assert_eq!(rt; fault, PlanFault::Memory);
@@ -22,7 +23,7 @@ fn device<R: AllocGlobal + Abort>(rt: &R) -> Result<Device, AllocError> {
         Ok(device) => Ok(device),
         Err((plan, errno)) => {
             assert_eq!(rt; errno, Errno::ENOMEM);
-            assert_eq!(rt; plan.control_count(), 3);
+            assert_eq!(rt; plan.control_count(), 6);
             Err(AllocError)
         }
     }
@@ -74,7 +75,7 @@ fn answers<R: AllocGlobal + Abort>(rt: &R, row: &Row) -> Result<(), AllocError> 
 // The first answer, and where that is want of memory, that the device stayed as it was, and the second answer.
 fn answered<R: AllocGlobal + Abort>(
     rt: &R,
-    device: &mut Device,
+    device: &mut Device<Plain>,
     ask: &Ask,
     index: Option<u32>,
 ) -> Result<Reply, Fault> {

@@ -39,6 +39,51 @@ pub fn unbound_handle_row() -> Row {
     }
 }
 
+/// Words told at the start and after a set; a lone control's cluster has none.
+pub fn told_words_row() -> Row {
+    Row {
+        script: b"open f 1\ntold 0\ntold 1\nset f cur brightness=2\ntold 1\ntold 2\ntold 5\ntold 6\n",
+        reply: b"ok\nok 1\nok 64\nok 4\nok 68\nok 0\nok 0\nerror 22\n",
+        outcome: Outcome::Finished,
+    }
+}
+
+/// Values are rounded to the nearest step, the larger on a tie.
+pub fn rounding_row() -> Row {
+    Row {
+        script: b"open f 1\nset f cur brightness=2\nset f cur brightness=-2\nset f cur brightness=1000\n",
+        reply: b"ok\nok 4\nok 0\nok 64\n",
+        outcome: Outcome::Finished,
+    }
+}
+
+/// A skipped item and one outside the range are refused.
+pub fn menu_refusals_row() -> Row {
+    Row {
+        script: b"open f 1\nset f cur power=3\nset f cur power=4\nset f cur power=2\n",
+        reply: b"ok\nerror 22 index 1\nerror 34 index 1\nok 2\n",
+        outcome: Outcome::Finished,
+    }
+}
+
+/// A number outside its type isn't one.
+pub fn number_out_of_range_row() -> Row {
+    Row {
+        script: b"open f 1\nset f cur red=9223372036854775808\n",
+        reply: b"ok\nline 2: not a command\n",
+        outcome: Outcome::BadLine(2),
+    }
+}
+
+/// A button answers 0, tells its cluster on each press, and can't be read.
+pub fn button_row() -> Row {
+    Row {
+        script: b"open f 1\nset f cur button=7\ntold 0\nget f cur button\n",
+        reply: b"ok\nok 0\nok 1\nerror 13 index 1\n",
+        outcome: Outcome::Finished,
+    }
+}
+
 /// A handler that isn't there can't be opened.
 pub fn unknown_handler_row() -> Row {
     Row {
@@ -69,5 +114,35 @@ fn unbound_handle(rt: HostRuntime) -> Result<(), Fail> {
 #[test]
 fn unknown_handler(rt: HostRuntime) -> Result<(), Fail> {
     let row = unknown_handler_row();
+    expect(&rt, row.script, row.reply, row.outcome)
+}
+
+#[test]
+fn told_words(rt: HostRuntime) -> Result<(), Fail> {
+    let row = told_words_row();
+    expect(&rt, row.script, row.reply, row.outcome)
+}
+
+#[test]
+fn rounding(rt: HostRuntime) -> Result<(), Fail> {
+    let row = rounding_row();
+    expect(&rt, row.script, row.reply, row.outcome)
+}
+
+#[test]
+fn menu_refusals(rt: HostRuntime) -> Result<(), Fail> {
+    let row = menu_refusals_row();
+    expect(&rt, row.script, row.reply, row.outcome)
+}
+
+#[test]
+fn number_out_of_range(rt: HostRuntime) -> Result<(), Fail> {
+    let row = number_out_of_range_row();
+    expect(&rt, row.script, row.reply, row.outcome)
+}
+
+#[test]
+fn button(rt: HostRuntime) -> Result<(), Fail> {
+    let row = button_row();
     expect(&rt, row.script, row.reply, row.outcome)
 }

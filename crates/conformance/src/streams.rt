@@ -1,5 +1,6 @@
 //! Readers and writers over memory that fail when they are told to, and the run of a script on a fresh sample device.
 
+use crate::driver::{Plain, of_brightness, of_button};
 use ctl_script::{Outcome, run_script, sample_plan};
 use device_state::Device;
 use std::alloc::Global;
@@ -100,8 +101,8 @@ impl Write for Sink {
 }
 
 /// A fresh sample device.
-pub fn sample_device(alloc: Global) -> Result<Device, Fail> {
-    match Device::new(alloc, sample_plan(alloc)?) {
+pub fn sample_device(alloc: Global) -> Result<Device<Plain>, Fail> {
+    match Device::new(alloc, sample_plan(alloc, of_button(), of_brightness())?) {
         Ok(device) => Ok(device),
         Err((_, errno)) => Err(Fail::from(errno)),
     }

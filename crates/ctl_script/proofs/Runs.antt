@@ -1,6 +1,7 @@
 -- How a device goes on while a script runs.
 use Rattle.std.proofs.Common.{ℕ, [], ◌++◌, refl, append_assoc, ◌∙◌, arith}
 use Rattle.std.proofs.lemmas.Grind.{common_steps}
+use Rattle.ctrl_calls.specs.Meanings.{Verdicts}
 use Rattle.device_state.specs.Device.{DeviceData, Handles}
 use Rattle.device_state.specs.Answers.{Answer}
 use Rattle.device_state.specs.declared.ask.Ask.{Ask}
@@ -16,5 +17,5 @@ onward a b c first second = record {
 }
 
 -- an ask that is answered
-pub handled : (old new : DeviceData) (seat : ℕ) (ask : Ask) (answer : Answer) → Handles old new seat ask answer → GoesOn old new
-handled old new seat ask answer h = record { plan = h.plan; steps = (_, h.steps) }
+pub handled : (verdicts : Verdicts) (old new : DeviceData) (seat : ℕ) (ask : Ask) (answer : Answer) → Handles verdicts old new seat ask answer → GoesOn old new
+handled verdicts old new seat ask answer h = record { plan = h.plan; steps = (_, h.steps) }

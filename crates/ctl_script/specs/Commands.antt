@@ -10,7 +10,7 @@ use Rattle.ctl_script.specs.Names.{name_of}
 use Rattle.ctl_script.specs.declared.command.Binding.{Binding}
 use Rattle.ctl_script.specs.declared.command.Binding.TheVariants as bindings
 use Rattle.ctl_script.specs.declared.command.Command.{Command}
-use Rattle.ctl_script.specs.declared.command.Command.TheVariants.{Open, Get, Set}
+use Rattle.ctl_script.specs.declared.command.Command.TheVariants.{Open, Get, Set, Told}
 use Rattle.ctl_script.specs.declared.command.WhichWord.{WhichWord}
 use Rattle.ctl_script.specs.declared.command.WhichWord.TheVariants.{Number, Request}
 use Rattle.ctl_script.specs.declared.fault.LineFault.{LineFault}
@@ -90,12 +90,18 @@ list_command_of make form [] = None
 list_command_of make form (fh ∷ []) = None
 list_command_of make form (fh ∷ which ∷ entries) = list_parts make (name_of fh) (which_of which) (list_of form entries)
 
+-- the operand of `told`
+abbrev pub told_of : List (List ℕ) → Option Command
+told_of (cluster ∷ []) = option_map (λ n. Told n) (decimal_u32 cluster)
+told_of _ = None
+
 -- the first words of commands
 abbrev pub verb_of : List ℕ → Option Verb
 verb_of word =
     if bytes_eq word (codes "open") then Some verbs.Open
     else if bytes_eq word (codes "get") then Some verbs.Get
     else if bytes_eq word (codes "set") then Some verbs.Set
+    else if bytes_eq word (codes "told") then Some verbs.Told
     else None
 
 -- the command that a verb and its operands write
@@ -103,6 +109,7 @@ abbrev pub command_of : Option Verb → List (List ℕ) → Option Command
 command_of (Some verbs.Open) operands = open_of operands
 command_of (Some verbs.Get) operands = list_command_of (λ fh which list. Get fh which list) Control operands
 command_of (Some verbs.Set) operands = list_command_of (λ fh which list. Set fh which list) ControlWithValue operands
+command_of (Some verbs.Told) operands = told_of operands
 command_of None operands = None
 
 -- What was read of a line is what it writes; only want of memory may take its place.
@@ -123,3 +130,4 @@ abbrev pub binding_of : Command → Binding
 binding_of (Open fh handler) = bindings.FileHandle fh
 binding_of (Get fh which list) = bindings.None
 binding_of (Set fh which list) = bindings.None
+binding_of (Told cluster) = bindings.None

@@ -6,7 +6,7 @@ use Rattle.ctrl_types.specs.Numbers.{errno_number}
 use Rattle.ctrl_types.specs.declared.errno.Fault.{Fault}
 use Rattle.ctrl_types.specs.declared.ids.ExtControl.{ExtControl}
 use Rattle.device_state.specs.declared.ask.Reply.{Reply}
-use Rattle.device_state.specs.declared.ask.Reply.TheVariants.{Fh, Controls}
+use Rattle.device_state.specs.declared.ask.Reply.TheVariants.{Fh, Controls, Word}
 use Rattle.ctl_script.specs.declared.fault.Outcome.{Outcome}
 use Rattle.ctl_script.specs.declared.fault.Outcome.TheVariants.{Finished, BadLine, TooLong, ReadFault, WriteFault, NoSecond, Memory}
 
@@ -23,6 +23,7 @@ refusal_line number (Some index) = codes "error " ++ (decimal number ++ (codes "
 abbrev pub answer_line : Result Reply Fault → List ℕ
 answer_line (Ok (Fh fh)) = codes "ok\n"
 answer_line (Ok (Controls list)) = codes "ok" ++ (flat_map value_text list ++ codes "\n")
+answer_line (Ok (Word word)) = codes "ok " ++ (decimal word ++ codes "\n")
 answer_line (Err fault) = refusal_line (errno_number fault.errno) fault.index
 
 -- the line of an outcome; some print none

@@ -42,6 +42,11 @@ pub enum Command {
         /// The controls and their values.
         list: ControlList,
     },
+    /// `told N`: reads the word that a cluster was told last.
+    Told {
+        /// The cluster's number.
+        cluster: u32,
+    },
 }
 
 // the number by which a list speaks of a request's values
@@ -103,6 +108,7 @@ impl Command {
     pub fn ask(self, names: &Bindings) -> Ask {
         match self {
             Command::Open { fh: _, handler } => Ask::OpenFh { handler },
+            Command::Told { cluster } => Ask::Told { cluster },
             Command::Get { fh, which, list } => {
                 let (which, request) = which.fields(names);
                 let fh = FhId(names.file_handles.id_of(fh));

@@ -2,6 +2,7 @@
 #![tactic(auto)]
 
 mod command;
+mod driver;
 mod fault;
 mod input;
 mod lexeme;
@@ -12,6 +13,7 @@ mod reply;
 mod run;
 mod sample;
 
+pub use driver::{BRIGHTNESS_WORDS, BUTTON_WORDS, Sample, brightness_word, button_word};
 pub use fault::Outcome;
 pub use input::{MAX_INPUT, MAX_READS};
 pub use run::run_script;

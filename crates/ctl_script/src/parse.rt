@@ -1,5 +1,5 @@
 ghost use Rattle.std.specs.Prelude.{◌≡◌, ◌+◌, ◌<◌, ◌≤◌, ◌^◌, ◌∷◌, ◌==◌, length, map, position, vec_len, IfOk, IfSome};
-ghost use Rattle.ctl_script.specs.Commands.{IsRead, words as words_in, line_of, command_of, verb_of, open_of, list_command_of, which_of, fixed_which_of, entry_of, entry_at, list_of};
+ghost use Rattle.ctl_script.specs.Commands.{IsRead, words as words_in, line_of, command_of, verb_of, open_of, told_of, list_command_of, which_of, fixed_which_of, entry_of, entry_at, list_of};
 ghost use Rattle.ctl_script.specs.declared.command.Command.TheVariants as commands;
 
 use crate::command::{Command, WhichWord};
@@ -53,6 +53,7 @@ enum Verb {
     Open,
     Get,
     Set,
+    Told,
 }
 
 fn read_verb(word: &[u8]) -> Option<Verb>
@@ -62,6 +63,7 @@ fn read_verb(word: &[u8]) -> Option<Verb>
         b"open" => Some(Verb::Open),
         b"get" => Some(Verb::Get),
         b"set" => Some(Verb::Set),
+        b"told" => Some(Verb::Told),
         _ => None,
     }
 }
@@ -74,6 +76,7 @@ fn read_command(alloc: Global, verb: &[u8], operands: &[&[u8]]) -> Result<Comman
         Some(Verb::Open) => read_open(operands),
         Some(Verb::Get) => read_get(alloc, operands),
         Some(Verb::Set) => read_set(alloc, operands),
+        Some(Verb::Told) => read_told(operands),
         None => Err(LineFault::NotACommand),
     }
 }
@@ -87,6 +90,18 @@ fn read_open(operands: &[&[u8]]) -> Result<Command, LineFault>
     match (Name::read(*fh), decimal_u32(*handler)) {
         (Some(fh), Some(handler)) => Ok(Command::Open { fh, handler }),
         _ => Err(LineFault::NotACommand),
+    }
+}
+
+fn read_told(operands: &[&[u8]]) -> Result<Command, LineFault>
+    ensures { IsRead result (told_of (map (λ w. w.now) operands.now)) }
+{
+    let [cluster] = operands else {
+        return Err(LineFault::NotACommand);
+    };
+    match decimal_u32(*cluster) {
+        Some(cluster) => Ok(Command::Told { cluster }),
+        None => Err(LineFault::NotACommand),
     }
 }
 

@@ -21,6 +21,10 @@ pub fn print_answer<W: Write>(
     match answer {
         Ok(Reply::Fh(_)) => writeln!(lines, "ok"),
         Ok(Reply::Controls(list)) => print_values(lines, list.as_slice()),
+        Ok(Reply::Word(word)) => {
+            let word = *word;
+            writeln!(lines, "ok {word}")
+        }
         Err(fault) => print_fault(lines, *fault),
     }
 }

@@ -7,6 +7,7 @@ use crate::name::Bindings;
 use crate::output::Lines;
 use crate::parse::read_line;
 use crate::reply::{print_answer, print_outcome};
+use ctrl_calls::Driver;
 use device_state::Device;
 use std::alloc::Global;
 use std::io::{Read, Write};
@@ -26,12 +27,12 @@ use std::io::{Read, Write};
 ///
 /// All that a command needs of the tool's own memory is taken before the device is asked, so at `Memory` each step of the
 /// device has its reply line. The device has the plan that was handed in, and its steps begin with those that it had.
-pub fn run_script<R: Read, W: Write>(
+pub fn run_script<D: Driver, R: Read, W: Write>(
     alloc: Global,
-    mut device: Device,
+    mut device: Device<D>,
     reader: &mut R,
     writer: &mut W,
-) -> (Device, Outcome)
+) -> (Device<D>, Outcome)
     ensures device { GoesOn device result.0 }
     ensures one_script { result.1 ≢ Outcome.NoSecond }
 {
@@ -45,9 +46,9 @@ pub fn run_script<R: Read, W: Write>(
 
 // Reads a script whole, and then answers it.
 #[tactic(auto, using(crate::proofs::Runs::still))]
-fn read_and_answer<R: Read, W: Write>(
+fn read_and_answer<D: Driver, R: Read, W: Write>(
     alloc: Global,
-    device: &mut Device,
+    device: &mut Device<D>,
     reader: &mut R,
     lines: &mut Lines<'_, W>,
 ) -> Outcome
@@ -63,9 +64,9 @@ fn read_and_answer<R: Read, W: Write>(
 }
 
 // Answers the lines of a script in order, up to one that ends the run.
-fn answer_script<W: Write>(
+fn answer_script<D: Driver, W: Write>(
     alloc: Global,
-    device: &mut Device,
+    device: &mut Device<D>,
     text: &[u8],
     lines: &mut Lines<'_, W>,
 ) -> Outcome
@@ -107,11 +108,11 @@ enum LineEnd {
     WriteFault,
 }
 
-#[tactic(auto, using(crate::proofs::Runs::still, crate::proofs::Runs::handled))]
 // Answers one line. All that it needs of memory is taken before the device is asked, so that no step is without its reply line.
-fn answer_line<W: Write>(
+#[tactic(auto, using(crate::proofs::Runs::still, crate::proofs::Runs::handled))]
+fn answer_line<D: Driver, W: Write>(
     alloc: Global,
-    device: &mut Device,
+    device: &mut Device<D>,
     names: &mut Bindings,
     line: &[u8],
     lines: &mut Lines<'_, W>,

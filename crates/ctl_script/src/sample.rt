@@ -1,67 +1,126 @@
 ghost use Rattle.std.specs.Prelude.{◌≡◌, IfOk, IfErr, Ok};
-ghost use Rattle.ctl_script.specs.Sample.{sample, flip as flip_of, hue as hue_of};
+ghost use Rattle.ctrl_settle.specs.Control.{described};
+ghost use Rattle.ctrl_settle.specs.Faults.{IsWellFormed};
+ghost use Rattle.ctl_script.specs.Sample.{sample, sample_before, flip as flip_of, hue as hue_of, brightness as brightness_of, power as power_of, button as button_of, no_flags};
 
 use bitflags::Flags as FlagSet;
+use ctrl_calls::{Calls, Driver};
 use ctrl_settle::{Ctrl, CtrlFault};
 use ctrl_types::{CtrlId, Flags, Kind};
 use device_state::{Plan, PlanBuilder, PlanFault};
 use std::alloc::Global;
 
-/// A builder that holds the plan of the sample device, so that a caller can add to it (of this project): handler 0 with
-/// hflip and vflip, off or on, and hue, private, 0 to 10 in steps of 3; all 0 at the start. Refused with `Memory` (7) alone.
-pub fn sample_builder(alloc: Global) -> Result<PlanBuilder, PlanFault>
-    ensures ok { IfOk result (λ builder. builder ≡ sample) }
+/// A builder that holds the plan of the sample device: the button is in cluster 0 with the first calls, brightness in cluster 1
+/// with the second. The only fault is `Memory` (7); the calls are then let go.
+pub fn sample_builder<D: Driver>(
+    alloc: Global,
+    of_button: Calls<D>,
+    of_brightness: Calls<D>,
+) -> Result<PlanBuilder<D>, PlanFault>
+    ensures ok { IfOk result (λ builder. builder ≡ sample of_button of_brightness) }
+    ensures err { IfErr result (λ fault. fault ≡ PlanFault.Memory) }
+{
+    let mut builder = sample_controls(alloc)?;
+    match builder.cluster(&[5], of_button) {
+        Ok(_) => {}
+        Err((_, fault)) => return Err(fault),
+    }
+    match builder.cluster(&[3], of_brightness) {
+        Ok(_) => Ok(builder),
+        Err((_, fault)) => Err(fault),
+    }
+}
+
+// The handlers and controls of the sample device.
+fn sample_controls<D: Driver>(alloc: Global) -> Result<PlanBuilder<D>, PlanFault>
+    ensures ok { IfOk result (λ builder. builder ≡ sample_before) }
     ensures err { IfErr result (λ fault. fault ≡ PlanFault.Memory) }
 {
     let mut builder = PlanBuilder::new(alloc);
-    let handler = builder.handler()?;
+    builder.handler()?;
+    builder.handler()?;
     let (Ok(hflip), Ok(vflip), Ok(hue)) = (flip(0x0098_0914), flip(0x0098_0915), hue()) else {
         return Err(PlanFault::Memory);
     };
-    builder.control(handler, hflip)?;
-    builder.control(handler, vflip)?;
-    builder.control(handler, hue)?;
+    let (Ok(brightness), Ok(power), Ok(button)) = (brightness(), power(), button()) else {
+        return Err(PlanFault::Memory);
+    };
+    builder.control(0, hflip)?;
+    builder.control(0, vflip)?;
+    builder.control(0, hue)?;
+    builder.control(1, brightness)?;
+    builder.control(1, power)?;
+    builder.control(1, button)?;
     Ok(builder)
 }
 
 fn flip(id: u32) -> Result<Ctrl, CtrlFault>
     ensures { result ≡ Ok (flip_of id) }
 {
-    Ctrl::new(
-        CtrlId(id),
-        Kind::Boolean,
-        0,
-        1,
-        1,
-        0,
-        0,
-        Flags::empty(),
-        false,
-    )
+    plain(id, Kind::Boolean, 0, 1, 1, 0, 0, false)
 }
 
 fn hue() -> Result<Ctrl, CtrlFault>
     ensures { result ≡ Ok hue_of }
 {
+    plain(0x0098_0903, Kind::Integer, 0, 10, 3, 0, 0, true)
+}
+
+fn brightness() -> Result<Ctrl, CtrlFault>
+    ensures { result ≡ Ok brightness_of }
+{
+    plain(0x0098_0900, Kind::Integer, -64, 64, 4, 0, 0, false)
+}
+
+fn power() -> Result<Ctrl, CtrlFault>
+    ensures { result ≡ Ok power_of }
+{
+    plain(0x0098_0918, Kind::Menu, 0, 3, 1, 1, 8, false)
+}
+
+fn button() -> Result<Ctrl, CtrlFault>
+    ensures { result ≡ Ok button_of }
+{
+    plain(0x0098_090d, Kind::Button, 0, 0, 0, 0, 0, false)
+}
+
+// A control with no flag given.
+fn plain(
+    id: u32,
+    kind: Kind,
+    minimum: i64,
+    maximum: i64,
+    step: u64,
+    default_value: i64,
+    skip: u64,
+    is_private: bool,
+) -> Result<Ctrl, CtrlFault>
+    requires { IsWellFormed (described (record { 0 = id }) kind minimum maximum step default_value skip no_flags is_private) }
+    ensures { result ≡ Ok (described (record { 0 = id }) kind minimum maximum step default_value skip no_flags is_private) }
+{
     Ctrl::new(
-        CtrlId(0x0098_0903),
-        Kind::Integer,
-        0,
-        10,
-        3,
-        0,
-        0,
+        CtrlId(id),
+        kind,
+        minimum,
+        maximum,
+        step,
+        default_value,
+        skip,
         Flags::empty(),
-        true,
+        is_private,
     )
 }
 
-/// The plan of the sample device, as `sample_builder` has it. Refused with `Memory` (7) alone.
-pub fn sample_plan(alloc: Global) -> Result<Plan, PlanFault>
-    ensures ok { IfOk result (λ plan. plan ≡ sample) }
+/// The plan of the sample device. The only fault is `Memory` (7); the calls are then let go.
+pub fn sample_plan<D: Driver>(
+    alloc: Global,
+    of_button: Calls<D>,
+    of_brightness: Calls<D>,
+) -> Result<Plan<D>, PlanFault>
+    ensures ok { IfOk result (λ plan. plan ≡ sample of_button of_brightness) }
     ensures err { IfErr result (λ fault. fault ≡ PlanFault.Memory) }
 {
-    match sample_builder(alloc)?.finish() {
+    match sample_builder(alloc, of_button, of_brightness)?.finish() {
         Ok(plan) => Ok(plan),
         Err((_, fault)) => Err(fault),
     }

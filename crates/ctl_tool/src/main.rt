@@ -7,10 +7,15 @@ mod mode;
 mod tests;
 
 ghost use Rattle.std.specs.Prelude.{◌≡◌};
+ghost use Rattle.ctrl_calls.specs.Meanings.{TellsBy};
 ghost use Rattle.ctl_tool.specs.Modes.{status_of};
 
 use crate::mode::{Mode, ModeFault, mode_of};
-use ctl_script::{Outcome, run_script, sample_plan};
+use ctl_script::{
+    BRIGHTNESS_WORDS, BUTTON_WORDS, Outcome, Sample, brightness_word, button_word, run_script,
+    sample_plan,
+};
+use ctrl_calls::{Calls, ClusterRow, Driver, Notifier};
 use device_state::Device;
 use std::process::ExitCode;
 use std::{env, io};
@@ -27,15 +32,41 @@ fn main(rt: HostRuntime) -> ExitCode {
         return no_memory(&rt);
     };
     match mode_of(rt.alloc(), words.as_slice()) {
-        Ok(Mode::Run) => run(&rt),
+        Ok(Mode::Run) => {
+            let button = Box::new(rt.alloc(), |row: ClusterRow| button_word(&row));
+            let brightness = Box::new(rt.alloc(), |row: ClusterRow| brightness_word(&row));
+            let (Ok(button), Ok(brightness)) = (button, brightness) else {
+                return no_memory(&rt);
+            };
+            let button: Box<dyn Fn(ClusterRow) -> u64 + Send> = button;
+            let brightness: Box<dyn Fn(ClusterRow) -> u64 + Send> = brightness;
+            run::<Sample, HostRuntime>(&rt, button, brightness)
+        }
         Err(ModeFault::Usage) => usage(&rt),
         Err(ModeFault::Memory) => no_memory(&rt),
     }
 }
 
-// Runs the script on standard input on a fresh sample device.
-fn run(rt: &(impl AllocGlobal + Input + Print)) -> ExitCode {
-    let Ok(plan) = sample_plan(rt.alloc()) else {
+// Runs the script on standard input on a fresh sample device, whose clusters have these notifiers.
+fn run<D: Driver, R: AllocGlobal + Input + Print>(
+    rt: &R,
+    button: D::Teller,
+    brightness: D::Teller,
+) -> ExitCode
+    requires button { D.Teller.callable button }
+    requires button_tells { TellsBy (D.Teller.answers button) (D.told BUTTON_WORDS) }
+    requires brightness { D.Teller.callable brightness }
+    requires brightness_tells { TellsBy (D.Teller.answers brightness) (D.told BRIGHTNESS_WORDS) }
+{
+    let of_button: Calls<D> = Calls {
+        validator: None,
+        notifier: Some(Notifier::new(BUTTON_WORDS, button)),
+    };
+    let of_brightness: Calls<D> = Calls {
+        validator: None,
+        notifier: Some(Notifier::new(BRIGHTNESS_WORDS, brightness)),
+    };
+    let Ok(plan) = sample_plan(rt.alloc(), of_button, of_brightness) else {
         return no_memory(rt);
     };
     let Ok(device) = Device::new(rt.alloc(), plan) else {

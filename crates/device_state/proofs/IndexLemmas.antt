@@ -4,6 +4,7 @@ use Rattle.ctrl_types.specs.declared.errno.Errno.{Errno}
 use Rattle.ctrl_types.specs.declared.errno.Fault.{Fault}
 use Rattle.ctrl_types.specs.declared.ids.ExtControl.{ExtControl}
 use Rattle.ctrl_types.specs.declared.ids.FhId.{FhId}
+use Rattle.ctrl_calls.specs.Meanings.{Verdicts}
 use Rattle.device_state.specs.declared.ask.Ask.{Ask}
 use Rattle.device_state.specs.declared.ask.Ask.TheVariants as asks
 use Rattle.device_state.specs.declared.ask.Reply.{Reply}
@@ -41,27 +42,29 @@ settled : (past : Past) (entry : ExtControl) (value : Result ℤ Errno) → HasI
 settled past entry (Err errno) = at _ _
 settled past entry (Ok value) = search (either, at, accepted)
 
-put : (plan : PlanData) (past : Past) (entry : ExtControl) (found : Option ℕ) → HasIndex true (set_one plan past entry found)
-put plan past entry None = at _ _
-put plan past entry (Some c) = search (either, at, settled)
+put : (verdicts : Verdicts) (plan : PlanData) (past : Past) (entry : ExtControl) (found : Option ℕ) → HasIndex true (set_one verdicts plan past entry found)
+put verdicts plan past entry None = at _ _
+put verdicts plan past entry (Some c) = search (either, at, settled)
 
 listed : (past : Past) (fh : FhId) (which : ℕ) (list : List ExtControl) (one : ExtControl → Answer) → ((e : ExtControl) → HasIndex true (one e)) → HasIndex true (list_answer past fh which list one)
 listed past fh which [] one h = search (either, at)
 listed past fh which (entry ∷ rest) one h = search (either, at, h)
 
-answered : (plan : PlanData) (past : Past) (ask : Ask) → HasIndex (is_list ask) (answer_of plan past ask)
-answered plan past (asks.OpenFh handler) = search (either, plain, accepted)
-answered plan past (asks.GetCtrls fh which request list) =
-    listed past fh which list _ (λ e. got plan (now plan past) e (shown plan past fh e.id))
-answered plan past (asks.SetCtrls fh which request list) =
-    listed past fh which list _ (λ e. put plan past e (shown plan past fh e.id))
+answered : (verdicts : Verdicts) (plan : PlanData) (past : Past) (words : List ℕ) (ask : Ask) → HasIndex (is_list ask) (answer_of verdicts plan past words ask)
+answered verdicts plan past words (asks.OpenFh handler) = search (either, plain, accepted)
+answered verdicts plan past words (asks.GetCtrls fh which request list) =
+    listed past fh which list _ (λ e. got plan (now verdicts plan past) e (shown plan past fh e.id))
+answered verdicts plan past words (asks.SetCtrls fh which request list) =
+    listed past fh which list _ (λ e. put verdicts plan past e (shown plan past fh e.id))
+answered verdicts plan past words (asks.Told cluster) = search (either, plain, accepted)
 
 lacking : (ask : Ask) → HasIndex (is_list ask) (no_memory ask)
 lacking (asks.OpenFh handler) = plain _
 lacking (asks.GetCtrls fh which request list) = at _ _
 lacking (asks.SetCtrls fh which request list) = at _ _
+lacking (asks.Told cluster) = plain _
 
-pub index_of_lists : (plan : PlanData) (past : Past) (ask : Ask) (fault : Fault) → MayAnswer plan past ask (Err fault) → is_some fault.index ≡ is_list ask
+pub index_of_lists : (verdicts : Verdicts) (plan : PlanData) (past : Past) (words : List ℕ) (ask : Ask) (fault : Fault) → MayAnswer verdicts plan past words ask (Err fault) → is_some fault.index ≡ is_list ask
 unfolding HasIndex
-index_of_lists plan past ask fault (inl is) = subst (HasIndex (is_list ask)) (sym is) (answered plan past ask)
-index_of_lists plan past ask fault (inr lack) = subst (HasIndex (is_list ask)) (sym lack.1) (lacking ask)
+index_of_lists verdicts plan past words ask fault (inl is) = subst (HasIndex (is_list ask)) (sym is) (answered verdicts plan past words ask)
+index_of_lists verdicts plan past words ask fault (inr lack) = subst (HasIndex (is_list ask)) (sym lack.1) (lacking ask)

@@ -1,5 +1,8 @@
 pub mod ListLemmas
+pub mod ClusterLemmas
 pub mod PastLemmas
 pub mod OverlayLemmas
+pub mod TellLemmas
 pub mod KeptLemmas
+pub mod HandleLemmas
 pub mod IndexLemmas

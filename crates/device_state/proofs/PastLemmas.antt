@@ -6,6 +6,7 @@ use Rattle.std.specs.Map.{lookup}
 use Rattle.history.specs.declared.entry.Entry.{Entry}
 use Rattle.history.specs.Past.{past}
 use Rattle.history.proofs.Pasts.{past_add, length_past}
+use Rattle.ctrl_calls.specs.Meanings.{Verdicts}
 use Rattle.device_state.specs.declared.ask.Step.{Step}
 use Rattle.device_state.specs.declared.ask.Step.TheVariants.{OpenFh, Set}
 use Rattle.device_state.specs.Plan.{PlanData}
@@ -18,13 +19,13 @@ pub opened_start : opened (past []) ≡ []
 unfolding opened
 opened_start = refl
 
-pub now_start : (plan : PlanData) → now plan (past []) ≡ defaults plan
+pub now_start : (verdicts : Verdicts) (plan : PlanData) → now verdicts plan (past []) ≡ defaults plan
 unfolding now
-now_start plan = refl
+now_start verdicts plan = refl
 
-pub legal_start : (plan : PlanData) → IsLegal plan (past [])
+pub legal_start : (verdicts : Verdicts) (plan : PlanData) → IsLegal verdicts plan (past [])
 unfolding IsLegal
-legal_start plan = tt
+legal_start verdicts plan = tt
 
 -- the file handles after one more entry
 pub opened_add : (steps : History) (e : Entry Step) → opened (past (steps ++ e ∷ [])) ≡ opened (past steps) ++ opening (length steps) e.step
@@ -32,28 +33,28 @@ unfolding opened
 opened_add steps e = rw (past_add steps e, length_past steps) refl
 
 -- the present values after one more entry
-pub now_add : (plan : PlanData) (steps : History) (e : Entry Step) → now plan (past (steps ++ e ∷ [])) ≡ now_after plan e.step (now plan (past steps))
+pub now_add : (verdicts : Verdicts) (plan : PlanData) (steps : History) (e : Entry Step) → now verdicts plan (past (steps ++ e ∷ [])) ≡ now_after verdicts plan e.step (now verdicts plan (past steps))
 unfolding now
-now_add plan steps e = rw (past_add steps e) refl
+now_add verdicts plan steps e = rw (past_add steps e) refl
 
 -- what makes one more entry legal
-pub legal_add : (plan : PlanData) (steps : History) (e : Entry Step) → IsLegal plan (past steps) → MayFollow plan (past steps) e.step → IsLegal plan (past (steps ++ e ∷ []))
+pub legal_add : (verdicts : Verdicts) (plan : PlanData) (steps : History) (e : Entry Step) → IsLegal verdicts plan (past steps) → MayFollow verdicts plan (past steps) e.step → IsLegal verdicts plan (past (steps ++ e ∷ []))
 unfolding IsLegal
-legal_add plan steps e legal may = rw (past_add steps e) (legal, may)
+legal_add verdicts plan steps e legal may = rw (past_add steps e) (legal, may)
 
 -- the last entry of a legal history may follow the others, which are legal
-pub legal_last : (plan : PlanData) (steps : History) (e : Entry Step) → IsLegal plan (past (steps ++ e ∷ [])) → MayFollow plan (past steps) e.step
+pub legal_last : (verdicts : Verdicts) (plan : PlanData) (steps : History) (e : Entry Step) → IsLegal verdicts plan (past (steps ++ e ∷ [])) → MayFollow verdicts plan (past steps) e.step
 unfolding IsLegal
-legal_last plan steps e legal = (subst (IsLegal plan) (past_add steps e) legal).1
+legal_last verdicts plan steps e legal = (subst (IsLegal verdicts plan) (past_add steps e) legal).1
 
-legal_older : (plan : PlanData) (newer older : Past) → IsLegal plan (newer ++ older) → IsLegal plan older
+legal_older : (verdicts : Verdicts) (plan : PlanData) (newer older : Past) → IsLegal verdicts plan (newer ++ older) → IsLegal verdicts plan older
 unfolding IsLegal
-legal_older plan [] older legal = legal
-legal_older plan (e ∷ newer) older legal = legal_older plan newer older legal.0
+legal_older verdicts plan [] older legal = legal
+legal_older verdicts plan (e ∷ newer) older legal = legal_older verdicts plan newer older legal.0
 
 -- what a legal history begins with is legal
-pub legal_front : (plan : PlanData) (steps more : History) → IsLegal plan (past (steps ++ more)) → IsLegal plan (past steps)
-legal_front plan steps more legal = legal_older plan (past more) (past steps) (subst (IsLegal plan) (reverse-append steps more) legal)
+pub legal_front : (verdicts : Verdicts) (plan : PlanData) (steps more : History) → IsLegal verdicts plan (past (steps ++ more)) → IsLegal verdicts plan (past steps)
+legal_front verdicts plan steps more legal = legal_older verdicts plan (past more) (past steps) (subst (IsLegal verdicts plan) (reverse-append steps more) legal)
 
 -- no entry has a number from n on as its key
 AreBelow : ℕ → List (ℕ × ℕ) → Type 0

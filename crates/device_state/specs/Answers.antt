@@ -1,6 +1,6 @@
 -- What an ask is answered after a history, and the step that it adds (Linux userspace API, "ioctl VIDIOC_G_EXT_CTRLS,
 -- VIDIOC_S_EXT_CTRLS, VIDIOC_TRY_EXT_CTRLS"; the order of the refusals and the index are of this project).
-use Rattle.std.specs.Prelude.{◌≡◌, ℕ, ℤ, Bool, true, false, ◌==◌, ◌&&◌, nat_le, if◌then◌else◌, List, [], ◌∷◌, length, map, Option, None, Some, is_some, unwrap_or, Result, Ok, Err, IsOk, IsTrue, ◌⊎◌}
+use Rattle.std.specs.Prelude.{◌≡◌, ℕ, ℤ, Bool, true, false, ◌==◌, ◌&&◌, nat_le, if◌then◌else◌, List, [], ◌∷◌, length, map, Option, None, Some, is_some, slice_index, unwrap_or, Result, Ok, Err, IsOk, IsTrue, ◌⊎◌}
 use Rattle.ctrl_types.specs.declared.errno.Errno.{Errno}
 use Rattle.ctrl_types.specs.declared.errno.Errno.TheVariants.{EBADF, ENOMEM, EACCES, EINVAL, ENOSPC}
 use Rattle.ctrl_types.specs.declared.errno.Fault.{Fault}
@@ -12,15 +12,16 @@ use Rattle.ctrl_types.specs.declared.flags.TheConstants.Flags.{DISABLED, READ_ON
 use Rattle.ctrl_types.specs.declared.ids.ExtControl.{ExtControl}
 use Rattle.ctrl_types.specs.declared.ids.FhId.{FhId}
 use Rattle.ctrl_types.specs.declared.ids.Pair.{Pair}
-use Rattle.ctrl_settle.specs.Settle.{settle}
 use Rattle.device_state.specs.declared.ask.Ask.{Ask}
 use Rattle.device_state.specs.declared.ask.Ask.TheVariants as asks
 use Rattle.device_state.specs.declared.ask.Reply.{Reply}
-use Rattle.device_state.specs.declared.ask.Reply.TheVariants.{Fh, Controls}
+use Rattle.device_state.specs.declared.ask.Reply.TheVariants.{Fh, Controls, Word}
 use Rattle.device_state.specs.declared.ask.Step.{Step}
 use Rattle.device_state.specs.declared.ask.Step.TheVariants as steps
 use Rattle.device_state.specs.declared.limits.TheConstants.{MAX_FILE_HANDLES, MAX_STEPS}
-use Rattle.device_state.specs.Plan.{PlanData, control}
+use Rattle.device_state.specs.Plan.{PlanData, control, cluster_count}
+use Rattle.ctrl_calls.specs.Meanings.{Verdicts}
+use Rattle.device_state.specs.Clusters.{becomes}
 use Rattle.device_state.specs.Steps.{Past, opened, handler_of, shown}
 use Rattle.device_state.specs.Values.{Values, value_at, now}
 
@@ -44,8 +45,8 @@ is_full past = nat_le MAX_STEPS (length past)
 abbrev pub are_all_open : Past → Bool
 are_all_open past = nat_le MAX_FILE_HANDLES (length (opened past))
 
--- Opening on a handler: EINVAL where there is no such handler; ENOSPC where as many file handles are open as can be; ENOSPC where no further
--- step is kept. Else the file handle, whose id is the number of this step.
+-- Opening on a handler: EINVAL where there is no such handler; ENOSPC where as many file handles are open as can be; ENOSPC
+-- where no further step is kept. Else the file handle, whose id is the number of this step.
 abbrev pub open_answer : PlanData → Past → ℕ → Answer
 open_answer plan past handler =
     if nat_le (length plan.handlers) handler then refused EINVAL
@@ -70,20 +71,22 @@ get_one plan values entry (Some c) =
     else if contains (control plan c).flags WRITE_ONLY then refused_at EACCES 1
     else Ok (Controls (record { id = entry.id; value = value_at values c } ∷ []))
 
--- Setting a control to what its value settles to: the errno where it doesn't settle, ENOSPC where no further step is kept.
+-- Setting a control to what its value becomes: the errno where it doesn't settle or its validator refuses, ENOSPC where no
+-- further step is kept.
 abbrev pub set_settled : Past → ExtControl → Result ℤ Errno → Answer
 set_settled past entry (Err errno) = refused_at errno 1
 set_settled past entry (Ok value) =
     if is_full past then refused_at ENOSPC 1
     else Ok (Controls (record { id = entry.id; value = value } ∷ []))
 
--- Setting one control: EINVAL where it isn't shown or is DISABLED; EACCES where it is READ_ONLY; then as its value settles.
-abbrev pub set_one : PlanData → Past → ExtControl → Option ℕ → Answer
-set_one plan past entry None = refused_at EINVAL 1
-set_one plan past entry (Some c) =
+-- Setting one control: EINVAL where it isn't shown or is DISABLED; EACCES where it is READ_ONLY; then as its value settles and
+-- is judged.
+abbrev pub set_one : Verdicts → PlanData → Past → ExtControl → Option ℕ → Answer
+set_one verdicts plan past entry None = refused_at EINVAL 1
+set_one verdicts plan past entry (Some c) =
     if contains (control plan c).flags DISABLED then refused_at EINVAL 1
     else if contains (control plan c).flags READ_ONLY then refused_at EACCES 1
-    else set_settled past entry (settle (control plan c) entry.value)
+    else set_settled past entry (becomes verdicts plan c entry.value)
 
 -- A list: EBADF where the file handle isn't open; EINVAL, as yet, where it isn't a list of one about the present values.
 -- The index is the number of entries.
@@ -95,13 +98,19 @@ list_answer past fh which (entry ∷ rest) one =
     (if is_one_current which (entry ∷ rest) then one entry else refused_at EINVAL (length (entry ∷ rest)))
     else refused_at EBADF (length (entry ∷ rest))
 
--- the answer where memory suffices
-abbrev pub answer_of : PlanData → Past → Ask → Answer
-answer_of plan past (asks.OpenFh handler) = open_answer plan past handler
-answer_of plan past (asks.GetCtrls fh which request list) =
-    list_answer past fh which list (λ entry. get_one plan (now plan past) entry (shown plan past fh entry.id))
-answer_of plan past (asks.SetCtrls fh which request list) =
-    list_answer past fh which list (λ entry. set_one plan past entry (shown plan past fh entry.id))
+-- The word that a cluster was told last: EINVAL where there is no such cluster. A cluster without closures was told 0.
+abbrev pub told_answer : PlanData → List ℕ → ℕ → Answer
+told_answer plan words cluster =
+    if nat_le (cluster_count plan) cluster then refused EINVAL else Ok (Word (slice_index words cluster))
+
+-- the answer where memory suffices, where these words were told
+abbrev pub answer_of : Verdicts → PlanData → Past → List ℕ → Ask → Answer
+answer_of verdicts plan past words (asks.OpenFh handler) = open_answer plan past handler
+answer_of verdicts plan past words (asks.GetCtrls fh which request list) =
+    list_answer past fh which list (λ entry. get_one plan (now verdicts plan past) entry (shown plan past fh entry.id))
+answer_of verdicts plan past words (asks.SetCtrls fh which request list) =
+    list_answer past fh which list (λ entry. set_one verdicts plan past entry (shown plan past fh entry.id))
+answer_of verdicts plan past words (asks.Told cluster) = told_answer plan words cluster
 
 -- ENOMEM may take the place of an accepted opening, and for a list that of every answer after the checks of the file
 -- handle, of `which` and of the count.
@@ -112,23 +121,26 @@ abbrev pub MayLackMemory : PlanData → Past → Ask → Type 0
 MayLackMemory plan past (asks.OpenFh handler) = IsOk (open_answer plan past handler)
 MayLackMemory plan past (asks.GetCtrls fh which request list) = IsTrue (list_is_read past fh which list)
 MayLackMemory plan past (asks.SetCtrls fh which request list) = IsTrue (list_is_read past fh which list)
+MayLackMemory plan past (asks.Told cluster) = ⊥
 
 -- want of memory, as the ask is told it
 abbrev pub no_memory : Ask → Answer
 no_memory (asks.OpenFh handler) = refused ENOMEM
 no_memory (asks.GetCtrls fh which request list) = refused_at ENOMEM (length list)
 no_memory (asks.SetCtrls fh which request list) = refused_at ENOMEM (length list)
+no_memory (asks.Told cluster) = refused ENOMEM
 
 -- whether an ask is one about a list
 abbrev pub is_list : Ask → Bool
 is_list (asks.OpenFh handler) = false
 is_list (asks.GetCtrls fh which request list) = true
 is_list (asks.SetCtrls fh which request list) = true
+is_list (asks.Told cluster) = false
 
 -- an answer that the ask may get after this past
-abbrev pub MayAnswer : PlanData → Past → Ask → Answer → Type 0
-MayAnswer plan past ask answer =
-    (answer ≡ answer_of plan past ask) ⊎ (MayLackMemory plan past ask × (answer ≡ no_memory ask))
+abbrev pub MayAnswer : Verdicts → PlanData → Past → List ℕ → Ask → Answer → Type 0
+MayAnswer verdicts plan past words ask answer =
+    (answer ≡ answer_of verdicts plan past words ask) ⊎ (MayLackMemory plan past ask × (answer ≡ no_memory ask))
 
 -- the pairs of a list: each entry's control, with the value as it was given
 abbrev pub pairs_of : PlanData → Past → FhId → List ExtControl → List Pair
@@ -139,6 +151,7 @@ abbrev pub step_of : PlanData → Past → Ask → Option Step
 step_of plan past (asks.OpenFh handler) = Some (steps.OpenFh handler)
 step_of plan past (asks.GetCtrls fh which request list) = None
 step_of plan past (asks.SetCtrls fh which request list) = Some (steps.Set fh (pairs_of plan past fh list))
+step_of plan past (asks.Told cluster) = None
 
 -- the step that it adds where this is its answer
 abbrev pub taken : PlanData → Past → Ask → Answer → Option Step

@@ -1,11 +1,15 @@
 pub use Rattle.history.specs.Past
 pub use Rattle.ctrl_types.specs.Classes
 pub use Rattle.ctrl_types.specs.Flags
+pub use Rattle.ctrl_calls.specs.Counts
+pub use Rattle.ctrl_calls.specs.Meanings
 pub use Rattle.ctrl_settle.specs.Control
 pub use Rattle.ctrl_settle.specs.Settle
 pub mod Plan
 pub mod Steps
+pub mod Clusters
 pub mod Values
+pub mod Told
 pub mod Answers
 pub mod Legal
 pub mod Device

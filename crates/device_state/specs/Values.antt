@@ -4,11 +4,11 @@ use Rattle.std.specs.Option.{option_or}
 use Rattle.std.specs.Result.{result_unwrap_or}
 use Rattle.std.specs.List.{enumerate_from}
 use Rattle.ctrl_types.specs.declared.ids.Pair.{Pair}
-use Rattle.ctrl_settle.specs.Control.{Control}
-use Rattle.ctrl_settle.specs.Settle.{settle}
 use Rattle.device_state.specs.declared.ask.Step.{Step}
 use Rattle.device_state.specs.declared.ask.Step.TheVariants.{Set}
-use Rattle.device_state.specs.Plan.{PlanData, control}
+use Rattle.device_state.specs.Plan.{PlanData}
+use Rattle.ctrl_calls.specs.Meanings.{Verdicts}
+use Rattle.device_state.specs.Clusters.{becomes}
 use Rattle.device_state.specs.Steps.{Past}
 
 -- a value for each control, in the order of their numbers
@@ -24,26 +24,25 @@ abbrev pub last_value : List Pair → ℕ → Option ℤ
 last_value [] c = None
 last_value (p ∷ pairs) c = option_or (last_value pairs c) (if p.control == c then Some p.value else None)
 
--- what a control's value becomes: what is asked for settles, and what doesn't settle leaves the value
-abbrev pub overlaid : Control → ℤ → Option ℤ → ℤ
-overlaid ctrl value None = value
-overlaid ctrl value (Some asked) = result_unwrap_or (settle ctrl asked) value
+-- what a control's value becomes: a refused cluster keeps its values
+abbrev pub overlaid : Verdicts → PlanData → ℕ → ℤ → Option ℤ → ℤ
+overlaid verdicts plan c value None = value
+overlaid verdicts plan c value (Some asked) = result_unwrap_or (becomes verdicts plan c asked) value
 
--- Pairs laid over values: each control takes the last value that the pairs give it, settled. Each control is a cluster of its
--- own as yet: a value that doesn't settle leaves its control as it was.
-unfoldable pub overlay : PlanData → Values → List Pair → Values
-overlay plan values pairs = map (λ v. overlaid (control plan v.0) v.1 (last_value pairs v.0)) (enumerate_from 0 values)
+-- Pairs laid over values: each control takes the last value that the pairs give it, settled and judged.
+unfoldable pub overlay : Verdicts → PlanData → Values → List Pair → Values
+overlay verdicts plan values pairs = map (λ v. overlaid verdicts plan v.0 v.1 (last_value pairs v.0)) (enumerate_from 0 values)
 
 -- the values before the first step
 abbrev pub defaults : PlanData → Values
 defaults plan = map (λ c. c.default_value) plan.controls
 
 -- what a step makes of the present values
-abbrev pub now_after : PlanData → Step → Values → Values
-now_after plan (Set fh pairs) values = overlay plan values pairs
-now_after plan _ values = values
+abbrev pub now_after : Verdicts → PlanData → Step → Values → Values
+now_after verdicts plan (Set fh pairs) values = overlay verdicts plan values pairs
+now_after verdicts plan _ values = values
 
 -- the present values after a history: the defaults at first, and then what each step makes of them
-unfoldable pub now : PlanData → Past → Values
-now plan [] = defaults plan
-now plan (e ∷ older) = now_after plan e.step (now plan older)
+unfoldable pub now : Verdicts → PlanData → Past → Values
+now verdicts plan [] = defaults plan
+now verdicts plan (e ∷ older) = now_after verdicts plan e.step (now verdicts plan older)

@@ -32,6 +32,11 @@ pub enum Ask {
         /// The controls and their values.
         list: ControlList,
     },
+    /// Reads the word that a cluster was told last.
+    Told {
+        /// The cluster's number.
+        cluster: u32,
+    },
 }
 
 /// What an accepted ask is told.
@@ -41,6 +46,8 @@ pub enum Reply {
     Fh(FhId),
     /// The controls of the list, in its order, with their values.
     Controls(ControlList),
+    /// The word that the cluster was told last; 0 where it has no notifier.
+    Word(u64),
 }
 
 /// What an accepted ask adds to the history.

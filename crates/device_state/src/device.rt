@@ -1,98 +1,144 @@
-ghost use Rattle.std.specs.Prelude.{◌≡◌, ◌<◌, ◌≤◌, ℕ, [], ◌∷◌, length, None, Some, Option, Ok, IsOk, IfOk, IfErr, IfSome, OnErr, IsSome};
+ghost use Rattle.std.specs.Prelude.{◌≡◌, ◌<◌, ◌≤◌, ◌+◌, ℕ, Bool, [], ◌∷◌, length, None, Some, Option, Ok, Err, IsOk, IfOk, IfErr, IfSome, OnErr, IsSome};
 ghost use Rattle.history.specs.Past.{past};
 ghost use Rattle.ctrl_types.specs.declared.errno.Errno.TheVariants.{ENOMEM};
 ghost use Rattle.ctrl_types.specs.declared.ids.ExtControl.{ExtControl as ExtControlOf};
 ghost use Rattle.ctrl_types.specs.declared.ids.RequestId.{RequestId as RequestIdOf};
-ghost use Rattle.ctrl_settle.specs.Settle.{settle as settled};
 ghost use Rattle.device_state.specs.declared.ask.Ask.TheVariants as asks;
+ghost use Rattle.device_state.specs.declared.ask.Reply.TheVariants as replies;
 ghost use Rattle.device_state.specs.declared.ask.Step.TheVariants as steps;
-ghost use Rattle.device_state.specs.Plan.{control};
+ghost use Rattle.device_state.specs.Clusters.{becomes};
+ghost use Rattle.device_state.specs.Plan.{IsPlan};
 ghost use Rattle.device_state.specs.Steps.{opened, handler_of, shown};
-ghost use Rattle.device_state.specs.Values.{value_at, now};
-ghost use Rattle.device_state.specs.Answers.{refused, refused_at, are_all_open, is_full, open_answer, answer_of, MayAnswer};
+ghost use Rattle.device_state.specs.Values.{defaults, value_at, now};
+ghost use Rattle.device_state.specs.Told.{AreTold, is_changed};
+ghost use Rattle.device_state.specs.Answers.{Answer, refused, refused_at, are_all_open, is_full, open_answer, list_answer, get_one, set_one, told_answer, answer_of, MayAnswer};
 ghost use Rattle.device_state.specs.Legal.{IsLegal};
-ghost use Rattle.device_state.specs.Device.{Handles, with_step};
+ghost use Rattle.device_state.specs.Device.{Handles, SetsOne, with_step};
 
 use crate::ask::{Ask, Reply, Step};
+use crate::change::{first_words, tell_change};
 use crate::control_list::ControlList;
 use crate::limits::{MAX_FILE_HANDLES, MAX_STEPS};
 use crate::pair_list::PairList;
 use crate::plan::Plan;
 use bitflags::Flags as FlagSet;
-use ctrl_settle::{Ctrl, settle};
+use ctrl_calls::{Driver, Work};
 use ctrl_types::{CtrlId, Errno, ExtControl, Fault, FhId, Flags, Pair, RequestId};
 use history::Entry;
 use indexmap::IndexMap;
 use std::alloc::{AllocError, Global};
 use std::marker::Model;
 
-/// The controls of one device (Linux driver API, "V4L2 Controls"), and the history of the steps that it accepted. Contracts see it as its plan and those steps:
-/// its open file handles and its present values are what the steps make of them, at every moment.
-#[derive(Drop)]
-pub struct Device {
-    plan: Plan,
+/// The controls of one device (Linux driver API, "V4L2 Controls"), and the history of the steps that it accepted. Contracts
+/// see it as its plan, those steps, the words that its clusters were told last, and the counts of the last call: its open file
+/// handles and its present values are what the steps make of them, at every moment.
+pub struct Device<D: Driver> {
+    plan: Plan<D>,
     // the open file handles, each with its handler, in the order of their opening
     file_handles: IndexMap<u32, u32>,
     // the present values, by control
     values: Vec<i64>,
+    // the words told last, by named cluster
+    words: Vec<u64>,
     steps: Vec<Entry<Step>>,
+    work: Work,
     alloc: Global,
 }
 
-impl Model for Device {
+impl<D: Driver> Model for Device<D> {
     ghost use Rattle.device_state.specs.Device.{DeviceData};
 
     ghost Value = { DeviceData };
 
     ghost use Rattle.device_state.specs.Kept.{IsKept};
 
-    ghost view = { λ d. record { plan = d.plan; steps = d.steps.items } };
+    ghost view = { λ d. record { plan = d.plan; steps = d.steps.items; words = d.words.items; work = d.work } };
 
-    ghost invariant = { λ d. IsKept d.plan d.steps.items d.file_handles.entries d.values.items };
+    ghost invariant = { λ d. IsKept D.verdict D.told d.plan d.steps.items d.file_handles.entries d.values.items d.words.items };
 }
 
-impl Device {
-    /// A device of this plan, with its defaults, without steps. ENOMEM (12) where a growth was refused, with the plan.
-    pub fn new(alloc: Global, plan: Plan) -> Result<Device, (Plan, Errno)>
-        ensures ok { IfOk result (λ d. d ≡ record { plan = plan; steps = [] }) }
+impl<D: Driver> Drop for Device<D> {
+    fn drop(self) {
+        let Device {
+            plan: _,
+            file_handles: _,
+            values: _,
+            words: _,
+            steps: _,
+            work: _,
+            alloc: _,
+        } = self;
+    }
+}
+
+impl<D: Driver> Device<D> {
+    /// A device of this plan, with its defaults, without steps. Each notifier is told the default of its control, in rising
+    /// number of the clusters (of this project). ENOMEM (12) where a growth was refused, with the plan; then nobody was told.
+    pub fn new(alloc: Global, plan: Plan<D>) -> Result<Device<D>, (Plan<D>, Errno)>
+        ensures ok { IfOk result (λ d. (d.plan ≡ plan) × (d.steps ≡ []) × AreTold D.told plan (defaults plan) d.words × (d.work ≡ record { asked = 0; told = 0 })) }
         ensures err { IfErr result (λ e. (e.0 ≡ plan) × (e.1 ≡ ENOMEM)) }
     {
-        match plan.defaults(alloc) {
-            Ok(values) => Ok(Device {
-                plan,
-                file_handles: IndexMap::new(alloc),
-                values,
-                steps: Vec::new(alloc),
-                alloc,
-            }),
-            Err(_) => Err((plan, Errno::ENOMEM)),
-        }
+        let Ok(values) = plan.defaults(alloc) else {
+            return Err((plan, Errno::ENOMEM));
+        };
+        let Ok(words) = first_words(alloc, &plan, values.as_slice()) else {
+            return Err((plan, Errno::ENOMEM));
+        };
+        Ok(Device {
+            plan,
+            file_handles: IndexMap::new(alloc),
+            values,
+            words,
+            steps: Vec::new(alloc),
+            work: Work::new(),
+            alloc,
+        })
     }
 
     /// What the device was built of.
-    pub fn plan(&self) -> &Plan
+    pub fn plan(&self) -> &Plan<D>
         ensures { result.now ≡ self.now.plan }
     {
         &self.plan
     }
 
-    /// The steps that were accepted, oldest first. They are legal, and there are at most 1,000,000 of them.
+    /// The steps that were accepted, oldest first. They are legal, and there are at most 1,000,000 of them; each named cluster
+    /// has a word that it may have been told of the values that they make.
     pub fn steps(&self) -> &[Entry<Step>]
         ensures steps { result.now ≡ self.now.steps }
-        ensures legal { IsLegal self.now.plan (past self.now.steps) }
+        ensures legal { IsLegal D.verdict self.now.plan (past self.now.steps) }
         ensures few { length self.now.steps ≤ MAX_STEPS }
+        ensures told { AreTold D.told self.now.plan (now D.verdict self.now.plan (past self.now.steps)) self.now.words }
     {
         self.steps.as_slice()
     }
 
+    /// How often the last call of `handle` or of a short form asked validators and told notifiers; zeros before the first.
+    pub fn work(&self) -> Work
+        ensures { result ≡ self.now.work }
+    {
+        self.work
+    }
+
     /// Answers an ask of the seat with this number, which is any `u32`. An accepted ask adds its step to the history, if it
-    /// has one; a refusal leaves the device as it was.
+    /// has one; a refusal leaves the device as it was, but for the counts of `work`. Each cluster whose control changed is told
+    /// once, and keeps a word of its new value; the word of every other stays.
     ///
     /// `OpenFh` is refused, without an index, with EINVAL (22) where there is no such handler, with ENOSPC (28) where 64 file
     /// handles are open or 1,000,000 steps are kept, and with ENOMEM (12) where a growth was refused. For the refusals of
-    /// lists, each with its index, see `get` and `set`.
+    /// lists, each with its index, see `get` and `set`; for those of `Told` see `told`.
     pub fn handle(&mut self, seat: u32, ask: &Ask) -> Result<Reply, Fault>
-        ensures { Handles self.old self.new seat ask.now result }
+        ensures handles { Handles D.verdict self.old self.new seat ask.now result }
+        ensures told { AreTold D.told self.new.plan (now D.verdict self.new.plan (past self.new.steps)) self.new.words }
+    {
+        let answer = self.answer(seat, ask);
+        // the words are such as were told, as the contract of `steps` says
+        let _kept = self.steps();
+        answer
+    }
+
+    fn answer(&mut self, seat: u32, ask: &Ask) -> Result<Reply, Fault>
+        ensures { Handles D.verdict self.old self.new seat ask.now result }
     {
         match ask {
             Ask::OpenFh { handler } => self.open(seat, *handler),
@@ -108,11 +154,13 @@ impl Device {
                 request,
                 list,
             } => self.set(seat, *fh, *which, *request, list),
+            Ask::Told { cluster } => self.told(*cluster),
         }
     }
 
     /// Gets controls, as `handle` on `Ask::GetCtrls` of these fields at any seat does (Linux userspace API, "ioctl
-    /// VIDIOC_G_EXT_CTRLS"; the order of the refusals and the index are of this project). It changes nothing.
+    /// VIDIOC_G_EXT_CTRLS"; the order of the refusals and the index are of this project). It changes nothing but the counts of
+    /// `work`.
     ///
     /// Refused, in this order, with EBADF (9) where `fh` isn't open; EINVAL (22) where, as yet, `which` isn't 0 or `list`
     /// hasn't one entry; EINVAL where the id isn't shown to `fh` or its control is DISABLED; EACCES (13) where it is
@@ -125,27 +173,25 @@ impl Device {
         request: Option<RequestId>,
         list: &ControlList,
     ) -> Result<Reply, Fault>
-        ensures { (seat : ℕ) → Handles self.old self.new seat (asks.GetCtrls fh which request list.now) result }
+        ensures { (seat : ℕ) → Handles D.verdict self.old self.new seat (asks.GetCtrls fh which request list.now) result }
     {
-        let count = list.len();
-        if self.handler_of(fh).is_none() {
-            return refused_at(Errno::EBADF, count);
-        }
-        match list.only() {
-            Some(entry) if which == 0 => self.get_one(fh, entry),
-            _ => refused_at(Errno::EINVAL, count),
-        }
+        self.work = Work::new();
+        self.get_list(fh, which, list)
     }
 
-    /// Sets controls to what their values settle to, as `handle` on `Ask::SetCtrls` of these fields does (Linux userspace API,
-    /// "ioctl VIDIOC_S_EXT_CTRLS"; the order of the refusals and the index are of this project). The answer has the values
-    /// that the controls took; the step keeps them as they were given.
+    /// Sets controls to what their values become, as `handle` on `Ask::SetCtrls` of these fields does (Linux userspace API,
+    /// "ioctl VIDIOC_S_EXT_CTRLS"; Linux driver API, "V4L2 Controls", "Control Clusters"; the order of the refusals and the
+    /// index are of this project). A value settles, and then the cluster's validator judges it, asked at most once. The answer
+    /// has the values that the controls took; the step keeps them as they were given. Where a control changed, that is where
+    /// its value differs or it acts on each write, its cluster's notifier is told the new value, once, and its word is kept.
     ///
     /// Refused, in this order, with EBADF (9) where `fh` isn't open; EINVAL (22) where, as yet, `which` isn't 0 or `list`
     /// hasn't one entry; EINVAL where the id isn't shown to `fh` or its control is DISABLED; EACCES (13) where it is
-    /// READ_ONLY; the errno of `ctrl_settle::settle` where the value doesn't settle; ENOSPC (28) where 1,000,000 steps are
-    /// kept. ENOMEM (12) may stand in place of any answer from the third on. The index is the number of entries, and nothing
-    /// is changed. `request` is ignored.
+    /// READ_ONLY; the errno of `ctrl_settle::settle` where the value doesn't settle; the validator's errno where it refuses
+    /// with EACCES, EBUSY (16), EINVAL or ERANGE (34), and EINVAL where it refuses with another, or answers a row of another
+    /// length or with a value that settling would change or refuse; ENOSPC (28) where 1,000,000 steps are kept. ENOMEM (12) may
+    /// stand in place of any answer from the third on. The index is the number of entries. Nothing is changed then but the
+    /// counts of `work`, and no notifier is told. `request` is ignored.
     pub fn set(
         &mut self,
         seat: u32,
@@ -154,31 +200,52 @@ impl Device {
         request: Option<RequestId>,
         list: &ControlList,
     ) -> Result<Reply, Fault>
-        ensures { Handles self.old self.new seat (asks.SetCtrls fh which request list.now) result }
+        ensures { Handles D.verdict self.old self.new seat (asks.SetCtrls fh which request list.now) result }
     {
-        let count = list.len();
-        if self.handler_of(fh).is_none() {
-            return refused_at(Errno::EBADF, count);
-        }
-        match list.only() {
-            Some(entry) if which == 0 => self.set_one(seat, fh, entry),
-            _ => refused_at(Errno::EINVAL, count),
+        match self.read_list(fh, which, list) {
+            Ok(entry) => self.set_one(seat, fh, entry),
+            Err(fault) => {
+                self.work = Work::new();
+                Err(fault)
+            }
         }
     }
 
-    fn open(&mut self, seat: u32, handler: u32) -> Result<Reply, Fault>
-        ensures { Handles self.old self.new seat (asks.OpenFh handler) result }
+    /// The word that a cluster was told last, as `handle` on `Ask::Told` of it at any seat does (of this project): 0 where the
+    /// cluster has no notifier. EINVAL (22), without an index, where there is no such cluster. It takes no memory, and changes
+    /// nothing but the counts of `work`.
+    pub fn told(&mut self, cluster: u32) -> Result<Reply, Fault>
+        ensures { (seat : ℕ) → Handles D.verdict self.old self.new seat (asks.Told cluster) result }
     {
-        if !self.plan.has_handler(handler) {
-            return refused(Errno::EINVAL);
-        }
-        if self.are_all_open() || self.is_full() {
-            return refused(Errno::ENOSPC);
+        self.work = Work::new();
+        self.word(cluster)
+    }
+
+    fn open(&mut self, seat: u32, handler: u32) -> Result<Reply, Fault>
+        ensures { Handles D.verdict self.old self.new seat (asks.OpenFh handler) result }
+    {
+        self.work = Work::new();
+        if let Err(fault) = self.read_open(handler) {
+            return Err(fault);
         }
         match self.accept_open(seat, handler) {
             Ok(fh) => Ok(Reply::Fh(fh)),
             Err(_) => refused(Errno::ENOMEM),
         }
+    }
+
+    // The refusals of an opening.
+    fn read_open(&self, handler: u32) -> Result<(), Fault>
+        ensures ok { IfOk result (λ _. open_answer self.now.plan (past self.now.steps) handler ≡ Ok (replies.Fh (record { 0 = length (past self.now.steps) }))) }
+        ensures err { IfErr result (λ fault. open_answer self.now.plan (past self.now.steps) handler ≡ Err fault) }
+    {
+        if !self.plan.has_handler(handler) {
+            return Err(plain(Errno::EINVAL));
+        }
+        if self.are_all_open() || self.is_full() {
+            return Err(plain(Errno::ENOSPC));
+        }
+        Ok(())
     }
 
     // Opens a file handle, after the refusals.
@@ -197,10 +264,34 @@ impl Device {
         Ok(FhId(number))
     }
 
+    // The refusals of a list before its entries are read; the one entry where there is none.
+    fn read_list(&self, fh: FhId, which: u32, list: &ControlList) -> Result<ExtControl, Fault>
+        ensures ok { IfOk result (λ entry. IsSome (handler_of (past self.now.steps) fh) × (which ≡ 0) × (list.now ≡ entry ∷ [])) }
+        ensures err { IfErr result (λ fault. (one : ExtControlOf → Answer) → list_answer (past self.now.steps) fh which list.now one ≡ Err fault) }
+    {
+        let count = list.len();
+        if self.handler_of(fh).is_none() {
+            return Err(at(Errno::EBADF, count));
+        }
+        match list.only() {
+            Some(entry) if which == 0 => Ok(entry),
+            _ => Err(at(Errno::EINVAL, count)),
+        }
+    }
+
+    fn get_list(&self, fh: FhId, which: u32, list: &ControlList) -> Result<Reply, Fault>
+        ensures { (request : Option RequestIdOf) → MayAnswer D.verdict self.now.plan (past self.now.steps) self.now.words (asks.GetCtrls fh which request list.now) result }
+    {
+        match self.read_list(fh, which, list) {
+            Ok(entry) => self.get_one(fh, entry),
+            Err(fault) => Err(fault),
+        }
+    }
+
     // Gets one control by an open file handle.
     fn get_one(&self, fh: FhId, entry: ExtControl) -> Result<Reply, Fault>
         requires { IsSome (handler_of (past self.now.steps) fh) }
-        ensures { (request : Option RequestIdOf) → MayAnswer self.now.plan (past self.now.steps) (asks.GetCtrls fh 0 request (entry ∷ [])) result }
+        ensures { (request : Option RequestIdOf) → MayAnswer D.verdict self.now.plan (past self.now.steps) self.now.words (asks.GetCtrls fh 0 request (entry ∷ [])) result }
     {
         let Some(number) = self.shown(fh, entry.id) else {
             return refused_at(Errno::EINVAL, 1);
@@ -221,59 +312,87 @@ impl Device {
     // Sets one control by an open file handle.
     fn set_one(&mut self, seat: u32, fh: FhId, entry: ExtControl) -> Result<Reply, Fault>
         requires { IsSome (handler_of (past self.old.steps) fh) }
-        ensures { (request : Option RequestIdOf) → Handles self.old self.new seat (asks.SetCtrls fh 0 request (entry ∷ [])) result }
+        ensures { (request : Option RequestIdOf) → Handles D.verdict self.old self.new seat (asks.SetCtrls fh 0 request (entry ∷ [])) result }
     {
-        let Some(number) = self.shown(fh, entry.id) else {
-            return refused_at(Errno::EINVAL, 1);
-        };
-        let ctrl = self.plan.control(number);
-        if ctrl.flags().contains(Flags::DISABLED) {
-            return refused_at(Errno::EINVAL, 1);
-        }
-        if ctrl.flags().contains(Flags::READ_ONLY) {
-            return refused_at(Errno::EACCES, 1);
-        }
-        let value = match settle(&ctrl, entry.value) {
-            Ok(value) => value,
+        let mut work = Work::new();
+        let judged = self.judge_one(fh, entry, &mut work);
+        self.work = work;
+        let (number, value) = match judged {
+            Ok(taken) => taken,
             Err(errno) => return refused_at(errno, 1),
         };
-        if self.is_full() {
-            return refused_at(Errno::ENOSPC, 1);
-        }
-        match self.accept_set(seat, fh, entry.id, number, entry.value, value) {
+        match self.accept_set(seat, fh, entry, number, value) {
             Ok(answers) => Ok(Reply::Controls(answers)),
             Err(_) => refused_at(Errno::ENOMEM, 1),
         }
     }
 
-    // Sets one control, as shown under an id, to what the value that is asked for settles to, after the refusals.
+    // The refusals of an entry that is to be set; else the control that it is of, and what its value becomes.
+    fn judge_one(&self, fh: FhId, entry: ExtControl, work: &mut Work) -> Result<(u32, i64), Errno>
+        ensures err { IfErr result (λ errno. set_one D.verdict self.now.plan (past self.now.steps) entry (shown self.now.plan (past self.now.steps) fh entry.id) ≡ refused_at errno 1) }
+        ensures ok { IfOk result (λ taken. set_one D.verdict self.now.plan (past self.now.steps) entry (shown self.now.plan (past self.now.steps) fh entry.id)
+            ≡ Ok (replies.Controls (record { id = entry.id; value = taken.1 } ∷ []))) }
+        ensures shown { IfOk result (λ taken. shown self.now.plan (past self.now.steps) fh entry.id ≡ Some taken.0) }
+        ensures known { IfOk result (λ taken. taken.0 < length self.now.plan.controls) }
+        ensures becomes { IfOk result (λ taken. becomes D.verdict self.now.plan taken.0 entry.value ≡ Ok taken.1) }
+        ensures room { IfOk result (λ _. length self.now.steps < MAX_STEPS) }
+        ensures plan { IfOk result (λ _. IsPlan self.now.plan) }
+        ensures asked { work.new.asked ≤ work.old.asked + 1 }
+        ensures told { work.new.told ≡ work.old.told }
+    {
+        let Some(number) = self.shown(fh, entry.id) else {
+            return Err(Errno::EINVAL);
+        };
+        let flags = self.plan.control(number).flags();
+        if flags.contains(Flags::DISABLED) {
+            return Err(Errno::EINVAL);
+        }
+        if flags.contains(Flags::READ_ONLY) {
+            return Err(Errno::EACCES);
+        }
+        match self.plan.becomes(number, entry.value, work) {
+            Err(errno) => Err(errno),
+            Ok(_) if self.is_full() => Err(Errno::ENOSPC),
+            Ok(value) => Ok((number, value)),
+        }
+    }
+
+    // Sets one control, as shown under an id, to what the value that is asked for becomes, after the refusals.
     #[tactic(auto, using(crate::proofs::OverlayLemmas::length_now))]
     fn accept_set(
         &mut self,
         seat: u32,
         fh: FhId,
-        id: CtrlId,
+        entry: ExtControl,
         number: u32,
-        asked: i64,
         value: i64,
     ) -> Result<ControlList, AllocError>
-        requires accepted { IsOk (answer_of self.old.plan (past self.old.steps) (asks.SetCtrls fh 0 None (record { id = id; value = asked } ∷ []))) }
+        requires accepted { IsOk (answer_of D.verdict self.old.plan (past self.old.steps) [] (asks.SetCtrls fh 0 None (entry ∷ []))) }
         requires room { length self.old.steps < MAX_STEPS }
-        requires shown { shown self.old.plan (past self.old.steps) fh id ≡ Some number }
+        requires shown { shown self.old.plan (past self.old.steps) fh entry.id ≡ Some number }
         requires known { number < length self.old.plan.controls }
-        requires settled { settled (control self.old.plan number) asked ≡ Ok value }
-        ensures ok { IfOk result (λ answers. (answers ≡ record { id = id; value = value } ∷ [])
-            × (self.new ≡ with_step self.old seat (steps.Set fh (record { control = number; value = asked } ∷ [])))) }
+        requires becomes { becomes D.verdict self.old.plan number entry.value ≡ Ok value }
+        ensures answers { IfOk result (λ answers. answers ≡ record { id = entry.id; value = value } ∷ []) }
+        ensures ok { IfOk result (λ _. SetsOne D.verdict D.told self.old self.new seat fh number entry.value value) }
         ensures err { OnErr result (self.new ≡ self.old) }
     {
+        let changed = self.is_changed(number, value);
         self.steps.reserve(1)?;
-        let answers = one_control(self.alloc, id, value)?;
-        let pairs = one_pair(self.alloc, number, asked)?;
+        let answers = one_control(self.alloc, entry.id, value)?;
+        let pairs = one_pair(self.alloc, number, entry.value)?;
         self.values[number as usize] = value;
         self.steps.push_reserved(Entry {
             seat,
             step: Step::Set { fh, pairs },
         });
+        tell_change(
+            &self.plan,
+            &mut self.words,
+            number,
+            changed,
+            value,
+            &mut self.work,
+        );
         Ok(answers)
     }
 
@@ -309,25 +428,62 @@ impl Device {
     #[tactic(auto, using(crate::proofs::OverlayLemmas::length_now))]
     fn value(&self, number: u32) -> i64
         requires { number < length self.now.plan.controls }
-        ensures { result ≡ value_at (now self.now.plan (past self.now.steps)) number }
+        ensures { result ≡ value_at (now D.verdict self.now.plan (past self.now.steps)) number }
     {
         self.values[number as usize]
+    }
+
+    // Whether a value that is written changes its control.
+    fn is_changed(&self, number: u32, value: i64) -> bool
+        requires { number < length self.now.plan.controls }
+        ensures changed { result ≡ is_changed self.now.plan (now D.verdict self.now.plan (past self.now.steps)) number value }
+        ensures plan { IsPlan self.now.plan }
+    {
+        let flags = self.plan.control(number).flags();
+        self.value(number) != value || flags.contains(Flags::EXECUTE_ON_WRITE)
+    }
+
+    // The word that a cluster was told last.
+    fn word(&self, cluster: u32) -> Result<Reply, Fault>
+        ensures { result ≡ told_answer self.now.plan self.now.words cluster }
+    {
+        if cluster >= self.plan.cluster_count() {
+            return refused(Errno::EINVAL);
+        }
+        match self.words.get(cluster as usize) {
+            Some(word) => Ok(Reply::Word(*word)),
+            None => Ok(Reply::Word(0)),
+        }
+    }
+}
+
+// A fault without an index.
+fn plain(errno: Errno) -> Fault
+    ensures { result ≡ record { errno = errno; index = None } }
+{
+    Fault { errno, index: None }
+}
+
+// A fault of a list, with its index.
+fn at(errno: Errno, index: u32) -> Fault
+    ensures { result ≡ record { errno = errno; index = Some index } }
+{
+    Fault {
+        errno,
+        index: Some(index),
     }
 }
 
 fn refused(errno: Errno) -> Result<Reply, Fault>
     ensures { result ≡ refused errno }
 {
-    Err(Fault { errno, index: None })
+    Err(plain(errno))
 }
 
 fn refused_at(errno: Errno, index: u32) -> Result<Reply, Fault>
     ensures { result ≡ refused_at errno index }
 {
-    Err(Fault {
-        errno,
-        index: Some(index),
-    })
+    Err(at(errno, index))
 }
 
 // A list of one control.

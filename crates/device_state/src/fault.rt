@@ -8,6 +8,12 @@ pub enum PlanFault {
     /// 1: the handler has a control of this id.
     #[error("the handler has a control of this id")]
     DuplicateId,
+    /// 2: the control is in a cluster already.
+    #[error("the control is in a cluster already")]
+    InCluster,
+    /// 3: a cluster can't have so many members.
+    #[error("a cluster can't have so many members")]
+    ClusterSize,
     /// 5: there is nothing of this number.
     #[error("there is nothing of this number")]
     UnknownNumber,
@@ -28,6 +34,8 @@ impl PlanFault {
     {
         match self {
             PlanFault::DuplicateId => 1,
+            PlanFault::InCluster => 2,
+            PlanFault::ClusterSize => 3,
             PlanFault::UnknownNumber => 5,
             PlanFault::Limit => 6,
             PlanFault::Memory => 7,

@@ -1,17 +1,21 @@
 //! What the definitions over the history say of one more entry. Each function is a law that its contract states; none has
 //! anything to do.
 
-ghost use Rattle.std.specs.Prelude.{◌≡◌, [], ◌∷◌, ◌++◌, length, is_some, Err};
+ghost use Rattle.std.specs.Prelude.{◌≡◌, ◌<◌, ℕ, false, [], ◌∷◌, ◌++◌, List, length, is_some, Err};
 ghost use Rattle.history.specs.declared.entry.Entry.{Entry};
 ghost use Rattle.history.specs.Past.{past};
+ghost use Rattle.ctrl_calls.specs.Meanings.{Verdicts};
 ghost use Rattle.ctrl_types.specs.declared.errno.Fault.{Fault};
 ghost use Rattle.device_state.specs.declared.ask.Ask.{Ask};
 ghost use Rattle.device_state.specs.declared.ask.Step.{Step};
-ghost use Rattle.device_state.specs.Plan.{PlanData};
+ghost use Rattle.device_state.specs.Plan.{PlanData, member};
 ghost use Rattle.device_state.specs.Steps.{History, Past, opened, opening};
 ghost use Rattle.device_state.specs.Values.{defaults, now, now_after};
 ghost use Rattle.device_state.specs.Answers.{MayAnswer, is_list};
 ghost use Rattle.device_state.specs.Legal.{IsLegal, MayFollow};
+ghost use Rattle.device_state.specs.Told.{AreTold, changes};
+
+use ctrl_calls::Driver;
 
 /// At first no file handle is open; one more entry opens the one that its step opens.
 #[tactic(auto, using(crate::proofs::PastLemmas::opened_start, crate::proofs::PastLemmas::opened_add))]
@@ -23,21 +27,29 @@ pub fn open_handles()
 /// At first the present values are the defaults; one more entry makes of them what its step makes of them.
 #[tactic(auto, using(crate::proofs::PastLemmas::now_start, crate::proofs::PastLemmas::now_add))]
 pub fn present_values()
-    ensures start { (plan : PlanData) → now plan (past []) ≡ defaults plan }
-    ensures one_more { (plan : PlanData) (steps : History) (e : Entry Step) → now plan (past (steps ++ e ∷ [])) ≡ now_after plan e.step (now plan (past steps)) }
+    ensures start { (verdicts : Verdicts) (plan : PlanData) → now verdicts plan (past []) ≡ defaults plan }
+    ensures one_more { (verdicts : Verdicts) (plan : PlanData) (steps : History) (e : Entry Step) → now verdicts plan (past (steps ++ e ∷ [])) ≡ now_after verdicts plan e.step (now verdicts plan (past steps)) }
+{}
+
+/// The words that a driver's clusters were told stay such as they may have been told, as long as no cluster's control
+/// changes.
+pub fn told_words<D: Driver>()
+    ensures { (verdicts : Verdicts) (plan : PlanData) (steps : History) (e : Entry Step) (words : List ℕ) → AreTold D.told plan (now verdicts plan (past steps)) words
+        → ((k : ℕ) → k < length plan.clusters → changes plan (now verdicts plan (past steps)) (now_after verdicts plan e.step (now verdicts plan (past steps))) e.step (member plan k) ≡ false)
+        → AreTold D.told plan (now verdicts plan (past (steps ++ e ∷ []))) words }
 {}
 
 /// A refusal has an index exactly where the ask is one about a list.
 #[tactic(auto, using(crate::proofs::IndexLemmas::index_of_lists))]
 pub fn refusals()
-    ensures index { (plan : PlanData) (older : Past) (ask : Ask) (fault : Fault) → MayAnswer plan older ask (Err fault) → is_some fault.index ≡ is_list ask }
+    ensures index { (verdicts : Verdicts) (plan : PlanData) (older : Past) (words : List ℕ) (ask : Ask) (fault : Fault) → MayAnswer verdicts plan older words ask (Err fault) → is_some fault.index ≡ is_list ask }
 {}
 
 /// The empty history is legal; one more entry keeps it so where its step may follow. What a legal history begins with is legal.
 #[tactic(auto, using(crate::proofs::PastLemmas::legal_start, crate::proofs::PastLemmas::legal_add, crate::proofs::PastLemmas::legal_last, crate::proofs::PastLemmas::legal_front))]
 pub fn legal_histories()
-    ensures start { (plan : PlanData) → IsLegal plan (past []) }
-    ensures one_more { (plan : PlanData) (steps : History) (e : Entry Step) → IsLegal plan (past steps) → MayFollow plan (past steps) e.step → IsLegal plan (past (steps ++ e ∷ [])) }
-    ensures last { (plan : PlanData) (steps : History) (e : Entry Step) → IsLegal plan (past (steps ++ e ∷ [])) → MayFollow plan (past steps) e.step }
-    ensures front { (plan : PlanData) (steps more : History) → IsLegal plan (past (steps ++ more)) → IsLegal plan (past steps) }
+    ensures start { (verdicts : Verdicts) (plan : PlanData) → IsLegal verdicts plan (past []) }
+    ensures one_more { (verdicts : Verdicts) (plan : PlanData) (steps : History) (e : Entry Step) → IsLegal verdicts plan (past steps) → MayFollow verdicts plan (past steps) e.step → IsLegal verdicts plan (past (steps ++ e ∷ [])) }
+    ensures last { (verdicts : Verdicts) (plan : PlanData) (steps : History) (e : Entry Step) → IsLegal verdicts plan (past (steps ++ e ∷ [])) → MayFollow verdicts plan (past steps) e.step }
+    ensures front { (verdicts : Verdicts) (plan : PlanData) (steps more : History) → IsLegal verdicts plan (past (steps ++ more)) → IsLegal verdicts plan (past steps) }
 {}

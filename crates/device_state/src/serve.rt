@@ -3,15 +3,19 @@ ghost use Rattle.std.specs.Prelude.{◌≡◌};
 use crate::ask::{Ask, Reply, Step};
 use crate::device::Device;
 use crate::plan::Plan;
+use ctrl_calls::Driver;
 use ctrl_types::Fault;
 use history::Served;
 
-impl Served for Device {
+impl<D: Driver> Served for Device<D> {
+    ghost use Rattle.std.specs.Prelude.{ℕ, List};
     ghost use Rattle.history.specs.Past.{past};
     ghost use Rattle.device_state.specs.Answers.{MayAnswer, taken as step_taken};
     ghost use Rattle.device_state.specs.Legal.{IsLegal, IsLegal-start};
+    ghost use Rattle.device_state.specs.Told.{AreTold};
+    ghost use Rattle.device_state.specs.Values.{now};
 
-    type Plan = Plan;
+    type Plan = Plan<D>;
 
     type Step = Step;
 
@@ -23,18 +27,19 @@ impl Served for Device {
 
     ghost steps = { λ d. d.steps };
 
-    ghost is_legal = { λ plan steps. IsLegal plan (past steps) };
+    ghost is_legal = { λ plan steps. IsLegal D.verdict plan (past steps) };
 
-    ghost answers = { λ plan steps ask answer. MayAnswer plan (past steps) ask answer };
+    ghost answers = { λ plan steps ask answer. (words : List ℕ) × AreTold D.told plan (now D.verdict plan (past steps)) words × MayAnswer D.verdict plan (past steps) words ask answer };
 
     ghost taken = { λ plan steps ask answer. step_taken plan (past steps) ask answer };
 
-    ghost starts = { IsLegal-start };
+    ghost starts = { IsLegal-start D.verdict };
 
     fn handle(&mut self, seat: u32, ask: &Ask) -> Result<Reply, Fault> {
+        // what it keeps is legal and was told, as the contract of `steps` says
+        let _before = self.steps();
         let answer = self.handle(seat, ask);
-        // what it keeps is legal, as the contract of `steps` says
-        let _kept = self.steps();
+        let _after = self.steps();
         answer
     }
 

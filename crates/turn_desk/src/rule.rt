@@ -37,6 +37,7 @@ pub enum Place<T> {
 }
 
 impl<T> Place<T> {
+    /// The object, which lies there.
     pub fn into_object(self) -> T
         requires { (object : T) × (self ≡ Place.Home object) }
         ensures { self ≡ Place.Home result }
@@ -47,6 +48,7 @@ impl<T> Place<T> {
         }
     }
 
+    /// Lets the place go, where no object lies there.
     pub fn discard(self)
         requires { (object : T) → self ≢ Place.Home object }
     {

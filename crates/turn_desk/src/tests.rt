@@ -15,7 +15,7 @@ use std::process::Abort;
 use std::sync::Wait;
 use std::test::Fail;
 
-// A desk over a new counter, with its first seat.
+/// A desk over a new counter, with its first seat.
 pub fn open(rt: &impl Abort, alloc: Global) -> (Desk<Counter>, DeskSeat<Counter>)
     ensures { IsSeatOf result.0 result.1 }
 {
@@ -25,7 +25,7 @@ pub fn open(rt: &impl Abort, alloc: Global) -> (Desk<Counter>, DeskSeat<Counter>
     }
 }
 
-// A list of no seat, of one or of two.
+/// A list of no seat, of one or of two.
 pub fn listed<T: Served>(
     alloc: Global,
     first: Option<DeskSeat<T>>,

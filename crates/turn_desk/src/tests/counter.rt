@@ -27,6 +27,7 @@ pub struct Counter<A: Allocator = Global> {
 }
 
 impl<A: Allocator> Counter<A> {
+    /// Nothing was added yet, and so much may be.
     pub fn new(alloc: A, most: u64) -> Counter<A>
         ensures { result.steps.items ≡ [] }
     {
@@ -42,6 +43,7 @@ impl<A: Allocator> Counter<A> {
         self.steps.iter().filter(|e| e.seat == seat).count()
     }
 
+    /// The sum so far.
     pub fn total(&self) -> u64 {
         self.total
     }

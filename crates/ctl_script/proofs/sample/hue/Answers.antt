@@ -1,5 +1,6 @@
-use Rattle.ctl_script.proofs.SampleLemmas.{hue_made}
+use Rattle.std.proofs.Common.{refl}
+use Rattle.ctrl_settle.proofs.WellFormed.{IsWellFormed-test}
 use Rattle.ctl_script.proofs.sample.hue.Goals as goal
 
-pub returns : goal.returns
-returns c = hue_made c.empty.result c.new.result (c.empty.ensures tt) c.new.ensures.ok c.new.ensures.value
+pub plain-requires : goal.plain-requires
+plain-requires c = IsWellFormed-test _ refl

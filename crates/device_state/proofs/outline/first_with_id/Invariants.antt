@@ -1,7 +1,7 @@
 use Rattle.std.proofs.Common.{◌≡◌, ◌==◌, ℕ, slice_index_or, drop}
 use Rattle.std.specs.List.{find as first_that}
 use Rattle.device_state.specs.Plan.{no_control}
-use Rattle.device_state.proofs.plan.first_with_id.Given as goal
+use Rattle.device_state.proofs.outline.first_with_id.Given as goal
 
 -- the answer stands among the numbers that are left
 abbrev pub invariant-loop-number : goal.invariant-loop-number

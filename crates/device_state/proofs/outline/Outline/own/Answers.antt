@@ -1,7 +1,7 @@
 use Rattle.std.proofs.Common.{◌≡◌, ◌<◌, [], length, slice_index_or, ap, ◌∙◌}
 use Rattle.std.proofs.lemmas.List.{get_or_default}
 use Rattle.device_state.specs.Plan.{PlanData}
-use Rattle.device_state.proofs.plan.Plan.own.Goals as goal
+use Rattle.device_state.proofs.outline.Outline.own.Goals as goal
 
 -- what a handler shows are controls of the plan
 pub returns-clause-known : goal.returns-clause-known

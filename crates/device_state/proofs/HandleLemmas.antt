@@ -1,0 +1,187 @@
+-- What a call does to the device: where it adds no step, where it opens a file handle, where it sets a control.
+use Rattle.std.proofs.Common.{◌≡◌, ℕ, ℤ, ◌<◌, ◌≤◌, ◌+◌, ◌==◌, ◌&&◌, Bool, true, false, List, [], ◌∷◌, ◌++◌, length, Option, Some, None, Ok, Err, IsSome, is_some, refl, ap, sym, ◌∙◌, arith, inl, inr, count_by, cond, unwrap_or, eq-eqb}
+use Rattle.std.proofs.lemmas.List.{append-nil}
+use Rattle.std.proofs.lemmas.List.Sums.{sum_by-cons}
+use Rattle.history.specs.Past.{past, entered}
+use Rattle.history.proofs.Pasts.{length_past}
+use Rattle.ctrl_calls.specs.Meanings.{Verdicts, Words}
+use Rattle.ctrl_calls.specs.declared.work.Work.{Work}
+use Rattle.ctrl_types.specs.declared.errno.Errno.{Errno}
+use Rattle.ctrl_types.specs.declared.errno.Errno.TheVariants.{ENOMEM}
+use Rattle.ctrl_types.specs.declared.errno.Fault.{Fault}
+use Rattle.ctrl_types.specs.declared.ids.ExtControl.{ExtControl}
+use Rattle.ctrl_types.specs.declared.ids.FhId.{FhId}
+use Rattle.ctrl_types.specs.declared.ids.RequestId.{RequestId}
+use Rattle.device_state.specs.declared.ask.Ask.{Ask}
+use Rattle.device_state.specs.declared.ask.Ask.TheVariants as asks
+use Rattle.device_state.specs.declared.ask.Reply.{Reply}
+use Rattle.device_state.specs.declared.ask.Reply.TheVariants.{Fh, Controls}
+use Rattle.device_state.specs.declared.ask.Step.{Step}
+use Rattle.device_state.specs.declared.ask.Step.TheVariants.{OpenFh, Set}
+use Rattle.device_state.specs.declared.cluster.Cluster.{Cluster}
+use Rattle.device_state.specs.Plan.{PlanData, IsPlan, member}
+use Rattle.device_state.specs.Clusters.{becomes}
+use Rattle.device_state.specs.Steps.{Past, handler_of, shown}
+use Rattle.device_state.specs.Values.{now}
+use Rattle.device_state.specs.Told.{is_changed, told_of}
+use Rattle.device_state.specs.Answers.{Answer, answer_of, open_answer, set_one, refused_at, told_answer, MayAnswer, taken, step_of}
+use Rattle.device_state.specs.Device.{DeviceData, Handles, SetsOne, with_step, step_changes}
+use Rattle.device_state.proofs.OverlayLemmas.{length_now}
+use Rattle.device_state.proofs.TellLemmas.{changes_one, told_one, member_of}
+
+-- no call yet
+abbrev pub at_rest : Work
+at_rest = record { asked = 0; told = 0 }
+
+asked_at_rest : (work : Work) → work ≡ at_rest → work.asked ≤ 1
+asked_at_rest work rest = omega (arith, ap (λ (w : Work). w.asked) rest)
+
+and_false : (b : Bool) → (b && false) ≡ false
+and_false true = refl
+and_false false = refl
+
+count_none : (cs : List Cluster) → count_by (λ k. is_some k.calls.notifier && false) cs ≡ 0
+count_none [] = refl
+count_none (x ∷ xs) = rw (sum_by-cons (λ (k : Cluster). cond (is_some k.calls.notifier && false) 1 0) x xs, and_false (is_some x.calls.notifier), count_none xs) refl
+
+-- a call that adds no step
+pub handles_none : (verdicts : Verdicts) (old : DeviceData) (work : Work) (seat : ℕ) (ask : Ask) (answer : Answer) → work.told ≡ 0 → work.asked ≤ 1
+    → taken old.plan (past old.steps) ask answer ≡ None → MayAnswer verdicts old.plan (past old.steps) old.words ask answer
+    → Handles verdicts old (record old { work = work }) seat ask answer
+handles_none verdicts old work seat ask answer told asked none may = record {
+  plan = refl;
+  answers = may;
+  refused = λ _. refl;
+  steps = rw none (sym (append-nil old.steps));
+  words = λ k lt same. refl;
+  told = rw none (told ∙ sym (count_none old.plan.clusters));
+  asked = asked;
+}
+
+-- what reads takes no step
+taken_get : (plan : PlanData) (older : Past) (fh : FhId) (which : ℕ) (request : Option RequestId) (list : List ExtControl) (answer : Answer)
+    → taken plan older (asks.GetCtrls fh which request list) answer ≡ None
+taken_get plan older fh which request list (Ok reply) = refl
+taken_get plan older fh which request list (Err fault) = refl
+
+taken_told : (plan : PlanData) (older : Past) (cluster : ℕ) (answer : Answer) → taken plan older (asks.Told cluster) answer ≡ None
+taken_told plan older cluster (Ok reply) = refl
+taken_told plan older cluster (Err fault) = refl
+
+-- a get
+pub handles_get : (verdicts : Verdicts) (old : DeviceData) (work : Work) (seat : ℕ) (fh : FhId) (which : ℕ) (request : Option RequestId) (list : List ExtControl) (answer : Answer) → work ≡ at_rest
+    → MayAnswer verdicts old.plan (past old.steps) old.words (asks.GetCtrls fh which request list) answer
+    → Handles verdicts old (record old { work = work }) seat (asks.GetCtrls fh which request list) answer
+handles_get verdicts old work seat fh which request list answer rest may =
+    handles_none verdicts old work seat _ answer (ap (λ (w : Work). w.told) rest) (asked_at_rest work rest) (taken_get old.plan (past old.steps) fh which request list answer) may
+
+-- reading a word
+pub handles_told : (verdicts : Verdicts) (old : DeviceData) (work : Work) (seat cluster : ℕ) (answer : Answer) → work ≡ at_rest
+    → answer ≡ told_answer old.plan old.words cluster
+    → Handles verdicts old (record old { work = work }) seat (asks.Told cluster) answer
+handles_told verdicts old work seat cluster answer rest is =
+    handles_none verdicts old work seat _ answer (ap (λ (w : Work). w.told) rest) (asked_at_rest work rest) (taken_told old.plan (past old.steps) cluster answer) (inl is)
+
+-- a refusal before anybody is asked
+pub handles_refused : (verdicts : Verdicts) (old new : DeviceData) (work : Work) (seat : ℕ) (ask : Ask) (fault : Fault) → new ≡ record old { work = work } → work ≡ at_rest
+    → MayAnswer verdicts old.plan (past old.steps) old.words ask (Err fault)
+    → Handles verdicts old new seat ask (Err fault)
+handles_refused verdicts old new work seat ask fault begin rest may =
+    rw begin (handles_none verdicts old work seat ask (Err fault) (ap (λ (w : Work). w.told) rest) (asked_at_rest work rest) refl may)
+
+abbrev opened_as : ℕ → Answer
+opened_as n = Ok (Fh (record { 0 = n }))
+
+-- an opening tells nobody
+pub handles_open : (verdicts : Verdicts) (old : DeviceData) (work : Work) (seat handler : ℕ) (fh : FhId) → work ≡ at_rest
+    → open_answer old.plan (past old.steps) handler ≡ Ok (Fh (record { 0 = length (past old.steps) })) → fh.0 ≡ length old.steps
+    → Handles verdicts old (with_step (record old { work = work }) seat (OpenFh handler)) seat (asks.OpenFh handler) (Ok (Fh fh))
+handles_open verdicts old work seat handler fh rest is number = record {
+  plan = refl;
+  answers = inl (sym (is ∙ ap opened_as (length_past old.steps ∙ sym number)));
+  refused = λ e. cc;
+  steps = refl;
+  words = λ k lt same. refl;
+  told = ap (λ (w : Work). w.told) rest ∙ sym (count_none old.plan.clusters);
+  asked = asked_at_rest work rest;
+}
+
+-- the step of a set of one control
+set_step : (plan : PlanData) (older : Past) (fh : FhId) (request : Option RequestId) (entry : ExtControl) (c : ℕ) → shown plan older fh entry.id ≡ Some c
+    → step_of plan older (asks.SetCtrls fh 0 request (entry ∷ [])) ≡ Some (Set fh (record { control = c; value = entry.value } ∷ []))
+set_step plan older fh request entry c found = ap (λ (o : Option ℕ). Some (Set fh (record { control = unwrap_or o 0; value = entry.value } ∷ []))) found
+
+-- what it changes
+set_changes : (verdicts : Verdicts) (old : DeviceData) (fh : FhId) (request : Option RequestId) (entry : ExtControl) (c : ℕ) (value : ℤ) (reply : Reply)
+    → shown old.plan (past old.steps) fh entry.id ≡ Some c → c < length old.plan.controls → becomes verdicts old.plan c entry.value ≡ Ok value
+    → (d : ℕ) → step_changes verdicts old.plan (past old.steps) (taken old.plan (past old.steps) (asks.SetCtrls fh 0 request (entry ∷ [])) (Ok reply)) d
+    ≡ (c == d && is_changed old.plan (now verdicts old.plan (past old.steps)) c value)
+set_changes verdicts old fh request entry c value reply found within becoming d =
+    let present = now verdicts old.plan (past old.steps) in
+    let there : c < length present = omega (arith, length_now verdicts old.plan (past old.steps)) in
+    ap (λ (o : Option Step). step_changes verdicts old.plan (past old.steps) o d) (set_step old.plan (past old.steps) fh request entry c found)
+    ∙ changes_one verdicts old.plan present fh c d entry.value value there becoming
+
+own_change : (c d : ℕ) (b : Bool) → d ≡ c → (c == d && b) ≡ false → b ≡ false
+own_change c d b is h = sym (ap (λ (t : Bool). t && b) (eq-eqb c d (sym is))) ∙ h
+
+-- an accepted set of one control
+pub handles_set : (verdicts : Verdicts) (told : Words) (old new : DeviceData) (work : Work) (seat : ℕ) (fh : FhId) (request : Option RequestId) (entry : ExtControl) (c : ℕ) (value : ℤ) (reply : Reply)
+    → work.told ≡ 0 → work.asked ≤ 1 → IsPlan old.plan
+    → SetsOne verdicts told (record old { work = work }) new seat fh c entry.value value
+    → shown old.plan (past old.steps) fh entry.id ≡ Some c → c < length old.plan.controls → becomes verdicts old.plan c entry.value ≡ Ok value
+    → answer_of verdicts old.plan (past old.steps) old.words (asks.SetCtrls fh 0 request (entry ∷ [])) ≡ Ok reply
+    → Handles verdicts old new seat (asks.SetCtrls fh 0 request (entry ∷ [])) (Ok reply)
+handles_set verdicts told old new work seat fh request entry c value reply none few plans sets found within becoming answered =
+    let changed = is_changed old.plan (now verdicts old.plan (past old.steps)) c value in
+    let changing = set_changes verdicts old fh request entry c value reply found within becoming in
+    record {
+      plan = sets.plan;
+      answers = inl (sym answered);
+      refused = λ e. cc;
+      steps = sets.steps ∙ ap (λ (o : Option Step). old.steps ++ entered seat o) (sym (set_step old.plan (past old.steps) fh request entry c found));
+      words = λ k lt same. sets.words.others k (λ is. own_change c (member old.plan k) changed (member_of old.plan c k is).1 (sym (changing (member old.plan k)) ∙ same));
+      told = ap (λ (w : Work). w.told) sets.work ∙ ap (told_of old.plan c changed) none ∙ sym (told_one old.plan c changed _ plans changing);
+      asked = omega (arith, few, ap (λ (w : Work). w.asked) sets.work);
+    }
+
+-- a set of one control by an open file handle is answered as that one
+set_answer : (verdicts : Verdicts) (plan : PlanData) (older : Past) (words : List ℕ) (fh : FhId) (request : Option RequestId) (entry : ExtControl) → IsSome (handler_of older fh)
+    → answer_of verdicts plan older words (asks.SetCtrls fh 0 request (entry ∷ [])) ≡ set_one verdicts plan older entry (shown plan older fh entry.id)
+set_answer verdicts plan older words fh request entry is_open = rw is_open refl
+
+-- at most one was asked, and nobody told
+told_since : (start work : Work) → start ≡ at_rest → work.told ≡ start.told → work.told ≡ 0
+told_since start work rest told = told ∙ ap (λ (w : Work). w.told) rest
+
+asked_since : (start work : Work) → start ≡ at_rest → work.asked ≤ start.asked + 1 → work.asked ≤ 1
+asked_since start work rest asked = omega (arith, asked, ap (λ (w : Work). w.asked) rest)
+
+-- a set of one control that is refused
+pub refused_one : (verdicts : Verdicts) (old new : DeviceData) (start work : Work) (seat : ℕ) (fh : FhId) (request : Option RequestId) (entry : ExtControl) (errno : Errno)
+    → new ≡ record old { work = work } → start ≡ at_rest → work.told ≡ start.told → work.asked ≤ start.asked + 1 → IsSome (handler_of (past old.steps) fh)
+    → set_one verdicts old.plan (past old.steps) entry (shown old.plan (past old.steps) fh entry.id) ≡ refused_at errno 1
+    → Handles verdicts old new seat (asks.SetCtrls fh 0 request (entry ∷ [])) (refused_at errno 1)
+refused_one verdicts old new start work seat fh request entry errno begin rest told asked is_open is =
+    rw begin (handles_none verdicts old work seat _ (refused_at errno 1) (told_since start work rest told) (asked_since start work rest asked) refl
+    (inl (sym (set_answer verdicts old.plan (past old.steps) old.words fh request entry is_open ∙ is))))
+
+-- a set of one control for which there is no memory
+pub lacks_one : (verdicts : Verdicts) (old new : DeviceData) (start work : Work) (seat : ℕ) (fh : FhId) (request : Option RequestId) (entry : ExtControl)
+    → new ≡ record old { work = work } → start ≡ at_rest → work.told ≡ start.told → work.asked ≤ start.asked + 1 → IsSome (handler_of (past old.steps) fh)
+    → Handles verdicts old new seat (asks.SetCtrls fh 0 request (entry ∷ [])) (refused_at ENOMEM 1)
+lacks_one verdicts old new start work seat fh request entry begin rest told asked is_open =
+    rw begin (handles_none verdicts old work seat _ (refused_at ENOMEM 1) (told_since start work rest told) (asked_since start work rest asked) refl
+    (inr (rw is_open refl, refl)))
+
+-- a set of one control that is accepted
+pub accepted_one : (verdicts : Verdicts) (told : Words) (old between new : DeviceData) (start work : Work) (seat : ℕ) (fh : FhId) (request : Option RequestId) (entry : ExtControl) (c : ℕ) (value : ℤ) (answers : List ExtControl)
+    → between ≡ record old { work = work } → start ≡ at_rest → work.told ≡ start.told → work.asked ≤ start.asked + 1 → IsSome (handler_of (past old.steps) fh)
+    → IsPlan old.plan → shown old.plan (past old.steps) fh entry.id ≡ Some c → c < length old.plan.controls → becomes verdicts old.plan c entry.value ≡ Ok value
+    → set_one verdicts old.plan (past old.steps) entry (shown old.plan (past old.steps) fh entry.id) ≡ Ok (Controls (record { id = entry.id; value = value } ∷ []))
+    → answers ≡ record { id = entry.id; value = value } ∷ [] → SetsOne verdicts told between new seat fh c entry.value value
+    → Handles verdicts old new seat (asks.SetCtrls fh 0 request (entry ∷ [])) (Ok (Controls answers))
+accepted_one verdicts told old between new start work seat fh request entry c value answers begin rest untold asked is_open plans found within becoming is reply sets =
+    rw reply
+    (handles_set verdicts told old new work seat fh request entry c value _ (told_since start work rest untold) (asked_since start work rest asked) plans
+    (rw begin at sets) found within becoming (set_answer verdicts old.plan (past old.steps) old.words fh request entry is_open ∙ is))
