@@ -1,5 +1,5 @@
 //! The sample driver without boxes, so that a test can name its device.
-ghost use Rattle.std.specs.Prelude.{⊤, ◌≡◌};
+ghost use Rattle.std.specs.Prelude.{⊤, ◌≡◌, None, Some};
 ghost use Rattle.ctrl_calls.specs.declared.verdict.Verdict.TheVariants.{Accept};
 ghost use Rattle.ctl_script.specs.Sample.{sample_verdict, sample_told};
 
@@ -59,7 +59,9 @@ impl Notifies for Plain {
 }
 
 /// The calls of the button's cluster.
-pub fn of_button() -> Calls<Plain> {
+pub fn of_button() -> Calls<Plain>
+    ensures { result ≡ record { validator = None; notifier = Some BUTTON_WORDS } }
+{
     Calls {
         validator: None,
         notifier: Some(Notifier::new(BUTTON_WORDS, PlainTeller::Button)),
@@ -67,7 +69,9 @@ pub fn of_button() -> Calls<Plain> {
 }
 
 /// The calls of brightness's cluster.
-pub fn of_brightness() -> Calls<Plain> {
+pub fn of_brightness() -> Calls<Plain>
+    ensures { result ≡ record { validator = None; notifier = Some BRIGHTNESS_WORDS } }
+{
     Calls {
         validator: None,
         notifier: Some(Notifier::new(BRIGHTNESS_WORDS, PlainTeller::Brightness)),

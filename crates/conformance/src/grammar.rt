@@ -6,7 +6,7 @@ use std::test::Fail;
 
 #[test]
 fn lines_that_are_no_command(rt: HostRuntime) -> Result<(), Fail> {
-    let lines: [&[u8]; 40] = [
+    let lines: [&[u8]; 74] = [
         b"set f cur hflip",
         b"set f cur hflip=",
         b"set f cur =1",
@@ -45,6 +45,40 @@ fn lines_that_are_no_command(rt: HostRuntime) -> Result<(), Fail> {
         b"open abcdefghijklmnopq 0",
         b"open",
         b"OPEN f 0",
+        b"close",
+        b"close f g",
+        b"close f_",
+        b"Close f",
+        b"query",
+        b"query f",
+        b"query f hue vflip",
+        b"query f flip",
+        b"query f- hue",
+        b"query f 00980903",
+        b"next",
+        b"next f",
+        b"next f hue",
+        b"next f power",
+        b"next f 0x",
+        b"next f 0x123456789",
+        b"next f 00980900",
+        b"next f 0X0",
+        b"next f 0x0g",
+        b"next f 0x0 0x0",
+        b"next f- 0x0",
+        b"Next f 0x0",
+        b"menu",
+        b"menu f",
+        b"menu f power",
+        b"menu f power x",
+        b"menu f power -1",
+        b"menu f power 4294967296",
+        b"menu f power 00000000000",
+        b"menu f power 0x1",
+        b"menu f power 1 1",
+        b"menu f items 1",
+        b"menu f- power 1",
+        b"MENU f power 1",
         b"alloc r",
         b"==",
     ];
@@ -74,7 +108,7 @@ fn bytes_that_no_word_has(rt: HostRuntime) -> Result<(), Fail> {
 
 #[test]
 fn words_in_each_form(rt: HostRuntime) -> Result<(), Fail> {
-    let words: [(&[u8], &[u8]); 12] = [
+    let words: [(&[u8], &[u8]); 14] = [
         (b"set f cur 0x00980903=10", b"ok 9"),
         (b"set f cur 0x98090D=1", b"error 22 index 1"),
         (b"get f 0x0 hue", b"ok 9"),
@@ -87,6 +121,11 @@ fn words_in_each_form(rt: HostRuntime) -> Result<(), Fail> {
         (b"get f user hue", b"error 22 index 1"),
         (b"get f camera", b"error 22 index 0"),
         (b"get f req:r hue vflip", b"error 22 index 2"),
+        (b"query f 0x98091F", b"error 22"),
+        (
+            b"query f 0x00980914",
+            b"ok 0x00980914 kind 2 min 0 max 1 step 1 default 0 flags 0x0",
+        ),
     ];
     let mut script = Vec::from_slice(rt.alloc(), b"open f 0000000000\n")?;
     let mut reply = Vec::from_slice(rt.alloc(), b"ok\n")?;
@@ -97,6 +136,18 @@ fn words_in_each_form(rt: HostRuntime) -> Result<(), Fail> {
         reply.extend_from_slice(b"\n")?;
     }
     expect(&rt, script.as_slice(), reply.as_slice(), Outcome::Finished)
+}
+
+#[test]
+fn next_ids_and_items_in_each_form(rt: HostRuntime) -> Result<(), Fail> {
+    let script =
+        b"open f 1\nnext f 0x0\nnext f 0x00000000\nnext f 0x98090D\nnext f 0x98090d\nnext f 0xffffffff\nmenu f power 0\nmenu f power 0000000001\nmenu f 0x980918 2\nmenu f power 4294967295\nmenu f 0x0 0\n";
+    expect(
+        &rt,
+        script,
+        b"ok\nok 0x00980900\nok 0x00980900\nok 0x00980914\nok 0x00980914\nerror 22\nok Disabled\nok 50 Hz\nok 60 Hz\nerror 22\nerror 22\n",
+        Outcome::Finished,
+    )
 }
 
 #[test]

@@ -10,6 +10,8 @@ mod faults;
 #[cfg(test)]
 mod grammar;
 #[cfg(test)]
+mod handlers;
+#[cfg(test)]
 mod memory;
 #[cfg(test)]
 mod rows;

@@ -2,11 +2,14 @@
 //! --test --fail-alloc 1..`), a refused command changes nothing and the same command again is answered as ever.
 
 use crate::driver::{Plain, of_brightness, of_button};
-use crate::rows::{Row, cut_line_row, first_path_row, unbound_handle_row, unknown_handler_row};
+use crate::rows::{
+    Row, cut_line_row, first_path_row, menu_items_row, next_ids_row, private_control_row,
+    unbound_handle_row, unknown_handler_row,
+};
 use crate::streams::{Sink, Source};
 use ctl_script::{Outcome, run_script, sample_plan};
 use ctrl_types::{CtrlId, Errno, ExtControl, Fault, FhId};
-use device_state::{Ask, ControlList, Device, PlanFault, Reply};
+use device_state::{Ask, ControlList, Device, MenuItem, PlanFault, Reply};
 use std::alloc::{AllocError, Global};
 use std::process::Abort;
 
@@ -68,7 +71,7 @@ fn answers<R: AllocGlobal + Abort>(rt: &R, row: &Row) -> Result<(), AllocError> 
     } else {
         assert!(rt; rest.starts_with(b"error 12"));
     }
-    assert!(rt; device.steps().len() <= 3);
+    assert!(rt; device.steps().len() <= 5);
     Err(AllocError)
 }
 
@@ -147,6 +150,52 @@ fn asks_again<R: AllocGlobal + Abort>(rt: &R) -> Result<(), AllocError> {
     Ok(())
 }
 
+// File handles that are opened and closed in turn, each ask answered as ever, at once or the second time.
+fn closes_again<R: AllocGlobal + Abort>(rt: &R) -> Result<(), AllocError> {
+    let mut device = device(rt)?;
+    for fh in [FhId(0), FhId(2), FhId(4), FhId(6), FhId(8)] {
+        let opened = answered(rt, &mut device, &Ask::OpenFh { handler: 0 }, None);
+        assert!(rt; matches!(opened, Ok(Reply::Fh(id)) if id == fh));
+        let closed = answered(rt, &mut device, &Ask::CloseFh { fh }, None);
+        assert!(rt; matches!(closed, Ok(Reply::Done)));
+    }
+    assert_eq!(rt; device.steps().len(), 10);
+    Ok(())
+}
+
+// File handles on a handler that adds another, through which the next id and the items of a menu are read, each ask answered as
+// ever, at once or the second time.
+fn reads_items_again<R: AllocGlobal + Abort>(rt: &R) -> Result<(), AllocError> {
+    let mut device = device(rt)?;
+    let names = ["Disabled", "50 Hz", "60 Hz"];
+    for fh in [FhId(0), FhId(1)] {
+        let opened = answered(rt, &mut device, &Ask::OpenFh { handler: 1 }, None);
+        assert!(rt; matches!(opened, Ok(Reply::Fh(id)) if id == fh));
+        let id = CtrlId(0x0098_090d);
+        // the next id takes no memory
+        let next = device.handle(0, &Ask::NextId { fh, id });
+        assert!(rt; matches!(next, Ok(Reply::Id(CtrlId(0x0098_0914)))));
+        for (index, name) in (0..).zip(names) {
+            let ask = Ask::MenuItem {
+                fh,
+                id: CtrlId(0x0098_0918),
+                index,
+            };
+            let item = answered(rt, &mut device, &ask, None);
+            assert!(rt; is_named(&item, name), "{name}");
+        }
+    }
+    assert_eq!(rt; device.steps().len(), 2);
+    Ok(())
+}
+
+fn is_named(answer: &Result<Reply, Fault>, text: &str) -> bool {
+    match answer {
+        Ok(Reply::Item(MenuItem::Name(name))) => name.as_str() == text,
+        _ => false,
+    }
+}
+
 #[test]
 fn scripts_after_a_refused_allocation(rt: HostRuntime) {
     for row in [
@@ -154,6 +203,9 @@ fn scripts_after_a_refused_allocation(rt: HostRuntime) {
         cut_line_row(),
         unbound_handle_row(),
         unknown_handler_row(),
+        private_control_row(),
+        next_ids_row(),
+        menu_items_row(),
     ] {
         if answers(&rt, &row).is_err() {
             // no second allocation is refused
@@ -166,5 +218,19 @@ fn scripts_after_a_refused_allocation(rt: HostRuntime) {
 fn asks_after_a_refused_allocation(rt: HostRuntime) {
     if asks_again(&rt).is_err() {
         assert!(rt; asks_again(&rt).is_ok());
+    }
+}
+
+#[test]
+fn closes_after_a_refused_allocation(rt: HostRuntime) {
+    if closes_again(&rt).is_err() {
+        assert!(rt; closes_again(&rt).is_ok());
+    }
+}
+
+#[test]
+fn items_after_a_refused_allocation(rt: HostRuntime) {
+    if reads_items_again(&rt).is_err() {
+        assert!(rt; reads_items_again(&rt).is_ok());
     }
 }

@@ -93,6 +93,51 @@ pub fn unknown_handler_row() -> Row {
     }
 }
 
+/// A handler shows the controls of one that it adds, but for the private ones; a handle on either sets the one control.
+pub fn private_control_row() -> Row {
+    Row {
+        script: b"open f 1\nopen h 1\nopen g 0\nset f cur hue=1\nset g cur hue=10\nset f cur hflip=1\nget g cur hflip\nset g cur brightness=4\n",
+        reply: b"ok\nok\nok\nerror 22 index 1\nok 9\nok 1\nok 1\nerror 22 index 1\n",
+        outcome: Outcome::Finished,
+    }
+}
+
+/// The ids that each handler shows, one after another: those of the added handler among its own.
+pub fn next_ids_row() -> Row {
+    Row {
+        script: b"open f 1\nopen h 1\nopen g 0\nnext f 0x0\nnext f 0x00980900\nnext f 0x0098090d\nnext f 0x00980914\nnext f 0x00980915\nnext f 0x00980918\nnext g 0x0\nnext g 0x00980903\nnext g 0x00980915\nnext nobody 0x0\n",
+        reply: b"ok\nok\nok\nok 0x00980900\nok 0x0098090d\nok 0x00980914\nok 0x00980915\nok 0x00980918\nerror 22\nok 0x00980903\nok 0x00980914\nerror 22\nerror 9\n",
+        outcome: Outcome::Finished,
+    }
+}
+
+/// The names of the menu's items; a skipped item has none, nor has a control that isn't a menu.
+pub fn menu_items_row() -> Row {
+    Row {
+        script: b"open f 1\nopen g 0\nmenu f power 0\nmenu f power 1\nmenu f power 2\nmenu f power 3\nmenu f power 4\nmenu f brightness 0\nmenu f red 0\nmenu g power 1\nmenu nobody power 1\n",
+        reply: b"ok\nok\nok Disabled\nok 50 Hz\nok 60 Hz\nerror 22\nerror 22\nerror 22\nerror 22\nerror 22\nerror 9\n",
+        outcome: Outcome::Finished,
+    }
+}
+
+/// What a query tells of each control of the sample device; one that isn't shown is refused, and an unbound handle.
+pub fn queries_row() -> Row {
+    Row {
+        script: b"open f 1\nopen g 0\nquery f brightness\nquery f power\nquery f button\nquery g hflip\nquery g vflip\nquery g hue\nquery f vflip\nquery f hue\nquery g 0x00000001\nquery nobody hue\n",
+        reply: b"ok\nok\nok 0x00980900 kind 1 min -64 max 64 step 4 default 0 flags 0x0\nok 0x00980918 kind 3 min 0 max 3 step 1 default 1 flags 0x0\nok 0x0098090d kind 4 min 0 max 0 step 0 default 0 flags 0x240\nok 0x00980914 kind 2 min 0 max 1 step 1 default 0 flags 0x0\nok 0x00980915 kind 2 min 0 max 1 step 1 default 0 flags 0x0\nok 0x00980903 kind 1 min 0 max 10 step 3 default 0 flags 0x0\nok 0x00980915 kind 2 min 0 max 1 step 1 default 0 flags 0x0\nerror 22\nerror 22\nerror 9\n",
+        outcome: Outcome::Finished,
+    }
+}
+
+/// A name stays bound to a file handle that was closed, which every command refuses from then on.
+pub fn closed_handle_row() -> Row {
+    Row {
+        script: b"close f\nopen f 0\nopen g 0\nclose f\nget f cur hue\nset f cur hue=3\nquery f hue\nclose f\nget g cur hue\nopen f 0\nset f cur hue=3\n",
+        reply: b"error 9\nok\nok\nok\nerror 9 index 1\nerror 9 index 1\nerror 9\nerror 9\nok 0\nok\nok 3\n",
+        outcome: Outcome::Finished,
+    }
+}
+
 #[test]
 fn first_path(rt: HostRuntime) -> Result<(), Fail> {
     let row = first_path_row();
@@ -145,4 +190,51 @@ fn number_out_of_range(rt: HostRuntime) -> Result<(), Fail> {
 fn button(rt: HostRuntime) -> Result<(), Fail> {
     let row = button_row();
     expect(&rt, row.script, row.reply, row.outcome)
+}
+
+#[test]
+fn private_control(rt: HostRuntime) -> Result<(), Fail> {
+    let row = private_control_row();
+    expect(&rt, row.script, row.reply, row.outcome)
+}
+
+#[test]
+fn next_ids(rt: HostRuntime) -> Result<(), Fail> {
+    let row = next_ids_row();
+    expect(&rt, row.script, row.reply, row.outcome)
+}
+
+#[test]
+fn menu_items(rt: HostRuntime) -> Result<(), Fail> {
+    let row = menu_items_row();
+    expect(&rt, row.script, row.reply, row.outcome)
+}
+
+#[test]
+fn queries(rt: HostRuntime) -> Result<(), Fail> {
+    let row = queries_row();
+    expect(&rt, row.script, row.reply, row.outcome)
+}
+
+#[test]
+fn closed_handle(rt: HostRuntime) -> Result<(), Fail> {
+    let row = closed_handle_row();
+    expect(&rt, row.script, row.reply, row.outcome)
+}
+
+// 64 file handles can be open; one that is closed makes room for another.
+#[test]
+fn handle_limit(rt: HostRuntime) -> Result<(), Fail> {
+    let mut script = Vec::new(rt.alloc());
+    let mut reply = Vec::new(rt.alloc());
+    for number in 0..64u32 {
+        let line = format!(in rt.alloc(); "open f{number} 1\n")?;
+        script.extend_from_slice(line.as_bytes())?;
+        reply.extend_from_slice(b"ok\n")?;
+    }
+    script.extend_from_slice(b"open x 1\nclose f3\nopen x 0\n")?;
+    reply.extend_from_slice(b"error 28\nok\nok\n")?;
+    script.extend_from_slice(b"open y 0\nget f3 cur hue\nget x cur hue\n")?;
+    reply.extend_from_slice(b"error 28\nerror 9 index 1\nok 0\n")?;
+    expect(&rt, script.as_slice(), reply.as_slice(), Outcome::Finished)
 }

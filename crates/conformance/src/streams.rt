@@ -108,9 +108,12 @@ pub fn sample_device(alloc: Global) -> Result<Device<Plain>, Fail> {
     }
 }
 
-/// What a script prints on a fresh sample device, and how it ends.
-pub fn printed(alloc: Global, script: &[u8]) -> Result<(Vec<u8>, Outcome), Fail> {
-    let device = sample_device(alloc)?;
+/// What a script prints on a device, and how it ends.
+pub fn printed(
+    alloc: Global,
+    device: Device<Plain>,
+    script: &[u8],
+) -> Result<(Vec<u8>, Outcome), Fail> {
     let mut source = Source::new(script);
     let mut sink = Sink::new(alloc, 65536)?;
     let (_, outcome) = run_script(alloc, device, &mut source, &mut sink);
@@ -124,7 +127,8 @@ pub fn expect<R: AllocGlobal + Abort>(
     reply: &[u8],
     outcome: Outcome,
 ) -> Result<(), Fail> {
-    let (bytes, ended) = printed(rt.alloc(), script)?;
+    let device = sample_device(rt.alloc())?;
+    let (bytes, ended) = printed(rt.alloc(), device, script)?;
     assert_eq!(rt; bytes.as_slice(), reply, "{script:?}");
     assert_eq!(rt; ended, outcome, "{script:?}");
     Ok(())

@@ -3,3 +3,4 @@ mod Runs
 mod SampleLemmas
 mod Writes
 mod Lists
+mod Texts

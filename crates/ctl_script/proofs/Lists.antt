@@ -1,7 +1,7 @@
 -- The entries of a list, read one after another.
-use Rattle.std.proofs.Common.{◌≡◌, ℕ, ◌+◌, ◌<◌, zero, suc, List, [], ◌∷◌, ◌++◌, Option, None, Some, refl, length, get_or, arith, ap, map, take, Bor, add-one}
+use Rattle.std.proofs.Common.{◌≡◌, ◌≢◌, ℕ, ◌+◌, ◌<◌, zero, suc, List, [], ◌∷◌, ◌++◌, Option, None, Some, refl, length, get_or, arith, ap, map, take, Bor, add-one}
 use Rattle.ctrl_types.specs.declared.ids.ExtControl.{ExtControl}
-use Rattle.ctl_script.specs.Commands.{entry_of, list_of, onto}
+use Rattle.ctl_script.specs.Commands.{entry_of, list_of, onto, query_of, menu_of}
 use Rattle.ctl_script.specs.declared.parse.EntryForm.{EntryForm}
 
 onto-push : (x : Option ExtControl) (es fs : Option (List ExtControl)) (all : List ExtControl) (e : ExtControl)
@@ -51,3 +51,18 @@ push_at form ws i d r es e h front is some =
     let k : entry_of form (get_or ws i d).now ≡ Some e = cc in
     let more = take_one_more ws i d h in
     rw (add-one, more) (list_of-push form (take i (map (λ w. w.now) ws)) (get_or ws i d).now es e front k)
+
+-- other operands than two are no query
+pub not_two : (ws : List (Bor (List ℕ))) → length ws ≢ 2 → query_of (map (λ w. w.now) ws) ≡ None
+not_two [] h = refl
+not_two (a ∷ []) h = refl
+not_two (a ∷ b ∷ []) h = absurd (h refl)
+not_two (a ∷ b ∷ c ∷ ws) h = refl
+
+-- other operands than three ask for no item
+pub not_three : (ws : List (Bor (List ℕ))) → length ws ≢ 3 → menu_of (map (λ w. w.now) ws) ≡ None
+not_three [] h = refl
+not_three (a ∷ []) h = refl
+not_three (a ∷ b ∷ []) h = refl
+not_three (a ∷ b ∷ c ∷ []) h = absurd (h refl)
+not_three (a ∷ b ∷ c ∷ d ∷ ws) h = refl

@@ -10,7 +10,7 @@ use Rattle.ctl_script.specs.Names.{name_of}
 use Rattle.ctl_script.specs.declared.command.Binding.{Binding}
 use Rattle.ctl_script.specs.declared.command.Binding.TheVariants as bindings
 use Rattle.ctl_script.specs.declared.command.Command.{Command}
-use Rattle.ctl_script.specs.declared.command.Command.TheVariants.{Open, Get, Set, Told}
+use Rattle.ctl_script.specs.declared.command.Command.TheVariants.{Open, Close, Get, Set, Query, Next, Menu, Told}
 use Rattle.ctl_script.specs.declared.command.WhichWord.{WhichWord}
 use Rattle.ctl_script.specs.declared.command.WhichWord.TheVariants.{Number, Request}
 use Rattle.ctl_script.specs.declared.fault.LineFault.{LineFault}
@@ -90,6 +90,42 @@ list_command_of make form [] = None
 list_command_of make form (fh ∷ []) = None
 list_command_of make form (fh ∷ which ∷ entries) = list_parts make (name_of fh) (which_of which) (list_of form entries)
 
+-- the operand of `close`
+abbrev pub close_of : List (List ℕ) → Option Command
+close_of (fh ∷ []) = option_map (λ name. Close name) (name_of fh)
+close_of _ = None
+
+abbrev pub query_parts : Option Name → Option CtrlId → Option Command
+query_parts (Some fh) (Some id) = Some (Query fh id)
+query_parts (Some fh) None = None
+query_parts None id = None
+
+-- the operands of `query`
+abbrev pub query_of : List (List ℕ) → Option Command
+query_of (fh ∷ control ∷ []) = query_parts (name_of fh) (control_id control)
+query_of _ = None
+
+abbrev pub next_parts : Option Name → Option ℕ → Option Command
+next_parts (Some fh) (Some id) = Some (Next fh (record { 0 = id }))
+next_parts (Some fh) None = None
+next_parts None id = None
+
+-- the operands of `next`
+abbrev pub next_of : List (List ℕ) → Option Command
+next_of (fh ∷ id ∷ []) = next_parts (name_of fh) (hexadecimal_u32 id)
+next_of _ = None
+
+abbrev pub menu_parts : Option Name → Option CtrlId → Option ℕ → Option Command
+menu_parts (Some fh) (Some id) (Some index) = Some (Menu fh id index)
+menu_parts (Some fh) (Some id) None = None
+menu_parts (Some fh) None index = None
+menu_parts None id index = None
+
+-- the operands of `menu`
+abbrev pub menu_of : List (List ℕ) → Option Command
+menu_of (fh ∷ control ∷ index ∷ []) = menu_parts (name_of fh) (control_id control) (decimal_u32 index)
+menu_of _ = None
+
 -- the operand of `told`
 abbrev pub told_of : List (List ℕ) → Option Command
 told_of (cluster ∷ []) = option_map (λ n. Told n) (decimal_u32 cluster)
@@ -99,16 +135,24 @@ told_of _ = None
 abbrev pub verb_of : List ℕ → Option Verb
 verb_of word =
     if bytes_eq word (codes "open") then Some verbs.Open
+    else if bytes_eq word (codes "close") then Some verbs.Close
     else if bytes_eq word (codes "get") then Some verbs.Get
     else if bytes_eq word (codes "set") then Some verbs.Set
+    else if bytes_eq word (codes "query") then Some verbs.Query
+    else if bytes_eq word (codes "next") then Some verbs.Next
+    else if bytes_eq word (codes "menu") then Some verbs.Menu
     else if bytes_eq word (codes "told") then Some verbs.Told
     else None
 
 -- the command that a verb and its operands write
 abbrev pub command_of : Option Verb → List (List ℕ) → Option Command
 command_of (Some verbs.Open) operands = open_of operands
+command_of (Some verbs.Close) operands = close_of operands
 command_of (Some verbs.Get) operands = list_command_of (λ fh which list. Get fh which list) Control operands
 command_of (Some verbs.Set) operands = list_command_of (λ fh which list. Set fh which list) ControlWithValue operands
+command_of (Some verbs.Query) operands = query_of operands
+command_of (Some verbs.Next) operands = next_of operands
+command_of (Some verbs.Menu) operands = menu_of operands
 command_of (Some verbs.Told) operands = told_of operands
 command_of None operands = None
 
@@ -128,6 +172,10 @@ line_of (verb ∷ operands) =
 -- what a command binds where it is accepted
 abbrev pub binding_of : Command → Binding
 binding_of (Open fh handler) = bindings.FileHandle fh
+binding_of (Close fh) = bindings.None
 binding_of (Get fh which list) = bindings.None
 binding_of (Set fh which list) = bindings.None
+binding_of (Query fh id) = bindings.None
+binding_of (Next fh id) = bindings.None
+binding_of (Menu fh id index) = bindings.None
 binding_of (Told cluster) = bindings.None

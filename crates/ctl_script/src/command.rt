@@ -1,7 +1,7 @@
 ghost use Rattle.std.specs.Prelude.{◌≡◌};
 
 use crate::name::{Bindings, Name};
-use ctrl_types::{Fault, FhId, RequestId};
+use ctrl_types::{CtrlId, Fault, RequestId};
 use device_state::{Ask, ControlList, Reply};
 use std::alloc::AllocError;
 
@@ -24,6 +24,11 @@ pub enum Command {
         /// The handler's number.
         handler: u32,
     },
+    /// `close FH`: closes a file handle.
+    Close {
+        /// The file handle.
+        fh: Name,
+    },
     /// `get FH WHICH CTRL ..`: reads controls.
     Get {
         /// The file handle.
@@ -41,6 +46,29 @@ pub enum Command {
         which: WhichWord,
         /// The controls and their values.
         list: ControlList,
+    },
+    /// `query FH CTRL`: reads what a control is like.
+    Query {
+        /// The file handle.
+        fh: Name,
+        /// The control.
+        id: CtrlId,
+    },
+    /// `next FH ID`: reads the least id that is shown and greater than another.
+    Next {
+        /// The file handle.
+        fh: Name,
+        /// The other id.
+        id: CtrlId,
+    },
+    /// `menu FH CTRL N`: reads an item of a menu.
+    Menu {
+        /// The file handle.
+        fh: Name,
+        /// The menu.
+        id: CtrlId,
+        /// The item's index.
+        index: u32,
     },
     /// `told N`: reads the word that a cluster was told last.
     Told {
@@ -108,12 +136,11 @@ impl Command {
     pub fn ask(self, names: &Bindings) -> Ask {
         match self {
             Command::Open { fh: _, handler } => Ask::OpenFh { handler },
-            Command::Told { cluster } => Ask::Told { cluster },
+            Command::Close { fh } => Ask::CloseFh { fh: names.fh(fh) },
             Command::Get { fh, which, list } => {
                 let (which, request) = which.fields(names);
-                let fh = FhId(names.file_handles.id_of(fh));
                 Ask::GetCtrls {
-                    fh,
+                    fh: names.fh(fh),
                     which,
                     request,
                     list,
@@ -121,14 +148,27 @@ impl Command {
             }
             Command::Set { fh, which, list } => {
                 let (which, request) = which.fields(names);
-                let fh = FhId(names.file_handles.id_of(fh));
                 Ask::SetCtrls {
-                    fh,
+                    fh: names.fh(fh),
                     which,
                     request,
                     list,
                 }
             }
+            Command::Query { fh, id } => Ask::Query {
+                fh: names.fh(fh),
+                id,
+            },
+            Command::Next { fh, id } => Ask::NextId {
+                fh: names.fh(fh),
+                id,
+            },
+            Command::Menu { fh, id, index } => Ask::MenuItem {
+                fh: names.fh(fh),
+                id,
+                index,
+            },
+            Command::Told { cluster } => Ask::Told { cluster },
         }
     }
 }

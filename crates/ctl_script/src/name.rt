@@ -3,6 +3,7 @@ ghost use Rattle.std.specs.Char.{is_ascii_alphanumeric};
 ghost use Rattle.std.specs.List.{list_all};
 ghost use Rattle.ctl_script.specs.Names.{is_name, name_of};
 
+use ctrl_types::FhId;
 use indexmap::IndexMap;
 use std::alloc::{AllocError, Global};
 
@@ -102,5 +103,10 @@ impl Bindings {
             file_handles: Names::new(alloc),
             requests: Names::new(alloc),
         }
+    }
+
+    /// The file handle that a name stands for.
+    pub fn fh(&self, name: Name) -> FhId {
+        FhId(self.file_handles.id_of(name))
     }
 }

@@ -1,12 +1,12 @@
 ghost use Rattle.std.specs.Prelude.{◌≡◌, ◌+◌, ◌<◌, ◌≤◌, ◌^◌, ◌∷◌, ◌==◌, length, map, position, vec_len, IfOk, IfSome};
-ghost use Rattle.ctl_script.specs.Commands.{IsRead, words as words_in, line_of, command_of, verb_of, open_of, told_of, list_command_of, which_of, fixed_which_of, entry_of, entry_at, list_of};
+ghost use Rattle.ctl_script.specs.Commands.{IsRead, words as words_in, line_of, command_of, verb_of, open_of, close_of, query_of, next_of, menu_of, told_of, list_command_of, which_of, fixed_which_of, entry_of, entry_at, list_of};
 ghost use Rattle.ctl_script.specs.declared.command.Command.TheVariants as commands;
 
 use crate::command::{Command, WhichWord};
 use crate::fault::LineFault;
 use crate::lexeme::{control_id, decimal_i64, decimal_u32, hexadecimal_u32};
 use crate::name::Name;
-use ctrl_types::ExtControl;
+use ctrl_types::{CtrlId, ExtControl};
 use device_state::ControlList;
 use std::alloc::{AllocError, Global};
 
@@ -51,8 +51,12 @@ fn words_of<'a>(alloc: Global, line: &'a [u8]) -> Result<Vec<&'a [u8]>, AllocErr
 #[derive(Clone, Copy, Debug, PartialEq, Eq)]
 enum Verb {
     Open,
+    Close,
     Get,
     Set,
+    Query,
+    Next,
+    Menu,
     Told,
 }
 
@@ -61,8 +65,12 @@ fn read_verb(word: &[u8]) -> Option<Verb>
 {
     match word {
         b"open" => Some(Verb::Open),
+        b"close" => Some(Verb::Close),
         b"get" => Some(Verb::Get),
         b"set" => Some(Verb::Set),
+        b"query" => Some(Verb::Query),
+        b"next" => Some(Verb::Next),
+        b"menu" => Some(Verb::Menu),
         b"told" => Some(Verb::Told),
         _ => None,
     }
@@ -74,8 +82,12 @@ fn read_command(alloc: Global, verb: &[u8], operands: &[&[u8]]) -> Result<Comman
 {
     match read_verb(verb) {
         Some(Verb::Open) => read_open(operands),
+        Some(Verb::Close) => read_close(operands),
         Some(Verb::Get) => read_get(alloc, operands),
         Some(Verb::Set) => read_set(alloc, operands),
+        Some(Verb::Query) => read_query(operands),
+        Some(Verb::Next) => read_next(operands),
+        Some(Verb::Menu) => read_menu(operands),
         Some(Verb::Told) => read_told(operands),
         None => Err(LineFault::NotACommand),
     }
@@ -89,6 +101,54 @@ fn read_open(operands: &[&[u8]]) -> Result<Command, LineFault>
     };
     match (Name::read(*fh), decimal_u32(*handler)) {
         (Some(fh), Some(handler)) => Ok(Command::Open { fh, handler }),
+        _ => Err(LineFault::NotACommand),
+    }
+}
+
+fn read_close(operands: &[&[u8]]) -> Result<Command, LineFault>
+    ensures { IsRead result (close_of (map (λ w. w.now) operands.now)) }
+{
+    let [fh] = operands else {
+        return Err(LineFault::NotACommand);
+    };
+    match Name::read(*fh) {
+        Some(fh) => Ok(Command::Close { fh }),
+        None => Err(LineFault::NotACommand),
+    }
+}
+
+fn read_query(operands: &[&[u8]]) -> Result<Command, LineFault>
+    ensures { IsRead result (query_of (map (λ w. w.now) operands.now)) }
+{
+    let [fh, control] = operands else {
+        return Err(LineFault::NotACommand);
+    };
+    match (Name::read(*fh), control_id(*control)) {
+        (Some(fh), Some(id)) => Ok(Command::Query { fh, id }),
+        _ => Err(LineFault::NotACommand),
+    }
+}
+
+fn read_next(operands: &[&[u8]]) -> Result<Command, LineFault>
+    ensures { IsRead result (next_of (map (λ w. w.now) operands.now)) }
+{
+    let [fh, id] = operands else {
+        return Err(LineFault::NotACommand);
+    };
+    match (Name::read(*fh), hexadecimal_u32(*id)) {
+        (Some(fh), Some(id)) => Ok(Command::Next { fh, id: CtrlId(id) }),
+        _ => Err(LineFault::NotACommand),
+    }
+}
+
+fn read_menu(operands: &[&[u8]]) -> Result<Command, LineFault>
+    ensures { IsRead result (menu_of (map (λ w. w.now) operands.now)) }
+{
+    let [fh, control, index] = operands else {
+        return Err(LineFault::NotACommand);
+    };
+    match (Name::read(*fh), control_id(*control), decimal_u32(*index)) {
+        (Some(fh), Some(id), Some(index)) => Ok(Command::Menu { fh, id, index }),
         _ => Err(LineFault::NotACommand),
     }
 }

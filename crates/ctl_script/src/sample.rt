@@ -1,7 +1,7 @@
 ghost use Rattle.std.specs.Prelude.{◌≡◌, IfOk, IfErr, Ok};
 ghost use Rattle.ctrl_settle.specs.Control.{described};
 ghost use Rattle.ctrl_settle.specs.Faults.{IsWellFormed};
-ghost use Rattle.ctl_script.specs.Sample.{sample, sample_before, flip as flip_of, hue as hue_of, brightness as brightness_of, power as power_of, button as button_of, no_flags};
+ghost use Rattle.ctl_script.specs.Sample.{sample, sample_before, sample_controls as sample_controls_of, flip as flip_of, hue as hue_of, brightness as brightness_of, power as power_of, button as button_of, no_flags};
 
 use bitflags::Flags as FlagSet;
 use ctrl_calls::{Calls, Driver};
@@ -20,7 +20,7 @@ pub fn sample_builder<D: Driver>(
     ensures ok { IfOk result (λ builder. builder ≡ sample of_button of_brightness) }
     ensures err { IfErr result (λ fault. fault ≡ PlanFault.Memory) }
 {
-    let mut builder = sample_controls(alloc)?;
+    let mut builder = sample_menus(alloc)?;
     match builder.cluster(&[5], of_button) {
         Ok(_) => {}
         Err((_, fault)) => return Err(fault),
@@ -31,9 +31,23 @@ pub fn sample_builder<D: Driver>(
     }
 }
 
-// The handlers and controls of the sample device.
-fn sample_controls<D: Driver>(alloc: Global) -> Result<PlanBuilder<D>, PlanFault>
+// The handlers and controls of the sample device, with the names of the menu's items.
+#[tactic(auto, unfolding(ctrl_settle::specs::Settle::settle))]
+fn sample_menus<D: Driver>(alloc: Global) -> Result<PlanBuilder<D>, PlanFault>
     ensures ok { IfOk result (λ builder. builder ≡ sample_before) }
+    ensures err { IfErr result (λ fault. fault ≡ PlanFault.Memory) }
+{
+    let mut builder = sample_controls(alloc)?;
+    builder.menu_name(4, 0, "Disabled")?;
+    builder.menu_name(4, 1, "50 Hz")?;
+    builder.menu_name(4, 2, "60 Hz")?;
+    Ok(builder)
+}
+
+// The handlers and controls of the sample device.
+#[tactic(auto, unfolding(ctrl_handlers::specs::Plan::owning, ctrl_handlers::specs::Plan::adding))]
+fn sample_controls<D: Driver>(alloc: Global) -> Result<PlanBuilder<D>, PlanFault>
+    ensures ok { IfOk result (λ builder. builder ≡ sample_controls_of) }
     ensures err { IfErr result (λ fault. fault ≡ PlanFault.Memory) }
 {
     let mut builder = PlanBuilder::new(alloc);
@@ -51,6 +65,7 @@ fn sample_controls<D: Driver>(alloc: Global) -> Result<PlanBuilder<D>, PlanFault
     builder.control(1, brightness)?;
     builder.control(1, power)?;
     builder.control(1, button)?;
+    builder.add_handler(1, 0)?;
     Ok(builder)
 }
 

@@ -1,4 +1,4 @@
--- What a call does to the device: where it adds no step, where it opens a file handle, where it sets a control.
+-- What a call does to the device: where it adds no step, where it opens or closes a file handle, where it sets a control.
 use Rattle.std.proofs.Common.{◌≡◌, ℕ, ℤ, ◌<◌, ◌≤◌, ◌+◌, ◌==◌, ◌&&◌, Bool, true, false, List, [], ◌∷◌, ◌++◌, length, Option, Some, None, Ok, Err, IsSome, is_some, refl, ap, sym, ◌∙◌, arith, inl, inr, count_by, cond, unwrap_or, eq-eqb}
 use Rattle.std.proofs.lemmas.List.{append-nil}
 use Rattle.std.proofs.lemmas.List.Sums.{sum_by-cons}
@@ -9,22 +9,23 @@ use Rattle.ctrl_calls.specs.declared.work.Work.{Work}
 use Rattle.ctrl_types.specs.declared.errno.Errno.{Errno}
 use Rattle.ctrl_types.specs.declared.errno.Errno.TheVariants.{ENOMEM}
 use Rattle.ctrl_types.specs.declared.errno.Fault.{Fault}
+use Rattle.ctrl_types.specs.declared.ids.CtrlId.{CtrlId}
 use Rattle.ctrl_types.specs.declared.ids.ExtControl.{ExtControl}
 use Rattle.ctrl_types.specs.declared.ids.FhId.{FhId}
 use Rattle.ctrl_types.specs.declared.ids.RequestId.{RequestId}
 use Rattle.device_state.specs.declared.ask.Ask.{Ask}
 use Rattle.device_state.specs.declared.ask.Ask.TheVariants as asks
 use Rattle.device_state.specs.declared.ask.Reply.{Reply}
-use Rattle.device_state.specs.declared.ask.Reply.TheVariants.{Fh, Controls}
+use Rattle.device_state.specs.declared.ask.Reply.TheVariants.{Fh, Done, Controls}
 use Rattle.device_state.specs.declared.ask.Step.{Step}
-use Rattle.device_state.specs.declared.ask.Step.TheVariants.{OpenFh, Set}
-use Rattle.device_state.specs.declared.cluster.Cluster.{Cluster}
-use Rattle.device_state.specs.Plan.{PlanData, IsPlan, member}
+use Rattle.device_state.specs.declared.ask.Step.TheVariants.{OpenFh, CloseFh, Set}
+use Rattle.ctrl_handlers.specs.ClusterData.{ClusterData}
+use Rattle.ctrl_handlers.specs.Plan.{PlanData, IsPlan, master}
 use Rattle.device_state.specs.Clusters.{becomes}
 use Rattle.device_state.specs.Steps.{Past, handler_of, shown}
 use Rattle.device_state.specs.Values.{now}
 use Rattle.device_state.specs.Told.{is_changed, told_of}
-use Rattle.device_state.specs.Answers.{Answer, answer_of, open_answer, set_one, refused_at, told_answer, MayAnswer, taken, step_of}
+use Rattle.device_state.specs.Answers.{Answer, answer_of, open_answer, close_answer, query_answer, next_answer, set_one, refused_at, told_answer, MayAnswer, taken, step_of}
 use Rattle.device_state.specs.Device.{DeviceData, Handles, SetsOne, with_step, step_changes}
 use Rattle.device_state.proofs.OverlayLemmas.{length_now}
 use Rattle.device_state.proofs.TellLemmas.{changes_one, told_one, member_of}
@@ -40,9 +41,9 @@ and_false : (b : Bool) → (b && false) ≡ false
 and_false true = refl
 and_false false = refl
 
-count_none : (cs : List Cluster) → count_by (λ k. is_some k.calls.notifier && false) cs ≡ 0
+count_none : (cs : List ClusterData) → count_by (λ k. is_some k.calls.notifier && false) cs ≡ 0
 count_none [] = refl
-count_none (x ∷ xs) = rw (sum_by-cons (λ (k : Cluster). cond (is_some k.calls.notifier && false) 1 0) x xs, and_false (is_some x.calls.notifier), count_none xs) refl
+count_none (x ∷ xs) = rw (sum_by-cons (λ (k : ClusterData). cond (is_some k.calls.notifier && false) 1 0) x xs, and_false (is_some x.calls.notifier), count_none xs) refl
 
 -- a call that adds no step
 pub handles_none : (verdicts : Verdicts) (old : DeviceData) (work : Work) (seat : ℕ) (ask : Ask) (answer : Answer) → work.told ≡ 0 → work.asked ≤ 1
@@ -68,6 +69,18 @@ taken_told : (plan : PlanData) (older : Past) (cluster : ℕ) (answer : Answer) 
 taken_told plan older cluster (Ok reply) = refl
 taken_told plan older cluster (Err fault) = refl
 
+taken_query : (plan : PlanData) (older : Past) (fh : FhId) (id : CtrlId) (answer : Answer) → taken plan older (asks.Query fh id) answer ≡ None
+taken_query plan older fh id (Ok reply) = refl
+taken_query plan older fh id (Err fault) = refl
+
+taken_next : (plan : PlanData) (older : Past) (fh : FhId) (id : CtrlId) (answer : Answer) → taken plan older (asks.NextId fh id) answer ≡ None
+taken_next plan older fh id (Ok reply) = refl
+taken_next plan older fh id (Err fault) = refl
+
+taken_item : (plan : PlanData) (older : Past) (fh : FhId) (id : CtrlId) (index : ℕ) (answer : Answer) → taken plan older (asks.MenuItem fh id index) answer ≡ None
+taken_item plan older fh id index (Ok reply) = refl
+taken_item plan older fh id index (Err fault) = refl
+
 -- a get
 pub handles_get : (verdicts : Verdicts) (old : DeviceData) (work : Work) (seat : ℕ) (fh : FhId) (which : ℕ) (request : Option RequestId) (list : List ExtControl) (answer : Answer) → work ≡ at_rest
     → MayAnswer verdicts old.plan (past old.steps) old.words (asks.GetCtrls fh which request list) answer
@@ -81,6 +94,27 @@ pub handles_told : (verdicts : Verdicts) (old : DeviceData) (work : Work) (seat 
     → Handles verdicts old (record old { work = work }) seat (asks.Told cluster) answer
 handles_told verdicts old work seat cluster answer rest is =
     handles_none verdicts old work seat _ answer (ap (λ (w : Work). w.told) rest) (asked_at_rest work rest) (taken_told old.plan (past old.steps) cluster answer) (inl is)
+
+-- a query
+pub handles_query : (verdicts : Verdicts) (old : DeviceData) (work : Work) (seat : ℕ) (fh : FhId) (id : CtrlId) (answer : Answer) → work ≡ at_rest
+    → answer ≡ query_answer old.plan (past old.steps) fh id
+    → Handles verdicts old (record old { work = work }) seat (asks.Query fh id) answer
+handles_query verdicts old work seat fh id answer rest is =
+    handles_none verdicts old work seat _ answer (ap (λ (w : Work). w.told) rest) (asked_at_rest work rest) (taken_query old.plan (past old.steps) fh id answer) (inl is)
+
+-- the next id
+pub handles_next : (verdicts : Verdicts) (old : DeviceData) (work : Work) (seat : ℕ) (fh : FhId) (id : CtrlId) (answer : Answer) → work ≡ at_rest
+    → answer ≡ next_answer old.plan (past old.steps) fh id
+    → Handles verdicts old (record old { work = work }) seat (asks.NextId fh id) answer
+handles_next verdicts old work seat fh id answer rest is =
+    handles_none verdicts old work seat _ answer (ap (λ (w : Work). w.told) rest) (asked_at_rest work rest) (taken_next old.plan (past old.steps) fh id answer) (inl is)
+
+-- an item of a menu
+pub handles_item : (verdicts : Verdicts) (old : DeviceData) (work : Work) (seat : ℕ) (fh : FhId) (id : CtrlId) (index : ℕ) (answer : Answer) → work ≡ at_rest
+    → MayAnswer verdicts old.plan (past old.steps) old.words (asks.MenuItem fh id index) answer
+    → Handles verdicts old (record old { work = work }) seat (asks.MenuItem fh id index) answer
+handles_item verdicts old work seat fh id index answer rest may =
+    handles_none verdicts old work seat _ answer (ap (λ (w : Work). w.told) rest) (asked_at_rest work rest) (taken_item old.plan (past old.steps) fh id index answer) may
 
 -- a refusal before anybody is asked
 pub handles_refused : (verdicts : Verdicts) (old new : DeviceData) (work : Work) (seat : ℕ) (ask : Ask) (fault : Fault) → new ≡ record old { work = work } → work ≡ at_rest
@@ -99,6 +133,20 @@ pub handles_open : (verdicts : Verdicts) (old : DeviceData) (work : Work) (seat 
 handles_open verdicts old work seat handler fh rest is number = record {
   plan = refl;
   answers = inl (sym (is ∙ ap opened_as (length_past old.steps ∙ sym number)));
+  refused = λ e. cc;
+  steps = refl;
+  words = λ k lt same. refl;
+  told = ap (λ (w : Work). w.told) rest ∙ sym (count_none old.plan.clusters);
+  asked = asked_at_rest work rest;
+}
+
+-- a close tells nobody
+pub handles_close : (verdicts : Verdicts) (old : DeviceData) (work : Work) (seat : ℕ) (fh : FhId) → work ≡ at_rest
+    → close_answer (past old.steps) fh ≡ Ok Done
+    → Handles verdicts old (with_step (record old { work = work }) seat (CloseFh fh)) seat (asks.CloseFh fh) (Ok Done)
+handles_close verdicts old work seat fh rest is = record {
+  plan = refl;
+  answers = inl (sym is);
   refused = λ e. cc;
   steps = refl;
   words = λ k lt same. refl;
@@ -140,7 +188,7 @@ handles_set verdicts told old new work seat fh request entry c value reply none 
       answers = inl (sym answered);
       refused = λ e. cc;
       steps = sets.steps ∙ ap (λ (o : Option Step). old.steps ++ entered seat o) (sym (set_step old.plan (past old.steps) fh request entry c found));
-      words = λ k lt same. sets.words.others k (λ is. own_change c (member old.plan k) changed (member_of old.plan c k is).1 (sym (changing (member old.plan k)) ∙ same));
+      words = λ k lt same. sets.words.others k (λ is. own_change c (master old.plan k) changed (member_of old.plan c k plans is).1 (sym (changing (master old.plan k)) ∙ same));
       told = ap (λ (w : Work). w.told) sets.work ∙ ap (told_of old.plan c changed) none ∙ sym (told_one old.plan c changed _ plans changing);
       asked = omega (arith, few, ap (λ (w : Work). w.asked) sets.work);
     }

@@ -2,16 +2,19 @@
 use Rattle.std.proofs.Common.{◌≡◌, ℕ, ℤ, Bool, true, false, if◌then◌else◌, List, [], ◌∷◌, Option, None, Some, Result, Ok, Err, is_some, refl, sym, subst, inl, inr}
 use Rattle.ctrl_types.specs.declared.errno.Errno.{Errno}
 use Rattle.ctrl_types.specs.declared.errno.Fault.{Fault}
+use Rattle.ctrl_types.specs.declared.ids.CtrlId.{CtrlId}
 use Rattle.ctrl_types.specs.declared.ids.ExtControl.{ExtControl}
 use Rattle.ctrl_types.specs.declared.ids.FhId.{FhId}
 use Rattle.ctrl_calls.specs.Meanings.{Verdicts}
 use Rattle.device_state.specs.declared.ask.Ask.{Ask}
 use Rattle.device_state.specs.declared.ask.Ask.TheVariants as asks
 use Rattle.device_state.specs.declared.ask.Reply.{Reply}
-use Rattle.device_state.specs.Plan.{PlanData}
-use Rattle.device_state.specs.Steps.{Past, shown}
+use Rattle.ctrl_handlers.specs.declared.menu.MenuItem.{MenuItem}
+use Rattle.ctrl_handlers.specs.Plan.{PlanData, menu_item}
+use Rattle.ctrl_handlers.specs.Visible.{next_id}
+use Rattle.device_state.specs.Steps.{Past, handler_of, shown}
 use Rattle.device_state.specs.Values.{Values, now}
-use Rattle.device_state.specs.Answers.{Answer, answer_of, list_answer, get_one, set_one, set_settled, refused, refused_at, is_list, no_memory, MayAnswer}
+use Rattle.device_state.specs.Answers.{Answer, answer_of, list_answer, get_one, set_one, set_settled, query_one, next_one, next_of, item_one, item_of, refused, refused_at, is_list, no_memory, MayAnswer}
 
 -- where the answer is a refusal, whether it has an index is b
 HasIndex : Bool → Answer → Type 0
@@ -50,18 +53,46 @@ listed : (past : Past) (fh : FhId) (which : ℕ) (list : List ExtControl) (one :
 listed past fh which [] one h = search (either, at)
 listed past fh which (entry ∷ rest) one h = search (either, at, h)
 
+queried : (plan : PlanData) (found : Option ℕ) → HasIndex false (query_one plan found)
+queried plan None = plain _
+queried plan (Some c) = accepted false _
+
+next_found : (next : Option CtrlId) → HasIndex false (next_one next)
+next_found None = plain _
+next_found (Some id) = accepted false _
+
+item_found : (item : Option MenuItem) → HasIndex false (item_one item)
+item_found None = plain _
+item_found (Some item) = accepted false _
+
+next : (plan : PlanData) (id : CtrlId) (handler : Option ℕ) → HasIndex false (next_of plan id handler)
+next plan id None = plain _
+next plan id (Some h) = next_found (next_id plan h id)
+
+item : (plan : PlanData) (index : ℕ) (found : Option ℕ) → HasIndex false (item_of plan index found)
+item plan index None = plain _
+item plan index (Some c) = item_found (menu_item plan c index)
+
 answered : (verdicts : Verdicts) (plan : PlanData) (past : Past) (words : List ℕ) (ask : Ask) → HasIndex (is_list ask) (answer_of verdicts plan past words ask)
 answered verdicts plan past words (asks.OpenFh handler) = search (either, plain, accepted)
+answered verdicts plan past words (asks.CloseFh fh) = search (either, plain, accepted)
 answered verdicts plan past words (asks.GetCtrls fh which request list) =
     listed past fh which list _ (λ e. got plan (now verdicts plan past) e (shown plan past fh e.id))
 answered verdicts plan past words (asks.SetCtrls fh which request list) =
     listed past fh which list _ (λ e. put verdicts plan past e (shown plan past fh e.id))
+answered verdicts plan past words (asks.Query fh id) = search (either, plain, queried)
+answered verdicts plan past words (asks.NextId fh id) = next plan id (handler_of past fh)
+answered verdicts plan past words (asks.MenuItem fh id index) = search (either, plain, item)
 answered verdicts plan past words (asks.Told cluster) = search (either, plain, accepted)
 
 lacking : (ask : Ask) → HasIndex (is_list ask) (no_memory ask)
 lacking (asks.OpenFh handler) = plain _
+lacking (asks.CloseFh fh) = plain _
 lacking (asks.GetCtrls fh which request list) = at _ _
 lacking (asks.SetCtrls fh which request list) = at _ _
+lacking (asks.Query fh id) = plain _
+lacking (asks.NextId fh id) = plain _
+lacking (asks.MenuItem fh id index) = plain _
 lacking (asks.Told cluster) = plain _
 
 pub index_of_lists : (verdicts : Verdicts) (plan : PlanData) (past : Past) (words : List ℕ) (ask : Ask) (fault : Fault) → MayAnswer verdicts plan past words ask (Err fault) → is_some fault.index ≡ is_list ask

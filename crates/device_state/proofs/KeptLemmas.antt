@@ -1,6 +1,6 @@
 -- Each kind of step keeps the device's parts what they are defined to be.
 use Rattle.std.proofs.Common.{◌≡◌, ℕ, nat_eq, ℤ, ◌<◌, Bool, false, List, [], ◌∷◌, ◌++◌, length, Option, Some, None, IsOk, Ok, unwrap_or, slice_set, refl, ap, sym, ◌∙◌, subst, arith, length-append}
-use Rattle.std.specs.Map.{lookup}
+use Rattle.std.specs.Map.{lookup, remove_entry}
 use Rattle.std.proofs.lemmas.Grind.{common_steps}
 use Rattle.std.proofs.lemmas.Bool.Decides.{nat_tests}
 use Rattle.history.specs.declared.entry.Entry.{Entry}
@@ -9,21 +9,20 @@ use Rattle.history.proofs.Pasts.{length_past}
 use Rattle.ctrl_types.specs.declared.ids.ExtControl.{ExtControl}
 use Rattle.ctrl_types.specs.declared.ids.FhId.{FhId}
 use Rattle.ctrl_types.specs.declared.ids.Pair.{Pair}
-use Rattle.std.proofs.lemmas.List.{append-nil}
 use Rattle.ctrl_calls.specs.Meanings.{Verdicts, Words}
 use Rattle.device_state.specs.declared.limits.TheConstants.{MAX_STEPS}
 use Rattle.device_state.specs.declared.ask.Ask.TheVariants as asks
 use Rattle.device_state.specs.declared.ask.Step.{Step}
-use Rattle.device_state.specs.declared.ask.Step.TheVariants.{OpenFh, Set}
-use Rattle.device_state.specs.Plan.{PlanData, IsPlan}
+use Rattle.device_state.specs.declared.ask.Step.TheVariants.{OpenFh, CloseFh, Set}
+use Rattle.ctrl_handlers.specs.Plan.{PlanData, IsPlan}
 use Rattle.device_state.specs.Steps.{History, opened, shown}
 use Rattle.device_state.specs.Values.{Values, now, defaults, value_at}
 use Rattle.device_state.specs.Clusters.{becomes}
 use Rattle.device_state.specs.Told.{AreTold, IsTold}
-use Rattle.device_state.specs.Answers.{answer_of, open_answer, step_of}
+use Rattle.device_state.specs.Answers.{answer_of, open_answer, close_answer, step_of}
 use Rattle.device_state.specs.Legal.{IsLegal, MayFollow}
 use Rattle.device_state.specs.Kept.{IsKept}
-use Rattle.device_state.proofs.PastLemmas.{opened_add, opened_fresh, now_add, legal_add}
+use Rattle.device_state.proofs.PastLemmas.{opened_add, opened_fresh, opened_rising, drops_one, now_add, legal_add}
 use Rattle.device_state.proofs.OverlayLemmas.{overlay_one, length_now}
 use Rattle.device_state.proofs.TellLemmas.{told_after}
 
@@ -74,6 +73,23 @@ kept_open verdicts told plan steps handles values words seat handler kept accept
     (kept.are_present ∙ sym (now_add verdicts plan steps e))
     kept.are_told
 
+-- where a close is accepted, one more step is kept
+close_room : (steps : History) (fh : FhId) → IsOk (close_answer (past steps) fh) → length steps < MAX_STEPS
+close_room steps fh accepted = grind (arith, common_steps, nat_tests, length_past steps)
+
+-- a close
+pub kept_close : (verdicts : Verdicts) (told : Words) (plan : PlanData) (steps : History) (handles : List (ℕ × ℕ)) (values : Values) (words : List ℕ) (seat : ℕ) (fh : FhId)
+    → IsKept verdicts told plan steps handles values words → IsOk (close_answer (past steps) fh)
+    → IsKept verdicts told plan (steps ++ record { seat = seat; step = CloseFh fh } ∷ []) (remove_entry (nat_eq fh.0) handles) values words
+kept_close verdicts told plan steps handles values words seat fh kept accepted =
+    let room : length steps < MAX_STEPS = close_room steps fh accepted in
+    let e : Entry Step = record { seat = seat; step = CloseFh fh } in
+    kept_add verdicts told plan steps handles (remove_entry (nat_eq fh.0) handles) values values words words e kept room
+    (asks.CloseFh fh, accepted, refl)
+    (ap (remove_entry (nat_eq fh.0)) kept.are_open ∙ drops_one fh.0 (opened (past steps)) (opened_rising (past steps)) ∙ sym (opened_add steps e))
+    (kept.are_present ∙ sym (now_add verdicts plan steps e))
+    kept.are_told
+
 -- a set of one control
 pub kept_set : (verdicts : Verdicts) (told : Words) (plan : PlanData) (steps : History) (handles : List (ℕ × ℕ)) (values : Values) (words new : List ℕ) (seat c : ℕ) (fh : FhId) (entry : ExtControl) (changed : Bool) (value : ℤ)
     → IsPlan plan → IsKept verdicts told plan steps handles values words → length steps < MAX_STEPS → IsOk (answer_of verdicts plan (past steps) [] (asks.SetCtrls fh 0 None (entry ∷ [])))
@@ -89,7 +105,7 @@ kept_set verdicts told plan steps handles values words new seat c fh entry chang
     ap (λ (o : Option ℕ). Some (Set fh (record { control = unwrap_or o 0; value = entry.value } ∷ []))) found in
     kept_add verdicts told plan steps handles handles values (slice_set values c value) words new e kept room
     (asks.SetCtrls fh 0 None (entry ∷ []), accepted, step_is)
-    (kept.are_open ∙ sym (opened_add steps e ∙ append-nil (opened (past steps))))
+    (kept.are_open ∙ sym (opened_add steps e))
     (ap (λ (v : Values). slice_set v c value) kept.are_present
     ∙ sym (now_add verdicts plan steps e ∙ overlay_one verdicts plan (now verdicts plan (past steps)) c entry.value value there settled))
     (told_after told plan values c changed value words new plans kept.are_told place same is)

@@ -1,5 +1,3 @@
-pub mod ListLemmas
-pub mod ClusterLemmas
 pub mod PastLemmas
 pub mod OverlayLemmas
 pub mod TellLemmas

@@ -7,8 +7,8 @@ use Rattle.std.proofs.lemmas.List.FromFn.{length-enumerate_from, get_or-enumerat
 use Rattle.ctrl_types.specs.declared.ids.Pair.{Pair}
 use Rattle.ctrl_calls.specs.Meanings.{Verdicts}
 use Rattle.device_state.specs.declared.ask.Step.{Step}
-use Rattle.device_state.specs.declared.ask.Step.TheVariants.{OpenFh, Set}
-use Rattle.device_state.specs.Plan.{PlanData}
+use Rattle.device_state.specs.declared.ask.Step.TheVariants.{OpenFh, CloseFh, Set}
+use Rattle.ctrl_handlers.specs.Plan.{PlanData}
 use Rattle.device_state.specs.Clusters.{becomes}
 use Rattle.device_state.specs.Steps.{Past}
 use Rattle.device_state.specs.Values.{Values, overlaid, overlay, last_value, now, now_after}
@@ -22,6 +22,7 @@ length_overlay verdicts plan values pairs = length-map (enumerate_from 0 values)
 length_now_after : (verdicts : Verdicts) (plan : PlanData) (step : Step) (values : Values) → length (now_after verdicts plan step values) ≡ length values
 length_now_after verdicts plan (Set fh pairs) values = length_overlay verdicts plan values pairs
 length_now_after verdicts plan (OpenFh handler) values = refl
+length_now_after verdicts plan (CloseFh fh) values = refl
 
 -- there is a value for each control of the plan
 pub length_now : (verdicts : Verdicts) (plan : PlanData) (past : Past) → length (now verdicts plan past) ≡ length plan.controls

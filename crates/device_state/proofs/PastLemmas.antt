@@ -1,16 +1,17 @@
 -- What one more entry makes of the definitions, and the file handles that a history opened.
-use Rattle.std.proofs.Common.{◌≡◌, ℕ, suc, ◌<◌, ◌≤◌, false, List, [], ◌∷◌, ◌++◌, length, None, nat_eq, refl, subst, arith}
+use Rattle.std.proofs.Common.{◌≡◌, ℕ, suc, ◌<◌, ◌≤◌, Bool, true, false, not, cond, List, [], ◌∷◌, ◌++◌, length, filter, None, Some, nat_eq, refl, ap, sym, subst, arith, length-append}
 use Rattle.std.proofs.lemmas.Bool.Decides.{nat_tests}
 use Rattle.std.proofs.lemmas.List.{reverse-append}
-use Rattle.std.specs.Map.{lookup}
+use Rattle.std.specs.Map.{lookup, remove_entry}
 use Rattle.history.specs.declared.entry.Entry.{Entry}
 use Rattle.history.specs.Past.{past}
 use Rattle.history.proofs.Pasts.{past_add, length_past}
 use Rattle.ctrl_calls.specs.Meanings.{Verdicts}
+use Rattle.ctrl_types.specs.declared.ids.FhId.{FhId}
 use Rattle.device_state.specs.declared.ask.Step.{Step}
-use Rattle.device_state.specs.declared.ask.Step.TheVariants.{OpenFh, Set}
-use Rattle.device_state.specs.Plan.{PlanData}
-use Rattle.device_state.specs.Steps.{History, Past, opened, opening}
+use Rattle.device_state.specs.declared.ask.Step.TheVariants.{OpenFh, CloseFh, Set}
+use Rattle.ctrl_handlers.specs.Plan.{PlanData}
+use Rattle.device_state.specs.Steps.{History, Past, opened, opened_after, handler_of}
 use Rattle.device_state.specs.Values.{defaults, now, now_after}
 use Rattle.device_state.specs.Legal.{IsLegal, MayFollow}
 
@@ -28,7 +29,7 @@ unfolding IsLegal
 legal_start verdicts plan = tt
 
 -- the file handles after one more entry
-pub opened_add : (steps : History) (e : Entry Step) → opened (past (steps ++ e ∷ [])) ≡ opened (past steps) ++ opening (length steps) e.step
+pub opened_add : (steps : History) (e : Entry Step) → opened (past (steps ++ e ∷ [])) ≡ opened_after (length steps) e.step (opened (past steps))
 unfolding opened
 opened_add steps e = rw (past_add steps e, length_past steps) refl
 
@@ -71,18 +72,26 @@ unfolding AreBelow
 below_more n m [] le h = tt
 below_more n m (o ∷ os) le h = (omega (arith, h.0), below_more n m os le h.1)
 
-opening_below : (n : ℕ) (step : Step) → AreBelow (suc n) (opening n step)
+below_filter : (n : ℕ) (test : ℕ × ℕ → Bool) (os : List (ℕ × ℕ)) → AreBelow n os → AreBelow n (filter test os)
 unfolding AreBelow
-opening_below n (OpenFh handler) = (omega arith, tt)
-opening_below n (Set fh pairs) = tt
+below_filter n test [] h = tt
+below_filter n test (o ∷ os) h = by (test o) (below_filter n test os h.1)
+  where
+    by : (b : Bool) → AreBelow n (filter test os) → AreBelow n (cond b (o ∷ filter test os) (filter test os))
+    by true k = (h.0, k)
+    by false k = k
+
+after_below : (n : ℕ) (step : Step) (os : List (ℕ × ℕ)) → AreBelow n os → AreBelow (suc n) (opened_after n step os)
+unfolding AreBelow
+after_below n (OpenFh handler) os h = below_append (suc n) os ((n, handler) ∷ []) (below_more n (suc n) os (omega arith) h) (omega arith, tt)
+after_below n (CloseFh fh) os h = below_more n (suc n) _ (omega arith) (below_filter n _ os h)
+after_below n (Set fh pairs) os h = below_more n (suc n) os (omega arith) h
 
 -- a file handle's id is the number of a step that was made
 opened_below : (past : Past) → AreBelow (length past) (opened past)
 unfolding opened AreBelow
 opened_below [] = tt
-opened_below (e ∷ older) =
-    below_append (suc (length older)) (opened older) (opening (length older) e.step)
-    (below_more (length older) (suc (length older)) (opened older) (omega arith) (opened_below older)) (opening_below (length older) e.step)
+opened_below (e ∷ older) = after_below (length older) e.step (opened older) (opened_below older)
 
 absent : (n m : ℕ) (os : List (ℕ × ℕ)) → n ≤ m → AreBelow n os → lookup (nat_eq m) os ≡ None
 unfolding AreBelow
@@ -93,3 +102,123 @@ absent n m (o ∷ os) le h =
 -- the number of the next step is no file handle's id yet
 pub opened_fresh : (past : Past) → lookup (nat_eq (length past)) (opened past) ≡ None
 opened_fresh past = absent (length past) (length past) (opened past) (omega arith) (opened_below past)
+
+-- each entry has a number above n as its key
+pub AreAbove : ℕ → List (ℕ × ℕ) → Type 0
+AreAbove n [] = Unit {0}
+AreAbove n (o ∷ os) = (n < o.0) × AreAbove n os
+
+-- the keys rise
+pub AreRising : List (ℕ × ℕ) → Type 0
+AreRising [] = Unit {0}
+AreRising (o ∷ os) = AreAbove o.0 os × AreRising os
+
+above_push : (m n handler : ℕ) (os : List (ℕ × ℕ)) → AreAbove m os → m < n → AreAbove m (os ++ (n, handler) ∷ [])
+unfolding AreAbove
+above_push m n handler [] h lt = (lt, tt)
+above_push m n handler (o ∷ os) h lt = (h.0, above_push m n handler os h.1 lt)
+
+rising_push : (n handler : ℕ) (os : List (ℕ × ℕ)) → AreRising os → AreBelow n os → AreRising (os ++ (n, handler) ∷ [])
+unfolding AreAbove AreRising AreBelow
+rising_push n handler [] h b = (tt, tt)
+rising_push n handler (o ∷ os) h b = (above_push o.0 n handler os h.0 b.0, rising_push n handler os h.1 b.1)
+
+above_filter : (n : ℕ) (test : ℕ × ℕ → Bool) (os : List (ℕ × ℕ)) → AreAbove n os → AreAbove n (filter test os)
+unfolding AreAbove
+above_filter n test [] h = tt
+above_filter n test (o ∷ os) h = by (test o) (above_filter n test os h.1)
+  where
+    by : (b : Bool) → AreAbove n (filter test os) → AreAbove n (cond b (o ∷ filter test os) (filter test os))
+    by true k = (h.0, k)
+    by false k = k
+
+rising_filter : (test : ℕ × ℕ → Bool) (os : List (ℕ × ℕ)) → AreRising os → AreRising (filter test os)
+unfolding AreRising
+rising_filter test [] h = tt
+rising_filter test (o ∷ os) h = by (test o) (rising_filter test os h.1)
+  where
+    by : (b : Bool) → AreRising (filter test os) → AreRising (cond b (o ∷ filter test os) (filter test os))
+    by true k = (above_filter o.0 test os h.0, k)
+    by false k = k
+
+after_rising : (n : ℕ) (step : Step) (os : List (ℕ × ℕ)) → AreRising os → AreBelow n os → AreRising (opened_after n step os)
+after_rising n (OpenFh handler) os h b = rising_push n handler os h b
+after_rising n (CloseFh fh) os h b = rising_filter _ os h
+after_rising n (Set fh pairs) os h b = h
+
+-- the ids of the open file handles rise in the order of their opening
+pub opened_rising : (past : Past) → AreRising (opened past)
+unfolding opened AreRising
+opened_rising [] = tt
+opened_rising (e ∷ older) = after_rising (length older) e.step (opened older) (opened_rising older) (opened_below older)
+
+-- no entry has a key below all of them
+all_stay : (k : ℕ) (os : List (ℕ × ℕ)) → AreAbove k os → filter (λ h. not (nat_eq k h.0)) os ≡ os
+unfolding AreAbove
+all_stay k [] h = refl
+all_stay k (o ∷ os) h =
+    let other : nat_eq k o.0 ≡ false = grind (arith, nat_tests, h.0) in rw (other, all_stay k os h.1) refl
+
+-- where the keys rise, the first entry with a key is the only one
+pub drops_one : (k : ℕ) (os : List (ℕ × ℕ)) → AreRising os → remove_entry (nat_eq k) os ≡ filter (λ h. not (nat_eq k h.0)) os
+unfolding AreRising
+drops_one k [] h = refl
+drops_one k (o ∷ os) h = by (nat_eq k o.0) refl (drops_one k os h.1)
+  where
+    by : (b : Bool) → nat_eq k o.0 ≡ b → remove_entry (nat_eq k) os ≡ filter (λ h. not (nat_eq k h.0)) os
+        → cond b os (o ∷ remove_entry (nat_eq k) os) ≡ cond (not b) (o ∷ filter (λ h. not (nat_eq k h.0)) os) (filter (λ h. not (nat_eq k h.0)) os)
+    by true e rest =
+        let same : k ≡ o.0 = grind (arith, nat_tests, e) in
+        sym (all_stay k os (subst (λ (n : ℕ). AreAbove n os) (sym same) h.0))
+    by false e rest = ap (λ (l : List (ℕ × ℕ)). o ∷ l) rest
+
+-- an entry that is dropped isn't there
+dropped : (k : ℕ) (os : List (ℕ × ℕ)) → lookup (nat_eq k) (filter (λ h. not (nat_eq k h.0)) os) ≡ None
+dropped k [] = refl
+dropped k (o ∷ os) = by (nat_eq k o.0) refl (dropped k os)
+  where
+    by : (b : Bool) → nat_eq k o.0 ≡ b → lookup (nat_eq k) (filter (λ h. not (nat_eq k h.0)) os) ≡ None
+        → lookup (nat_eq k) (cond (not b) (o ∷ filter (λ h. not (nat_eq k h.0)) os) (filter (λ h. not (nat_eq k h.0)) os)) ≡ None
+    by true e rest = rest
+    by false e rest = rw e rest
+
+-- a file handle that was closed isn't open
+pub closed_gone : (steps : History) (e : Entry Step) (fh : FhId) → e.step ≡ CloseFh fh → handler_of (past (steps ++ e ∷ [])) fh ≡ None
+closed_gone steps e fh is = rw (opened_add steps e, is) (dropped fh.0 (opened (past steps)))
+
+-- one that isn't there isn't there without others
+still_absent : (k : ℕ) (test : ℕ × ℕ → Bool) (os : List (ℕ × ℕ)) → lookup (nat_eq k) os ≡ None → lookup (nat_eq k) (filter test os) ≡ None
+still_absent k test [] h = refl
+still_absent k test (o ∷ os) h = by (nat_eq k o.0) refl h (still_absent k test os) (test o)
+  where
+    by : (b : Bool) → nat_eq k o.0 ≡ b → cond b (Some o.1) (lookup (nat_eq k) os) ≡ None → (lookup (nat_eq k) os ≡ None → lookup (nat_eq k) (filter test os) ≡ None)
+        → (t : Bool) → lookup (nat_eq k) (cond t (o ∷ filter test os) (filter test os)) ≡ None
+    by true e g rest t = cc
+    by false e g rest true = rw e (rest g)
+    by false e g rest false = rest g
+
+-- one with another key is added
+absent_push : (k n handler : ℕ) (os : List (ℕ × ℕ)) → k < n → lookup (nat_eq k) os ≡ None → lookup (nat_eq k) (os ++ (n, handler) ∷ []) ≡ None
+absent_push k n handler [] lt h = let other : nat_eq k n ≡ false = grind (arith, nat_tests, lt) in rw other refl
+absent_push k n handler (o ∷ os) lt h = by (nat_eq k o.0) h (absent_push k n handler os lt)
+  where
+    by : (b : Bool) → cond b (Some o.1) (lookup (nat_eq k) os) ≡ None → (lookup (nat_eq k) os ≡ None → lookup (nat_eq k) (os ++ (n, handler) ∷ []) ≡ None)
+        → cond b (Some o.1) (lookup (nat_eq k) (os ++ (n, handler) ∷ [])) ≡ None
+    by true g rest = cc
+    by false g rest = rest g
+
+after_absent : (n : ℕ) (step : Step) (k : ℕ) (os : List (ℕ × ℕ)) → k < n → lookup (nat_eq k) os ≡ None → lookup (nat_eq k) (opened_after n step os) ≡ None
+after_absent n (OpenFh handler) k os lt h = absent_push k n handler os lt h
+after_absent n (CloseFh fh) k os lt h = still_absent k _ os h
+after_absent n (Set fh pairs) k os lt h = h
+
+older_gone : (newer older : Past) (fh : FhId) → fh.0 < length older → handler_of older fh ≡ None → handler_of (newer ++ older) fh ≡ None
+unfolding opened
+older_gone [] older fh lt h = h
+older_gone (e ∷ newer) older fh lt h =
+    after_absent (length (newer ++ older)) e.step fh.0 (opened (newer ++ older)) (omega (arith, lt, length-append newer older)) (older_gone newer older fh lt h)
+
+-- what isn't open by the step that its id numbers isn't opened later
+pub gone_for_good : (steps more : History) (fh : FhId) → fh.0 < length steps → handler_of (past steps) fh ≡ None → handler_of (past (steps ++ more)) fh ≡ None
+gone_for_good steps more fh lt h =
+    rw (reverse-append steps more) (older_gone (past more) (past steps) fh (omega (arith, lt, length_past steps)) h)

@@ -1,5 +1,6 @@
 -- What an ask is answered after a history, and the step that it adds (Linux userspace API, "ioctl VIDIOC_G_EXT_CTRLS,
--- VIDIOC_S_EXT_CTRLS, VIDIOC_TRY_EXT_CTRLS"; the order of the refusals and the index are of this project).
+-- VIDIOC_S_EXT_CTRLS, VIDIOC_TRY_EXT_CTRLS", "ioctls VIDIOC_QUERYCTRL, VIDIOC_QUERY_EXT_CTRL and VIDIOC_QUERYMENU"; the order
+-- of the refusals and the index are of this project).
 use Rattle.std.specs.Prelude.{◌≡◌, ℕ, ℤ, Bool, true, false, ◌==◌, ◌&&◌, nat_le, if◌then◌else◌, List, [], ◌∷◌, length, map, Option, None, Some, is_some, slice_index, unwrap_or, Result, Ok, Err, IsOk, IsTrue, ◌⊎◌}
 use Rattle.ctrl_types.specs.declared.errno.Errno.{Errno}
 use Rattle.ctrl_types.specs.declared.errno.Errno.TheVariants.{EBADF, ENOMEM, EACCES, EINVAL, ENOSPC}
@@ -9,19 +10,23 @@ use Rattle.ctrl_types.specs.declared.which.Which.{Which}
 use Rattle.ctrl_types.specs.declared.which.Which.TheVariants.{Current}
 use Rattle.ctrl_types.specs.Flags.{contains}
 use Rattle.ctrl_types.specs.declared.flags.TheConstants.Flags.{DISABLED, READ_ONLY, WRITE_ONLY}
+use Rattle.ctrl_types.specs.declared.ids.CtrlId.{CtrlId}
 use Rattle.ctrl_types.specs.declared.ids.ExtControl.{ExtControl}
 use Rattle.ctrl_types.specs.declared.ids.FhId.{FhId}
 use Rattle.ctrl_types.specs.declared.ids.Pair.{Pair}
 use Rattle.device_state.specs.declared.ask.Ask.{Ask}
 use Rattle.device_state.specs.declared.ask.Ask.TheVariants as asks
 use Rattle.device_state.specs.declared.ask.Reply.{Reply}
-use Rattle.device_state.specs.declared.ask.Reply.TheVariants.{Fh, Controls, Word}
+use Rattle.device_state.specs.declared.ask.Reply.TheVariants.{Fh, Done, Controls, Info, Id, Item, Word}
 use Rattle.device_state.specs.declared.ask.Step.{Step}
 use Rattle.device_state.specs.declared.ask.Step.TheVariants as steps
 use Rattle.device_state.specs.declared.limits.TheConstants.{MAX_FILE_HANDLES, MAX_STEPS}
-use Rattle.device_state.specs.Plan.{PlanData, control, cluster_count}
+use Rattle.ctrl_handlers.specs.declared.menu.MenuItem.{MenuItem}
+use Rattle.ctrl_handlers.specs.Plan.{PlanData, control, menu_item, cluster_count}
+use Rattle.ctrl_handlers.specs.Visible.{next_id}
 use Rattle.ctrl_calls.specs.Meanings.{Verdicts}
 use Rattle.device_state.specs.Clusters.{becomes}
+use Rattle.device_state.specs.Info.{info_of}
 use Rattle.device_state.specs.Steps.{Past, opened, handler_of, shown}
 use Rattle.device_state.specs.Values.{Values, value_at, now}
 
@@ -53,6 +58,13 @@ open_answer plan past handler =
     else if are_all_open past then refused ENOSPC
     else if is_full past then refused ENOSPC
     else Ok (Fh (record { 0 = length past }))
+
+-- Closing a file handle: EBADF where it isn't open; ENOSPC where no further step is kept.
+abbrev pub close_answer : Past → FhId → Answer
+close_answer past fh =
+    if is_some (handler_of past fh) then
+    (if is_full past then refused ENOSPC else Ok Done)
+    else refused EBADF
 
 -- the present values are asked for
 abbrev pub is_current : Result Which Errno → Bool
@@ -98,6 +110,43 @@ list_answer past fh which (entry ∷ rest) one =
     (if is_one_current which (entry ∷ rest) then one entry else refused_at EINVAL (length (entry ∷ rest)))
     else refused_at EBADF (length (entry ∷ rest))
 
+-- Querying a control: EINVAL where it isn't shown. Else what it is like, also where it is DISABLED.
+abbrev pub query_one : PlanData → Option ℕ → Answer
+query_one plan None = refused EINVAL
+query_one plan (Some c) = Ok (Info (info_of (control plan c)))
+
+-- A query: EBADF where the file handle isn't open; then as of the control that is shown to it.
+abbrev pub query_answer : PlanData → Past → FhId → CtrlId → Answer
+query_answer plan past fh id = if is_some (handler_of past fh) then query_one plan (shown plan past fh id) else refused EBADF
+
+-- The next id: EINVAL where no id that is shown is greater.
+abbrev pub next_one : Option CtrlId → Answer
+next_one None = refused EINVAL
+next_one (Some next) = Ok (Id next)
+
+-- The next id of what is shown to a file handle: EBADF where it isn't open; then as of its handler.
+abbrev pub next_of : PlanData → CtrlId → Option ℕ → Answer
+next_of plan id None = refused EBADF
+next_of plan id (Some handler) = next_one (next_id plan handler id)
+
+abbrev pub next_answer : PlanData → Past → FhId → CtrlId → Answer
+next_answer plan past fh id = next_of plan id (handler_of past fh)
+
+-- An item of a menu: EINVAL where nothing was given at the index.
+abbrev pub item_one : Option MenuItem → Answer
+item_one None = refused EINVAL
+item_one (Some item) = Ok (Item item)
+
+-- An item of a control: EINVAL where the control isn't shown; then as of it.
+abbrev pub item_of : PlanData → ℕ → Option ℕ → Answer
+item_of plan index None = refused EINVAL
+item_of plan index (Some c) = item_one (menu_item plan c index)
+
+-- An item of a menu, asked through a file handle: EBADF where it isn't open; then as of the control that is shown to it.
+abbrev pub item_answer : PlanData → Past → FhId → CtrlId → ℕ → Answer
+item_answer plan past fh id index =
+    if is_some (handler_of past fh) then item_of plan index (shown plan past fh id) else refused EBADF
+
 -- The word that a cluster was told last: EINVAL where there is no such cluster. A cluster without closures was told 0.
 abbrev pub told_answer : PlanData → List ℕ → ℕ → Answer
 told_answer plan words cluster =
@@ -106,35 +155,51 @@ told_answer plan words cluster =
 -- the answer where memory suffices, where these words were told
 abbrev pub answer_of : Verdicts → PlanData → Past → List ℕ → Ask → Answer
 answer_of verdicts plan past words (asks.OpenFh handler) = open_answer plan past handler
+answer_of verdicts plan past words (asks.CloseFh fh) = close_answer past fh
 answer_of verdicts plan past words (asks.GetCtrls fh which request list) =
     list_answer past fh which list (λ entry. get_one plan (now verdicts plan past) entry (shown plan past fh entry.id))
 answer_of verdicts plan past words (asks.SetCtrls fh which request list) =
     list_answer past fh which list (λ entry. set_one verdicts plan past entry (shown plan past fh entry.id))
+answer_of verdicts plan past words (asks.Query fh id) = query_answer plan past fh id
+answer_of verdicts plan past words (asks.NextId fh id) = next_answer plan past fh id
+answer_of verdicts plan past words (asks.MenuItem fh id index) = item_answer plan past fh id index
 answer_of verdicts plan past words (asks.Told cluster) = told_answer plan words cluster
 
--- ENOMEM may take the place of an accepted opening, and for a list that of every answer after the checks of the file
+-- ENOMEM may take the place of an accepted opening or close and of an item of a menu, and for a list that of every answer after the checks of the file
 -- handle, of `which` and of the count.
 abbrev pub list_is_read : Past → FhId → ℕ → List ExtControl → Bool
 list_is_read past fh which list = is_some (handler_of past fh) && is_one_current which list
 
 abbrev pub MayLackMemory : PlanData → Past → Ask → Type 0
 MayLackMemory plan past (asks.OpenFh handler) = IsOk (open_answer plan past handler)
+MayLackMemory plan past (asks.CloseFh fh) = IsOk (close_answer past fh)
 MayLackMemory plan past (asks.GetCtrls fh which request list) = IsTrue (list_is_read past fh which list)
 MayLackMemory plan past (asks.SetCtrls fh which request list) = IsTrue (list_is_read past fh which list)
+MayLackMemory plan past (asks.Query fh id) = ⊥
+MayLackMemory plan past (asks.NextId fh id) = ⊥
+MayLackMemory plan past (asks.MenuItem fh id index) = IsOk (item_answer plan past fh id index)
 MayLackMemory plan past (asks.Told cluster) = ⊥
 
 -- want of memory, as the ask is told it
 abbrev pub no_memory : Ask → Answer
 no_memory (asks.OpenFh handler) = refused ENOMEM
+no_memory (asks.CloseFh fh) = refused ENOMEM
 no_memory (asks.GetCtrls fh which request list) = refused_at ENOMEM (length list)
 no_memory (asks.SetCtrls fh which request list) = refused_at ENOMEM (length list)
+no_memory (asks.Query fh id) = refused ENOMEM
+no_memory (asks.NextId fh id) = refused ENOMEM
+no_memory (asks.MenuItem fh id index) = refused ENOMEM
 no_memory (asks.Told cluster) = refused ENOMEM
 
 -- whether an ask is one about a list
 abbrev pub is_list : Ask → Bool
 is_list (asks.OpenFh handler) = false
+is_list (asks.CloseFh fh) = false
 is_list (asks.GetCtrls fh which request list) = true
 is_list (asks.SetCtrls fh which request list) = true
+is_list (asks.Query fh id) = false
+is_list (asks.NextId fh id) = false
+is_list (asks.MenuItem fh id index) = false
 is_list (asks.Told cluster) = false
 
 -- an answer that the ask may get after this past
@@ -149,8 +214,12 @@ pairs_of plan past fh list = map (λ entry. record { control = unwrap_or (shown 
 -- the step that an ask adds where it is accepted
 abbrev pub step_of : PlanData → Past → Ask → Option Step
 step_of plan past (asks.OpenFh handler) = Some (steps.OpenFh handler)
+step_of plan past (asks.CloseFh fh) = Some (steps.CloseFh fh)
 step_of plan past (asks.GetCtrls fh which request list) = None
 step_of plan past (asks.SetCtrls fh which request list) = Some (steps.Set fh (pairs_of plan past fh list))
+step_of plan past (asks.Query fh id) = None
+step_of plan past (asks.NextId fh id) = None
+step_of plan past (asks.MenuItem fh id index) = None
 step_of plan past (asks.Told cluster) = None
 
 -- the step that it adds where this is its answer

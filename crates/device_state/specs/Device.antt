@@ -5,7 +5,7 @@ use Rattle.ctrl_calls.specs.declared.work.Work.{Work}
 use Rattle.device_state.specs.declared.ask.Ask.{Ask}
 use Rattle.device_state.specs.declared.ask.Step.{Step}
 use Rattle.device_state.specs.declared.ask.Step.TheVariants.{Set}
-use Rattle.device_state.specs.Plan.{PlanData, member}
+use Rattle.ctrl_handlers.specs.Plan.{PlanData, master}
 use Rattle.ctrl_calls.specs.Meanings.{Verdicts, Words}
 use Rattle.ctrl_types.specs.declared.ids.FhId.{FhId}
 use Rattle.device_state.specs.Steps.{History, Past}
@@ -39,7 +39,7 @@ pub record Handles (verdicts : Verdicts) (old new : DeviceData) (seat : ℕ) (as
   pub refused : IsErr answer → new ≡ record old { work = new.work }
   pub steps : new.steps ≡ old.steps ++ entered seat (taken old.plan (past old.steps) ask answer)
   pub words : (k : ℕ) → k < length old.plan.clusters
-      → step_changes verdicts old.plan (past old.steps) (taken old.plan (past old.steps) ask answer) (member old.plan k) ≡ false
+      → step_changes verdicts old.plan (past old.steps) (taken old.plan (past old.steps) ask answer) (master old.plan k) ≡ false
       → slice_index new.words k ≡ slice_index old.words k
   pub told : new.work.told ≡ told_count old.plan (step_changes verdicts old.plan (past old.steps) (taken old.plan (past old.steps) ask answer))
   pub asked : new.work.asked ≤ 1

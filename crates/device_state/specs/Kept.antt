@@ -2,7 +2,7 @@
 use Rattle.std.specs.Prelude.{◌≡◌, ℕ, ◌≤◌, List, length}
 use Rattle.history.specs.Past.{past}
 use Rattle.device_state.specs.declared.limits.TheConstants.{MAX_STEPS}
-use Rattle.device_state.specs.Plan.{PlanData}
+use Rattle.ctrl_handlers.specs.Plan.{PlanData}
 use Rattle.device_state.specs.Steps.{History, opened}
 use Rattle.device_state.specs.Values.{Values, now}
 use Rattle.ctrl_calls.specs.Meanings.{Verdicts}

@@ -2,7 +2,7 @@
 use Rattle.std.specs.Prelude.{◌≡◌, [], ◌∷◌, Some, IsOk}
 use Rattle.device_state.specs.declared.ask.Ask.{Ask}
 use Rattle.device_state.specs.declared.ask.Step.{Step}
-use Rattle.device_state.specs.Plan.{PlanData}
+use Rattle.ctrl_handlers.specs.Plan.{PlanData}
 use Rattle.ctrl_calls.specs.Meanings.{Verdicts}
 use Rattle.device_state.specs.Steps.{Past}
 use Rattle.device_state.specs.Answers.{answer_of, step_of}

@@ -9,7 +9,7 @@ use Rattle.ctrl_calls.specs.Meanings.{Words}
 use Rattle.ctrl_calls.specs.declared.relation.Relation.{Relation}
 use Rattle.device_state.specs.declared.ask.Step.{Step}
 use Rattle.device_state.specs.declared.ask.Step.TheVariants.{Set}
-use Rattle.device_state.specs.Plan.{PlanData, control, cluster_of, calls_of, member}
+use Rattle.ctrl_handlers.specs.Plan.{PlanData, control, cluster_of, calls_of, master, master_of}
 use Rattle.device_state.specs.Clusters.{notifier_of}
 use Rattle.device_state.specs.Values.{Values, value_at, last_value}
 
@@ -21,7 +21,7 @@ MayBeTold told (Some relation) value word = told relation (value ∷ []) word
 -- each named cluster has a word, which it may have been told of the present value
 pub record AreTold (told : Words) (plan : PlanData) (values : Values) (words : List ℕ) : Type 0 where
   pub each : length words ≡ length plan.clusters
-  pub allowed : (k : ℕ) → k < length plan.clusters → MayBeTold told (calls_of plan k).notifier (value_at values (member plan k)) (slice_index words k)
+  pub allowed : (k : ℕ) → k < length plan.clusters → MayBeTold told (calls_of plan k).notifier (value_at values (master plan k)) (slice_index words k)
 
 -- A value that is written changes a control where it differs, or where the control acts on each write.
 abbrev pub is_changed : PlanData → Values → ℕ → ℤ → Bool
@@ -35,7 +35,7 @@ changes plan before after _ c = false
 
 -- how many clusters have a notifier and a changed control
 abbrev pub told_count : PlanData → (ℕ → Bool) → ℕ
-told_count plan changed = count_by (λ k. is_some k.calls.notifier && changed k.control) plan.clusters
+told_count plan changed = count_by (λ k. is_some k.calls.notifier && changed (master_of k)) plan.clusters
 
 -- What the words are after one control was written, where it changed or not: a changed control's cluster has a word that it
 -- may have been told of the value, and every other word stays.

@@ -1,28 +1,15 @@
 -- The present values (Linux userspace API, "Extended Controls API").
-use Rattle.std.specs.Prelude.{ℕ, ℤ, pos, ◌==◌, if◌then◌else◌, List, [], ◌∷◌, map, Option, None, Some, slice_index_or}
-use Rattle.std.specs.Option.{option_or}
+pub use Rattle.ctrl_clusters.specs.Rows.{Values, value_at, last_value}
+use Rattle.std.specs.Prelude.{ℕ, ℤ, List, [], ◌∷◌, map, Option, None, Some}
 use Rattle.std.specs.Result.{result_unwrap_or}
 use Rattle.std.specs.List.{enumerate_from}
 use Rattle.ctrl_types.specs.declared.ids.Pair.{Pair}
 use Rattle.device_state.specs.declared.ask.Step.{Step}
 use Rattle.device_state.specs.declared.ask.Step.TheVariants.{Set}
-use Rattle.device_state.specs.Plan.{PlanData}
+use Rattle.ctrl_handlers.specs.Plan.{PlanData}
 use Rattle.ctrl_calls.specs.Meanings.{Verdicts}
 use Rattle.device_state.specs.Clusters.{becomes}
 use Rattle.device_state.specs.Steps.{Past}
-
--- a value for each control, in the order of their numbers
-abbrev pub Values : Type 0
-Values = List ℤ
-
--- the value of one control
-abbrev pub value_at : Values → ℕ → ℤ
-value_at values c = slice_index_or values c (pos 0)
-
--- the last value that a list of pairs gives a control
-abbrev pub last_value : List Pair → ℕ → Option ℤ
-last_value [] c = None
-last_value (p ∷ pairs) c = option_or (last_value pairs c) (if p.control == c then Some p.value else None)
 
 -- what a control's value becomes: a refused cluster keeps its values
 abbrev pub overlaid : Verdicts → PlanData → ℕ → ℤ → Option ℤ → ℤ

@@ -1,6 +1,8 @@
 use crate::control_list::ControlList;
+use crate::info::CtrlInfo;
 use crate::pair_list::PairList;
-use ctrl_types::{FhId, RequestId};
+use ctrl_handlers::MenuItem;
+use ctrl_types::{CtrlId, FhId, RequestId};
 
 /// What a caller asks of a device.
 #[derive(Debug, Drop)]
@@ -9,6 +11,11 @@ pub enum Ask {
     OpenFh {
         /// The handler's number.
         handler: u32,
+    },
+    /// Closes a file handle.
+    CloseFh {
+        /// The file handle.
+        fh: FhId,
     },
     /// Reads the values of controls (`VIDIOC_G_EXT_CTRLS`).
     GetCtrls {
@@ -32,6 +39,29 @@ pub enum Ask {
         /// The controls and their values.
         list: ControlList,
     },
+    /// Reads what a control is like (`VIDIOC_QUERY_EXT_CTRL`).
+    Query {
+        /// The file handle.
+        fh: FhId,
+        /// The control.
+        id: CtrlId,
+    },
+    /// Reads the least id that is shown and greater than another (`V4L2_CTRL_FLAG_NEXT_CTRL`).
+    NextId {
+        /// The file handle.
+        fh: FhId,
+        /// The other id, which needn't be shown.
+        id: CtrlId,
+    },
+    /// Reads an item of a menu (`VIDIOC_QUERYMENU`).
+    MenuItem {
+        /// The file handle.
+        fh: FhId,
+        /// The menu.
+        id: CtrlId,
+        /// The item's index.
+        index: u32,
+    },
     /// Reads the word that a cluster was told last.
     Told {
         /// The cluster's number.
@@ -44,8 +74,16 @@ pub enum Ask {
 pub enum Reply {
     /// The file handle that was opened.
     Fh(FhId),
+    /// It is done, and there is nothing to tell.
+    Done,
     /// The controls of the list, in its order, with their values.
     Controls(ControlList),
+    /// What the control is like.
+    Info(CtrlInfo),
+    /// The next id.
+    Id(CtrlId),
+    /// The item of the menu.
+    Item(MenuItem),
     /// The word that the cluster was told last; 0 where it has no notifier.
     Word(u64),
 }
@@ -57,6 +95,11 @@ pub enum Step {
     OpenFh {
         /// The handler's number.
         handler: u32,
+    },
+    /// A file handle was closed.
+    CloseFh {
+        /// The file handle.
+        fh: FhId,
     },
     /// Controls were set.
     Set {

@@ -1,10 +1,11 @@
 ghost use Rattle.std.specs.Prelude.{◌≡◌, ◌<◌, ◌≤◌, length, IfOk};
-ghost use Rattle.device_state.specs.Plan.{calls_of, member};
+ghost use Rattle.ctrl_handlers.specs.Plan.{calls_of, master};
 ghost use Rattle.device_state.specs.Values.{value_at};
 ghost use Rattle.device_state.specs.Told.{AreTold, IsTold, MayBeTold, told_of};
 
-use crate::plan::Plan;
+use crate::judge::tell;
 use ctrl_calls::{Driver, Work};
+use ctrl_handlers::Plan;
 use std::alloc::{AllocError, Global};
 
 /// Tells the cluster of a control, where the control changed, its new value, and keeps the word.
@@ -24,7 +25,7 @@ pub(crate) fn tell_change<D: Driver>(
         return;
     }
     if let Some(cluster) = plan.cluster_of(control) {
-        words[cluster as usize] = plan.tell(cluster, value, work);
+        words[cluster as usize] = tell(plan, cluster, value, work);
     }
 }
 
@@ -51,7 +52,12 @@ pub(crate) fn first_words<D: Driver>(
 fn tell_present<D: Driver>(plan: &Plan<D>, values: &[i64], cluster: u32, work: &mut Work) -> u64
     requires known { cluster < length plan.now.clusters }
     requires there { length values.now ≡ length plan.now.controls }
-    ensures { MayBeTold D.told (calls_of plan.now cluster).notifier (value_at values.now (member plan.now cluster)) result }
+    ensures { MayBeTold D.told (calls_of plan.now cluster).notifier (value_at values.now (master plan.now cluster)) result }
 {
-    plan.tell(cluster, values[plan.member(cluster) as usize], work)
+    tell(
+        plan,
+        cluster,
+        values[plan.members(cluster)[0] as usize],
+        work,
+    )
 }

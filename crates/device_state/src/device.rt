@@ -1,4 +1,4 @@
-ghost use Rattle.std.specs.Prelude.{◌≡◌, ◌<◌, ◌≤◌, ◌+◌, ℕ, Bool, [], ◌∷◌, length, None, Some, Option, Ok, Err, IsOk, IfOk, IfErr, IfSome, OnErr, IsSome};
+ghost use Rattle.std.specs.Prelude.{◌≡◌, ◌<◌, ◌≤◌, ◌+◌, ℕ, Bool, [], ◌∷◌, map, length, None, Some, Option, Ok, Err, IsOk, IfOk, IfErr, IfSome, OnOk, OnErr, IsSome};
 ghost use Rattle.history.specs.Past.{past};
 ghost use Rattle.ctrl_types.specs.declared.errno.Errno.TheVariants.{ENOMEM};
 ghost use Rattle.ctrl_types.specs.declared.ids.ExtControl.{ExtControl as ExtControlOf};
@@ -7,22 +7,25 @@ ghost use Rattle.device_state.specs.declared.ask.Ask.TheVariants as asks;
 ghost use Rattle.device_state.specs.declared.ask.Reply.TheVariants as replies;
 ghost use Rattle.device_state.specs.declared.ask.Step.TheVariants as steps;
 ghost use Rattle.device_state.specs.Clusters.{becomes};
-ghost use Rattle.device_state.specs.Plan.{IsPlan};
+ghost use Rattle.ctrl_handlers.specs.Plan.{IsPlan};
 ghost use Rattle.device_state.specs.Steps.{opened, handler_of, shown};
 ghost use Rattle.device_state.specs.Values.{defaults, value_at, now};
 ghost use Rattle.device_state.specs.Told.{AreTold, is_changed};
-ghost use Rattle.device_state.specs.Answers.{Answer, refused, refused_at, are_all_open, is_full, open_answer, list_answer, get_one, set_one, told_answer, answer_of, MayAnswer};
+ghost use Rattle.device_state.specs.Answers.{Answer, refused, refused_at, are_all_open, is_full, open_answer, close_answer, query_answer, next_answer, list_answer, get_one, set_one, told_answer, answer_of, MayAnswer};
 ghost use Rattle.device_state.specs.Legal.{IsLegal};
 ghost use Rattle.device_state.specs.Device.{Handles, SetsOne, with_step};
 
 use crate::ask::{Ask, Reply, Step};
 use crate::change::{first_words, tell_change};
 use crate::control_list::ControlList;
+use crate::info::CtrlInfo;
+use crate::judge::becomes;
 use crate::limits::{MAX_FILE_HANDLES, MAX_STEPS};
 use crate::pair_list::PairList;
-use crate::plan::Plan;
 use bitflags::Flags as FlagSet;
 use ctrl_calls::{Driver, Work};
+use ctrl_handlers::Plan;
+use ctrl_settle::Ctrl;
 use ctrl_types::{CtrlId, Errno, ExtControl, Fault, FhId, Flags, Pair, RequestId};
 use history::Entry;
 use indexmap::IndexMap;
@@ -78,7 +81,7 @@ impl<D: Driver> Device<D> {
         ensures ok { IfOk result (λ d. (d.plan ≡ plan) × (d.steps ≡ []) × AreTold D.told plan (defaults plan) d.words × (d.work ≡ record { asked = 0; told = 0 })) }
         ensures err { IfErr result (λ e. (e.0 ≡ plan) × (e.1 ≡ ENOMEM)) }
     {
-        let Ok(values) = plan.defaults(alloc) else {
+        let Ok(values) = first_values(alloc, &plan) else {
             return Err((plan, Errno::ENOMEM));
         };
         let Ok(words) = first_words(alloc, &plan, values.as_slice()) else {
@@ -125,8 +128,17 @@ impl<D: Driver> Device<D> {
     /// once, and keeps a word of its new value; the word of every other stays.
     ///
     /// `OpenFh` is refused, without an index, with EINVAL (22) where there is no such handler, with ENOSPC (28) where 64 file
-    /// handles are open or 1,000,000 steps are kept, and with ENOMEM (12) where a growth was refused. For the refusals of
-    /// lists, each with its index, see `get` and `set`; for those of `Told` see `told`.
+    /// handles are open or 1,000,000 steps are kept, and with ENOMEM (12) where a growth was refused. `CloseFh` is refused,
+    /// without an index, with EBADF (9) where `fh` isn't open, with ENOSPC where 1,000,000 steps are kept, and with ENOMEM
+    /// where a growth was refused; a file handle that was closed isn't opened again. For the refusals of lists, each with its
+    /// index, see `get` and `set`; for those of `Query` and `Told` see `query` and `told`.
+    ///
+    /// `NextId` tells the least id that is shown to `fh` and greater than `id`, DISABLED controls counted (Linux userspace API,
+    /// "ioctls VIDIOC_QUERYCTRL, VIDIOC_QUERY_EXT_CTRL and VIDIOC_QUERYMENU"). It is refused, without an index, with EBADF
+    /// where `fh` isn't open and with EINVAL where there is none; it takes no memory. `MenuItem` tells the item of a menu, also
+    /// of a DISABLED one. It is refused, without an index, with EBADF where `fh` isn't open, with EINVAL where the id isn't
+    /// shown to it, where its control is no menu, or where the index lies outside its range, is skipped or was given no item,
+    /// and with ENOMEM where a growth was refused. Neither changes anything but the counts of `work`.
     pub fn handle(&mut self, seat: u32, ask: &Ask) -> Result<Reply, Fault>
         ensures handles { Handles D.verdict self.old self.new seat ask.now result }
         ensures told { AreTold D.told self.new.plan (now D.verdict self.new.plan (past self.new.steps)) self.new.words }
@@ -142,6 +154,7 @@ impl<D: Driver> Device<D> {
     {
         match ask {
             Ask::OpenFh { handler } => self.open(seat, *handler),
+            Ask::CloseFh { fh } => self.close(seat, *fh),
             Ask::GetCtrls {
                 fh,
                 which,
@@ -154,6 +167,9 @@ impl<D: Driver> Device<D> {
                 request,
                 list,
             } => self.set(seat, *fh, *which, *request, list),
+            Ask::Query { fh, id } => self.query(*fh, *id),
+            Ask::NextId { fh, id } => self.next(*fh, *id),
+            Ask::MenuItem { fh, id, index } => self.item(*fh, *id, *index),
             Ask::Told { cluster } => self.told(*cluster),
         }
     }
@@ -211,6 +227,17 @@ impl<D: Driver> Device<D> {
         }
     }
 
+    /// What a control is like, as `handle` on `Ask::Query` of these fields at any seat does (Linux userspace API, "ioctls
+    /// VIDIOC_QUERYCTRL, VIDIOC_QUERY_EXT_CTRL and VIDIOC_QUERYMENU"). A control that is DISABLED is found. Refused, in this
+    /// order, without an index, with EBADF (9) where `fh` isn't open, and EINVAL (22) where the id isn't shown to it. It takes
+    /// no memory, and changes nothing but the counts of `work`.
+    pub fn query(&mut self, fh: FhId, id: CtrlId) -> Result<Reply, Fault>
+        ensures { (seat : ℕ) → Handles D.verdict self.old self.new seat (asks.Query fh id) result }
+    {
+        self.work = Work::new();
+        self.info(fh, id)
+    }
+
     /// The word that a cluster was told last, as `handle` on `Ask::Told` of it at any seat does (of this project): 0 where the
     /// cluster has no notifier. EINVAL (22), without an index, where there is no such cluster. It takes no memory, and changes
     /// nothing but the counts of `work`.
@@ -219,6 +246,22 @@ impl<D: Driver> Device<D> {
     {
         self.work = Work::new();
         self.word(cluster)
+    }
+
+    // Answers an ask for the next id.
+    fn next(&mut self, fh: FhId, id: CtrlId) -> Result<Reply, Fault>
+        ensures { (seat : ℕ) → Handles D.verdict self.old self.new seat (asks.NextId fh id) result }
+    {
+        self.work = Work::new();
+        self.next_id(fh, id)
+    }
+
+    // Answers an ask for an item of a menu.
+    fn item(&mut self, fh: FhId, id: CtrlId, index: u32) -> Result<Reply, Fault>
+        ensures { (seat : ℕ) → Handles D.verdict self.old self.new seat (asks.MenuItem fh id index) result }
+    {
+        self.work = Work::new();
+        self.menu_item(fh, id, index)
     }
 
     fn open(&mut self, seat: u32, handler: u32) -> Result<Reply, Fault>
@@ -262,6 +305,48 @@ impl<D: Driver> Device<D> {
             step: Step::OpenFh { handler },
         });
         Ok(FhId(number))
+    }
+
+    fn close(&mut self, seat: u32, fh: FhId) -> Result<Reply, Fault>
+        ensures { Handles D.verdict self.old self.new seat (asks.CloseFh fh) result }
+    {
+        self.work = Work::new();
+        if let Err(fault) = self.read_close(fh) {
+            return Err(fault);
+        }
+        match self.accept_close(seat, fh) {
+            Ok(()) => Ok(Reply::Done),
+            Err(_) => refused(Errno::ENOMEM),
+        }
+    }
+
+    // The refusals of a close.
+    fn read_close(&self, fh: FhId) -> Result<(), Fault>
+        ensures ok { IfOk result (λ _. close_answer (past self.now.steps) fh ≡ Ok replies.Done) }
+        ensures err { IfErr result (λ fault. close_answer (past self.now.steps) fh ≡ Err fault) }
+    {
+        if self.handler_of(fh).is_none() {
+            return Err(plain(Errno::EBADF));
+        }
+        if self.is_full() {
+            return Err(plain(Errno::ENOSPC));
+        }
+        Ok(())
+    }
+
+    // Closes a file handle, after the refusals.
+    fn accept_close(&mut self, seat: u32, fh: FhId) -> Result<(), AllocError>
+        requires { IsOk (close_answer (past self.old.steps) fh) }
+        ensures ok { OnOk result (self.new ≡ with_step self.old seat (steps.CloseFh fh)) }
+        ensures err { OnErr result (self.new ≡ self.old) }
+    {
+        self.steps.reserve(1)?;
+        self.file_handles.shift_remove(&fh.0);
+        self.steps.push_reserved(Entry {
+            seat,
+            step: Step::CloseFh { fh },
+        });
+        Ok(())
     }
 
     // The refusals of a list before its entries are read; the one entry where there is none.
@@ -350,7 +435,7 @@ impl<D: Driver> Device<D> {
         if flags.contains(Flags::READ_ONLY) {
             return Err(Errno::EACCES);
         }
-        match self.plan.becomes(number, entry.value, work) {
+        match becomes(&self.plan, number, entry.value, work) {
             Err(errno) => Err(errno),
             Ok(_) if self.is_full() => Err(Errno::ENOSPC),
             Ok(value) => Ok((number, value)),
@@ -443,6 +528,51 @@ impl<D: Driver> Device<D> {
         self.value(number) != value || flags.contains(Flags::EXECUTE_ON_WRITE)
     }
 
+    // What the control that is shown to a file handle under an id is like.
+    fn info(&self, fh: FhId, id: CtrlId) -> Result<Reply, Fault>
+        ensures { result ≡ query_answer self.now.plan (past self.now.steps) fh id }
+    {
+        if self.handler_of(fh).is_none() {
+            return refused(Errno::EBADF);
+        }
+        match self.shown(fh, id) {
+            Some(number) => Ok(Reply::Info(CtrlInfo::of(&self.plan.control(number)))),
+            None => refused(Errno::EINVAL),
+        }
+    }
+
+    // The least id that is shown to a file handle and greater than another.
+    fn next_id(&self, fh: FhId, id: CtrlId) -> Result<Reply, Fault>
+        ensures { result ≡ next_answer self.now.plan (past self.now.steps) fh id }
+    {
+        let Some(handler) = self.handler_of(fh) else {
+            return refused(Errno::EBADF);
+        };
+        match self.plan.next_id(handler, id) {
+            Ok(next) => Ok(Reply::Id(next)),
+            Err(_) => refused(Errno::EINVAL),
+        }
+    }
+
+    // The item at an index of a menu that is shown to a file handle.
+    fn menu_item(&self, fh: FhId, id: CtrlId, index: u32) -> Result<Reply, Fault>
+        ensures { MayAnswer D.verdict self.now.plan (past self.now.steps) self.now.words (asks.MenuItem fh id index) result }
+    {
+        if self.handler_of(fh).is_none() {
+            return refused(Errno::EBADF);
+        }
+        let Some(number) = self.shown(fh, id) else {
+            return refused(Errno::EINVAL);
+        };
+        let Ok(item) = self.plan.menu_item(number, index) else {
+            return refused(Errno::EINVAL);
+        };
+        match item.copied(self.alloc) {
+            Ok(item) => Ok(Reply::Item(item)),
+            Err(_) => refused(Errno::ENOMEM),
+        }
+    }
+
     // The word that a cluster was told last.
     fn word(&self, cluster: u32) -> Result<Reply, Fault>
         ensures { result ≡ told_answer self.now.plan self.now.words cluster }
@@ -455,6 +585,23 @@ impl<D: Driver> Device<D> {
             None => Ok(Reply::Word(0)),
         }
     }
+}
+
+// The values of a device without steps.
+fn first_values<D: Driver>(alloc: Global, plan: &Plan<D>) -> Result<Vec<i64>, AllocError>
+    ensures { IfOk result (λ v. v.items ≡ defaults plan.now) }
+{
+    default_values(alloc, plan.controls())
+}
+
+// The default of each control.
+fn default_values(alloc: Global, controls: &[Ctrl]) -> Result<Vec<i64>, AllocError>
+    ensures { IfOk result (λ v. v.items ≡ map (λ c. c.default_value) controls.now) }
+{
+    controls
+        .iter()
+        .map(|ctrl| ctrl.default_value())
+        .collect(alloc)
 }
 
 // A fault without an index.

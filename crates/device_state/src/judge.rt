@@ -1,9 +1,12 @@
-ghost use Rattle.std.specs.Prelude.{◌≡◌, [], ◌∷◌};
+ghost use Rattle.std.specs.Prelude.{◌≡◌, ◌<◌, ◌≤◌, ◌+◌, [], ◌∷◌, length};
 ghost use Rattle.ctrl_calls.specs.Counts.{one_more};
-ghost use Rattle.device_state.specs.Clusters.{judged, refusal_of};
+ghost use Rattle.ctrl_handlers.specs.Plan.{calls_of, cluster_of};
+ghost use Rattle.device_state.specs.Clusters.{becomes, judge_in};
+ghost use Rattle.device_state.specs.Told.{MayBeTold, told_by};
 
-use ctrl_calls::{ClusterRow, Driver, Notifier, Validator, Verdict, Work, ask};
-use ctrl_settle::{Ctrl, settle};
+use ctrl_calls::{ClusterRow, Driver, Notifier, Work};
+use ctrl_handlers::Plan;
+use ctrl_settle::settle;
 use ctrl_types::Errno;
 
 // The row of a cluster of one.
@@ -13,52 +16,58 @@ fn row_of(value: i64) -> ClusterRow
     ClusterRow::from_slice(&[value]).unwrap()
 }
 
-// What a refusal of a validator counts as.
-fn refusal_of(errno: Errno) -> Errno
-    ensures { result ≡ refusal_of errno }
-{
-    match errno {
-        Errno::EACCES | Errno::EBUSY | Errno::ERANGE => errno,
-        _ => Errno::EINVAL,
-    }
-}
-
-// What a verdict makes of the control's value.
-fn judged(ctrl: &Ctrl, verdict: Verdict) -> Result<i64, Errno>
-    ensures { result ≡ judged ctrl.now verdict }
-{
-    let row = match verdict {
-        Verdict::Refuse(errno) => return Err(refusal_of(errno)),
-        Verdict::Accept(row) => row,
-    };
-    if row.len() != 1 {
-        return Err(Errno::EINVAL);
-    }
-    let value = row.value(0);
-    if settle(ctrl, value) == Ok(value) {
-        Ok(value)
-    } else {
-        Err(Errno::EINVAL)
-    }
-}
-
-/// What a validator makes of a settled value of its cluster's control. It is asked once.
-pub(crate) fn judge<D: Driver>(
-    validator: &Validator<D>,
-    ctrl: &Ctrl,
-    value: i64,
-    work: &mut Work,
-) -> Result<i64, Errno>
-    ensures judged { result ≡ judged ctrl.now (D.verdict validator.now (value ∷ [])) }
-    ensures asked { work.new ≡ record work.old { asked = one_more work.old.asked } }
-{
-    judged(ctrl, ask(validator, &row_of(value), work))
-}
-
-/// Tells a notifier a value of its cluster's control, and answers its word. It is told once.
-pub(crate) fn tell<D: Driver>(notifier: &Notifier<D>, value: i64, work: &mut Work) -> u64
+// Tells a notifier a value of its cluster's control, and answers its word. It is told once.
+fn tell_by<D: Driver>(notifier: &Notifier<D>, value: i64, work: &mut Work) -> u64
     ensures word { D.told notifier.now (value ∷ []) result }
     ensures told { work.new ≡ record work.old { told = one_more work.old.told } }
 {
     ctrl_calls::tell(notifier, &row_of(value), work)
+}
+
+/// What a control's value becomes where this one is asked for. At most one validator is asked.
+#[tactic(auto, unfolding(crate::specs::Clusters::becomes))]
+pub(crate) fn becomes<D: Driver>(
+    plan: &Plan<D>,
+    number: u32,
+    asked: i64,
+    work: &mut Work,
+) -> Result<i64, Errno>
+    requires { number < length plan.now.controls }
+    ensures value { result ≡ becomes D.verdict plan.now number asked }
+    ensures asked { work.new.asked ≤ work.old.asked + 1 }
+    ensures told { work.new.told ≡ work.old.told }
+{
+    let ctrl = plan.control(number);
+    match settle(&ctrl, asked) {
+        Ok(value) => judge(plan, number, value, work),
+        Err(errno) => Err(errno),
+    }
+}
+
+// Has the named cluster of a control judge its settled value.
+fn judge<D: Driver>(plan: &Plan<D>, number: u32, value: i64, work: &mut Work) -> Result<i64, Errno>
+    ensures value { result ≡ judge_in D.verdict plan.now (cluster_of plan.now number) value }
+    ensures asked { work.new.asked ≤ work.old.asked + 1 }
+    ensures told { work.new.told ≡ work.old.told }
+{
+    let Some(cluster) = plan.cluster_of(number) else {
+        return Ok(value);
+    };
+    // as yet it has one member
+    let _members = plan.members(cluster);
+    match ctrl_clusters::judge(plan, cluster, &row_of(value), work) {
+        Ok(row) => Ok(row.value(0)),
+        Err(errno) => Err(errno),
+    }
+}
+
+/// Tells a cluster the value of its control, and answers the word; 0 where it has no notifier.
+pub(crate) fn tell<D: Driver>(plan: &Plan<D>, cluster: u32, value: i64, work: &mut Work) -> u64
+    ensures word { MayBeTold D.told (calls_of plan.now cluster).notifier value result }
+    ensures told { work.new ≡ record work.old { told = told_by (calls_of plan.now cluster).notifier work.old.told } }
+{
+    match plan.notifier(cluster) {
+        Some(notifier) => tell_by(notifier, value, work),
+        None => 0,
+    }
 }

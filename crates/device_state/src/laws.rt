@@ -1,15 +1,17 @@
 //! What the definitions over the history say of one more entry. Each function is a law that its contract states; none has
 //! anything to do.
 
-ghost use Rattle.std.specs.Prelude.{◌≡◌, ◌<◌, ℕ, false, [], ◌∷◌, ◌++◌, List, length, is_some, Err};
+ghost use Rattle.std.specs.Prelude.{◌≡◌, ◌<◌, ℕ, false, [], ◌∷◌, ◌++◌, List, length, is_some, None, Err};
 ghost use Rattle.history.specs.declared.entry.Entry.{Entry};
 ghost use Rattle.history.specs.Past.{past};
 ghost use Rattle.ctrl_calls.specs.Meanings.{Verdicts};
 ghost use Rattle.ctrl_types.specs.declared.errno.Fault.{Fault};
+ghost use Rattle.ctrl_types.specs.declared.ids.FhId.{FhId};
 ghost use Rattle.device_state.specs.declared.ask.Ask.{Ask};
 ghost use Rattle.device_state.specs.declared.ask.Step.{Step};
-ghost use Rattle.device_state.specs.Plan.{PlanData, member};
-ghost use Rattle.device_state.specs.Steps.{History, Past, opened, opening};
+ghost use Rattle.device_state.specs.declared.ask.Step.TheVariants.{CloseFh};
+ghost use Rattle.ctrl_handlers.specs.Plan.{PlanData, master};
+ghost use Rattle.device_state.specs.Steps.{History, Past, opened, opened_after, handler_of};
 ghost use Rattle.device_state.specs.Values.{defaults, now, now_after};
 ghost use Rattle.device_state.specs.Answers.{MayAnswer, is_list};
 ghost use Rattle.device_state.specs.Legal.{IsLegal, MayFollow};
@@ -17,11 +19,19 @@ ghost use Rattle.device_state.specs.Told.{AreTold, changes};
 
 use ctrl_calls::Driver;
 
-/// At first no file handle is open; one more entry opens the one that its step opens.
+/// At first no file handle is open; one more entry makes of the open ones what its step makes of them.
 #[tactic(auto, using(crate::proofs::PastLemmas::opened_start, crate::proofs::PastLemmas::opened_add))]
 pub fn open_handles()
     ensures start { opened (past []) ≡ [] }
-    ensures one_more { (steps : History) (e : Entry Step) → opened (past (steps ++ e ∷ [])) ≡ opened (past steps) ++ opening (length steps) e.step }
+    ensures one_more { (steps : History) (e : Entry Step) → opened (past (steps ++ e ∷ [])) ≡ opened_after (length steps) e.step (opened (past steps)) }
+{}
+
+/// A file handle that a step closes isn't open then. One that isn't open once the step that its id numbers was made is never
+/// opened again.
+#[tactic(auto, using(crate::proofs::PastLemmas::closed_gone, crate::proofs::PastLemmas::gone_for_good))]
+pub fn closed_handles()
+    ensures closed { (steps : History) (e : Entry Step) (fh : FhId) → e.step ≡ CloseFh fh → handler_of (past (steps ++ e ∷ [])) fh ≡ None }
+    ensures for_good { (steps more : History) (fh : FhId) → fh.0 < length steps → handler_of (past steps) fh ≡ None → handler_of (past (steps ++ more)) fh ≡ None }
 {}
 
 /// At first the present values are the defaults; one more entry makes of them what its step makes of them.
@@ -35,7 +45,7 @@ pub fn present_values()
 /// changes.
 pub fn told_words<D: Driver>()
     ensures { (verdicts : Verdicts) (plan : PlanData) (steps : History) (e : Entry Step) (words : List ℕ) → AreTold D.told plan (now verdicts plan (past steps)) words
-        → ((k : ℕ) → k < length plan.clusters → changes plan (now verdicts plan (past steps)) (now_after verdicts plan e.step (now verdicts plan (past steps))) e.step (member plan k) ≡ false)
+        → ((k : ℕ) → k < length plan.clusters → changes plan (now verdicts plan (past steps)) (now_after verdicts plan e.step (now verdicts plan (past steps))) e.step (master plan k) ≡ false)
         → AreTold D.told plan (now verdicts plan (past (steps ++ e ∷ []))) words }
 {}
 

@@ -2,8 +2,8 @@ ghost use Rattle.std.specs.Prelude.{◌≡◌};
 
 use crate::ask::{Ask, Reply, Step};
 use crate::device::Device;
-use crate::plan::Plan;
 use ctrl_calls::Driver;
+use ctrl_handlers::Plan;
 use ctrl_types::Fault;
 use history::Served;
 

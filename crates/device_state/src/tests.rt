@@ -3,6 +3,9 @@ ghost use Rattle.ctrl_calls.specs.Meanings.{JudgesBy, TellsBy};
 ghost use Rattle.ctrl_calls.specs.declared.verdict.Verdict.TheVariants.{Accept, Refuse};
 ghost use Rattle.ctrl_types.specs.declared.errno.Errno.TheVariants.{ERANGE};
 
+mod handles;
+mod menus;
+
 use super::*;
 use bitflags::Flags as FlagSet;
 use ctrl_calls::{
@@ -271,7 +274,7 @@ fn refuses<D: Driver>(
             let want = ExtControl { id: GAIN, value: 7 };
             assert_eq!(rt; list.as_slice(), [want].as_slice());
         }
-        _ => assert!(rt; false, "no value"),
+        _other => assert!(rt; false, "no value"),
     }
     assert_eq!(rt; device.steps().len(), 1);
     Ok(())

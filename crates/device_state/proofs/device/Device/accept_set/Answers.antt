@@ -5,7 +5,7 @@ use Rattle.history.specs.Past.{past}
 use Rattle.ctrl_types.specs.declared.ids.Pair.{Pair}
 use Rattle.device_state.specs.declared.ask.Step.{Step}
 use Rattle.device_state.specs.declared.ask.Step.TheVariants.{Set}
-use Rattle.device_state.specs.Plan.{IsPlan}
+use Rattle.ctrl_handlers.specs.Plan.{IsPlan}
 use Rattle.device_state.specs.Values.{now}
 use Rattle.device_state.proofs.KeptLemmas.{kept_set, kept_same}
 use Rattle.device_state.proofs.TellLemmas.{same_value}

@@ -1,0 +1,77 @@
+-- The loops over a row.
+use Rattle.std.proofs.Common.{◌≡◌, ◌≢◌, ℕ, ℤ, zero, suc, ◌<◌, ◌≤◌, ◌+◌, ◌==◌, ◌&&◌, Bool, true, false, pos, if◌then◌else◌, List, [], ◌∷◌, ◌++◌, length, map, take, drop, get_or, set, Option, None, Some, Result, Ok, Err, refl, sym, ap, ◌∙◌, arith}
+use Rattle.std.specs.Option.{option_or}
+use Rattle.std.proofs.lemmas.List.{append-nil, append_assoc, take_more_set, drop_more, drop_all, take_all}
+use Rattle.ctrl_types.specs.declared.errno.Errno.{Errno}
+use Rattle.ctrl_types.specs.declared.ids.Pair.{Pair}
+use Rattle.ctrl_settle.specs.Control.{Control}
+use Rattle.ctrl_settle.specs.Settle.{settle}
+use Rattle.ctrl_handlers.specs.Plan.{control_in}
+use Rattle.ctrl_clusters.specs.Rows.{value_at, last_value, settle_row, settled_before}
+use Rattle.ctrl_clusters.specs.Judging.{is_value, takes_row}
+
+-- what was found so far counts where the pairs that are left give nothing
+abbrev pub last_from : Option ℤ → List Pair → ℕ → Option ℤ
+last_from found pairs c = option_or (last_value pairs c) found
+
+or_or : (a b d : Option ℤ) → option_or (option_or a b) d ≡ option_or a (option_or b d)
+or_or None b d = refl
+or_or (Some x) b d = refl
+
+-- a pair of the control takes the place of what was found
+pub last_more : (found : Option ℤ) (p : Pair) (pairs : List Pair) (c : ℕ) → (p.control == c) ≡ true → last_from found (p ∷ pairs) c ≡ last_from (Some p.value) pairs c
+last_more found p pairs c h = rw h (or_or (last_value pairs c) (Some p.value) found)
+
+-- another pair leaves it
+pub last_skip : (found : Option ℤ) (p : Pair) (pairs : List Pair) (c : ℕ) → (p.control == c) ≡ false → last_from found (p ∷ pairs) c ≡ last_from found pairs c
+last_skip found p pairs c h = rw h (or_or (last_value pairs c) None found)
+
+-- values that are settled, before what the others settle to
+abbrev pub before : List ℤ → Result (List ℤ) Errno → Result (List ℤ) Errno
+before vs (Ok rest) = Ok (vs ++ rest)
+before vs (Err errno) = Err errno
+
+-- one more value settles
+pub before_more : (vs : List ℤ) (v : ℤ) (rest : Result (List ℤ) Errno) → before vs (settled_before (Ok v) rest) ≡ before (vs ++ v ∷ []) rest
+before_more vs v (Ok rest) = ap Ok (sym (append_assoc vs (v ∷ []) rest))
+before_more vs v (Err errno) = refl
+
+-- none is left
+pub before_end : (vs : List ℤ) → before vs (Ok []) ≡ Ok vs
+before_end vs = ap Ok (append-nil vs)
+
+-- a row of another length isn't taken
+pub takes_length : (controls : List Control) (members : List ℕ) (row : List ℤ) → length row ≢ length members → takes_row controls members row ≡ false
+takes_length controls [] [] other = absurd (other refl)
+takes_length controls [] (v ∷ vs) other = refl
+takes_length controls (c ∷ cs) [] other = refl
+takes_length controls (c ∷ cs) (v ∷ vs) other = rw (takes_length controls cs vs (λ e. other (ap suc e))) (and_false _)
+  where
+    and_false : (b : Bool) → (b && false) ≡ false
+    and_false true = refl
+    and_false false = refl
+
+-- the next member settles, and then the others
+pub settle_next : (controls : List Control) (members : List ℕ) (row : List ℤ) (i : ℕ) → i < length members → i < length row
+    → settle_row controls (drop i members) (drop i row) ≡ settled_before (settle (control_in controls (get_or members i 0)) (value_at row i)) (settle_row controls (drop (i + 1) members) (drop (i + 1) row))
+settle_next controls members row i within there = rw (drop_more members i 0 within, drop_more row i (pos 0) there) refl
+
+-- the settled values so far, with one more
+pub settle_step : (controls : List Control) (members : List ℕ) (row settled : List ℤ) (i : ℕ) (v : ℤ) → i < length members → i < length row → i < length settled
+    → settle (control_in controls (get_or members i 0)) (value_at row i) ≡ Ok v
+    → before (take i settled) (settle_row controls (drop i members) (drop i row)) ≡ before (take (i + 1) (set settled i v)) (settle_row controls (drop (i + 1) members) (drop (i + 1) row))
+settle_step controls members row settled i v within there place settles =
+    rw (settle_next controls members row i within there, settles, take_more_set settled i v place)
+    (before_more (take i settled) v (settle_row controls (drop (i + 1) members) (drop (i + 1) row)))
+
+-- the first that doesn't settle
+pub settle_stop : (controls : List Control) (members : List ℕ) (row settled : List ℤ) (i : ℕ) (errno : Errno) → i < length members → i < length row
+    → settle (control_in controls (get_or members i 0)) (value_at row i) ≡ Err errno
+    → before (take i settled) (settle_row controls (drop i members) (drop i row)) ≡ Err errno
+settle_stop controls members row settled i errno within there settles = rw (settle_next controls members row i within there, settles) refl
+
+-- the next member takes its value, and then the others
+pub takes_next : (controls : List Control) (members : List ℕ) (row : List ℤ) (i : ℕ) → i < length members → i < length row
+    → takes_row controls (drop i members) (drop i row)
+    ≡ (is_value (settle (control_in controls (get_or members i 0)) (value_at row i)) (value_at row i) && takes_row controls (drop (i + 1) members) (drop (i + 1) row))
+takes_next controls members row i within there = rw (drop_more members i 0 within, drop_more row i (pos 0) there) refl

@@ -1,0 +1,58 @@
+-- What a cluster makes of a row: its validator judges it (Linux driver API, "V4L2 Controls", "Control Clusters": `try_ctrl`;
+-- which refusals pass, and that an accepted row is settled, is of this project).
+use Rattle.std.specs.Prelude.{ℕ, ℤ, Bool, true, false, ◌&&◌, if◌then◌else◌, List, [], ◌∷◌, Option, None, Some, Result, Ok, Err}
+use Rattle.std.specs.Ordering.{int_eq}
+use Rattle.ctrl_types.specs.declared.errno.Errno.{Errno}
+use Rattle.ctrl_types.specs.declared.errno.Errno.TheVariants.{EACCES, EBUSY, EINVAL, ERANGE}
+use Rattle.ctrl_types.specs.declared.ids.Pair.{Pair}
+use Rattle.ctrl_calls.specs.Meanings.{Verdicts}
+use Rattle.ctrl_calls.specs.declared.relation.Relation.{Relation}
+use Rattle.ctrl_calls.specs.declared.verdict.Verdict.{Verdict}
+use Rattle.ctrl_calls.specs.declared.verdict.Verdict.TheVariants.{Accept, Refuse}
+use Rattle.ctrl_settle.specs.Control.{Control}
+use Rattle.ctrl_settle.specs.Settle.{settle}
+use Rattle.ctrl_handlers.specs.Plan.{PlanData, control_in, members, calls_of}
+use Rattle.ctrl_clusters.specs.Rows.{Values, overwritten, settle_row}
+
+-- a validator refuses with EACCES, EBUSY, EINVAL or ERANGE; what else it says counts as EINVAL
+abbrev pub refusal_of : Errno → Errno
+refusal_of EACCES = EACCES
+refusal_of EBUSY = EBUSY
+refusal_of ERANGE = ERANGE
+refusal_of _ = EINVAL
+
+-- whether this is the value itself
+abbrev pub is_value : Result ℤ Errno → ℤ → Bool
+is_value (Ok settled) v = int_eq settled v
+is_value (Err errno) v = false
+
+-- whether the members take the values of a row as they are; a row of another length they don't take
+abbrev pub takes_row : List Control → List ℕ → List ℤ → Bool
+takes_row controls [] [] = true
+takes_row controls [] (v ∷ vs) = false
+takes_row controls (c ∷ cs) [] = false
+takes_row controls (c ∷ cs) (v ∷ vs) = is_value (settle (control_in controls c) v) v && takes_row controls cs vs
+
+-- What a verdict makes of a row: a refusal stands; an accepted row has to be one that the members take as it is.
+abbrev pub judged : List Control → List ℕ → Verdict → Result (List ℤ) Errno
+judged controls members (Refuse errno) = Err (refusal_of errno)
+judged controls members (Accept row) = if takes_row controls members row then Ok row else Err EINVAL
+
+-- A cluster with these members judges a row: by its validator, where it has one; else each row is accepted as it is.
+abbrev pub judge_by : Verdicts → List Control → List ℕ → Option Relation → List ℤ → Result (List ℤ) Errno
+judge_by verdicts controls members None row = Ok row
+judge_by verdicts controls members (Some relation) row = judged controls members (verdicts relation row)
+
+-- what a cluster makes of a row
+unfoldable pub judge : Verdicts → PlanData → ℕ → List ℤ → Result (List ℤ) Errno
+judge verdicts plan k row = judge_by verdicts plan.controls (members plan k) (calls_of plan k).validator row
+
+abbrev pub judge_settled : Verdicts → PlanData → ℕ → Result (List ℤ) Errno → Result (List ℤ) Errno
+judge_settled verdicts plan k (Err errno) = Err errno
+judge_settled verdicts plan k (Ok row) = judge verdicts plan k row
+
+-- What the row of a cluster becomes where these pairs are asked for over these values: it is overwritten by the pairs, settles in
+-- member order, and is judged.
+unfoldable pub becomes : Verdicts → PlanData → Values → List Pair → ℕ → Result (List ℤ) Errno
+becomes verdicts plan values pairs k =
+    judge_settled verdicts plan k (settle_row plan.controls (members plan k) (overwritten values pairs (members plan k)))

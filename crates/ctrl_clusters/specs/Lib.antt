@@ -1,0 +1,9 @@
+pub use Rattle.ctrl_calls.specs.Meanings
+pub use Rattle.ctrl_calls.specs.Counts
+pub use Rattle.ctrl_settle.specs.Control
+pub use Rattle.ctrl_settle.specs.Settle
+pub use Rattle.ctrl_handlers.specs.HandlerData
+pub use Rattle.ctrl_handlers.specs.ClusterData
+pub use Rattle.ctrl_handlers.specs.Plan
+pub mod Rows
+pub mod Judging

@@ -1,0 +1,42 @@
+-- The row of a cluster under values that are asked for (Linux driver API, "V4L2 Controls", "Control Clusters").
+use Rattle.std.specs.Prelude.{ℕ, ℤ, pos, ◌==◌, if◌then◌else◌, List, [], ◌∷◌, map, Option, None, Some, Result, Ok, Err, slice_index_or, unwrap_or}
+use Rattle.std.specs.Option.{option_or}
+use Rattle.ctrl_types.specs.declared.errno.Errno.{Errno}
+use Rattle.ctrl_types.specs.declared.errno.Errno.TheVariants.{EINVAL}
+use Rattle.ctrl_types.specs.declared.ids.Pair.{Pair}
+use Rattle.ctrl_settle.specs.Control.{Control}
+use Rattle.ctrl_settle.specs.Settle.{settle}
+use Rattle.ctrl_handlers.specs.Plan.{control_in}
+
+-- a value for each control, in the order of their numbers
+abbrev pub Values : Type 0
+Values = List ℤ
+
+-- the value of one control
+abbrev pub value_at : Values → ℕ → ℤ
+value_at values c = slice_index_or values c (pos 0)
+
+-- the last value that a list of pairs gives a control
+abbrev pub last_value : List Pair → ℕ → Option ℤ
+last_value [] c = None
+last_value (p ∷ pairs) c = option_or (last_value pairs c) (if p.control == c then Some p.value else None)
+
+-- the values of some controls
+abbrev pub row_of : Values → List ℕ → List ℤ
+row_of values members = map (value_at values) members
+
+-- The same, overwritten by pairs: the last pair of a control counts.
+abbrev pub overwritten : Values → List Pair → List ℕ → List ℤ
+overwritten values pairs members = map (λ c. unwrap_or (last_value pairs c) (value_at values c)) members
+
+-- one settled value before others; the errno of the first stands
+abbrev pub settled_before : Result ℤ Errno → Result (List ℤ) Errno → Result (List ℤ) Errno
+settled_before (Err errno) rest = Err errno
+settled_before (Ok v) (Err errno) = Err errno
+settled_before (Ok v) (Ok vs) = Ok (v ∷ vs)
+
+-- What the members take for the values of a row, settled in member order: the errno is that of the first that doesn't settle.
+abbrev pub settle_row : List Control → List ℕ → List ℤ → Result (List ℤ) Errno
+settle_row controls [] row = Ok []
+settle_row controls (c ∷ cs) [] = Err EINVAL
+settle_row controls (c ∷ cs) (v ∷ vs) = settled_before (settle (control_in controls c) v) (settle_row controls cs vs)

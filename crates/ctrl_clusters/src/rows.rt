@@ -1,0 +1,103 @@
+//! The row of a cluster under values that are asked for.
+
+ghost use Rattle.std.specs.Prelude.{◌≡◌, ◌<◌, ◌≤◌, true, length, unwrap_or, IfOk};
+ghost use Rattle.std.specs.List.{All};
+ghost use Rattle.ctrl_calls.specs.declared.row.TheConstants.{MAX_MEMBERS};
+ghost use Rattle.ctrl_settle.specs.Settle.{settle};
+ghost use Rattle.ctrl_handlers.specs.Plan.{control_in};
+ghost use Rattle.ctrl_clusters.specs.Rows.{value_at, last_value, overwritten, settle_row};
+ghost use Rattle.ctrl_clusters.specs.Judging.{is_value, takes_row};
+
+use ctrl_calls::{ClusterRow, MAX_MEMBERS};
+use ctrl_settle::{Ctrl, settle};
+use ctrl_types::{Errno, Pair};
+
+/// The values of a cluster's members, in member order, overwritten by pairs: the last pair of a control counts.
+pub(crate) fn overwritten(values: &[i64], pairs: &[Pair], members: &[u32]) -> ClusterRow
+    requires few { length members.now ≤ MAX_MEMBERS }
+    requires known { All (λ c. c < length values.now) members.now }
+    ensures { result ≡ overwritten values.now pairs.now members.now }
+{
+    let mut cells = [0; MAX_MEMBERS];
+    for (place, &member) in members.iter().enumerate() {
+        cells[place] = asked_of(values, pairs, member);
+    }
+    ClusterRow::from_slice(&cells[..members.len()]).unwrap()
+}
+
+// The value that is asked of a control: its last pair's, or else its present one.
+fn asked_of(values: &[i64], pairs: &[Pair], control: u32) -> i64
+    requires { control < length values.now }
+    ensures { result ≡ unwrap_or (last_value pairs.now control) (value_at values.now control) }
+{
+    last_value(pairs, control).unwrap_or(values[control as usize])
+}
+
+// The last value that pairs give a control.
+fn last_value(pairs: &[Pair], control: u32) -> Option<i64>
+    ensures { result ≡ last_value pairs.now control }
+{
+    let mut last = None;
+    for pair in pairs {
+        if pair.control == control {
+            last = Some(pair.value);
+        }
+    }
+    last
+}
+
+/// What a cluster's members take for the values of a row, settled in member order; the errno of the first that doesn't settle.
+pub(crate) fn settle_row(
+    controls: &[Ctrl],
+    members: &[u32],
+    row: &ClusterRow,
+) -> Result<ClusterRow, Errno>
+    requires known { All (λ c. c < length controls.now) members.now }
+    requires long { length row.now ≡ length members.now }
+    ensures row { result ≡ settle_row controls.now members.now row.now }
+    ensures long { IfOk result (λ settled. length settled ≡ length members.now) }
+{
+    let mut settled = *row;
+    for (place, &member) in members.iter().enumerate() {
+        match settle_at(controls, member, row, place) {
+            Ok(value) => settled = settled.with(place, value),
+            Err(errno) => return Err(errno),
+        }
+    }
+    Ok(settled)
+}
+
+// What a member takes for its value of a row.
+fn settle_at(controls: &[Ctrl], member: u32, row: &ClusterRow, place: usize) -> Result<i64, Errno>
+    requires known { member < length controls.now }
+    requires within { place < length row.now }
+    ensures { result ≡ settle (control_in controls.now member) (value_at row.now place) }
+{
+    settle(&controls[member as usize], row.value(place))
+}
+
+/// Whether members take the values of a row as they are; a row of another length they don't take.
+pub(crate) fn takes_row(controls: &[Ctrl], members: &[u32], row: &ClusterRow) -> bool
+    requires { All (λ c. c < length controls.now) members.now }
+    ensures taken { result ≡ takes_row controls.now members.now row.now }
+    ensures long { result ≡ true → length row.now ≡ length members.now }
+{
+    if row.len() != members.len() {
+        return false;
+    }
+    for (place, &member) in members.iter().enumerate() {
+        if !takes_at(controls, member, row, place) {
+            return false;
+        }
+    }
+    true
+}
+
+// Whether a member takes its value of a row as it is.
+fn takes_at(controls: &[Ctrl], member: u32, row: &ClusterRow, place: usize) -> bool
+    requires known { member < length controls.now }
+    requires within { place < length row.now }
+    ensures { result ≡ is_value (settle (control_in controls.now member) (value_at row.now place)) (value_at row.now place) }
+{
+    settle_at(controls, member, row, place) == Ok(row.value(place))
+}

@@ -1,0 +1,6 @@
+pub mod ListLemmas
+pub mod ClusterLemmas
+pub mod PlanLemmas
+pub mod ShownLemmas
+pub mod LeastLemmas
+pub mod BuilderLemmas

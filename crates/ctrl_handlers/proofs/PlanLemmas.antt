@@ -1,0 +1,105 @@
+-- Each call of a builder keeps what holds of every plan.
+use Rattle.std.proofs.Common.{◌≡◌, ◌≢◌, ℕ, ◌<◌, List, [], ◌∷◌, ◌++◌, length, sym, ap, ◌∙◌, subst, arith, get_or, slice_set, inl, inr, ◌⊎◌}
+use Rattle.std.specs.List.{All}
+use Rattle.std.proofs.lemmas.Bool.{cases_eq}
+use Rattle.std.proofs.lemmas.List.{get_or-set_same, get_or-set_other, length_push, length-set}
+use Rattle.std.proofs.lemmas.List.Elements.{All-push, All-weaker}
+use Rattle.ctrl_settle.specs.Control.{Control}
+use Rattle.ctrl_handlers.specs.HandlerData.{HandlerData}
+use Rattle.ctrl_handlers.specs.declared.limits.TheConstants.{MAX_CONTROLS}
+use Rattle.ctrl_handlers.specs.Plan.{PlanData, IsPlan, no_plan, no_handler, handler_at, own, added, members, owning, with_control}
+
+-- a plan of nothing
+pub is_plan_start : IsPlan no_plan
+is_plan_start = record {
+  few_controls = omega arith;
+  few_handlers = omega arith;
+  members_known = λ k i d lt. absurd (omega (arith, lt));
+  members_apart = λ k c lt. absurd (omega (arith, lt));
+  one_member = λ k lt. absurd (omega (arith, lt));
+  own_known = λ h k d lt. absurd (omega (arith, lt));
+  added_before = λ h k d lt. absurd (omega (arith, lt));
+}
+
+-- the handler at a number, once one is replaced
+set_handler : (handlers : List HandlerData) (h g : ℕ) (x : HandlerData) → h < length handlers
+    → ((g ≡ h) × (get_or (slice_set handlers h x) g no_handler ≡ x)) ⊎ ((g ≢ h) × (get_or (slice_set handlers h x) g no_handler ≡ get_or handlers g no_handler))
+set_handler handlers h g x within = by (cases_eq g h)
+  where
+    by : (g ≡ h) ⊎ (g ≢ h)
+        → ((g ≡ h) × (get_or (slice_set handlers h x) g no_handler ≡ x)) ⊎ ((g ≢ h) × (get_or (slice_set handlers h x) g no_handler ≡ get_or handlers g no_handler))
+    by (inl same) = inl (same, ap (λ (n : ℕ). get_or (slice_set handlers h x) n no_handler) same ∙ get_or-set_same handlers h x no_handler within)
+    by (inr other) = inr (other, get_or-set_other handlers h g x no_handler other)
+
+-- one more control
+pub is_plan_control : (plan : PlanData) (h : ℕ) (ctrl : Control) → IsPlan plan → h < length plan.handlers → length plan.controls < MAX_CONTROLS → IsPlan (with_control plan h ctrl)
+unfolding owning
+is_plan_control plan h ctrl is within room = record {
+  few_controls = omega (arith, length_push plan.controls ctrl, room);
+  few_handlers = omega (arith, is.few_handlers, length-set plan.handlers h (owning (handler_at plan h) (length plan.controls)));
+  members_known = λ k.
+      All-weaker (λ c. c < length plan.controls) (λ c. c < length (plan.controls ++ ctrl ∷ []))
+      (λ c lt. omega (arith, lt, length_push plan.controls ctrl)) (members plan k) (is.members_known k);
+  members_apart = is.members_apart;
+  one_member = is.one_member;
+  own_known = λ g. known g (set_handler plan.handlers h g (owning (handler_at plan h) (length plan.controls)) within);
+  added_before = λ g. before g (set_handler plan.handlers h g (owning (handler_at plan h) (length plan.controls)) within);
+}
+  where
+    still : (g : ℕ) → All (λ c. c < length (plan.controls ++ ctrl ∷ [])) (own plan g)
+    still g =
+        All-weaker (λ c. c < length plan.controls) (λ c. c < length (plan.controls ++ ctrl ∷ []))
+        (λ c lt. omega (arith, lt, length_push plan.controls ctrl)) (own plan g) (is.own_known g)
+
+    known : (g : ℕ)
+        → ((g ≡ h) × (get_or (slice_set plan.handlers h (owning (handler_at plan h) (length plan.controls))) g no_handler ≡ owning (handler_at plan h) (length plan.controls)))
+        ⊎ ((g ≢ h) × (get_or (slice_set plan.handlers h (owning (handler_at plan h) (length plan.controls))) g no_handler ≡ get_or plan.handlers g no_handler))
+        → All (λ c. c < length (plan.controls ++ ctrl ∷ [])) (own (with_control plan h ctrl) g)
+    known g (inl same) =
+        subst (λ (x : HandlerData). All (λ c. c < length (plan.controls ++ ctrl ∷ [])) x.own) (sym same.1)
+        (All-push (λ c. c < length (plan.controls ++ ctrl ∷ [])) (own plan h) (length plan.controls) (still h) (omega (arith, length_push plan.controls ctrl)))
+    known g (inr other) = subst (λ (x : HandlerData). All (λ c. c < length (plan.controls ++ ctrl ∷ [])) x.own) (sym other.1) (still g)
+
+    before : (g : ℕ)
+        → ((g ≡ h) × (get_or (slice_set plan.handlers h (owning (handler_at plan h) (length plan.controls))) g no_handler ≡ owning (handler_at plan h) (length plan.controls)))
+        ⊎ ((g ≢ h) × (get_or (slice_set plan.handlers h (owning (handler_at plan h) (length plan.controls))) g no_handler ≡ get_or plan.handlers g no_handler))
+        → All (λ a. a < g) (added (with_control plan h ctrl) g)
+    before g (inl same) =
+        subst (λ (x : HandlerData). All (λ a. a < g) x.added) (sym same.1)
+        (subst (λ (n : ℕ). All (λ a. a < n) (added plan h)) (sym same.0) (is.added_before h))
+    before g (inr other) = subst (λ (x : HandlerData). All (λ a. a < g) x.added) (sym other.1) (is.added_before g)
+
+-- the same for parts that are equal to those
+pub is_plan_control_as : (plan : PlanData) (h : ℕ) (ctrl : Control) (controls : List Control) (handler : HandlerData) → IsPlan plan → h < length plan.handlers → length plan.controls < MAX_CONTROLS
+    → controls ≡ plan.controls ++ ctrl ∷ [] → handler ≡ owning (handler_at plan h) (length plan.controls)
+    → IsPlan (record plan { controls = controls; handlers = slice_set plan.handlers h handler })
+is_plan_control_as plan h ctrl controls handler is within room more owns = rw (more, owns) (is_plan_control plan h ctrl is within room)
+
+-- a handler that keeps its own controls and adds only handlers with smaller numbers
+pub is_plan_handler : (plan : PlanData) (h : ℕ) (handler : HandlerData) → IsPlan plan → h < length plan.handlers → handler.own ≡ own plan h → All (λ a. a < h) handler.added
+    → IsPlan (record plan { handlers = slice_set plan.handlers h handler })
+is_plan_handler plan h handler is within same before = record {
+  few_controls = is.few_controls;
+  few_handlers = omega (arith, is.few_handlers, length-set plan.handlers h handler);
+  members_known = is.members_known;
+  members_apart = is.members_apart;
+  one_member = is.one_member;
+  own_known = λ g. owns g (set_handler plan.handlers h g handler within);
+  added_before = λ g. adds g (set_handler plan.handlers h g handler within);
+}
+  where
+    owns : (g : ℕ)
+        → ((g ≡ h) × (get_or (slice_set plan.handlers h handler) g no_handler ≡ handler)) ⊎ ((g ≢ h) × (get_or (slice_set plan.handlers h handler) g no_handler ≡ get_or plan.handlers g no_handler))
+        → All (λ c. c < length plan.controls) (get_or (slice_set plan.handlers h handler) g no_handler).own
+    owns g (inl there) =
+        subst (λ (x : HandlerData). All (λ c. c < length plan.controls) x.own) (sym there.1)
+        (subst (λ (cs : List ℕ). All (λ c. c < length plan.controls) cs) (sym same) (is.own_known h))
+    owns g (inr other) = subst (λ (x : HandlerData). All (λ c. c < length plan.controls) x.own) (sym other.1) (is.own_known g)
+
+    adds : (g : ℕ)
+        → ((g ≡ h) × (get_or (slice_set plan.handlers h handler) g no_handler ≡ handler)) ⊎ ((g ≢ h) × (get_or (slice_set plan.handlers h handler) g no_handler ≡ get_or plan.handlers g no_handler))
+        → All (λ a. a < g) (get_or (slice_set plan.handlers h handler) g no_handler).added
+    adds g (inl there) =
+        subst (λ (x : HandlerData). All (λ a. a < g) x.added) (sym there.1)
+        (subst (λ (n : ℕ). All (λ a. a < n) handler.added) (sym there.0) before)
+    adds g (inr other) = subst (λ (x : HandlerData). All (λ a. a < g) x.added) (sym other.1) (is.added_before g)

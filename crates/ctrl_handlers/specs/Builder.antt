@@ -1,0 +1,100 @@
+-- When the calls of a plan builder refuse (of this project).
+use Rattle.std.specs.Prelude.{◌≡◌, ℕ, pos, Bool, false, not, ◌||◌, ◌==◌, List, [], ◌∷◌, nat_eq, nat_le, nat_lt, if◌then◌else◌, length, Option, None, Some, is_some, is_ok}
+use Rattle.std.specs.List.{list_any, list_all}
+use Rattle.ctrl_types.specs.declared.kind.Kind.{Kind}
+use Rattle.ctrl_types.specs.declared.kind.Kind.TheVariants.{Menu, IntegerMenu}
+use Rattle.ctrl_settle.specs.Control.{Control}
+use Rattle.ctrl_settle.specs.Settle.{settle}
+use Rattle.ctrl_handlers.specs.declared.fault.PlanFault.{PlanFault}
+use Rattle.ctrl_handlers.specs.declared.fault.PlanFault.TheVariants.{DuplicateId, InCluster, ClusterSize, LaterHandler, UnknownNumber, Limit, Memory}
+use Rattle.ctrl_handlers.specs.declared.limits.TheConstants.{MAX_CONTROLS, MAX_HANDLERS, MAX_MENU_NAME}
+use Rattle.ctrl_handlers.specs.Plan.{PlanData, own, control, cluster_of}
+use Rattle.ctrl_handlers.specs.Visible.{first_with_id}
+
+-- Why a further handler is refused: there are as many as there can be.
+abbrev pub handler_refusal : PlanData → Option PlanFault
+handler_refusal plan = if nat_le MAX_HANDLERS (length plan.handlers) then Some Limit else None
+
+-- Why a further control is refused: there is no such handler; there are as many controls as there can be; one of the handler's
+-- own has this id.
+abbrev pub control_refusal : PlanData → ℕ → Control → Option PlanFault
+control_refusal plan handler ctrl =
+    if nat_le (length plan.handlers) handler then Some UnknownNumber
+    else if nat_le MAX_CONTROLS (length plan.controls) then Some Limit
+    else if is_some (first_with_id plan.controls (own plan handler) ctrl.id) then Some DuplicateId
+    else None
+
+-- Why a handler doesn't add another: one of the two isn't there; the other hasn't a smaller number.
+abbrev pub adding_refusal : PlanData → ℕ → ℕ → Option PlanFault
+adding_refusal plan to added =
+    if nat_le (length plan.handlers) to then Some UnknownNumber
+    else if nat_le (length plan.handlers) added then Some UnknownNumber
+    else if nat_le to added then Some LaterHandler
+    else None
+
+-- an index that a menu takes: within its range, and not skipped
+abbrev pub is_taken : Control → ℕ → Bool
+is_taken ctrl index = is_ok (settle ctrl (pos index))
+
+-- a control takes a name at an index: its items have names, and it takes the index
+abbrev pub names_in : Kind → Control → ℕ → Bool
+names_in Menu ctrl index = is_taken ctrl index
+names_in _ ctrl index = false
+
+abbrev pub takes_name : Control → ℕ → Bool
+takes_name ctrl index = names_in ctrl.kind ctrl index
+
+-- a control takes a number at an index: its items are numbers, and it takes the index
+abbrev pub numbers_in : Kind → Control → ℕ → Bool
+numbers_in IntegerMenu ctrl index = is_taken ctrl index
+numbers_in _ ctrl index = false
+
+abbrev pub takes_number : Control → ℕ → Bool
+takes_number ctrl index = numbers_in ctrl.kind ctrl index
+
+-- Why a name is refused: there is no such control; it isn't a menu of names that takes the index; the name is too long.
+abbrev pub name_refusal : PlanData → ℕ → ℕ → List ℕ → Option PlanFault
+name_refusal plan c index name =
+    if nat_le (length plan.controls) c then Some UnknownNumber
+    else if not (takes_name (control plan c) index) then Some UnknownNumber
+    else if nat_lt MAX_MENU_NAME (length name) then Some Limit
+    else None
+
+-- Why a menu's number is refused: there is no such control; it isn't a menu of numbers that takes the index.
+abbrev pub number_refusal : PlanData → ℕ → ℕ → Option PlanFault
+number_refusal plan c index =
+    if nat_le (length plan.controls) c then Some UnknownNumber
+    else if not (takes_number (control plan c) index) then Some UnknownNumber
+    else None
+
+-- some control is named twice
+abbrev pub names_twice : List ℕ → Bool
+names_twice [] = false
+names_twice (c ∷ cs) = list_any (nat_eq c) cs || names_twice cs
+
+-- some control is in a cluster already
+abbrev pub some_clustered : PlanData → List ℕ → Bool
+some_clustered plan members = list_any (λ c. is_some (cluster_of plan c)) members
+
+-- Why a cluster is refused: it hasn't exactly one member, as yet; some control isn't there; one is in a cluster already or is named twice.
+abbrev pub cluster_refusal : PlanData → List ℕ → Option PlanFault
+cluster_refusal plan members =
+    if not (length members == 1) then Some ClusterSize
+    else if not (list_all (λ c. nat_lt c (length plan.controls)) members) then Some UnknownNumber
+    else if some_clustered plan members || names_twice members then Some InCluster
+    else None
+
+-- A call answers its refusal where it has one; where it has none it can only want memory.
+abbrev pub IsRefusedBy : Option PlanFault → PlanFault → Type 0
+IsRefusedBy (Some refusal) fault = fault ≡ refusal
+IsRefusedBy None fault = fault ≡ Memory
+
+-- a fault's number
+abbrev pub plan_fault_number : PlanFault → ℕ
+plan_fault_number DuplicateId = 1
+plan_fault_number InCluster = 2
+plan_fault_number ClusterSize = 3
+plan_fault_number LaterHandler = 4
+plan_fault_number UnknownNumber = 5
+plan_fault_number Limit = 6
+plan_fault_number Memory = 7

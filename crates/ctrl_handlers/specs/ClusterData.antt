@@ -1,0 +1,8 @@
+-- A cluster as plain data (Linux driver API, "V4L2 Controls", "Control Clusters").
+use Rattle.std.specs.Prelude.{ℕ, List}
+use Rattle.ctrl_calls.specs.declared.relation.Relations.{Relations}
+
+-- its members, the first of which is its master, and what its closures answer by
+pub record ClusterData : Type 0 where
+  pub members : List ℕ
+  pub calls : Relations

@@ -1,0 +1,10 @@
+pub use Rattle.ctrl_calls.specs.Meanings
+pub use Rattle.ctrl_calls.specs.Counts
+pub use Rattle.ctrl_settle.specs.Control
+pub use Rattle.ctrl_settle.specs.Settle
+pub use Rattle.ctrl_types.specs.Flags
+pub mod HandlerData
+pub mod ClusterData
+pub mod Plan
+pub mod Visible
+pub mod Builder

@@ -1,0 +1,148 @@
+-- What a plan holds, as plain data, and what each call of a builder adds to it (Linux driver API, "V4L2 Controls").
+use Rattle.std.specs.Prelude.{◌≡◌, ℕ, pos, Bool, false, true, ◌==◌, ◌&&◌, ◌<◌, ◌≤◌, List, [], ◌∷◌, ◌++◌, length, Option, None, Some, map, nat_eq, position, if◌then◌else◌, slice_index, slice_index_or, slice_set}
+use Rattle.std.specs.List.{All, list_any}
+use Rattle.std.specs.Map.{lookup}
+use Rattle.indexmap.specs.IndexMap.{insert_entry}
+use Rattle.ctrl_types.specs.declared.kind.Kind.TheVariants.{Integer}
+use Rattle.ctrl_calls.specs.declared.relation.Relations.{Relations}
+use Rattle.ctrl_settle.specs.Control.{Control}
+use Rattle.ctrl_handlers.specs.HandlerData.{HandlerData}
+use Rattle.ctrl_handlers.specs.ClusterData.{ClusterData}
+use Rattle.ctrl_handlers.specs.declared.limits.TheConstants.{MAX_CONTROLS, MAX_HANDLERS}
+use Rattle.ctrl_handlers.specs.declared.menu.MenuItem.{MenuItem}
+
+-- The controls by number, the handlers by number, the items of menus by control and index, and the clusters that were named, in
+-- the order of their calls.
+pub record PlanData : Type 0 where
+  pub controls : List Control
+  pub handlers : List HandlerData
+  pub items : List ((ℕ × ℕ) × MenuItem)
+  pub clusters : List ClusterData
+
+-- what stands for a number that names no control
+abbrev pub no_control : Control
+no_control = record { id = record { 0 = 0 }; kind = Integer; minimum = pos 0; maximum = pos 0; step = 1; default_value = pos 0; skip = 0; flags = record { 0 = 0 }; is_private = false }
+
+-- the control with a number, among these
+abbrev pub control_in : List Control → ℕ → Control
+control_in controls c = slice_index_or controls c no_control
+
+-- the control with a number
+abbrev pub control : PlanData → ℕ → Control
+control plan c = control_in plan.controls c
+
+-- a handler of nothing
+abbrev pub no_handler : HandlerData
+no_handler = record { own = []; added = [] }
+
+-- the handler with a number
+abbrev pub handler_at : PlanData → ℕ → HandlerData
+handler_at plan h = slice_index_or plan.handlers h no_handler
+
+-- a handler's own controls, in the order of their declaration
+abbrev pub own : PlanData → ℕ → List ℕ
+own plan h = (handler_at plan h).own
+
+-- the handlers that a handler adds, in the order of adding
+abbrev pub added : PlanData → ℕ → List ℕ
+added plan h = (handler_at plan h).added
+
+-- the same control and index
+abbrev pub same_place : ℕ × ℕ → ℕ × ℕ → Bool
+same_place p q = p.0 == q.0 && p.1 == q.1
+
+-- the item of a menu at an index, where one was given
+abbrev pub menu_item : PlanData → ℕ → ℕ → Option MenuItem
+menu_item plan c index = lookup (same_place (c, index)) plan.items
+
+-- a control is one of a cluster's members
+abbrev pub has_member : ℕ → ClusterData → Bool
+has_member c cluster = list_any (nat_eq c) cluster.members
+
+-- the named cluster that a control is in
+abbrev pub cluster_of : PlanData → ℕ → Option ℕ
+cluster_of plan c = position (has_member c) plan.clusters
+
+-- no closures
+abbrev pub no_calls : Relations
+no_calls = record { validator = None; notifier = None }
+
+-- what stands for a number that no call named
+abbrev pub no_cluster : ClusterData
+no_cluster = record { members = []; calls = no_calls }
+
+-- the named cluster with a number
+abbrev pub cluster_at : PlanData → ℕ → ClusterData
+cluster_at plan k = slice_index_or plan.clusters k no_cluster
+
+-- a named cluster's members, in the order in which they were named
+abbrev pub members : PlanData → ℕ → List ℕ
+members plan k = (cluster_at plan k).members
+
+-- the first member of a cluster
+abbrev pub master_of : ClusterData → ℕ
+master_of cluster = slice_index cluster.members 0
+
+-- the first member of a named cluster
+abbrev pub master : PlanData → ℕ → ℕ
+master plan k = master_of (cluster_at plan k)
+
+-- the relations of a cluster's closures; one that no call named has none
+abbrev pub calls_of : PlanData → ℕ → Relations
+calls_of plan k = (cluster_at plan k).calls
+
+-- the relations of the named clusters' closures, in the order of the clusters
+abbrev pub all_calls : PlanData → List Relations
+all_calls plan = map (λ (k : ClusterData). k.calls) plan.clusters
+
+-- How many clusters there are: those that were named, and each other control, which is a cluster of its own without closures.
+-- As yet each cluster has one control.
+abbrev pub cluster_count : PlanData → ℕ
+cluster_count plan = length plan.controls
+
+-- What holds of every plan: the limits, that a cluster's members are there, that a control is in one cluster at most, that as yet
+-- each named cluster has one member, that each handler's own controls are there, and that it adds only handlers with smaller
+-- numbers.
+pub record IsPlan (plan : PlanData) : Type 0 where
+  pub few_controls : length plan.controls ≤ MAX_CONTROLS
+  pub few_handlers : length plan.handlers ≤ MAX_HANDLERS
+  pub members_known : (k : ℕ) → All (λ c. c < length plan.controls) (members plan k)
+  pub members_apart : (k c : ℕ) → k < length plan.clusters → list_any (nat_eq c) (members plan k) ≡ true → cluster_of plan c ≡ Some k
+  pub one_member : (k : ℕ) → k < length plan.clusters → length (members plan k) ≡ 1
+  pub own_known : (h : ℕ) → All (λ c. c < length plan.controls) (own plan h)
+  pub added_before : (h : ℕ) → All (λ a. a < h) (added plan h)
+
+-- a plan of nothing
+abbrev pub no_plan : PlanData
+no_plan = record { controls = []; handlers = []; items = []; clusters = [] }
+
+-- the plan with one more handler, which shows nothing yet
+abbrev pub with_handler : PlanData → PlanData
+with_handler plan = record plan { handlers = plan.handlers ++ no_handler ∷ [] }
+
+-- a handler with one more control of its own, the last
+unfoldable pub owning : HandlerData → ℕ → HandlerData
+owning handler c = record handler { own = handler.own ++ c ∷ [] }
+
+-- the plan with one more control, the last of its handler's own
+abbrev pub with_control : PlanData → ℕ → Control → PlanData
+with_control plan h ctrl = record plan {
+  controls = plan.controls ++ ctrl ∷ [];
+  handlers = slice_set plan.handlers h (owning (handler_at plan h) (length plan.controls));
+}
+
+-- a handler that adds another, the last; adding again does nothing
+unfoldable pub adding : HandlerData → ℕ → HandlerData
+adding handler a = if list_any (nat_eq a) handler.added then handler else record handler { added = handler.added ++ a ∷ [] }
+
+-- the plan where a handler adds another
+abbrev pub with_added : PlanData → ℕ → ℕ → PlanData
+with_added plan h a = record plan { handlers = slice_set plan.handlers h (adding (handler_at plan h) a) }
+
+-- the plan with an item of a menu, in the place of the one that its index had
+abbrev pub with_item : PlanData → ℕ → ℕ → MenuItem → PlanData
+with_item plan c index item = record plan { items = insert_entry same_place plan.items (c, index) item }
+
+-- the plan with one more named cluster
+abbrev pub with_cluster : PlanData → List ℕ → Relations → PlanData
+with_cluster plan members calls = record plan { clusters = plan.clusters ++ record { members = members; calls = calls } ∷ [] }

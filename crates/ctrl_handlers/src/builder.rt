@@ -1,0 +1,256 @@
+ghost use Rattle.std.specs.Prelude.{◌≡◌, ◌<◌, ◌&&◌, pos, ℕ, length, None, IfOk, IfErr, MatchResult};
+ghost use Rattle.ctrl_handlers.specs.Plan.{no_plan, with_handler, with_control, with_added, with_item, with_cluster, control as control_of};
+ghost use Rattle.ctrl_handlers.specs.Builder.{handler_refusal, control_refusal, adding_refusal, name_refusal, number_refusal, cluster_refusal, takes_name, takes_number, is_taken, IsRefusedBy};
+ghost use Rattle.ctrl_handlers.specs.declared.menu.MenuItem.TheVariants as items;
+ghost use Rattle.ctrl_handlers.specs.declared.fault.PlanFault.TheVariants.{Memory};
+
+use crate::fault::PlanFault;
+use crate::limits::{MAX_CONTROLS, MAX_HANDLERS, MAX_MENU_NAME};
+use crate::menu::{MenuItem, MenuName};
+use crate::outline::Outline;
+use crate::plan::Plan;
+use ctrl_calls::{Calls, Driver};
+use ctrl_settle::{Ctrl, settle};
+use ctrl_types::Kind;
+use std::alloc::Global;
+use std::marker::Model;
+
+/// Builds a plan, call by call (Linux driver API, "V4L2 Controls", `v4l2_ctrl_handler_init`, `v4l2_ctrl_new_custom`,
+/// `v4l2_ctrl_add_handler` and `v4l2_ctrl_cluster`). Contracts see it as the plan so far.
+pub struct PlanBuilder<D: Driver> {
+    outline: Outline,
+    // the closures of each named cluster
+    calls: Vec<Calls<D>>,
+    alloc: Global,
+}
+
+impl<D: Driver> Model for PlanBuilder<D> {
+    ghost use Rattle.std.specs.Prelude.{◌≡◌};
+    ghost use Rattle.ctrl_handlers.specs.Plan.{PlanData, all_calls};
+
+    ghost Value = { PlanData };
+
+    ghost view = { λ b. b.outline };
+
+    ghost invariant = { λ b. b.calls.items ≡ all_calls b.outline };
+}
+
+impl<D: Driver> Drop for PlanBuilder<D> {
+    fn drop(self) {
+        let PlanBuilder {
+            outline: _,
+            calls: _,
+            alloc: _,
+        } = self;
+    }
+}
+
+impl<D: Driver> PlanBuilder<D> {
+    /// A builder of a plan without handlers. It takes no memory; its calls take theirs from `alloc`.
+    pub fn new(alloc: Global) -> PlanBuilder<D>
+        ensures { result ≡ no_plan }
+    {
+        PlanBuilder {
+            outline: Outline::empty(alloc),
+            calls: Vec::new(alloc),
+            alloc,
+        }
+    }
+
+    /// Adds a handler and answers its number, from 0. `Limit` (6) where there are 16; `Memory` (7) where a growth was
+    /// refused. A refusal leaves the plan as it was.
+    pub fn handler(&mut self) -> Result<u32, PlanFault>
+        ensures ok { IfOk result (λ n. (handler_refusal self.old ≡ None) × (n ≡ length self.old.handlers) × (self.new ≡ with_handler self.old)) }
+        ensures err { IfErr result (λ fault. IsRefusedBy (handler_refusal self.old) fault × (self.new ≡ self.old)) }
+    {
+        if self.outline.handler_count() >= MAX_HANDLERS {
+            return Err(PlanFault::Limit);
+        }
+        match self.outline.add_handler(self.alloc) {
+            Ok(number) => Ok(number),
+            Err(_) => Err(PlanFault::Memory),
+        }
+    }
+
+    /// Adds a control to a handler's own and answers its number, from 0. `UnknownNumber` (5) where there is no such handler;
+    /// `Limit` (6) where there are 256 controls; `DuplicateId` (1) where the handler has a control of this id; `Memory` (7)
+    /// where a growth was refused. A refusal leaves the plan as it was.
+    pub fn control(&mut self, handler: u32, ctrl: Ctrl) -> Result<u32, PlanFault>
+        ensures ok { IfOk result (λ n. (control_refusal self.old handler ctrl ≡ None) × (n ≡ length self.old.controls) × (self.new ≡ with_control self.old handler ctrl)) }
+        ensures err { IfErr result (λ fault. IsRefusedBy (control_refusal self.old handler ctrl) fault × (self.new ≡ self.old)) }
+    {
+        if !self.outline.has_handler(handler) {
+            return Err(PlanFault::UnknownNumber);
+        }
+        if self.outline.control_count() >= MAX_CONTROLS {
+            return Err(PlanFault::Limit);
+        }
+        if self.outline.has_own(handler, ctrl.id()) {
+            return Err(PlanFault::DuplicateId);
+        }
+        match self.outline.add_control(handler, ctrl) {
+            Ok(number) => Ok(number),
+            Err(_) => Err(PlanFault::Memory),
+        }
+    }
+
+    /// Has handler `to` show what handler `added` shows, too, after all that it shows so far (Linux driver API, "V4L2
+    /// Controls", "Inheriting Controls"); controls that `added` is given later are shown as well. Adding again does nothing.
+    /// `UnknownNumber` (5) where one of the two isn't there; `LaterHandler` (4) where `added` isn't a smaller number than `to`;
+    /// `Memory` (7) where a growth was refused. A refusal leaves the plan as it was.
+    pub fn add_handler(&mut self, to: u32, added: u32) -> Result<(), PlanFault>
+        ensures ok { IfOk result (λ _. (adding_refusal self.old to added ≡ None) × (self.new ≡ with_added self.old to added)) }
+        ensures err { IfErr result (λ fault. IsRefusedBy (adding_refusal self.old to added) fault × (self.new ≡ self.old)) }
+    {
+        if !self.outline.has_handler(to) {
+            return Err(PlanFault::UnknownNumber);
+        }
+        if !self.outline.has_handler(added) {
+            return Err(PlanFault::UnknownNumber);
+        }
+        if added >= to {
+            return Err(PlanFault::LaterHandler);
+        }
+        match self.outline.add_to(to, added) {
+            Ok(()) => Ok(()),
+            Err(_) => Err(PlanFault::Memory),
+        }
+    }
+
+    /// Names the item of a `Menu` at an index; a second name takes the place of the first (Linux driver API, "V4L2 Controls",
+    /// "Menu Controls"). `UnknownNumber` (5) where there is no such control, it isn't a `Menu`, or the index lies outside its
+    /// range or is skipped; `Limit` (6) where the name has more than 32 bytes; `Memory` (7) where a growth was refused. A
+    /// refusal leaves the plan as it was.
+    pub fn menu_name(&mut self, control: u32, index: u32, name: &str) -> Result<(), PlanFault>
+        ensures ok { IfOk result (λ _. (name_refusal self.old control index name.now ≡ None) × (self.new ≡ with_item self.old control index (items.Name name.now))) }
+        ensures err { IfErr result (λ fault. IsRefusedBy (name_refusal self.old control index name.now) fault × (self.new ≡ self.old)) }
+    {
+        if control >= self.outline.control_count() {
+            return Err(PlanFault::UnknownNumber);
+        }
+        let ctrl = self.outline.control(control);
+        if !takes_name(&ctrl, index) {
+            return Err(PlanFault::UnknownNumber);
+        }
+        if name.len() > MAX_MENU_NAME {
+            return Err(PlanFault::Limit);
+        }
+        let Ok(name) = MenuName::new(self.alloc, name) else {
+            return Err(PlanFault::Memory);
+        };
+        self.set_item(control, index, MenuItem::Name(name))
+    }
+
+    /// Gives an `IntegerMenu` the number that stands at an index; a second number takes the place of the first (Linux driver
+    /// API, "V4L2 Controls", "Menu Controls"). `UnknownNumber` (5) where there is no such control, it isn't an `IntegerMenu`,
+    /// or the index lies outside its range or is skipped; `Memory` (7) where a growth was refused. A refusal leaves the plan
+    /// as it was.
+    pub fn menu_number(&mut self, control: u32, index: u32, number: i64) -> Result<(), PlanFault>
+        ensures ok { IfOk result (λ _. (number_refusal self.old control index ≡ None) × (self.new ≡ with_item self.old control index (items.Number number))) }
+        ensures err { IfErr result (λ fault. IsRefusedBy (number_refusal self.old control index) fault × (self.new ≡ self.old)) }
+    {
+        if control >= self.outline.control_count() {
+            return Err(PlanFault::UnknownNumber);
+        }
+        let ctrl = self.outline.control(control);
+        if !takes_number(&ctrl, index) {
+            return Err(PlanFault::UnknownNumber);
+        }
+        self.set_item(control, index, MenuItem::Number(number))
+    }
+
+    // Gives a menu an item.
+    fn set_item(&mut self, control: u32, index: u32, item: MenuItem) -> Result<(), PlanFault>
+        ensures { MatchResult result (λ _. self.new ≡ with_item self.old control index item) (λ fault. (fault ≡ Memory) × (self.new ≡ self.old)) }
+    {
+        if self.outline.set_item(control, index, item).is_err() {
+            return Err(PlanFault::Memory);
+        }
+        Ok(())
+    }
+
+    /// Makes a cluster of the controls with these numbers, the first of which is its master, with the closures of a driver, and
+    /// answers its number, from 0 in the order of these calls. As yet a cluster has one control: `ClusterSize` (3) where
+    /// `members` hasn't exactly one; `UnknownNumber` (5) where one isn't there; `InCluster` (2) where one is in a cluster already or
+    /// is named twice; `Memory` (7) where a growth was refused. A refusal hands the closures back and leaves the plan as it was.
+    pub fn cluster(
+        &mut self,
+        members: &[u32],
+        calls: Calls<D>,
+    ) -> Result<u32, (Calls<D>, PlanFault)>
+        ensures ok { IfOk result (λ n. (cluster_refusal self.old members.now ≡ None) × (n ≡ length self.old.clusters) × (self.new ≡ with_cluster self.old members.now calls)) }
+        ensures err { IfErr result (λ e. (e.0 ≡ calls) × IsRefusedBy (cluster_refusal self.old members.now) e.1 × (self.new ≡ self.old)) }
+    {
+        if let Some(fault) = self.outline.cluster_refusal(members) {
+            return Err((calls, fault));
+        }
+        match self.name_cluster(members, calls) {
+            Ok(number) => Ok(number),
+            Err(calls) => Err((calls, PlanFault::Memory)),
+        }
+    }
+
+    // Names a cluster; hands its closures back where a growth was refused.
+    fn name_cluster(&mut self, members: &[u32], calls: Calls<D>) -> Result<u32, Calls<D>>
+        requires { cluster_refusal self.old members.now ≡ None }
+        ensures ok { IfOk result (λ n. (n ≡ length self.old.clusters) × (self.new ≡ with_cluster self.old members.now calls)) }
+        ensures err { IfErr result (λ back. (back ≡ calls) × (self.new ≡ self.old)) }
+    {
+        if self.calls.reserve(1).is_err() {
+            return Err(calls);
+        }
+        match self.outline.add_cluster(members, calls.relations()) {
+            Ok(number) => {
+                self.calls.push_reserved(calls);
+                Ok(number)
+            }
+            Err(_) => Err(calls),
+        }
+    }
+
+    /// The plan that was built. What each handler shows is made here, so it is shown whatever the order of the calls. `Memory`
+    /// (7), with the builder as it was, where a growth was refused.
+    pub fn finish(self) -> Result<Plan<D>, (PlanBuilder<D>, PlanFault)>
+        ensures ok { IfOk result (λ plan. plan ≡ self) }
+        ensures err { IfErr result (λ e. (e.0 ≡ self) × (e.1 ≡ Memory)) }
+    {
+        match self.outline.shown_lists(self.alloc) {
+            Ok(shown) => {
+                let PlanBuilder {
+                    outline,
+                    calls,
+                    alloc: _,
+                } = self;
+                Ok(Plan::of_parts(outline, calls, shown))
+            }
+            Err(_) => Err((self, PlanFault::Memory)),
+        }
+    }
+}
+
+// Whether a control is a menu of names that takes an index.
+fn takes_name(ctrl: &Ctrl, index: u32) -> bool
+    ensures { result ≡ takes_name ctrl.now index }
+{
+    match ctrl.kind() {
+        Kind::Menu => is_taken(ctrl, index),
+        _ => false,
+    }
+}
+
+// Whether a control is a menu of numbers that takes an index.
+fn takes_number(ctrl: &Ctrl, index: u32) -> bool
+    ensures { result ≡ takes_number ctrl.now index }
+{
+    match ctrl.kind() {
+        Kind::IntegerMenu => is_taken(ctrl, index),
+        _ => false,
+    }
+}
+
+// Whether a menu takes an index.
+fn is_taken(ctrl: &Ctrl, index: u32) -> bool
+    ensures { result ≡ is_taken ctrl.now index }
+{
+    settle(ctrl, i64::from(index)).is_ok()
+}

@@ -1,0 +1,303 @@
+ghost use Rattle.std.specs.Prelude.{◌≡◌, ◌==◌, ◌<◌, ◌≤◌, ℕ, length, None, Some, is_some, nat_lt, OnOk, OnErr, MatchOption, position, IfOk, IfSome, IsTrue, ◌↔◌};
+ghost use Rattle.ctrl_handlers.specs.Plan.{IsPlan, no_plan, with_handler, with_control, with_added, with_item, with_cluster, control as control_of, own, added, menu_item, cluster_of, members, has_member};
+ghost use Rattle.ctrl_handlers.specs.Builder.{cluster_refusal, names_twice};
+ghost use Rattle.std.specs.List.{All, list_all, list_any};
+ghost use Rattle.ctrl_handlers.specs.Visible.{first_with_id, shown_over, shown_below};
+
+use crate::cluster::Cluster;
+use crate::fault::PlanFault;
+use crate::handler::Handler;
+use crate::limits::{MAX_CONTROLS, MAX_HANDLERS};
+use crate::menu::MenuItem;
+use crate::numbers::NumberList;
+use crate::showing::{bring_added, first_with_id};
+use ctrl_calls::Relations;
+use ctrl_settle::Ctrl;
+use ctrl_types::CtrlId;
+use indexmap::IndexMap;
+use std::alloc::{AllocError, Global};
+use std::marker::Model;
+
+/// What a plan holds but for the driver's closures.
+#[derive(Drop)]
+pub struct Outline {
+    controls: Vec<Ctrl>,
+    handlers: Vec<Handler>,
+    // the items of menus, by control and index
+    items: IndexMap<(u32, u32), MenuItem>,
+    clusters: Vec<Cluster>,
+}
+
+impl Model for Outline {
+    ghost use Rattle.ctrl_handlers.specs.Plan.{PlanData, IsPlan};
+
+    ghost Value = { PlanData };
+
+    ghost view = { λ p. record { controls = p.controls.items; handlers = p.handlers.items; items = p.items.entries; clusters = p.clusters.items } };
+
+    ghost invariant = { λ p. IsPlan (record { controls = p.controls.items; handlers = p.handlers.items; items = p.items.entries; clusters = p.clusters.items }) };
+}
+
+impl Outline {
+    /// A plan of nothing.
+    pub(crate) fn empty(alloc: Global) -> Outline
+        ensures { result ≡ no_plan }
+    {
+        Outline {
+            controls: Vec::new(alloc),
+            handlers: Vec::new(alloc),
+            items: IndexMap::new(alloc),
+            clusters: Vec::new(alloc),
+        }
+    }
+
+    /// One more handler, by its number.
+    pub(crate) fn add_handler(&mut self, alloc: Global) -> Result<u32, AllocError>
+        requires { length self.old.handlers < MAX_HANDLERS }
+        ensures ok { IfOk result (λ n. (n ≡ length self.old.handlers) × (self.new ≡ with_handler self.old)) }
+        ensures err { OnErr result (self.new ≡ self.old) }
+    {
+        let number = self.handlers.len() as u32;
+        self.handlers.push(Handler::new(alloc))?;
+        Ok(number)
+    }
+
+    /// One more control of a handler, by its number.
+    pub(crate) fn add_control(&mut self, handler: u32, ctrl: Ctrl) -> Result<u32, AllocError>
+        requires known { handler < length self.old.handlers }
+        requires room { length self.old.controls < MAX_CONTROLS }
+        ensures ok { IfOk result (λ n. (n ≡ length self.old.controls) × (self.new ≡ with_control self.old handler ctrl)) }
+        ensures err { OnErr result (self.new ≡ self.old) }
+    {
+        let number = self.controls.len() as u32;
+        self.controls.reserve(1)?;
+        self.handlers[handler as usize].own_control(number)?;
+        self.controls.push_reserved(ctrl);
+        Ok(number)
+    }
+
+    /// Has a handler add another.
+    pub(crate) fn add_to(&mut self, to: u32, added: u32) -> Result<(), AllocError>
+        requires known { to < length self.old.handlers }
+        requires before { added < to }
+        ensures ok { OnOk result (self.new ≡ with_added self.old to added) }
+        ensures err { OnErr result (self.new ≡ self.old) }
+    {
+        self.handlers[to as usize].add_handler(added)
+    }
+
+    /// Gives a menu an item, in place of the one that it has at this index.
+    pub(crate) fn set_item(
+        &mut self,
+        control: u32,
+        index: u32,
+        item: MenuItem,
+    ) -> Result<(), AllocError>
+        ensures ok { OnOk result (self.new ≡ with_item self.old control index item) }
+        ensures err { OnErr result (self.new ≡ self.old) }
+    {
+        self.items.insert((control, index), item)?;
+        Ok(())
+    }
+
+    /// Why a cluster of these controls is refused, memory apart.
+    pub(crate) fn cluster_refusal(&self, members: &[u32]) -> Option<PlanFault>
+        ensures { result ≡ cluster_refusal self.now members.now }
+    {
+        if members.len() != 1 {
+            return Some(PlanFault::ClusterSize);
+        }
+        if !are_below(members, self.control_count()) {
+            return Some(PlanFault::UnknownNumber);
+        }
+        if some_clustered(self.clusters.as_slice(), members) || names_twice(members) {
+            return Some(PlanFault::InCluster);
+        }
+        None
+    }
+
+    /// One more named cluster, by its number.
+    pub(crate) fn add_cluster(
+        &mut self,
+        members: &[u32],
+        calls: Relations,
+    ) -> Result<u32, AllocError>
+        requires { cluster_refusal self.old members.now ≡ None }
+        ensures ok { IfOk result (λ n. (n ≡ length self.old.clusters) × (self.new ≡ with_cluster self.old members.now calls)) }
+        ensures err { OnErr result (self.new ≡ self.old) }
+    {
+        let number = self.named_count();
+        self.clusters.push(Cluster::new(members, calls))?;
+        Ok(number)
+    }
+
+    /// The item of a menu at an index.
+    pub(crate) fn item(&self, control: u32, index: u32) -> Option<&MenuItem>
+        ensures { MatchOption result (menu_item self.now control index ≡ None) (λ item. menu_item self.now control index ≡ Some item.now) }
+    {
+        self.items.get(&(control, index))
+    }
+
+    /// The named cluster that a control is in, by its number.
+    pub(crate) fn cluster_of(&self, control: u32) -> Option<u32>
+        ensures cluster { result ≡ cluster_of self.now control }
+        ensures within { IfSome result (λ k. k < length self.now.clusters) }
+    {
+        match place_of(self.clusters.as_slice(), control) {
+            Some(place) => Some(place as u32),
+            None => None,
+        }
+    }
+
+    /// A named cluster's members, the first of which is its master; as yet there is one.
+    pub(crate) fn members(&self, cluster: u32) -> &[u32]
+        requires { cluster < length self.now.clusters }
+        ensures members { result.now ≡ members self.now cluster }
+        ensures known { All (λ c. c < length self.now.controls) result.now }
+        ensures one { length result.now ≡ 1 }
+    {
+        let cluster = &self.clusters[cluster as usize];
+        cluster.members()
+    }
+
+    /// How many clusters were named: no more than controls.
+    pub(crate) fn named_count(&self) -> u32
+        ensures { result ≡ length self.now.clusters }
+    {
+        self.clusters.len() as u32
+    }
+
+    /// Whether a handler has a control of this id of its own.
+    pub(crate) fn has_own(&self, handler: u32, id: CtrlId) -> bool
+        requires { handler < length self.now.handlers }
+        ensures { result ≡ is_some (first_with_id self.now.controls (own self.now handler) id) }
+    {
+        first_with_id(self.controls(), self.own(handler), id).is_some()
+    }
+
+    // A handler's own controls.
+    fn own(&self, handler: u32) -> &[u32]
+        requires { handler < length self.now.handlers }
+        ensures own { result.now ≡ own self.now handler }
+        ensures known { All (λ c. c < length self.now.controls) result.now }
+    {
+        let handler = &self.handlers[handler as usize];
+        handler.own()
+    }
+
+    // The handlers that a handler adds.
+    fn added(&self, handler: u32) -> &[u32]
+        requires { handler < length self.now.handlers }
+        ensures added { result.now ≡ added self.now handler }
+        ensures before { All (λ a. a < handler) result.now }
+    {
+        let handler = &self.handlers[handler as usize];
+        handler.added()
+    }
+
+    /// What each handler shows, in the order of their numbers.
+    pub(crate) fn shown_lists(&self, alloc: Global) -> Result<Vec<NumberList>, AllocError>
+        ensures { IfOk result (λ lists. lists.items ≡ shown_below self.now (length self.now.handlers)) }
+    {
+        let count = self.handler_count();
+        let mut lists = Vec::with_capacity(alloc, count as usize)?;
+        for handler in 0..count {
+            let list = self.shown_over(alloc, lists.as_slice(), handler)?;
+            lists.push_reserved(list);
+        }
+        Ok(lists)
+    }
+
+    // What a handler shows, given what each with a smaller number shows.
+    fn shown_over(
+        &self,
+        alloc: Global,
+        below: &[NumberList],
+        handler: u32,
+    ) -> Result<NumberList, AllocError>
+        requires known { handler < length self.now.handlers }
+        requires below { below.now ≡ shown_below self.now handler }
+        ensures { IfOk result (λ list. list ≡ shown_over self.now (shown_below self.now handler) handler) }
+    {
+        let mut shown = NumberList::from_slice(alloc, self.own(handler))?;
+        bring_added(self.controls(), &mut shown, below, self.added(handler))?;
+        Ok(shown)
+    }
+
+    /// The controls, by number.
+    pub(crate) fn controls(&self) -> &[Ctrl]
+        ensures controls { result.now ≡ self.now.controls }
+        ensures within { length result.now ≤ MAX_CONTROLS }
+        ensures plan { IsPlan self.now }
+    {
+        self.controls.as_slice()
+    }
+
+    /// How many handlers there are, at most 16.
+    pub(crate) fn handler_count(&self) -> u32
+        ensures count { result ≡ length self.now.handlers }
+        ensures within { result ≤ MAX_HANDLERS }
+    {
+        self.handlers.len() as u32
+    }
+
+    /// Whether there is a handler of this number.
+    pub(crate) fn has_handler(&self, number: u32) -> bool
+        ensures there { IsTrue result ↔ (number < length self.now.handlers) }
+        ensures plan { IsPlan self.now }
+    {
+        (number as usize) < self.handlers.len()
+    }
+
+    /// The control with a number.
+    pub(crate) fn control(&self, number: u32) -> Ctrl
+        requires { number < length self.now.controls }
+        ensures control { result ≡ control_of self.now number }
+        ensures plan { IsPlan self.now }
+    {
+        self.controls[number as usize]
+    }
+
+    /// How many controls there are, at most 256.
+    pub(crate) fn control_count(&self) -> u32
+        ensures count { result ≡ length self.now.controls }
+        ensures within { result ≤ MAX_CONTROLS }
+    {
+        self.controls.len() as u32
+    }
+}
+
+// The first of some clusters that has the control, by its place.
+fn place_of(clusters: &[Cluster], control: u32) -> Option<usize>
+    ensures { result ≡ position (has_member control) clusters.now }
+{
+    clusters.iter().position(|cluster| cluster.has(control))
+}
+
+// Whether each number is below a bound.
+fn are_below(numbers: &[u32], bound: u32) -> bool
+    ensures { result ≡ list_all (λ n. nat_lt n bound) numbers.now }
+{
+    numbers.iter().all(|number| *number < bound)
+}
+
+// Whether some control is a member of some cluster.
+fn some_clustered(clusters: &[Cluster], controls: &[u32]) -> bool
+    ensures { result ≡ list_any (λ c. is_some (position (has_member c) clusters.now)) controls.now }
+{
+    controls
+        .iter()
+        .any(|control| place_of(clusters, *control).is_some())
+}
+
+// Whether some number stands twice in a list.
+fn names_twice(numbers: &[u32]) -> bool
+    ensures { result ≡ names_twice numbers.now }
+{
+    for (place, number) in numbers.iter().enumerate() {
+        if numbers[place + 1..].contains(number) {
+            return true;
+        }
+    }
+    false
+}

@@ -1,0 +1,217 @@
+ghost use Rattle.std.specs.Prelude.{◌≡◌, ◌<◌, ◌≤◌, ℕ, None, Some, length, IfSome, IsTrue, ◌↔◌, MatchOption, MatchResult};
+ghost use Rattle.std.specs.List.{All};
+ghost use Rattle.ctrl_types.specs.declared.errno.Errno.TheVariants.{EINVAL};
+ghost use Rattle.ctrl_handlers.specs.Plan.{IsPlan, control as control_of, menu_item, cluster_of, cluster_count, calls_of, members};
+ghost use Rattle.ctrl_handlers.specs.Visible.{visible, find as find_in, next_id};
+
+use crate::limits::{MAX_CONTROLS, MAX_HANDLERS};
+use crate::menu::MenuItem;
+use crate::numbers::NumberList;
+use crate::outline::Outline;
+use crate::showing::{first_with_id, least_above};
+use ctrl_calls::{Calls, Driver, Notifier, Validator};
+use ctrl_settle::Ctrl;
+use ctrl_types::{CtrlId, Errno};
+use std::marker::Model;
+
+/// What a device is built of: its controls, its handlers, the items of its menus and its clusters, with the driver's closures
+/// (Linux driver API, "V4L2 Controls"). Contracts see it as plain data, where a closure is the relation that it answers by.
+/// None of its calls takes memory.
+pub struct Plan<D: Driver> {
+    outline: Outline,
+    // the closures of each named cluster
+    calls: Vec<Calls<D>>,
+    // what each handler shows
+    shown: Vec<NumberList>,
+}
+
+impl<D: Driver> Model for Plan<D> {
+    ghost use Rattle.std.specs.Prelude.{◌≡◌, length};
+    ghost use Rattle.ctrl_handlers.specs.Plan.{PlanData, all_calls};
+    ghost use Rattle.ctrl_handlers.specs.Visible.{shown_below};
+
+    ghost Value = { PlanData };
+
+    ghost view = { λ p. p.outline };
+
+    ghost invariant = { λ p. (p.calls.items ≡ all_calls p.outline) × (p.shown.items ≡ shown_below p.outline (length p.outline.handlers)) };
+}
+
+impl<D: Driver> Drop for Plan<D> {
+    fn drop(self) {
+        let Plan {
+            outline: _,
+            calls: _,
+            shown: _,
+        } = self;
+    }
+}
+
+impl<D: Driver> Plan<D> {
+    ghost use Rattle.ctrl_handlers.specs.Plan.{all_calls};
+    ghost use Rattle.ctrl_handlers.specs.Visible.{shown_below};
+
+    /// The plan of these parts.
+    pub(crate) fn of_parts(
+        outline: Outline,
+        calls: Vec<Calls<D>>,
+        shown: Vec<NumberList>,
+    ) -> Plan<D>
+        requires calls { calls.items ≡ all_calls outline }
+        requires shown { shown.items ≡ shown_below outline (length outline.handlers) }
+        ensures { result ≡ outline }
+    {
+        Plan {
+            outline,
+            calls,
+            shown,
+        }
+    }
+
+    /// The control that a handler shows under an id, by its number (Linux driver API, `v4l2_ctrl_find`). DISABLED controls are
+    /// found too. EINVAL (22) where it shows none, and where there is no such handler.
+    pub fn find(&self, handler: u32, id: CtrlId) -> Result<u32, Errno>
+        ensures found { MatchResult result (λ c. find_in self.now handler id ≡ Some c) (λ e. (find_in self.now handler id ≡ None) × (e ≡ EINVAL)) }
+        ensures known { MatchResult result (λ c. c < length self.now.controls) (λ _. Unit {0}) }
+    {
+        match first_with_id(self.controls(), self.shown(handler), id) {
+            Some(control) => Ok(control),
+            None => Err(Errno::EINVAL),
+        }
+    }
+
+    /// The least id that a handler shows and that is greater than `id` (Linux userspace API, "ioctls VIDIOC_QUERYCTRL,
+    /// VIDIOC_QUERY_EXT_CTRL and VIDIOC_QUERYMENU", `V4L2_CTRL_FLAG_NEXT_CTRL`). DISABLED controls count too. EINVAL (22) where
+    /// there is none, and where there is no such handler.
+    pub fn next_id(&self, handler: u32, id: CtrlId) -> Result<CtrlId, Errno>
+        ensures { MatchResult result (λ next. next_id self.now handler id ≡ Some next) (λ e. (next_id self.now handler id ≡ None) × (e ≡ EINVAL)) }
+    {
+        match least_above(self.controls(), self.shown(handler), id) {
+            Some(next) => Ok(CtrlId(next)),
+            None => Err(Errno::EINVAL),
+        }
+    }
+
+    /// The item of a menu at an index (Linux userspace API, `VIDIOC_QUERYMENU`). EINVAL (22) where no item was given there: the
+    /// control isn't there or isn't a menu, the index lies outside its range or is skipped, or nobody named it.
+    pub fn menu_item(&self, control: u32, index: u32) -> Result<&MenuItem, Errno>
+        ensures { MatchResult result (λ item. menu_item self.now control index ≡ Some item.now) (λ e. (menu_item self.now control index ≡ None) × (e ≡ EINVAL)) }
+    {
+        match self.outline.item(control, index) {
+            Some(item) => Ok(item),
+            None => Err(Errno::EINVAL),
+        }
+    }
+
+    /// The controls that a handler shows, by their numbers: its own in the order of declaration, and then those that each
+    /// handler that it adds shows, in the order of adding, but for private ones and those whose id is shown already. A handler
+    /// that isn't there shows none.
+    pub fn shown(&self, handler: u32) -> &[u32]
+        ensures shown { result.now ≡ visible self.now handler }
+        ensures known { All (λ c. c < length self.now.controls) result.now }
+    {
+        if !self.has_handler(handler) {
+            return &[];
+        }
+        let list = &self.shown[handler as usize];
+        list.as_slice()
+    }
+
+    /// The controls, by number; at most 256.
+    pub fn controls(&self) -> &[Ctrl]
+        ensures controls { result.now ≡ self.now.controls }
+        ensures within { length result.now ≤ MAX_CONTROLS }
+        ensures plan { IsPlan self.now }
+    {
+        self.outline.controls()
+    }
+
+    /// The control with a number.
+    pub fn control(&self, number: u32) -> Ctrl
+        requires { number < length self.now.controls }
+        ensures control { result ≡ control_of self.now number }
+        ensures plan { IsPlan self.now }
+    {
+        self.outline.control(number)
+    }
+
+    /// How many controls there are, at most 256.
+    pub fn control_count(&self) -> u32
+        ensures count { result ≡ length self.now.controls }
+        ensures within { result ≤ MAX_CONTROLS }
+    {
+        self.outline.control_count()
+    }
+
+    /// How many handlers there are, at most 16.
+    pub fn handler_count(&self) -> u32
+        ensures count { result ≡ length self.now.handlers }
+        ensures within { result ≤ MAX_HANDLERS }
+    {
+        self.outline.handler_count()
+    }
+
+    /// Whether there is a handler of this number.
+    pub fn has_handler(&self, number: u32) -> bool
+        ensures there { IsTrue result ↔ (number < length self.now.handlers) }
+        ensures plan { IsPlan self.now }
+    {
+        self.outline.has_handler(number)
+    }
+
+    /// How many clusters there are (Linux driver API, "V4L2 Controls", "Control Clusters"): as yet as many as controls. Those
+    /// that cluster calls named come first, in the order of the calls, and then each other control is a cluster of its own.
+    pub fn cluster_count(&self) -> u32
+        ensures { result ≡ cluster_count self.now }
+    {
+        self.control_count()
+    }
+
+    /// How many clusters were named by cluster calls.
+    pub fn named_count(&self) -> u32
+        ensures { result ≡ length self.now.clusters }
+    {
+        self.outline.named_count()
+    }
+
+    /// The named cluster that a control is in, by its number.
+    pub fn cluster_of(&self, control: u32) -> Option<u32>
+        ensures cluster { result ≡ cluster_of self.now control }
+        ensures within { IfSome result (λ k. k < length self.now.clusters) }
+    {
+        self.outline.cluster_of(control)
+    }
+
+    /// A named cluster's members, by their numbers; the first is its master, and as yet there is one.
+    pub fn members(&self, cluster: u32) -> &[u32]
+        requires { cluster < length self.now.clusters }
+        ensures members { result.now ≡ members self.now cluster }
+        ensures known { All (λ c. c < length self.now.controls) result.now }
+        ensures one { length result.now ≡ 1 }
+    {
+        self.outline.members(cluster)
+    }
+
+    /// The validator of a cluster, where it has one. There is none where there is no such cluster.
+    pub fn validator(&self, cluster: u32) -> Option<&Validator<D>>
+        ensures { MatchOption result ((calls_of self.now cluster).validator ≡ None) (λ v. (calls_of self.now cluster).validator ≡ Some v.now) }
+    {
+        let calls = self.calls_of(cluster)?;
+        calls.validator.as_ref()
+    }
+
+    /// The notifier of a cluster, where it has one. There is none where there is no such cluster.
+    pub fn notifier(&self, cluster: u32) -> Option<&Notifier<D>>
+        ensures { MatchOption result ((calls_of self.now cluster).notifier ≡ None) (λ n. (calls_of self.now cluster).notifier ≡ Some n.now) }
+    {
+        let calls = self.calls_of(cluster)?;
+        calls.notifier.as_ref()
+    }
+
+    // The closures of a named cluster.
+    fn calls_of(&self, cluster: u32) -> Option<&Calls<D>>
+        ensures { MatchOption result (calls_of self.now cluster ≡ record { validator = None; notifier = None }) (λ c. calls_of self.now cluster ≡ c.now) }
+    {
+        self.calls.get(cluster as usize)
+    }
+}
