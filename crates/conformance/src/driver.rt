@@ -1,38 +1,57 @@
 //! The sample driver without boxes, so that a test can name its device.
-ghost use Rattle.std.specs.Prelude.{⊤, ◌≡◌, None, Some};
-ghost use Rattle.ctrl_calls.specs.declared.verdict.Verdict.TheVariants.{Accept};
+ghost use Rattle.std.specs.Prelude.{◌≡◌, None, Some};
 ghost use Rattle.ctl_script.specs.Sample.{sample_verdict, sample_told};
 
-use ctl_script::{BRIGHTNESS_WORDS, BUTTON_WORDS, brightness_word, button_word};
-use ctrl_calls::{Calls, ClusterRow, Judging, Notifier, Notifies, Telling, Validates, Verdict};
+use ctl_script::{
+    BALANCE_LIMIT, BRIGHTNESS_WORDS, BUTTON_WORDS, GAIN_LIMIT, PAIR_WORDS, balance_verdict,
+    brightness_word, button_word, gain_verdict, pair_word,
+};
+use ctrl_calls::{
+    Calls, ClusterRow, Judging, Notifier, Notifies, Telling, Validates, Validator, Verdict,
+};
 
 /// The driver.
 pub enum Plain {}
 
-/// A validator that accepts every row as it is.
+/// The validators of the sample device.
 #[derive(Drop)]
-pub struct PlainJudge;
+pub enum PlainJudge {
+    /// That of autogain and gain.
+    Gain,
+    /// That of red and blue.
+    Balance,
+}
 
 impl Judging for PlainJudge {
+    ghost use Rattle.std.specs.Prelude.{⊤};
+    ghost use Rattle.conformance.specs.Closures.{judges};
+
     ghost callable = { λ _. ⊤ };
 
-    ghost answers = { λ _ row verdict. verdict ≡ Accept row };
+    ghost answers = { judges };
 
     fn judge(&self, row: ClusterRow) -> Verdict {
-        Verdict::Accept(row)
+        match self {
+            PlainJudge::Gain => gain_verdict(&row),
+            PlainJudge::Balance => balance_verdict(&row),
+        }
     }
 }
 
 /// The notifiers of the sample device.
 #[derive(Drop)]
 pub enum PlainTeller {
+    /// That of autogain and gain, and that of red and blue.
+    Pair,
+    /// The button's.
     Button,
+    /// That of brightness.
     Brightness,
 }
 
 impl Telling for PlainTeller {
     ghost use Rattle.std.specs.Prelude.{⊤};
-    ghost use Rattle.conformance.specs.Tellers.{says};
+    ghost use Rattle.conformance.specs.Closures.{says};
 
     ghost callable = { λ _. ⊤ };
 
@@ -40,6 +59,7 @@ impl Telling for PlainTeller {
 
     fn tell(&self, row: ClusterRow) -> u64 {
         match self {
+            PlainTeller::Pair => pair_word(&row),
             PlainTeller::Button => button_word(&row),
             PlainTeller::Brightness => brightness_word(&row),
         }
@@ -56,6 +76,26 @@ impl Notifies for Plain {
     type Teller = PlainTeller;
 
     ghost told = { sample_told };
+}
+
+/// The calls of the cluster of autogain and gain.
+pub fn of_gain() -> Calls<Plain>
+    ensures { result ≡ record { validator = Some GAIN_LIMIT; notifier = Some PAIR_WORDS } }
+{
+    Calls {
+        validator: Some(Validator::new(GAIN_LIMIT, PlainJudge::Gain)),
+        notifier: Some(Notifier::new(PAIR_WORDS, PlainTeller::Pair)),
+    }
+}
+
+/// The calls of the cluster of red and blue.
+pub fn of_balance() -> Calls<Plain>
+    ensures { result ≡ record { validator = Some BALANCE_LIMIT; notifier = Some PAIR_WORDS } }
+{
+    Calls {
+        validator: Some(Validator::new(BALANCE_LIMIT, PlainJudge::Balance)),
+        notifier: Some(Notifier::new(PAIR_WORDS, PlainTeller::Pair)),
+    }
 }
 
 /// The calls of the button's cluster.

@@ -6,7 +6,7 @@ use std::test::Fail;
 
 #[test]
 fn lines_that_are_no_command(rt: HostRuntime) -> Result<(), Fail> {
-    let lines: [&[u8]; 74] = [
+    let lines: [&[u8]; 90] = [
         b"set f cur hflip",
         b"set f cur hflip=",
         b"set f cur =1",
@@ -49,6 +49,22 @@ fn lines_that_are_no_command(rt: HostRuntime) -> Result<(), Fail> {
         b"close f g",
         b"close f_",
         b"Close f",
+        b"grab",
+        b"grab red",
+        b"grab on",
+        b"grab red o",
+        b"grab red of",
+        b"grab red offf",
+        b"grab red ON",
+        b"grab red 1",
+        b"grab red on off",
+        b"grab on red",
+        b"grab gray on",
+        b"grab RED on",
+        b"grab 8 on",
+        b"grab 0x0098090e on",
+        b"grab f red on",
+        b"Grab red on",
         b"query",
         b"query f",
         b"query f hue vflip",
@@ -145,13 +161,49 @@ fn next_ids_and_items_in_each_form(rt: HostRuntime) -> Result<(), Fail> {
     expect(
         &rt,
         script,
-        b"ok\nok 0x00980900\nok 0x00980900\nok 0x00980914\nok 0x00980914\nerror 22\nok Disabled\nok 50 Hz\nok 60 Hz\nerror 22\nerror 22\n",
+        b"ok\nok 0x00980900\nok 0x00980900\nok 0x0098090e\nok 0x0098090e\nerror 22\nok Disabled\nok 50 Hz\nok 60 Hz\nerror 22\nerror 22\n",
         Outcome::Finished,
     )
 }
 
+// Each word names one control, by its id in a list and by its number in a grab.
 #[test]
 fn each_word_of_the_sample(rt: HostRuntime) -> Result<(), Fail> {
+    let words: [(&[u8], &[u8], &[u8]); 10] = [
+        (b"autogain", b"ok 1", b"error 16 index 1"),
+        (b"gain", b"ok 16", b"error 16 index 1"),
+        (b"hflip", b"ok 0", b"error 16 index 1"),
+        (b"vflip", b"ok 0", b"error 16 index 1"),
+        (b"hue", b"error 22 index 1", b"error 22 index 1"),
+        (b"brightness", b"ok 0", b"error 16 index 1"),
+        (b"power", b"ok 1", b"error 16 index 1"),
+        (b"button", b"error 13 index 1", b"error 16 index 1"),
+        (b"red", b"ok 128", b"error 16 index 1"),
+        (b"blue", b"ok 128", b"error 16 index 1"),
+    ];
+    let mut script = Vec::from_slice(rt.alloc(), b"open f 1\n")?;
+    let mut reply = Vec::from_slice(rt.alloc(), b"ok\n")?;
+    for (word, read, set) in words {
+        for text in [
+            b"get f cur ".as_slice(),
+            word,
+            b"\ngrab ",
+            word,
+            b" on\nset f cur ",
+            word,
+            b"=0\n",
+        ] {
+            script.extend_from_slice(text)?;
+        }
+        for text in [read, b"\nok\n", set, b"\n"] {
+            reply.extend_from_slice(text)?;
+        }
+    }
+    expect(&rt, script.as_slice(), reply.as_slice(), Outcome::Finished)
+}
+
+#[test]
+fn all_words_in_one_list(rt: HostRuntime) -> Result<(), Fail> {
     let script =
         b"open f 0\nget f cur autogain gain hflip vflip hue brightness power button red blue\nget f cur hflip\nget f cur vflip\nget f cur hue\n";
     expect(

@@ -1,7 +1,11 @@
 //! Tests across the crates: scripts on the sample device with their reply lines, faults of readers, writers and memory,
-//! and the public calls of the device.
+//! clusters and grabs, how often closures are called, and the public calls of the device.
 #![tactic(auto)]
 
+#[cfg(test)]
+mod clusters;
+#[cfg(test)]
+mod counts;
 #[cfg(test)]
 mod device;
 pub mod driver;
@@ -13,6 +17,8 @@ mod grammar;
 mod handlers;
 #[cfg(test)]
 mod memory;
+#[cfg(test)]
+mod mirrors;
 #[cfg(test)]
 mod rows;
 #[cfg(test)]

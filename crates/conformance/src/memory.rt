@@ -1,10 +1,10 @@
 //! Allocations that are refused. With ample memory each script answers as ever; where one allocation is refused (`rt try
 //! --test --fail-alloc 1..`), a refused command changes nothing and the same command again is answered as ever.
 
-use crate::driver::{Plain, of_brightness, of_button};
+use crate::driver::{Plain, of_balance, of_brightness, of_button, of_gain};
 use crate::rows::{
-    Row, cut_line_row, first_path_row, menu_items_row, next_ids_row, private_control_row,
-    unbound_handle_row, unknown_handler_row,
+    Row, clusters_and_grabs_row, cut_line_row, first_path_row, menu_items_row, next_ids_row,
+    private_control_row, unbound_handle_row, unknown_handler_row,
 };
 use crate::streams::{Sink, Source};
 use ctl_script::{Outcome, run_script, sample_plan};
@@ -15,7 +15,14 @@ use std::process::Abort;
 
 // A fresh sample device. All that it can lack is memory.
 fn device<R: AllocGlobal + Abort>(rt: &R) -> Result<Device<Plain>, AllocError> {
-    let plan = match sample_plan(rt.alloc(), of_button(), of_brightness()) {
+    let plan = sample_plan(
+        rt.alloc(),
+        of_gain(),
+        of_balance(),
+        of_button(),
+        of_brightness(),
+    );
+    let plan = match plan {
         Ok(plan) => plan,
         Err(fault) => {
             assert_eq!(rt; fault, PlanFault::Memory);
@@ -26,7 +33,7 @@ fn device<R: AllocGlobal + Abort>(rt: &R) -> Result<Device<Plain>, AllocError> {
         Ok(device) => Ok(device),
         Err((plan, errno)) => {
             assert_eq!(rt; errno, Errno::ENOMEM);
-            assert_eq!(rt; plan.control_count(), 6);
+            assert_eq!(rt; plan.control_count(), 10);
             Err(AllocError)
         }
     }
@@ -52,7 +59,7 @@ fn answers<R: AllocGlobal + Abort>(rt: &R, row: &Row) -> Result<(), AllocError> 
     let device = device(rt)?;
     let mut source = Source::new(row.script);
     let mut sink = Sink {
-        bytes: Vec::with_capacity(rt.alloc(), 256)?,
+        bytes: Vec::with_capacity(rt.alloc(), 512)?,
         most: usize::MAX,
         writes: 0,
         fault: None,
@@ -71,7 +78,7 @@ fn answers<R: AllocGlobal + Abort>(rt: &R, row: &Row) -> Result<(), AllocError> 
     } else {
         assert!(rt; rest.starts_with(b"error 12"));
     }
-    assert!(rt; device.steps().len() <= 5);
+    assert!(rt; device.steps().len() <= 9);
     Err(AllocError)
 }
 
@@ -174,7 +181,7 @@ fn reads_items_again<R: AllocGlobal + Abort>(rt: &R) -> Result<(), AllocError> {
         let id = CtrlId(0x0098_090d);
         // the next id takes no memory
         let next = device.handle(0, &Ask::NextId { fh, id });
-        assert!(rt; matches!(next, Ok(Reply::Id(CtrlId(0x0098_0914)))));
+        assert!(rt; matches!(next, Ok(Reply::Id(CtrlId(0x0098_090e)))));
         for (index, name) in (0..).zip(names) {
             let ask = Ask::MenuItem {
                 fh,
@@ -186,6 +193,63 @@ fn reads_items_again<R: AllocGlobal + Abort>(rt: &R) -> Result<(), AllocError> {
         }
     }
     assert_eq!(rt; device.steps().len(), 2);
+    Ok(())
+}
+
+// Sets one control of the sample device, at once or the second time.
+fn sets_again<R: AllocGlobal + Abort>(
+    rt: &R,
+    device: &mut Device<Plain>,
+    id: u32,
+    value: i64,
+) -> Result<Result<Reply, Fault>, AllocError> {
+    let ask = Ask::SetCtrls {
+        fh: FhId(0),
+        which: 0,
+        request: None,
+        list: one(rt.alloc(), id, value)?,
+    };
+    Ok(answered(rt, device, &ask, Some(1)))
+}
+
+// The word that a cluster was told last, which takes no memory.
+fn word(device: &mut Device<Plain>, cluster: u32) -> Option<u64> {
+    match device.told(cluster) {
+        Ok(Reply::Word(word)) => Some(word),
+        _ => None,
+    }
+}
+
+// Sets of members of clusters, and a grab and its release, each ask answered as ever, at once or the second time.
+fn grabs_again<R: AllocGlobal + Abort>(rt: &R) -> Result<(), AllocError> {
+    let mut device = device(rt)?;
+    let red = 0x0098_090e;
+    let busy = Fault {
+        errno: Errno::EBUSY,
+        index: Some(1),
+    };
+    let opened = answered(rt, &mut device, &Ask::OpenFh { handler: 1 }, None);
+    assert!(rt; matches!(opened, Ok(Reply::Fh(FhId(0)))));
+    let answer = sets_again(rt, &mut device, 0x0098_0913, 250)?;
+    assert!(rt; is_value(&answer, 200));
+    assert_eq!(rt; word(&mut device, 0), Some(456));
+    let answer = sets_again(rt, &mut device, red, 200)?;
+    assert!(rt; is_value(&answer, 200));
+    let answer = sets_again(rt, &mut device, 0x0098_090f, 185)?;
+    assert!(rt; matches!(answer, Err(fault) if fault.errno == Errno::EINVAL));
+    assert_eq!(rt; word(&mut device, 1), Some(51328));
+    for on in [true, false] {
+        let grab = Ask::Grab { control: 8, on };
+        let answer = answered(rt, &mut device, &grab, None);
+        assert!(rt; matches!(answer, Ok(Reply::Done)));
+        let answer = sets_again(rt, &mut device, red, 5)?;
+        if on {
+            assert!(rt; matches!(answer, Err(fault) if fault == busy));
+        } else {
+            assert!(rt; is_value(&answer, 5));
+        }
+    }
+    assert_eq!(rt; device.steps().len(), 6);
     Ok(())
 }
 
@@ -206,6 +270,7 @@ fn scripts_after_a_refused_allocation(rt: HostRuntime) {
         private_control_row(),
         next_ids_row(),
         menu_items_row(),
+        clusters_and_grabs_row(),
     ] {
         if answers(&rt, &row).is_err() {
             // no second allocation is refused
@@ -232,5 +297,12 @@ fn closes_after_a_refused_allocation(rt: HostRuntime) {
 fn items_after_a_refused_allocation(rt: HostRuntime) {
     if reads_items_again(&rt).is_err() {
         assert!(rt; reads_items_again(&rt).is_ok());
+    }
+}
+
+#[test]
+fn grabs_after_a_refused_allocation(rt: HostRuntime) {
+    if grabs_again(&rt).is_err() {
+        assert!(rt; grabs_again(&rt).is_ok());
     }
 }

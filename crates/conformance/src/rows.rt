@@ -39,11 +39,49 @@ pub fn unbound_handle_row() -> Row {
     }
 }
 
-/// Words told at the start and after a set; a lone control's cluster has none.
+/// The words that clusters are told at the start; lone controls' clusters have none.
+pub fn told_at_the_start_row() -> Row {
+    Row {
+        script: b"told 0\ntold 1\ntold 2\ntold 3\ntold 4\ntold 5\ntold 6\ntold 7\ntold 8\n",
+        reply: b"ok 272\nok 32896\nok 1\nok 64\nok 0\nok 0\nok 0\nok 0\nerror 22\n",
+        outcome: Outcome::Finished,
+    }
+}
+
+/// Words told after sets: of a pair the whole row, of a lone control none.
 pub fn told_words_row() -> Row {
     Row {
-        script: b"open f 1\ntold 0\ntold 1\nset f cur brightness=2\ntold 1\ntold 2\ntold 5\ntold 6\n",
-        reply: b"ok\nok 1\nok 64\nok 4\nok 68\nok 0\nok 0\nerror 22\n",
+        script: b"open f 1\nset f cur brightness=2\ntold 3\nset f cur red=9\ntold 1\nset f cur blue=8\ntold 1\nset f cur autogain=0\ntold 0\nset f cur power=2\ntold 7\n",
+        reply: b"ok\nok 4\nok 68\nok 9\nok 2432\nok 8\nok 2312\nok 0\nok 16\nok 2\nok 0\n",
+        outcome: Outcome::Finished,
+    }
+}
+
+/// A gain above 200 is lessened, red and blue together are at most 384, a gain is inactive until autogain is off, and a grabbed
+/// control can't be set.
+pub fn clusters_and_grabs_row() -> Row {
+    Row {
+        script: b"open f 1\nset f cur gain=250\ntold 0\nset f cur red=200\nset f cur blue=200\nquery f gain\nset f cur autogain=0\nquery f gain\ngrab red on\nset f cur red=5\ngrab red off\nset f cur red=5\n",
+        reply: b"ok\nok 200\nok 456\nok 200\nerror 22 index 1\nok 0x00980913 kind 1 min 0 max 255 step 1 default 16 flags 0x10\nok 0\nok 0x00980913 kind 1 min 0 max 255 step 1 default 16 flags 0x0\nok\nerror 16 index 1\nok\nok 5\n",
+        outcome: Outcome::Finished,
+    }
+}
+
+/// Grabs are shared by all file handles, show in queries, and don't keep the other member of a cluster from being set; a control can
+/// be grabbed twice, and released twice.
+pub fn grabs_row() -> Row {
+    Row {
+        script: b"grab blue on\ngrab blue on\nopen f 1\nopen g 0\nquery f blue\nset f cur blue=5\nset f cur red=5\nget f cur blue\ngrab hue on\nquery g hue\nset g cur hue=9\ngrab blue off\ngrab blue off\nset f cur blue=5\nquery f blue\ngrab gain on\nquery f gain\ngrab autogain on\nquery f autogain\ngrab power on\nset f cur power=4\n",
+        reply: b"ok\nok\nok\nok\nok 0x0098090f kind 1 min 0 max 255 step 1 default 128 flags 0x2\nerror 16 index 1\nok 5\nok 128\nok\nok 0x00980903 kind 1 min 0 max 10 step 3 default 0 flags 0x2\nerror 16 index 1\nok\nok\nok 5\nok 0x0098090f kind 1 min 0 max 255 step 1 default 128 flags 0x0\nok\nok 0x00980913 kind 1 min 0 max 255 step 1 default 16 flags 0x12\nok\nok 0x00980912 kind 2 min 0 max 1 step 1 default 1 flags 0xa\nok\nerror 16 index 1\n",
+        outcome: Outcome::Finished,
+    }
+}
+
+/// A row is judged with the other member's present value.
+pub fn balance_row() -> Row {
+    Row {
+        script: b"open f 1\nset f cur red=255\nset f cur blue=129\nset f cur blue=130\nset f cur red=254\nset f cur blue=130\nget f cur red\nget f cur blue\ntold 1\n",
+        reply: b"ok\nok 255\nok 129\nerror 22 index 1\nok 254\nok 130\nok 254\nok 130\nok 65154\n",
         outcome: Outcome::Finished,
     }
 }
@@ -78,7 +116,7 @@ pub fn number_out_of_range_row() -> Row {
 /// A button answers 0, tells its cluster on each press, and can't be read.
 pub fn button_row() -> Row {
     Row {
-        script: b"open f 1\nset f cur button=7\ntold 0\nget f cur button\n",
+        script: b"open f 1\nset f cur button=7\ntold 2\nget f cur button\n",
         reply: b"ok\nok 0\nok 1\nerror 13 index 1\n",
         outcome: Outcome::Finished,
     }
@@ -105,8 +143,8 @@ pub fn private_control_row() -> Row {
 /// The ids that each handler shows, one after another: those of the added handler among its own.
 pub fn next_ids_row() -> Row {
     Row {
-        script: b"open f 1\nopen h 1\nopen g 0\nnext f 0x0\nnext f 0x00980900\nnext f 0x0098090d\nnext f 0x00980914\nnext f 0x00980915\nnext f 0x00980918\nnext g 0x0\nnext g 0x00980903\nnext g 0x00980915\nnext nobody 0x0\n",
-        reply: b"ok\nok\nok\nok 0x00980900\nok 0x0098090d\nok 0x00980914\nok 0x00980915\nok 0x00980918\nerror 22\nok 0x00980903\nok 0x00980914\nerror 22\nerror 9\n",
+        script: b"open f 1\nopen h 1\nopen g 0\nnext f 0x0\nnext f 0x00980900\nnext f 0x0098090d\nnext f 0x0098090e\nnext f 0x0098090f\nnext f 0x00980912\nnext f 0x00980913\nnext f 0x00980914\nnext f 0x00980915\nnext f 0x00980918\nnext g 0x0\nnext g 0x00980903\nnext g 0x00980912\nnext g 0x00980915\nnext nobody 0x0\n",
+        reply: b"ok\nok\nok\nok 0x00980900\nok 0x0098090d\nok 0x0098090e\nok 0x0098090f\nok 0x00980912\nok 0x00980913\nok 0x00980914\nok 0x00980915\nok 0x00980918\nerror 22\nok 0x00980903\nok 0x00980912\nok 0x00980913\nerror 22\nerror 9\n",
         outcome: Outcome::Finished,
     }
 }
@@ -120,11 +158,20 @@ pub fn menu_items_row() -> Row {
     }
 }
 
-/// What a query tells of each control of the sample device; one that isn't shown is refused, and an unbound handle.
+/// Ids, an item of a menu, and a query of the master of an auto cluster.
 pub fn queries_row() -> Row {
     Row {
-        script: b"open f 1\nopen g 0\nquery f brightness\nquery f power\nquery f button\nquery g hflip\nquery g vflip\nquery g hue\nquery f vflip\nquery f hue\nquery g 0x00000001\nquery nobody hue\n",
-        reply: b"ok\nok\nok 0x00980900 kind 1 min -64 max 64 step 4 default 0 flags 0x0\nok 0x00980918 kind 3 min 0 max 3 step 1 default 1 flags 0x0\nok 0x0098090d kind 4 min 0 max 0 step 0 default 0 flags 0x240\nok 0x00980914 kind 2 min 0 max 1 step 1 default 0 flags 0x0\nok 0x00980915 kind 2 min 0 max 1 step 1 default 0 flags 0x0\nok 0x00980903 kind 1 min 0 max 10 step 3 default 0 flags 0x0\nok 0x00980915 kind 2 min 0 max 1 step 1 default 0 flags 0x0\nerror 22\nerror 22\nerror 9\n",
+        script: b"open f 1\nopen h 1\nopen g 0\nnext f 0x0\nnext f 0x00980900\nnext f 0x00980918\nnext g 0x0\nmenu f power 1\nmenu f power 3\nmenu f red 0\nquery f autogain\n",
+        reply: b"ok\nok\nok\nok 0x00980900\nok 0x0098090d\nerror 22\nok 0x00980903\nok 50 Hz\nerror 22\nerror 22\nok 0x00980912 kind 2 min 0 max 1 step 1 default 1 flags 0x8\n",
+        outcome: Outcome::Finished,
+    }
+}
+
+/// What a query tells of each control of the sample device; one that isn't shown is refused, and an unbound handle.
+pub fn each_query_row() -> Row {
+    Row {
+        script: b"open f 1\nopen g 0\nquery f autogain\nquery g gain\nquery g hflip\nquery f vflip\nquery g hue\nquery f brightness\nquery f power\nquery f button\nquery f red\nquery f blue\nquery g autogain\nquery f hue\nquery g red\nquery g 0x00000001\nquery nobody hue\n",
+        reply: b"ok\nok\nok 0x00980912 kind 2 min 0 max 1 step 1 default 1 flags 0x8\nok 0x00980913 kind 1 min 0 max 255 step 1 default 16 flags 0x10\nok 0x00980914 kind 2 min 0 max 1 step 1 default 0 flags 0x0\nok 0x00980915 kind 2 min 0 max 1 step 1 default 0 flags 0x0\nok 0x00980903 kind 1 min 0 max 10 step 3 default 0 flags 0x0\nok 0x00980900 kind 1 min -64 max 64 step 4 default 0 flags 0x0\nok 0x00980918 kind 3 min 0 max 3 step 1 default 1 flags 0x0\nok 0x0098090d kind 4 min 0 max 0 step 0 default 0 flags 0x240\nok 0x0098090e kind 1 min 0 max 255 step 1 default 128 flags 0x0\nok 0x0098090f kind 1 min 0 max 255 step 1 default 128 flags 0x0\nok 0x00980912 kind 2 min 0 max 1 step 1 default 1 flags 0x8\nerror 22\nerror 22\nerror 22\nerror 9\n",
         outcome: Outcome::Finished,
     }
 }
@@ -163,8 +210,32 @@ fn unknown_handler(rt: HostRuntime) -> Result<(), Fail> {
 }
 
 #[test]
+fn told_at_the_start(rt: HostRuntime) -> Result<(), Fail> {
+    let row = told_at_the_start_row();
+    expect(&rt, row.script, row.reply, row.outcome)
+}
+
+#[test]
 fn told_words(rt: HostRuntime) -> Result<(), Fail> {
     let row = told_words_row();
+    expect(&rt, row.script, row.reply, row.outcome)
+}
+
+#[test]
+fn clusters_and_grabs(rt: HostRuntime) -> Result<(), Fail> {
+    let row = clusters_and_grabs_row();
+    expect(&rt, row.script, row.reply, row.outcome)
+}
+
+#[test]
+fn grabs(rt: HostRuntime) -> Result<(), Fail> {
+    let row = grabs_row();
+    expect(&rt, row.script, row.reply, row.outcome)
+}
+
+#[test]
+fn balance(rt: HostRuntime) -> Result<(), Fail> {
+    let row = balance_row();
     expect(&rt, row.script, row.reply, row.outcome)
 }
 
@@ -213,6 +284,12 @@ fn menu_items(rt: HostRuntime) -> Result<(), Fail> {
 #[test]
 fn queries(rt: HostRuntime) -> Result<(), Fail> {
     let row = queries_row();
+    expect(&rt, row.script, row.reply, row.outcome)
+}
+
+#[test]
+fn each_query(rt: HostRuntime) -> Result<(), Fail> {
+    let row = each_query_row();
     expect(&rt, row.script, row.reply, row.outcome)
 }
 

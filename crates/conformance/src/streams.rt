@@ -1,6 +1,6 @@
 //! Readers and writers over memory that fail when they are told to, and the run of a script on a fresh sample device.
 
-use crate::driver::{Plain, of_brightness, of_button};
+use crate::driver::{Plain, of_balance, of_brightness, of_button, of_gain};
 use ctl_script::{Outcome, run_script, sample_plan};
 use device_state::Device;
 use std::alloc::Global;
@@ -19,6 +19,7 @@ pub struct Source<'a> {
 }
 
 impl<'a> Source<'a> {
+    /// A source of these bytes, 4,096 a read, that doesn't fail.
     pub fn new(text: &'a [u8]) -> Source<'a> {
         Source {
             text,
@@ -69,7 +70,8 @@ pub struct Sink {
 }
 
 impl Sink {
-    /// A sink with room for some bytes, so that a write takes no memory.
+    /// A sink with room for `room` bytes, so that their writes take no memory; it takes all that is written, and doesn't fail. No
+    /// memory for the room is the one fault.
     pub fn new(alloc: Global, room: usize) -> Result<Sink, Fail> {
         Ok(Sink {
             bytes: Vec::with_capacity(alloc, room)?,
@@ -102,7 +104,8 @@ impl Write for Sink {
 
 /// A fresh sample device.
 pub fn sample_device(alloc: Global) -> Result<Device<Plain>, Fail> {
-    match Device::new(alloc, sample_plan(alloc, of_button(), of_brightness())?) {
+    let plan = sample_plan(alloc, of_gain(), of_balance(), of_button(), of_brightness())?;
+    match Device::new(alloc, plan) {
         Ok(device) => Ok(device),
         Err((_, errno)) => Err(Fail::from(errno)),
     }

@@ -1,12 +1,14 @@
--- The sample device's controls are made as they are described.
-use Rattle.std.proofs.Common.{◌≡◌, ℕ, ℤ, Bool, ap, sym, subst, Result, Ok, Err, IsOk, IfOk, ◌↔◌}
+-- The sample device's controls are made as they are described, and its plan is finished with each other control alone.
+use Rattle.std.proofs.Common.{◌≡◌, ℕ, ℤ, Bool, ap, sym, subst, refl, Result, Ok, Err, IsOk, IfOk, ◌↔◌}
+use Rattle.ctrl_calls.specs.declared.relation.Relations.{Relations}
 use Rattle.ctrl_types.specs.declared.flags.Flags.{Flags}
 use Rattle.ctrl_types.specs.declared.ids.CtrlId.{CtrlId}
 use Rattle.ctrl_types.specs.declared.kind.Kind.{Kind}
 use Rattle.ctrl_settle.specs.Control.{Control, described}
 use Rattle.ctrl_settle.specs.Faults.{IsWellFormed}
 use Rattle.ctrl_settle.specs.declared.fault.CtrlFault.{CtrlFault}
-use Rattle.ctl_script.specs.Sample.{no_flags}
+use Rattle.ctrl_handlers.specs.Plan.{each_clustered, finished}
+use Rattle.ctl_script.specs.Sample.{no_flags, sample, whole_sample}
 
 -- a set without a bit is the set without flags
 none_is : (f : Flags) → f.0 ≡ 0 → no_flags ≡ f
@@ -26,3 +28,9 @@ plain_made id kind minimum maximum step default_value skip is_private f r e fits
     let P : Flags → Type 0 = λ g. (IsOk r ↔ IsWellFormed (described id kind minimum maximum step default_value skip g is_private))
     → IfOk r (λ c. c ≡ described id kind minimum maximum step default_value skip g is_private) → r ≡ Ok (described id kind minimum maximum step default_value skip no_flags is_private) in
     subst P (none_is f e) (λ o v. made (described id kind minimum maximum step default_value skip no_flags is_private) r fits o.1 v) ok value
+
+-- hflip, vflip, hue and power are in no named cluster
+pub finished_sample : (of_gain of_balance of_button of_brightness : Relations)
+    → finished (sample of_gain of_balance of_button of_brightness) ≡ whole_sample of_gain of_balance of_button of_brightness
+unfolding each_clustered
+finished_sample of_gain of_balance of_button of_brightness = refl

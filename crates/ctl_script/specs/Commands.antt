@@ -1,16 +1,16 @@
 -- The commands of a script (of this project), over the words of a line.
-use Rattle.std.specs.Prelude.{◌≡◌, ℕ, ◌+◌, ◌==◌, not, ℤ, pos, if◌then◌else◌, List, [], ◌∷◌, length, take, drop, filter, position, Option, None, Some, Result, Ok, Err, codes, slice_index, ⊤}
+use Rattle.std.specs.Prelude.{◌≡◌, ℕ, ◌+◌, ◌==◌, Bool, true, false, not, ℤ, pos, if◌then◌else◌, List, [], ◌∷◌, length, take, drop, filter, position, Option, None, Some, Result, Ok, Err, codes, slice_index, ⊤}
 use Rattle.std.specs.List.{slice_split}
 use Rattle.std.specs.Option.{option_map, option_or}
 use Rattle.std.specs.Str.{bytes_eq}
 use Rattle.ctrl_types.specs.declared.ids.CtrlId.{CtrlId}
 use Rattle.ctrl_types.specs.declared.ids.ExtControl.{ExtControl}
-use Rattle.ctl_script.specs.Lexemes.{after, control_id, decimal_i64, decimal_u32, hexadecimal_u32}
+use Rattle.ctl_script.specs.Lexemes.{after, control_id, decimal_i64, decimal_u32, hexadecimal_u32, sample_number}
 use Rattle.ctl_script.specs.Names.{name_of}
 use Rattle.ctl_script.specs.declared.command.Binding.{Binding}
 use Rattle.ctl_script.specs.declared.command.Binding.TheVariants as bindings
 use Rattle.ctl_script.specs.declared.command.Command.{Command}
-use Rattle.ctl_script.specs.declared.command.Command.TheVariants.{Open, Close, Get, Set, Query, Next, Menu, Told}
+use Rattle.ctl_script.specs.declared.command.Command.TheVariants.{Open, Close, Get, Set, Grab, Query, Next, Menu, Told}
 use Rattle.ctl_script.specs.declared.command.WhichWord.{WhichWord}
 use Rattle.ctl_script.specs.declared.command.WhichWord.TheVariants.{Number, Request}
 use Rattle.ctl_script.specs.declared.fault.LineFault.{LineFault}
@@ -95,6 +95,23 @@ abbrev pub close_of : List (List ℕ) → Option Command
 close_of (fh ∷ []) = option_map (λ name. Close name) (name_of fh)
 close_of _ = None
 
+-- how a grab is to be: `on` or `off`
+abbrev pub on_or_off : List ℕ → Option Bool
+on_or_off word =
+    if bytes_eq word (codes "on") then Some true
+    else if bytes_eq word (codes "off") then Some false
+    else None
+
+abbrev pub grab_parts : Option ℕ → Option Bool → Option Command
+grab_parts (Some control) (Some on) = Some (Grab control on)
+grab_parts (Some control) None = None
+grab_parts None on = None
+
+-- the operands of `grab`: a word of the sample device, which stands for its control's number, and `on` or `off`
+abbrev pub grab_of : List (List ℕ) → Option Command
+grab_of (control ∷ form ∷ []) = grab_parts (sample_number control) (on_or_off form)
+grab_of _ = None
+
 abbrev pub query_parts : Option Name → Option CtrlId → Option Command
 query_parts (Some fh) (Some id) = Some (Query fh id)
 query_parts (Some fh) None = None
@@ -138,6 +155,7 @@ verb_of word =
     else if bytes_eq word (codes "close") then Some verbs.Close
     else if bytes_eq word (codes "get") then Some verbs.Get
     else if bytes_eq word (codes "set") then Some verbs.Set
+    else if bytes_eq word (codes "grab") then Some verbs.Grab
     else if bytes_eq word (codes "query") then Some verbs.Query
     else if bytes_eq word (codes "next") then Some verbs.Next
     else if bytes_eq word (codes "menu") then Some verbs.Menu
@@ -150,6 +168,7 @@ command_of (Some verbs.Open) operands = open_of operands
 command_of (Some verbs.Close) operands = close_of operands
 command_of (Some verbs.Get) operands = list_command_of (λ fh which list. Get fh which list) Control operands
 command_of (Some verbs.Set) operands = list_command_of (λ fh which list. Set fh which list) ControlWithValue operands
+command_of (Some verbs.Grab) operands = grab_of operands
 command_of (Some verbs.Query) operands = query_of operands
 command_of (Some verbs.Next) operands = next_of operands
 command_of (Some verbs.Menu) operands = menu_of operands
@@ -175,6 +194,7 @@ binding_of (Open fh handler) = bindings.FileHandle fh
 binding_of (Close fh) = bindings.None
 binding_of (Get fh which list) = bindings.None
 binding_of (Set fh which list) = bindings.None
+binding_of (Grab control on) = bindings.None
 binding_of (Query fh id) = bindings.None
 binding_of (Next fh id) = bindings.None
 binding_of (Menu fh id index) = bindings.None

@@ -59,6 +59,21 @@ sample_word word =
     else if bytes_eq word (codes "blue") then Some (record { 0 = 0x0098090f })
     else None
 
+-- the number of a control of the sample device, by its word
+abbrev pub sample_number : List ℕ → Option ℕ
+sample_number word =
+    if bytes_eq word (codes "autogain") then Some 0
+    else if bytes_eq word (codes "gain") then Some 1
+    else if bytes_eq word (codes "hflip") then Some 2
+    else if bytes_eq word (codes "vflip") then Some 3
+    else if bytes_eq word (codes "hue") then Some 4
+    else if bytes_eq word (codes "brightness") then Some 5
+    else if bytes_eq word (codes "power") then Some 6
+    else if bytes_eq word (codes "button") then Some 7
+    else if bytes_eq word (codes "red") then Some 8
+    else if bytes_eq word (codes "blue") then Some 9
+    else None
+
 -- the id that a word names a control by: a word of the sample device, or the id itself
 abbrev pub control_id : List ℕ → Option CtrlId
 control_id word = option_or (sample_word word) (option_map (λ n. record { 0 = n }) (hexadecimal_u32 word))

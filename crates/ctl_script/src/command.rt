@@ -47,6 +47,13 @@ pub enum Command {
         /// The controls and their values.
         list: ControlList,
     },
+    /// `grab WORD on` or `grab WORD off`: grabs a control, or releases it.
+    Grab {
+        /// The control's number.
+        control: u32,
+        /// To grab it.
+        on: bool,
+    },
     /// `query FH CTRL`: reads what a control is like.
     Query {
         /// The file handle.
@@ -155,6 +162,7 @@ impl Command {
                     list,
                 }
             }
+            Command::Grab { control, on } => Ask::Grab { control, on },
             Command::Query { fh, id } => Ask::Query {
                 fh: names.fh(fh),
                 id,

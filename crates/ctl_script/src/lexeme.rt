@@ -1,5 +1,5 @@
 ghost use Rattle.std.specs.Prelude.{◌≡◌, ◌^◌, ◌≤◌};
-ghost use Rattle.ctl_script.specs.Lexemes.{numeral as numeral_of, decimal_u32 as decimal_u32_of, decimal_i64 as decimal_i64_of, hexadecimal_u32 as hexadecimal_u32_of, sample_word as sample_word_of, control_id as control_id_of};
+ghost use Rattle.ctl_script.specs.Lexemes.{numeral as numeral_of, decimal_u32 as decimal_u32_of, decimal_i64 as decimal_i64_of, hexadecimal_u32 as hexadecimal_u32_of, sample_word as sample_word_of, sample_number as sample_number_of, control_id as control_id_of};
 
 use ctrl_types::CtrlId;
 
@@ -64,6 +64,25 @@ pub fn sample_word(word: &[u8]) -> Option<CtrlId>
         _ => return None,
     };
     Some(CtrlId(id))
+}
+
+/// The number of a control of the sample device, by its word.
+pub fn sample_number(word: &[u8]) -> Option<u32>
+    ensures { result ≡ sample_number_of word.now }
+{
+    match word {
+        b"autogain" => Some(0),
+        b"gain" => Some(1),
+        b"hflip" => Some(2),
+        b"vflip" => Some(3),
+        b"hue" => Some(4),
+        b"brightness" => Some(5),
+        b"power" => Some(6),
+        b"button" => Some(7),
+        b"red" => Some(8),
+        b"blue" => Some(9),
+        _ => None,
+    }
 }
 
 /// The id that a word names a control by: a word of the sample device, or the id itself.

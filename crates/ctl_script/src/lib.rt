@@ -13,7 +13,10 @@ mod reply;
 mod run;
 mod sample;
 
-pub use driver::{BRIGHTNESS_WORDS, BUTTON_WORDS, Sample, brightness_word, button_word};
+pub use driver::{
+    BALANCE_LIMIT, BRIGHTNESS_WORDS, BUTTON_WORDS, GAIN_LIMIT, PAIR_WORDS, Sample, balance_verdict,
+    brightness_word, button_word, gain_verdict, pair_word,
+};
 pub use fault::Outcome;
 pub use input::{MAX_INPUT, MAX_READS};
 pub use run::run_script;

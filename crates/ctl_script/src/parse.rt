@@ -1,10 +1,10 @@
 ghost use Rattle.std.specs.Prelude.{◌≡◌, ◌+◌, ◌<◌, ◌≤◌, ◌^◌, ◌∷◌, ◌==◌, length, map, position, vec_len, IfOk, IfSome};
-ghost use Rattle.ctl_script.specs.Commands.{IsRead, words as words_in, line_of, command_of, verb_of, open_of, close_of, query_of, next_of, menu_of, told_of, list_command_of, which_of, fixed_which_of, entry_of, entry_at, list_of};
+ghost use Rattle.ctl_script.specs.Commands.{IsRead, words as words_in, line_of, command_of, verb_of, open_of, close_of, grab_of, on_or_off as on_or_off_of, query_of, next_of, menu_of, told_of, list_command_of, which_of, fixed_which_of, entry_of, entry_at, list_of};
 ghost use Rattle.ctl_script.specs.declared.command.Command.TheVariants as commands;
 
 use crate::command::{Command, WhichWord};
 use crate::fault::LineFault;
-use crate::lexeme::{control_id, decimal_i64, decimal_u32, hexadecimal_u32};
+use crate::lexeme::{control_id, decimal_i64, decimal_u32, hexadecimal_u32, sample_number};
 use crate::name::Name;
 use ctrl_types::{CtrlId, ExtControl};
 use device_state::ControlList;
@@ -54,6 +54,7 @@ enum Verb {
     Close,
     Get,
     Set,
+    Grab,
     Query,
     Next,
     Menu,
@@ -68,6 +69,7 @@ fn read_verb(word: &[u8]) -> Option<Verb>
         b"close" => Some(Verb::Close),
         b"get" => Some(Verb::Get),
         b"set" => Some(Verb::Set),
+        b"grab" => Some(Verb::Grab),
         b"query" => Some(Verb::Query),
         b"next" => Some(Verb::Next),
         b"menu" => Some(Verb::Menu),
@@ -85,6 +87,7 @@ fn read_command(alloc: Global, verb: &[u8], operands: &[&[u8]]) -> Result<Comman
         Some(Verb::Close) => read_close(operands),
         Some(Verb::Get) => read_get(alloc, operands),
         Some(Verb::Set) => read_set(alloc, operands),
+        Some(Verb::Grab) => read_grab(operands),
         Some(Verb::Query) => read_query(operands),
         Some(Verb::Next) => read_next(operands),
         Some(Verb::Menu) => read_menu(operands),
@@ -114,6 +117,28 @@ fn read_close(operands: &[&[u8]]) -> Result<Command, LineFault>
     match Name::read(*fh) {
         Some(fh) => Ok(Command::Close { fh }),
         None => Err(LineFault::NotACommand),
+    }
+}
+
+fn read_grab(operands: &[&[u8]]) -> Result<Command, LineFault>
+    ensures { IsRead result (grab_of (map (λ w. w.now) operands.now)) }
+{
+    let [control, form] = operands else {
+        return Err(LineFault::NotACommand);
+    };
+    match (sample_number(*control), on_or_off(*form)) {
+        (Some(control), Some(on)) => Ok(Command::Grab { control, on }),
+        _ => Err(LineFault::NotACommand),
+    }
+}
+
+fn on_or_off(word: &[u8]) -> Option<bool>
+    ensures { result ≡ on_or_off_of word.now }
+{
+    match word {
+        b"on" => Some(true),
+        b"off" => Some(false),
+        _ => None,
     }
 }
 

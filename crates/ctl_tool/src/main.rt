@@ -7,20 +7,25 @@ mod mode;
 mod tests;
 
 ghost use Rattle.std.specs.Prelude.{◌≡◌};
-ghost use Rattle.ctrl_calls.specs.Meanings.{TellsBy};
+ghost use Rattle.ctrl_calls.specs.Meanings.{JudgesBy, TellsBy};
 ghost use Rattle.ctl_tool.specs.Modes.{status_of};
 
 use crate::mode::{Mode, ModeFault, mode_of};
 use ctl_script::{
-    BRIGHTNESS_WORDS, BUTTON_WORDS, Outcome, Sample, brightness_word, button_word, run_script,
+    BALANCE_LIMIT, BRIGHTNESS_WORDS, BUTTON_WORDS, GAIN_LIMIT, Outcome, PAIR_WORDS, Sample,
+    balance_verdict, brightness_word, button_word, gain_verdict, pair_word, run_script,
     sample_plan,
 };
-use ctrl_calls::{Calls, ClusterRow, Driver, Notifier};
+use ctrl_calls::{Calls, ClusterRow, Driver, Notifier, Validator, Verdict};
 use device_state::Device;
 use std::process::ExitCode;
 use std::{env, io};
 
 const USAGE: &str = "usage: ctl_tool run | pair | board";
+
+type Judge = Box<dyn Fn(ClusterRow) -> Verdict + Send>;
+
+type Teller = Box<dyn Fn(ClusterRow) -> u64 + Send>;
 
 fn main(rt: HostRuntime) -> ExitCode {
     let words = match env::args(&rt) {
@@ -33,31 +38,63 @@ fn main(rt: HostRuntime) -> ExitCode {
     };
     match mode_of(rt.alloc(), words.as_slice()) {
         Ok(Mode::Run) => {
+            let limit = Box::new(rt.alloc(), |row: ClusterRow| gain_verdict(&row));
+            let sum = Box::new(rt.alloc(), |row: ClusterRow| balance_verdict(&row));
+            let gain = Box::new(rt.alloc(), |row: ClusterRow| pair_word(&row));
+            let balance = Box::new(rt.alloc(), |row: ClusterRow| pair_word(&row));
             let button = Box::new(rt.alloc(), |row: ClusterRow| button_word(&row));
             let brightness = Box::new(rt.alloc(), |row: ClusterRow| brightness_word(&row));
+            let (Ok(limit), Ok(sum)) = (limit, sum) else {
+                return no_memory(&rt);
+            };
+            let (Ok(gain), Ok(balance)) = (gain, balance) else {
+                return no_memory(&rt);
+            };
             let (Ok(button), Ok(brightness)) = (button, brightness) else {
                 return no_memory(&rt);
             };
-            let button: Box<dyn Fn(ClusterRow) -> u64 + Send> = button;
-            let brightness: Box<dyn Fn(ClusterRow) -> u64 + Send> = brightness;
-            run::<Sample, HostRuntime>(&rt, button, brightness)
+            let (limit, sum): (Judge, Judge) = (limit, sum);
+            let (gain, balance): (Teller, Teller) = (gain, balance);
+            let (button, brightness): (Teller, Teller) = (button, brightness);
+            run::<Sample, HostRuntime>(&rt, limit, sum, gain, balance, button, brightness)
         }
         Err(ModeFault::Usage) => usage(&rt),
         Err(ModeFault::Memory) => no_memory(&rt),
     }
 }
 
-// Runs the script on standard input on a fresh sample device, whose clusters have these notifiers.
+// Runs the script on standard input on a fresh sample device, whose clusters have these closures: `limit` and `gain` are the
+// validator and the notifier of autogain and gain, `sum` and `balance` those of red and blue.
 fn run<D: Driver, R: AllocGlobal + Input + Print>(
     rt: &R,
+    limit: D::Judge,
+    sum: D::Judge,
+    gain: D::Teller,
+    balance: D::Teller,
     button: D::Teller,
     brightness: D::Teller,
 ) -> ExitCode
+    requires limit { D.Judge.callable limit }
+    requires limit_judges { JudgesBy (D.Judge.answers limit) (D.verdict GAIN_LIMIT) }
+    requires sum { D.Judge.callable sum }
+    requires sum_judges { JudgesBy (D.Judge.answers sum) (D.verdict BALANCE_LIMIT) }
+    requires gain { D.Teller.callable gain }
+    requires gain_tells { TellsBy (D.Teller.answers gain) (D.told PAIR_WORDS) }
+    requires balance { D.Teller.callable balance }
+    requires balance_tells { TellsBy (D.Teller.answers balance) (D.told PAIR_WORDS) }
     requires button { D.Teller.callable button }
     requires button_tells { TellsBy (D.Teller.answers button) (D.told BUTTON_WORDS) }
     requires brightness { D.Teller.callable brightness }
     requires brightness_tells { TellsBy (D.Teller.answers brightness) (D.told BRIGHTNESS_WORDS) }
 {
+    let of_gain: Calls<D> = Calls {
+        validator: Some(Validator::new(GAIN_LIMIT, limit)),
+        notifier: Some(Notifier::new(PAIR_WORDS, gain)),
+    };
+    let of_balance: Calls<D> = Calls {
+        validator: Some(Validator::new(BALANCE_LIMIT, sum)),
+        notifier: Some(Notifier::new(PAIR_WORDS, balance)),
+    };
     let of_button: Calls<D> = Calls {
         validator: None,
         notifier: Some(Notifier::new(BUTTON_WORDS, button)),
@@ -66,7 +103,7 @@ fn run<D: Driver, R: AllocGlobal + Input + Print>(
         validator: None,
         notifier: Some(Notifier::new(BRIGHTNESS_WORDS, brightness)),
     };
-    let Ok(plan) = sample_plan(rt.alloc(), of_button, of_brightness) else {
+    let Ok(plan) = sample_plan(rt.alloc(), of_gain, of_balance, of_button, of_brightness) else {
         return no_memory(rt);
     };
     let Ok(device) = Device::new(rt.alloc(), plan) else {

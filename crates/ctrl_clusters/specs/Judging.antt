@@ -5,6 +5,7 @@ use Rattle.std.specs.Ordering.{int_eq}
 use Rattle.ctrl_types.specs.declared.errno.Errno.{Errno}
 use Rattle.ctrl_types.specs.declared.errno.Errno.TheVariants.{EACCES, EBUSY, EINVAL, ERANGE}
 use Rattle.ctrl_types.specs.declared.ids.Pair.{Pair}
+use Rattle.ctrl_calls.specs.Counts.{one_more}
 use Rattle.ctrl_calls.specs.Meanings.{Verdicts}
 use Rattle.ctrl_calls.specs.declared.relation.Relation.{Relation}
 use Rattle.ctrl_calls.specs.declared.verdict.Verdict.{Verdict}
@@ -46,6 +47,11 @@ judge_by verdicts controls members (Some relation) row = judged controls members
 -- what a cluster makes of a row
 unfoldable pub judge : Verdicts → PlanData → ℕ → List ℤ → Result (List ℤ) Errno
 judge verdicts plan k row = judge_by verdicts plan.controls (members plan k) (calls_of plan k).validator row
+
+-- how many were asked after a cluster judged a row, where it has a validator
+abbrev pub asked_by : Option Relation → ℕ → ℕ
+asked_by None count = count
+asked_by (Some relation) count = one_more count
 
 abbrev pub judge_settled : Verdicts → PlanData → ℕ → Result (List ℤ) Errno → Result (List ℤ) Errno
 judge_settled verdicts plan k (Err errno) = Err errno

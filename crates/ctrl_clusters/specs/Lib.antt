@@ -7,3 +7,4 @@ pub use Rattle.ctrl_handlers.specs.ClusterData
 pub use Rattle.ctrl_handlers.specs.Plan
 pub mod Rows
 pub mod Judging
+pub mod AutoClusters

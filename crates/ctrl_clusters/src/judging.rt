@@ -1,7 +1,7 @@
 ghost use Rattle.std.specs.Prelude.{◌≡◌, ◌<◌, ◌≤◌, ◌+◌, length, IfOk};
 ghost use Rattle.std.specs.List.{All};
-ghost use Rattle.ctrl_handlers.specs.Plan.{members};
-ghost use Rattle.ctrl_clusters.specs.Judging.{refusal_of, judged, judge, becomes};
+ghost use Rattle.ctrl_handlers.specs.Plan.{members, calls_of};
+ghost use Rattle.ctrl_clusters.specs.Judging.{refusal_of, judged, judge, becomes, asked_by};
 
 use crate::rows::{overwritten, settle_row, takes_row};
 use ctrl_calls::{ClusterRow, Driver, Verdict, Work, ask};
@@ -13,8 +13,8 @@ use ctrl_types::{Errno, Pair};
 /// Clusters"): its validator is asked, once, where it has one; else the row is accepted as it is. Nobody is told.
 ///
 /// - `plan`: what the device is built of.
-/// - `cluster`: the number of a cluster that a cluster call named.
-/// - `row`: a value for each of its members.
+/// - `cluster`: the number of a cluster; the caller owes one below `Plan::cluster_count`.
+/// - `row`: a value for each of its members; the caller owes exactly as many.
 /// - `work`: its count `asked` grows by one where the validator is asked.
 ///
 /// Refused with the validator's errno where it refuses with EACCES (13), EBUSY (16), EINVAL (22) or ERANGE (34); with EINVAL
@@ -33,6 +33,7 @@ pub fn judge<D: Driver>(
     ensures long { IfOk result (λ taken. length taken ≡ length (members plan.now cluster)) }
     ensures asked { work.new.asked ≤ work.old.asked + 1 }
     ensures told { work.new.told ≡ work.old.told }
+    ensures counted { work.new ≡ record work.old { asked = asked_by (calls_of plan.now cluster).validator work.old.asked } }
 {
     match plan.validator(cluster) {
         Some(validator) => judged(
@@ -49,8 +50,8 @@ pub fn judge<D: Driver>(
 /// are judged.
 ///
 /// - `plan`: what the device is built of.
-/// - `cluster`: the number of a cluster that a cluster call named.
-/// - `values`: a value for each control, in the order of their numbers.
+/// - `cluster`: the number of a cluster; the caller owes one below `Plan::cluster_count`.
+/// - `values`: a value for each control, in the order of their numbers; the caller owes exactly as many.
 /// - `pairs`: what is asked for; pairs of other clusters' controls count for nothing.
 /// - `work`: its count `asked` grows by one where the validator is asked.
 ///

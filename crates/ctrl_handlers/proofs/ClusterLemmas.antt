@@ -1,9 +1,9 @@
 -- The clusters of a plan: a control is in one at most.
-use Rattle.std.proofs.Common.{◌≡◌, ℕ, zero, suc, eq-eqb, ◌+◌, ◌<◌, ◌≤◌, ◌==◌, ◌||◌, Bool, true, false, not, cond, if◌then◌else◌, ltb, nat_eq, nat_lt, List, [], ◌∷◌, ◌++◌, length, map, Option, None, Some, is_some, position, slice_index, refl, sym, ap, subst, ◌∙◌, arith, get_or, inl, inr, ◌⊎◌}
-use Rattle.std.specs.List.{All, list_any, list_all, position_or_len, prefix_len, IsDistinct}
+use Rattle.std.proofs.Common.{◌≡◌, ℕ, ℤ, suc, eq-eqb, ◌+◌, ◌<◌, ◌≤◌, ◌||◌, Bool, true, false, not, cond, if◌then◌else◌, ltb, nat_eq, nat_lt, List, [], ◌∷◌, ◌++◌, length, map, Option, None, Some, is_some, position, slice_index, refl, sym, ap, subst, ◌∙◌, arith, get_or, inl, inr, ◌⊎◌}
+use Rattle.std.specs.List.{All, list_any, list_all, position_or_len, IsDistinct}
 use Rattle.std.proofs.lemmas.Bool.{cases_lt}
 use Rattle.std.proofs.lemmas.List.{length-map, get_or-map, get_or_append_left, get_or_at, get_or_past, length_push}
-use Rattle.std.proofs.lemmas.List.Elements.{All-nil, All-get_or}
+use Rattle.std.proofs.lemmas.List.Elements.{All-nil}
 use Rattle.std.proofs.lemmas.List.Folds.{list_any_at, list_all_at}
 use Rattle.std.proofs.lemmas.List.Sums.{position_or_len_is}
 use Rattle.std.proofs.lemmas.List.Quantifiers.{position-Some}
@@ -15,15 +15,16 @@ use Rattle.ctrl_handlers.specs.ClusterData.{ClusterData}
 use Rattle.ctrl_handlers.specs.declared.limits.TheConstants.{MAX_CONTROLS}
 use Rattle.ctrl_handlers.specs.declared.fault.PlanFault.{PlanFault}
 use Rattle.ctrl_handlers.specs.declared.fault.PlanFault.TheVariants.{InCluster, ClusterSize, UnknownNumber}
-use Rattle.ctrl_handlers.specs.Plan.{PlanData, IsPlan, with_cluster, has_member, cluster_of, cluster_at, members, master_of, no_cluster}
-use Rattle.ctrl_handlers.specs.Builder.{cluster_refusal, some_clustered, names_twice}
+use Rattle.ctrl_calls.specs.declared.row.TheConstants.{MAX_MEMBERS}
+use Rattle.ctrl_handlers.specs.Plan.{PlanData, IsPlan, with_cluster, names_twice, has_member, cluster_of, cluster_at, members, master_of, no_cluster}
+use Rattle.ctrl_handlers.specs.Builder.{cluster_refusal, some_clustered, misfits}
 
 -- one more in front of a search
 step : (b : Bool) (n m : ℕ) (r : Bool) → ltb n m ≡ r → ltb (cond (not b) (1 + n) 0) (suc m) ≡ (b || r)
 step true n m r h = grind (arith, nat_tests)
 step false n m r h = grind (arith, nat_tests)
 
-any_first : {X : Type 0} (p : X → Bool) (xs : List X) → ltb (position_or_len p xs) (length xs) ≡ list_any p xs
+pub any_first : {X : Type 0} (p : X → Bool) (xs : List X) → ltb (position_or_len p xs) (length xs) ≡ list_any p xs
 any_first p [] = refl
 any_first p (x ∷ xs) = step (p x) (position_or_len p xs) (length xs) (list_any p xs) (any_first p xs)
 
@@ -81,7 +82,7 @@ first_among (c ∷ cs) some = rw (eq-eqb c c refl) refl
 -- the master of a cluster is in it
 pub master_in : (plan : PlanData) (k : ℕ) → IsPlan plan → k < length plan.clusters → cluster_of plan (master_of (cluster_at plan k)) ≡ Some k
 master_in plan k is within =
-    is.members_apart k (master_of (cluster_at plan k)) within (first_among (members plan k) (omega (arith, is.one_member k within)))
+    is.members_apart k (master_of (cluster_at plan k)) within (first_among (members plan k) (is.some_members k within))
 
 masters : PlanData → List ℕ
 masters plan = map master_of plan.clusters
@@ -109,7 +110,7 @@ masters_apart plan is = IsDistinct-from_apart nat_eq (masters plan) (λ i j d be
 
 -- a cluster's master is there
 pub master_known : (plan : PlanData) (k : ℕ) → IsPlan plan → k < length plan.clusters → master_of (cluster_at plan k) < length plan.controls
-master_known plan k is within = is.members_known k 0 0 (omega (arith, is.one_member k within))
+master_known plan k is within = is.members_known k 0 0 (is.some_members k within)
 
 masters_below : (plan : PlanData) (c : ℕ) → IsPlan plan → list_any (nat_eq c) (masters plan) ≡ true → c < length plan.controls
 unfolding masters
@@ -123,7 +124,7 @@ masters_below plan c is among = by (position (nat_eq c) (masters plan)) refl
         let same : c ≡ get_or (masters plan) k 0 = grind (arith, nat_tests, there.1) in
         subst (λ (n : ℕ). n < length plan.controls) (sym (same ∙ master_at plan k 0 within)) (master_known plan k is within)
 
--- there are no more named clusters than controls
+-- there are no more clusters than controls
 pub few_clusters : (plan : PlanData) → IsPlan plan → length plan.clusters ≤ length plan.controls
 unfolding masters
 few_clusters plan is =
@@ -131,46 +132,54 @@ few_clusters plan is =
 
 -- where nothing refuses a cluster, each check passes
 refusal_by : Bool → Bool → Bool → Option PlanFault
-refusal_by size known taken = if not size then Some ClusterSize else if not known then Some UnknownNumber else if taken then Some InCluster else None
+refusal_by size known taken = if size then Some ClusterSize else if not known then Some UnknownNumber else if taken then Some InCluster else None
 
-passes : (size known taken : Bool) → refusal_by size known taken ≡ None → (size ≡ true) × (known ≡ true) × (taken ≡ false)
+passes : (size known taken : Bool) → refusal_by size known taken ≡ None → (size ≡ false) × (known ≡ true) × (taken ≡ false)
 unfolding refusal_by
-passes true true false is = (refl, refl, refl)
-passes true true true is = cc
-passes true false taken is = cc
-passes false known taken is = cc
+passes false true false is = (refl, refl, refl)
+passes false true true is = cc
+passes false false taken is = cc
+passes true known taken is = cc
 
-or_false : (a b : Bool) → (a || b) ≡ false → a ≡ false
+pub or_false : (a b : Bool) → (a || b) ≡ false → a ≡ false
 or_false true b h = cc
 or_false false b h = refl
 
+pub or_false_right : (a b : Bool) → (a || b) ≡ false → b ≡ false
+or_false_right true b h = cc
+or_false_right false b h = h
+
 -- what a cluster that isn't refused is
 pub record MayCluster (plan : PlanData) (named : List ℕ) : Type 0 where
-  pub one : length named ≡ 1
+  pub some : 0 < length named
+  pub few : length named ≤ MAX_MEMBERS
   pub known : All (λ c. c < length plan.controls) named
+  pub differ : names_twice named ≡ false
   pub apart : (c : ℕ) → list_any (nat_eq c) named ≡ true → is_some (cluster_of plan c) ≡ false
 
 pub may_cluster : (plan : PlanData) (named : List ℕ) → cluster_refusal plan named ≡ None → MayCluster plan named
 unfolding refusal_by
 may_cluster plan named is =
-    let each = passes (length named == 1) (list_all (λ c. nat_lt c (length plan.controls)) named) (some_clustered plan named || names_twice named) is in
+    let each = passes (misfits named) (list_all (λ c. nat_lt c (length plan.controls)) named) (some_clustered plan named || names_twice named) is in
     record {
-      one = grind (arith, nat_tests, each.0);
+      some = grind (arith, nat_tests, or_false (nat_eq (length named) 0) (nat_lt MAX_MEMBERS (length named)) each.0);
+      few = grind (arith, nat_tests, or_false_right (nat_eq (length named) 0) (nat_lt MAX_MEMBERS (length named)) each.0);
+      differ = or_false_right (some_clustered plan named) (names_twice named) each.2;
       known = all_of (length plan.controls) named each.1;
       apart = λ c among. none_of (λ c. is_some (cluster_of plan c)) c named (or_false (some_clustered plan named) (names_twice named) each.2) among;
     }
 
 -- the cluster at a place, with one more at the end: one of those before, the new one, or none
-abbrev Before : List ClusterData → ClusterData → ℕ → Type 0
+abbrev pub Before : List ClusterData → ClusterData → ℕ → Type 0
 Before clusters new k = (k < length clusters) × (get_or (clusters ++ new ∷ []) k no_cluster ≡ get_or clusters k no_cluster)
 
-abbrev Last : List ClusterData → ClusterData → ℕ → Type 0
+abbrev pub Last : List ClusterData → ClusterData → ℕ → Type 0
 Last clusters new k = (k ≡ length clusters) × (get_or (clusters ++ new ∷ []) k no_cluster ≡ new)
 
-abbrev Past : List ClusterData → ClusterData → ℕ → Type 0
+abbrev pub Past : List ClusterData → ClusterData → ℕ → Type 0
 Past clusters new k = (length clusters < k) × (get_or (clusters ++ new ∷ []) k no_cluster ≡ no_cluster)
 
-cluster_more : (clusters : List ClusterData) (new : ClusterData) (k : ℕ) → Before clusters new k ⊎ (Last clusters new k ⊎ Past clusters new k)
+pub cluster_more : (clusters : List ClusterData) (new : ClusterData) (k : ℕ) → Before clusters new k ⊎ (Last clusters new k ⊎ Past clusters new k)
 cluster_more clusters new k = by (cases_lt k (length clusters)) (cases_lt (length clusters) k)
   where
     by : (k < length clusters) ⊎ (length clusters ≤ k) → (length clusters < k) ⊎ (k ≤ length clusters) → Before clusters new k ⊎ (Last clusters new k ⊎ Past clusters new k)
@@ -180,52 +189,57 @@ cluster_more clusters new k = by (cases_lt k (length clusters)) (cases_lt (lengt
         inr (inl (sym at, get_or_at clusters new [] no_cluster k at))
     by (inr last) (inl past) = inr (inr (past, get_or_past (clusters ++ new ∷ []) k no_cluster (omega (arith, past, length_push clusters new))))
 
-abbrev named_as : List ℕ → Relations → ClusterData
-named_as named calls = record { members = named; calls = calls }
+abbrev named_as : List ℕ → Option ℤ → Relations → ClusterData
+named_as named manual calls = record { members = named; manual = manual; calls = calls }
 
-known_more : (plan : PlanData) (named : List ℕ) (calls : Relations) (k : ℕ) → IsPlan plan → MayCluster plan named
-    → Before plan.clusters (named_as named calls) k ⊎ (Last plan.clusters (named_as named calls) k ⊎ Past plan.clusters (named_as named calls) k)
-    → All (λ c. c < length plan.controls) (members (with_cluster plan named calls) k)
-known_more plan named calls k is may (inl old) = subst (λ (x : ClusterData). All (λ c. c < length plan.controls) x.members) (sym old.1) (is.members_known k)
-known_more plan named calls k is may (inr (inl new)) = subst (λ (x : ClusterData). All (λ c. c < length plan.controls) x.members) (sym new.1) may.known
-known_more plan named calls k is may (inr (inr none)) = subst (λ (x : ClusterData). All (λ c. c < length plan.controls) x.members) (sym none.1) (All-nil (λ c. c < length plan.controls))
+-- what holds of the members of each, also of no cluster, holds of one more
+members_more : (P : List ℕ → Type 0) (plan : PlanData) (named : List ℕ) (manual : Option ℤ) (calls : Relations) (k : ℕ) → ((i : ℕ) → P (members plan i)) → P [] → P named
+    → Before plan.clusters (named_as named manual calls) k ⊎ (Last plan.clusters (named_as named manual calls) k ⊎ Past plan.clusters (named_as named manual calls) k)
+    → P (members (with_cluster plan named manual calls) k)
+members_more P plan named manual calls k each none new (inl old) = subst (λ (x : ClusterData). P x.members) (sym old.1) (each k)
+members_more P plan named manual calls k each none new (inr (inl last)) = subst (λ (x : ClusterData). P x.members) (sym last.1) new
+members_more P plan named manual calls k each none new (inr (inr past)) = subst (λ (x : ClusterData). P x.members) (sym past.1) none
 
-one_more : (plan : PlanData) (named : List ℕ) (calls : Relations) (k : ℕ) → IsPlan plan → MayCluster plan named → k < length (plan.clusters ++ named_as named calls ∷ [])
-    → Before plan.clusters (named_as named calls) k ⊎ (Last plan.clusters (named_as named calls) k ⊎ Past plan.clusters (named_as named calls) k)
-    → length (members (with_cluster plan named calls) k) ≡ 1
-one_more plan named calls k is may within (inl old) = ap (λ (x : ClusterData). length x.members) old.1 ∙ is.one_member k old.0
-one_more plan named calls k is may within (inr (inl new)) = ap (λ (x : ClusterData). length x.members) new.1 ∙ may.one
-one_more plan named calls k is may within (inr (inr none)) = absurd (omega (arith, within, none.0, length_push plan.clusters (named_as named calls)))
+some_more : (plan : PlanData) (named : List ℕ) (manual : Option ℤ) (calls : Relations) (k : ℕ) → IsPlan plan → MayCluster plan named → k < length (plan.clusters ++ named_as named manual calls ∷ [])
+    → Before plan.clusters (named_as named manual calls) k ⊎ (Last plan.clusters (named_as named manual calls) k ⊎ Past plan.clusters (named_as named manual calls) k)
+    → 0 < length (members (with_cluster plan named manual calls) k)
+some_more plan named manual calls k is may within (inl old) = subst (λ (x : ClusterData). 0 < length x.members) (sym old.1) (is.some_members k old.0)
+some_more plan named manual calls k is may within (inr (inl new)) = subst (λ (x : ClusterData). 0 < length x.members) (sym new.1) may.some
+some_more plan named manual calls k is may within (inr (inr none)) = absurd (omega (arith, within, none.0, length_push plan.clusters (named_as named manual calls)))
 
-apart_more : (plan : PlanData) (named : List ℕ) (calls : Relations) (k c : ℕ) → IsPlan plan → MayCluster plan named → k < length (plan.clusters ++ named_as named calls ∷ [])
-    → list_any (nat_eq c) (members (with_cluster plan named calls) k) ≡ true
-    → Before plan.clusters (named_as named calls) k ⊎ (Last plan.clusters (named_as named calls) k ⊎ Past plan.clusters (named_as named calls) k)
-    → cluster_of (with_cluster plan named calls) c ≡ Some k
-apart_more plan named calls k c is may within among (inl old) =
-    let all = plan.clusters ++ named_as named calls ∷ [] in
+apart_more : (plan : PlanData) (named : List ℕ) (manual : Option ℤ) (calls : Relations) (k c : ℕ) → IsPlan plan → MayCluster plan named → k < length (plan.clusters ++ named_as named manual calls ∷ [])
+    → list_any (nat_eq c) (members (with_cluster plan named manual calls) k) ≡ true
+    → Before plan.clusters (named_as named manual calls) k ⊎ (Last plan.clusters (named_as named manual calls) k ⊎ Past plan.clusters (named_as named manual calls) k)
+    → cluster_of (with_cluster plan named manual calls) c ≡ Some k
+apart_more plan named manual calls k c is may within among (inl old) =
+    let all = plan.clusters ++ named_as named manual calls ∷ [] in
     let there : list_any (nat_eq c) (members plan k) ≡ true = subst (λ (x : ClusterData). list_any (nat_eq c) x.members ≡ true) old.1 among in
     let first = position-Some (has_member c) plan.clusters k no_cluster (is.members_apart k c old.0 there) in
     first_place (has_member c) all k no_cluster within
-    (λ i lt. subst (λ (x : ClusterData). has_member c x ≡ false) (sym (get_or_append_left plan.clusters (named_as named calls ∷ []) no_cluster i (omega (arith, lt, old.0)))) (first.2 i lt))
+    (λ i lt. subst (λ (x : ClusterData). has_member c x ≡ false) (sym (get_or_append_left plan.clusters (named_as named manual calls ∷ []) no_cluster i (omega (arith, lt, old.0)))) (first.2 i lt))
     among
-apart_more plan named calls k c is may within among (inr (inl new)) =
-    let all = plan.clusters ++ named_as named calls ∷ [] in
+apart_more plan named manual calls k c is may within among (inr (inl new)) =
+    let all = plan.clusters ++ named_as named manual calls ∷ [] in
     let own : list_any (nat_eq c) named ≡ true = subst (λ (x : ClusterData). list_any (nat_eq c) x.members ≡ true) new.1 among in
     let none : list_any (has_member c) plan.clusters ≡ false = any-None (has_member c) plan.clusters (may.apart c own) in
     first_place (has_member c) all k no_cluster within
-    (λ i lt. subst (λ (x : ClusterData). has_member c x ≡ false) (sym (get_or_append_left plan.clusters (named_as named calls ∷ []) no_cluster i (omega (arith, lt, new.0))))
+    (λ i lt. subst (λ (x : ClusterData). has_member c x ≡ false) (sym (get_or_append_left plan.clusters (named_as named manual calls ∷ []) no_cluster i (omega (arith, lt, new.0))))
     (fails_at (has_member c) plan.clusters i no_cluster none (omega (arith, lt, new.0))))
     among
-apart_more plan named calls k c is may within among (inr (inr none)) = absurd (omega (arith, within, none.0, length_push plan.clusters (named_as named calls)))
+apart_more plan named manual calls k c is may within among (inr (inr none)) = absurd (omega (arith, within, none.0, length_push plan.clusters (named_as named manual calls)))
 
 -- one more named cluster, of controls that are in none
-pub is_plan_add : (plan : PlanData) (named : List ℕ) (calls : Relations) → IsPlan plan → MayCluster plan named → IsPlan (with_cluster plan named calls)
-is_plan_add plan named calls is may = record {
+pub is_plan_add : (plan : PlanData) (named : List ℕ) (manual : Option ℤ) (calls : Relations) → IsPlan plan → MayCluster plan named → IsPlan (with_cluster plan named manual calls)
+is_plan_add plan named manual calls is may = record {
   few_controls = is.few_controls;
   few_handlers = is.few_handlers;
-  members_known = λ k. known_more plan named calls k is may (cluster_more plan.clusters (named_as named calls) k);
-  members_apart = λ k c within among. apart_more plan named calls k c is may within among (cluster_more plan.clusters (named_as named calls) k);
-  one_member = λ k within. one_more plan named calls k is may within (cluster_more plan.clusters (named_as named calls) k);
+  some_members = λ k within. some_more plan named manual calls k is may within (cluster_more plan.clusters (named_as named manual calls) k);
+  few_members = λ k. members_more (λ cs. length cs ≤ MAX_MEMBERS) plan named manual calls k is.few_members (omega arith) may.few (cluster_more plan.clusters (named_as named manual calls) k);
+  members_known = λ k.
+      members_more (λ cs. All (λ c. c < length plan.controls) cs) plan named manual calls k is.members_known (All-nil (λ c. c < length plan.controls)) may.known
+      (cluster_more plan.clusters (named_as named manual calls) k);
+  members_differ = λ k. members_more (λ cs. names_twice cs ≡ false) plan named manual calls k is.members_differ refl may.differ (cluster_more plan.clusters (named_as named manual calls) k);
+  members_apart = λ k c within among. apart_more plan named manual calls k c is may within among (cluster_more plan.clusters (named_as named manual calls) k);
   own_known = is.own_known;
   added_before = is.added_before;
 }

@@ -1,5 +1,6 @@
 pub mod ListLemmas
 pub mod ClusterLemmas
+pub mod FinishLemmas
 pub mod PlanLemmas
 pub mod ShownLemmas
 pub mod LeastLemmas

@@ -1,5 +1,5 @@
 -- Each call of a builder keeps what holds of every plan.
-use Rattle.std.proofs.Common.{◌≡◌, ◌≢◌, ℕ, ◌<◌, List, [], ◌∷◌, ◌++◌, length, sym, ap, ◌∙◌, subst, arith, get_or, slice_set, inl, inr, ◌⊎◌}
+use Rattle.std.proofs.Common.{◌≡◌, ◌≢◌, ℕ, ◌<◌, List, [], ◌∷◌, ◌++◌, length, sym, ap, ◌∙◌, subst, arith, get_or, slice_set, refl, inl, inr, ◌⊎◌}
 use Rattle.std.specs.List.{All}
 use Rattle.std.proofs.lemmas.Bool.{cases_eq}
 use Rattle.std.proofs.lemmas.List.{get_or-set_same, get_or-set_other, length_push, length-set}
@@ -16,7 +16,9 @@ is_plan_start = record {
   few_handlers = omega arith;
   members_known = λ k i d lt. absurd (omega (arith, lt));
   members_apart = λ k c lt. absurd (omega (arith, lt));
-  one_member = λ k lt. absurd (omega (arith, lt));
+  some_members = λ k lt. absurd (omega (arith, lt));
+  few_members = λ k. omega arith;
+  members_differ = λ k. refl;
   own_known = λ h k d lt. absurd (omega (arith, lt));
   added_before = λ h k d lt. absurd (omega (arith, lt));
 }
@@ -41,7 +43,9 @@ is_plan_control plan h ctrl is within room = record {
       All-weaker (λ c. c < length plan.controls) (λ c. c < length (plan.controls ++ ctrl ∷ []))
       (λ c lt. omega (arith, lt, length_push plan.controls ctrl)) (members plan k) (is.members_known k);
   members_apart = is.members_apart;
-  one_member = is.one_member;
+  some_members = is.some_members;
+  few_members = is.few_members;
+  members_differ = is.members_differ;
   own_known = λ g. known g (set_handler plan.handlers h g (owning (handler_at plan h) (length plan.controls)) within);
   added_before = λ g. before g (set_handler plan.handlers h g (owning (handler_at plan h) (length plan.controls)) within);
 }
@@ -83,7 +87,9 @@ is_plan_handler plan h handler is within same before = record {
   few_handlers = omega (arith, is.few_handlers, length-set plan.handlers h handler);
   members_known = is.members_known;
   members_apart = is.members_apart;
-  one_member = is.one_member;
+  some_members = is.some_members;
+  few_members = is.few_members;
+  members_differ = is.members_differ;
   own_known = λ g. owns g (set_handler plan.handlers h g handler within);
   added_before = λ g. adds g (set_handler plan.handlers h g handler within);
 }

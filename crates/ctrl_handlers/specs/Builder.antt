@@ -1,5 +1,5 @@
 -- When the calls of a plan builder refuse (of this project).
-use Rattle.std.specs.Prelude.{◌≡◌, ℕ, pos, Bool, false, not, ◌||◌, ◌==◌, List, [], ◌∷◌, nat_eq, nat_le, nat_lt, if◌then◌else◌, length, Option, None, Some, is_some, is_ok}
+use Rattle.std.specs.Prelude.{◌≡◌, ℕ, pos, Bool, false, not, ◌||◌, List, nat_eq, nat_le, nat_lt, if◌then◌else◌, length, Option, None, Some, is_some, is_ok}
 use Rattle.std.specs.List.{list_any, list_all}
 use Rattle.ctrl_types.specs.declared.kind.Kind.{Kind}
 use Rattle.ctrl_types.specs.declared.kind.Kind.TheVariants.{Menu, IntegerMenu}
@@ -8,7 +8,8 @@ use Rattle.ctrl_settle.specs.Settle.{settle}
 use Rattle.ctrl_handlers.specs.declared.fault.PlanFault.{PlanFault}
 use Rattle.ctrl_handlers.specs.declared.fault.PlanFault.TheVariants.{DuplicateId, InCluster, ClusterSize, LaterHandler, UnknownNumber, Limit, Memory}
 use Rattle.ctrl_handlers.specs.declared.limits.TheConstants.{MAX_CONTROLS, MAX_HANDLERS, MAX_MENU_NAME}
-use Rattle.ctrl_handlers.specs.Plan.{PlanData, own, control, cluster_of}
+use Rattle.ctrl_calls.specs.declared.row.TheConstants.{MAX_MEMBERS}
+use Rattle.ctrl_handlers.specs.Plan.{PlanData, own, control, cluster_of, names_twice}
 use Rattle.ctrl_handlers.specs.Visible.{first_with_id}
 
 -- Why a further handler is refused: there are as many as there can be.
@@ -67,19 +68,18 @@ number_refusal plan c index =
     else if not (takes_number (control plan c) index) then Some UnknownNumber
     else None
 
--- some control is named twice
-abbrev pub names_twice : List ℕ → Bool
-names_twice [] = false
-names_twice (c ∷ cs) = list_any (nat_eq c) cs || names_twice cs
-
 -- some control is in a cluster already
 abbrev pub some_clustered : PlanData → List ℕ → Bool
 some_clustered plan members = list_any (λ c. is_some (cluster_of plan c)) members
 
--- Why a cluster is refused: it hasn't exactly one member, as yet; some control isn't there; one is in a cluster already or is named twice.
+-- there are none, or more than a cluster can have
+abbrev pub misfits : List ℕ → Bool
+misfits members = nat_eq (length members) 0 || nat_lt MAX_MEMBERS (length members)
+
+-- Why a cluster is refused: it has no member or more than 8; some control isn't there; one is in a cluster already or is named twice.
 abbrev pub cluster_refusal : PlanData → List ℕ → Option PlanFault
 cluster_refusal plan members =
-    if not (length members == 1) then Some ClusterSize
+    if misfits members then Some ClusterSize
     else if not (list_all (λ c. nat_lt c (length plan.controls)) members) then Some UnknownNumber
     else if some_clustered plan members || names_twice members then Some InCluster
     else None

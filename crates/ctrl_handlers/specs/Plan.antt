@@ -1,18 +1,22 @@
--- What a plan holds, as plain data, and what each call of a builder adds to it (Linux driver API, "V4L2 Controls").
-use Rattle.std.specs.Prelude.{◌≡◌, ℕ, pos, Bool, false, true, ◌==◌, ◌&&◌, ◌<◌, ◌≤◌, List, [], ◌∷◌, ◌++◌, length, Option, None, Some, map, nat_eq, position, if◌then◌else◌, slice_index, slice_index_or, slice_set}
+-- What a plan holds, as plain data, and what each call of a builder adds to it (Linux driver API, "V4L2 Controls", "Control
+-- Clusters").
+use Rattle.std.specs.Prelude.{◌≡◌, ℕ, zero, suc, ℤ, pos, Bool, false, true, ◌==◌, ◌&&◌, ◌||◌, ◌<◌, ◌≤◌, List, [], ◌∷◌, ◌++◌, length, Option, None, Some, is_some, map, nat_eq, position, if◌then◌else◌, slice_index, slice_index_or, slice_set}
 use Rattle.std.specs.List.{All, list_any}
 use Rattle.std.specs.Map.{lookup}
 use Rattle.indexmap.specs.IndexMap.{insert_entry}
 use Rattle.ctrl_types.specs.declared.kind.Kind.TheVariants.{Integer}
+use Rattle.ctrl_types.specs.Flags.{union}
+use Rattle.ctrl_types.specs.declared.flags.Flags.{Flags}
+use Rattle.ctrl_types.specs.declared.flags.TheConstants.Flags.{UPDATE}
 use Rattle.ctrl_calls.specs.declared.relation.Relations.{Relations}
+use Rattle.ctrl_calls.specs.declared.row.TheConstants.{MAX_MEMBERS}
 use Rattle.ctrl_settle.specs.Control.{Control}
 use Rattle.ctrl_handlers.specs.HandlerData.{HandlerData}
 use Rattle.ctrl_handlers.specs.ClusterData.{ClusterData}
 use Rattle.ctrl_handlers.specs.declared.limits.TheConstants.{MAX_CONTROLS, MAX_HANDLERS}
 use Rattle.ctrl_handlers.specs.declared.menu.MenuItem.{MenuItem}
 
--- The controls by number, the handlers by number, the items of menus by control and index, and the clusters that were named, in
--- the order of their calls.
+-- The controls by number, the handlers by number, the items of menus by control and index, and the clusters by number.
 pub record PlanData : Type 0 where
   pub controls : List Control
   pub handlers : List HandlerData
@@ -59,7 +63,7 @@ menu_item plan c index = lookup (same_place (c, index)) plan.items
 abbrev pub has_member : ℕ → ClusterData → Bool
 has_member c cluster = list_any (nat_eq c) cluster.members
 
--- the named cluster that a control is in
+-- the cluster that a control is in
 abbrev pub cluster_of : PlanData → ℕ → Option ℕ
 cluster_of plan c = position (has_member c) plan.clusters
 
@@ -67,50 +71,68 @@ cluster_of plan c = position (has_member c) plan.clusters
 abbrev pub no_calls : Relations
 no_calls = record { validator = None; notifier = None }
 
--- what stands for a number that no call named
+-- what stands for a number that names no cluster
 abbrev pub no_cluster : ClusterData
-no_cluster = record { members = []; calls = no_calls }
+no_cluster = record { members = []; manual = None; calls = no_calls }
 
--- the named cluster with a number
+-- the cluster with a number
 abbrev pub cluster_at : PlanData → ℕ → ClusterData
 cluster_at plan k = slice_index_or plan.clusters k no_cluster
 
--- a named cluster's members, in the order in which they were named
+-- a cluster's members, in the order in which they were named
 abbrev pub members : PlanData → ℕ → List ℕ
 members plan k = (cluster_at plan k).members
 
--- the first member of a cluster
+-- the first member of a cluster; each cluster that is there has one
 abbrev pub master_of : ClusterData → ℕ
 master_of cluster = slice_index cluster.members 0
 
--- the first member of a named cluster
+-- the first member of a cluster with a number
 abbrev pub master : PlanData → ℕ → ℕ
 master plan k = master_of (cluster_at plan k)
 
--- the relations of a cluster's closures; one that no call named has none
+-- the relations of a cluster's closures
 abbrev pub calls_of : PlanData → ℕ → Relations
 calls_of plan k = (cluster_at plan k).calls
 
--- the relations of the named clusters' closures, in the order of the clusters
+-- the relations of the clusters' closures, in the order of the clusters
 abbrev pub all_calls : PlanData → List Relations
 all_calls plan = map (λ (k : ClusterData). k.calls) plan.clusters
 
--- How many clusters there are: those that were named, and each other control, which is a cluster of its own without closures.
--- As yet each cluster has one control.
-abbrev pub cluster_count : PlanData → ℕ
-cluster_count plan = length plan.controls
+-- closures that answer by the relations of the clusters; a cluster past them has none
+abbrev pub HasCalls : PlanData → List Relations → Type 0
+HasCalls plan calls = (k : ℕ) → slice_index_or calls k no_calls ≡ calls_of plan k
 
--- What holds of every plan: the limits, that a cluster's members are there, that a control is in one cluster at most, that as yet
--- each named cluster has one member, that each handler's own controls are there, and that it adds only handlers with smaller
--- numbers.
+-- whether a cluster is an auto cluster with this master
+abbrev pub leads : ℕ → ClusterData → Bool
+leads c cluster = is_some cluster.manual && master_of cluster == c
+
+-- the flags that a plan gives a control: its own, and UPDATE where it is the master of an auto cluster
+abbrev pub plan_flags : PlanData → ℕ → Flags
+plan_flags plan c = if list_any (leads c) plan.clusters then union (control plan c).flags UPDATE else (control plan c).flags
+
+-- some control is named twice
+abbrev pub names_twice : List ℕ → Bool
+names_twice [] = false
+names_twice (c ∷ cs) = list_any (nat_eq c) cs || names_twice cs
+
+-- What holds of every plan: the limits, that a cluster has members, not too many, that they are there and differ, that a control is
+-- in one cluster at most, that each handler's own controls are there, and that it adds only handlers with smaller numbers.
 pub record IsPlan (plan : PlanData) : Type 0 where
   pub few_controls : length plan.controls ≤ MAX_CONTROLS
   pub few_handlers : length plan.handlers ≤ MAX_HANDLERS
+  pub some_members : (k : ℕ) → k < length plan.clusters → 0 < length (members plan k)
+  pub few_members : (k : ℕ) → length (members plan k) ≤ MAX_MEMBERS
   pub members_known : (k : ℕ) → All (λ c. c < length plan.controls) (members plan k)
+  pub members_differ : (k : ℕ) → names_twice (members plan k) ≡ false
   pub members_apart : (k c : ℕ) → k < length plan.clusters → list_any (nat_eq c) (members plan k) ≡ true → cluster_of plan c ≡ Some k
-  pub one_member : (k : ℕ) → k < length plan.clusters → length (members plan k) ≡ 1
   pub own_known : (h : ℕ) → All (λ c. c < length plan.controls) (own plan h)
   pub added_before : (h : ℕ) → All (λ a. a < h) (added plan h)
+
+-- What holds of a plan that is finished, besides: each control is in a cluster.
+pub record IsFinished (plan : PlanData) : Type 0 where
+  pub is_plan : IsPlan plan
+  pub clustered : (c : ℕ) → c < length plan.controls → is_some (cluster_of plan c) ≡ true
 
 -- a plan of nothing
 abbrev pub no_plan : PlanData
@@ -143,6 +165,24 @@ with_added plan h a = record plan { handlers = slice_set plan.handlers h (adding
 abbrev pub with_item : PlanData → ℕ → ℕ → MenuItem → PlanData
 with_item plan c index item = record plan { items = insert_entry same_place plan.items (c, index) item }
 
--- the plan with one more named cluster
-abbrev pub with_cluster : PlanData → List ℕ → Relations → PlanData
-with_cluster plan members calls = record plan { clusters = plan.clusters ++ record { members = members; calls = calls } ∷ [] }
+-- the plan with one more cluster, which is an auto cluster where it has a manual value
+abbrev pub with_cluster : PlanData → List ℕ → Option ℤ → Relations → PlanData
+with_cluster plan members manual calls = record plan { clusters = plan.clusters ++ record { members = members; manual = manual; calls = calls } ∷ [] }
+
+-- a cluster of one control, without closures
+abbrev pub alone : ℕ → ClusterData
+alone c = record { members = c ∷ []; manual = None; calls = no_calls }
+
+-- these clusters, where a control is in one: in a cluster of its own, the last, where it is in none of them
+abbrev pub with_alone : List ClusterData → ℕ → List ClusterData
+with_alone clusters c = if list_any (has_member c) clusters then clusters else clusters ++ alone c ∷ []
+
+-- the same for each control below a number, in rising order
+unfoldable pub each_clustered : List ClusterData → ℕ → List ClusterData
+each_clustered clusters zero = clusters
+each_clustered clusters (suc n) = with_alone (each_clustered clusters n) n
+
+-- The plan once it is finished: each control that no cluster call named is a cluster of its own, without closures. These come after
+-- the others, in the order of the controls.
+abbrev pub finished : PlanData → PlanData
+finished plan = record plan { clusters = each_clustered plan.clusters (length plan.controls) }

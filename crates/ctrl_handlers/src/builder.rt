@@ -1,12 +1,14 @@
-ghost use Rattle.std.specs.Prelude.{◌≡◌, ◌<◌, ◌&&◌, pos, ℕ, length, None, IfOk, IfErr, MatchResult};
-ghost use Rattle.ctrl_handlers.specs.Plan.{no_plan, with_handler, with_control, with_added, with_item, with_cluster, control as control_of};
+ghost use Rattle.std.specs.Prelude.{◌≡◌, ◌<◌, ◌&&◌, pos, ℕ, length, None, Some, Option, IfOk, IfErr, MatchResult};
+ghost use Rattle.ctrl_handlers.specs.Plan.{no_plan, with_handler, with_control, with_added, with_item, with_cluster, finished, control as control_of};
 ghost use Rattle.ctrl_handlers.specs.Builder.{handler_refusal, control_refusal, adding_refusal, name_refusal, number_refusal, cluster_refusal, takes_name, takes_number, is_taken, IsRefusedBy};
+ghost use Rattle.ctrl_handlers.specs.Visible.{shown_below};
 ghost use Rattle.ctrl_handlers.specs.declared.menu.MenuItem.TheVariants as items;
 ghost use Rattle.ctrl_handlers.specs.declared.fault.PlanFault.TheVariants.{Memory};
 
 use crate::fault::PlanFault;
 use crate::limits::{MAX_CONTROLS, MAX_HANDLERS, MAX_MENU_NAME};
 use crate::menu::{MenuItem, MenuName};
+use crate::numbers::NumberList;
 use crate::outline::Outline;
 use crate::plan::Plan;
 use ctrl_calls::{Calls, Driver};
@@ -170,36 +172,73 @@ impl<D: Driver> PlanBuilder<D> {
     }
 
     /// Makes a cluster of the controls with these numbers, the first of which is its master, with the closures of a driver, and
-    /// answers its number, from 0 in the order of these calls. As yet a cluster has one control: `ClusterSize` (3) where
-    /// `members` hasn't exactly one; `UnknownNumber` (5) where one isn't there; `InCluster` (2) where one is in a cluster already or
-    /// is named twice; `Memory` (7) where a growth was refused. A refusal hands the closures back and leaves the plan as it was.
+    /// answers its number, from 0 in the order of the cluster calls (Linux driver API, "V4L2 Controls", "Control Clusters"). A
+    /// control that no call names is a cluster of its own without closures, once the plan is finished.
+    ///
+    /// `ClusterSize` (3) where `members` is empty or has more than 8; `UnknownNumber` (5) where one isn't there; `InCluster` (2)
+    /// where one is in a cluster already or is named twice; `Memory` (7) where a growth was refused. A refusal hands the closures
+    /// back and leaves the plan as it was.
     pub fn cluster(
         &mut self,
         members: &[u32],
         calls: Calls<D>,
     ) -> Result<u32, (Calls<D>, PlanFault)>
-        ensures ok { IfOk result (λ n. (cluster_refusal self.old members.now ≡ None) × (n ≡ length self.old.clusters) × (self.new ≡ with_cluster self.old members.now calls)) }
+        ensures ok { IfOk result (λ n. (cluster_refusal self.old members.now ≡ None) × (n ≡ length self.old.clusters) × (self.new ≡ with_cluster self.old members.now None calls)) }
+        ensures err { IfErr result (λ e. (e.0 ≡ calls) × IsRefusedBy (cluster_refusal self.old members.now) e.1 × (self.new ≡ self.old)) }
+    {
+        self.any_cluster(members, None, calls)
+    }
+
+    /// Makes an auto cluster: as `cluster`, and while the value of its master isn't `manual`, its other members are INACTIVE; the
+    /// master has UPDATE (Linux driver API, "V4L2 Controls", "Handling autogain/gain-type Controls with Auto Clusters"). `manual`
+    /// is any value, also one that the master can't take; then the others are always INACTIVE (of this project). It is refused
+    /// as `cluster` is.
+    pub fn auto_cluster(
+        &mut self,
+        members: &[u32],
+        manual: i64,
+        calls: Calls<D>,
+    ) -> Result<u32, (Calls<D>, PlanFault)>
+        ensures ok { IfOk result (λ n. (cluster_refusal self.old members.now ≡ None) × (n ≡ length self.old.clusters) × (self.new ≡ with_cluster self.old members.now (Some manual) calls)) }
+        ensures err { IfErr result (λ e. (e.0 ≡ calls) × IsRefusedBy (cluster_refusal self.old members.now) e.1 × (self.new ≡ self.old)) }
+    {
+        self.any_cluster(members, Some(manual), calls)
+    }
+
+    // Makes a cluster, which is an auto cluster where it has a manual value.
+    fn any_cluster(
+        &mut self,
+        members: &[u32],
+        manual: Option<i64>,
+        calls: Calls<D>,
+    ) -> Result<u32, (Calls<D>, PlanFault)>
+        ensures ok { IfOk result (λ n. (cluster_refusal self.old members.now ≡ None) × (n ≡ length self.old.clusters) × (self.new ≡ with_cluster self.old members.now manual calls)) }
         ensures err { IfErr result (λ e. (e.0 ≡ calls) × IsRefusedBy (cluster_refusal self.old members.now) e.1 × (self.new ≡ self.old)) }
     {
         if let Some(fault) = self.outline.cluster_refusal(members) {
             return Err((calls, fault));
         }
-        match self.name_cluster(members, calls) {
+        match self.name_cluster(members, manual, calls) {
             Ok(number) => Ok(number),
             Err(calls) => Err((calls, PlanFault::Memory)),
         }
     }
 
     // Names a cluster; hands its closures back where a growth was refused.
-    fn name_cluster(&mut self, members: &[u32], calls: Calls<D>) -> Result<u32, Calls<D>>
+    fn name_cluster(
+        &mut self,
+        members: &[u32],
+        manual: Option<i64>,
+        calls: Calls<D>,
+    ) -> Result<u32, Calls<D>>
         requires { cluster_refusal self.old members.now ≡ None }
-        ensures ok { IfOk result (λ n. (n ≡ length self.old.clusters) × (self.new ≡ with_cluster self.old members.now calls)) }
+        ensures ok { IfOk result (λ n. (n ≡ length self.old.clusters) × (self.new ≡ with_cluster self.old members.now manual calls)) }
         ensures err { IfErr result (λ back. (back ≡ calls) × (self.new ≡ self.old)) }
     {
         if self.calls.reserve(1).is_err() {
             return Err(calls);
         }
-        match self.outline.add_cluster(members, calls.relations()) {
+        match self.outline.add_cluster(members, manual, calls.relations()) {
             Ok(number) => {
                 self.calls.push_reserved(calls);
                 Ok(number)
@@ -208,22 +247,40 @@ impl<D: Driver> PlanBuilder<D> {
         }
     }
 
-    /// The plan that was built. What each handler shows is made here, so it is shown whatever the order of the calls. `Memory`
-    /// (7), with the builder as it was, where a growth was refused.
+    /// The plan that was built. What each handler shows is made here, so it is shown whatever the order of the calls, and each
+    /// control that no cluster call named becomes a cluster of its own; these are numbered after the others, in the order of the
+    /// controls. `Memory` (7), with the builder as it was, where a growth was refused.
     pub fn finish(self) -> Result<Plan<D>, (PlanBuilder<D>, PlanFault)>
-        ensures ok { IfOk result (λ plan. plan ≡ self) }
+        ensures ok { IfOk result (λ plan. plan ≡ finished self) }
         ensures err { IfErr result (λ e. (e.0 ≡ self) × (e.1 ≡ Memory)) }
     {
         match self.outline.shown_lists(self.alloc) {
-            Ok(shown) => {
-                let PlanBuilder {
+            Ok(shown) => self.finish_with(shown),
+            Err(_) => Err((self, PlanFault::Memory)),
+        }
+    }
+
+    // The plan that was built, with what each handler shows.
+    fn finish_with(self, shown: Vec<NumberList>) -> Result<Plan<D>, (PlanBuilder<D>, PlanFault)>
+        requires { shown.items ≡ shown_below self (length self.handlers) }
+        ensures ok { IfOk result (λ plan. plan ≡ finished self) }
+        ensures err { IfErr result (λ e. (e.0 ≡ self) × (e.1 ≡ Memory)) }
+    {
+        let PlanBuilder {
+            mut outline,
+            calls,
+            alloc,
+        } = self;
+        match outline.cluster_rest() {
+            Ok(()) => Ok(Plan::of_parts(outline, calls, shown)),
+            Err(_) => Err((
+                PlanBuilder {
                     outline,
                     calls,
-                    alloc: _,
-                } = self;
-                Ok(Plan::of_parts(outline, calls, shown))
-            }
-            Err(_) => Err((self, PlanFault::Memory)),
+                    alloc,
+                },
+                PlanFault::Memory,
+            )),
         }
     }
 }

@@ -1,6 +1,7 @@
-ghost use Rattle.std.specs.Prelude.{◌≡◌, ◌==◌, ◌<◌, ◌≤◌, ℕ, length, None, Some, is_some, nat_lt, OnOk, OnErr, MatchOption, position, IfOk, IfSome, IsTrue, ◌↔◌};
-ghost use Rattle.ctrl_handlers.specs.Plan.{IsPlan, no_plan, with_handler, with_control, with_added, with_item, with_cluster, control as control_of, own, added, menu_item, cluster_of, members, has_member};
-ghost use Rattle.ctrl_handlers.specs.Builder.{cluster_refusal, names_twice};
+ghost use Rattle.std.specs.Prelude.{◌≡◌, ◌==◌, ◌<◌, ◌≤◌, ◌+◌, ℕ, false, length, vec_capacity, None, Some, is_some, nat_lt, OnOk, OnErr, MatchOption, position, IfOk, IfSome, IsTrue, ◌↔◌};
+ghost use Rattle.ctrl_handlers.specs.Plan.{IsPlan, IsFinished, no_plan, with_handler, with_control, with_added, with_item, with_cluster, finished, each_clustered, with_alone, control as control_of, own, added, menu_item, cluster_of, cluster_at, members, has_member, leads, plan_flags, names_twice};
+ghost use Rattle.ctrl_handlers.specs.Builder.{cluster_refusal, misfits};
+ghost use Rattle.ctrl_calls.specs.declared.row.TheConstants.{MAX_MEMBERS};
 ghost use Rattle.std.specs.List.{All, list_all, list_any};
 ghost use Rattle.ctrl_handlers.specs.Visible.{first_with_id, shown_over, shown_below};
 
@@ -11,9 +12,10 @@ use crate::limits::{MAX_CONTROLS, MAX_HANDLERS};
 use crate::menu::MenuItem;
 use crate::numbers::NumberList;
 use crate::showing::{bring_added, first_with_id};
-use ctrl_calls::Relations;
+use bitflags::Flags as FlagSet;
+use ctrl_calls::{MAX_MEMBERS, Relations};
 use ctrl_settle::Ctrl;
-use ctrl_types::CtrlId;
+use ctrl_types::{CtrlId, Flags};
 use indexmap::IndexMap;
 use std::alloc::{AllocError, Global};
 use std::marker::Model;
@@ -104,7 +106,7 @@ impl Outline {
     pub(crate) fn cluster_refusal(&self, members: &[u32]) -> Option<PlanFault>
         ensures { result ≡ cluster_refusal self.now members.now }
     {
-        if members.len() != 1 {
+        if misfits(members) {
             return Some(PlanFault::ClusterSize);
         }
         if !are_below(members, self.control_count()) {
@@ -116,19 +118,31 @@ impl Outline {
         None
     }
 
-    /// One more named cluster, by its number.
+    /// One more cluster, by its number.
     pub(crate) fn add_cluster(
         &mut self,
         members: &[u32],
+        manual: Option<i64>,
         calls: Relations,
     ) -> Result<u32, AllocError>
         requires { cluster_refusal self.old members.now ≡ None }
-        ensures ok { IfOk result (λ n. (n ≡ length self.old.clusters) × (self.new ≡ with_cluster self.old members.now calls)) }
+        ensures ok { IfOk result (λ n. (n ≡ length self.old.clusters) × (self.new ≡ with_cluster self.old members.now manual calls)) }
         ensures err { OnErr result (self.new ≡ self.old) }
     {
-        let number = self.named_count();
-        self.clusters.push(Cluster::new(members, calls))?;
+        let number = self.cluster_count();
+        self.clusters.push(Cluster::new(members, manual, calls))?;
         Ok(number)
+    }
+
+    /// Gives each control that is in no cluster one of its own, in rising order.
+    pub(crate) fn cluster_rest(&mut self) -> Result<(), AllocError>
+        ensures ok { OnOk result ((self.new ≡ finished self.old) × IsFinished self.new) }
+        ensures err { OnErr result (self.new ≡ self.old) }
+    {
+        let count = self.control_count();
+        self.clusters.reserve(count as usize)?;
+        cluster_each(&mut self.clusters, count);
+        Ok(())
     }
 
     /// The item of a menu at an index.
@@ -138,7 +152,7 @@ impl Outline {
         self.items.get(&(control, index))
     }
 
-    /// The named cluster that a control is in, by its number.
+    /// The cluster that a control is in, by its number.
     pub(crate) fn cluster_of(&self, control: u32) -> Option<u32>
         ensures cluster { result ≡ cluster_of self.now control }
         ensures within { IfSome result (λ k. k < length self.now.clusters) }
@@ -149,22 +163,54 @@ impl Outline {
         }
     }
 
-    /// A named cluster's members, the first of which is its master; as yet there is one.
+    /// A cluster's members, the first of which is its master.
     pub(crate) fn members(&self, cluster: u32) -> &[u32]
         requires { cluster < length self.now.clusters }
         ensures members { result.now ≡ members self.now cluster }
         ensures known { All (λ c. c < length self.now.controls) result.now }
-        ensures one { length result.now ≡ 1 }
+        ensures some { 0 < length result.now }
+        ensures few { length result.now ≤ MAX_MEMBERS }
+        ensures differ { names_twice result.now ≡ false }
     {
         let cluster = &self.clusters[cluster as usize];
         cluster.members()
     }
 
-    /// How many clusters were named: no more than controls.
-    pub(crate) fn named_count(&self) -> u32
-        ensures { result ≡ length self.now.clusters }
+    /// The manual value of an auto cluster's master.
+    pub(crate) fn manual(&self, cluster: u32) -> Option<i64>
+        requires { cluster < length self.now.clusters }
+        ensures { result ≡ (cluster_at self.now cluster).manual }
+    {
+        let cluster = &self.clusters[cluster as usize];
+        cluster.manual()
+    }
+
+    /// How many clusters there are: no more than controls.
+    pub(crate) fn cluster_count(&self) -> u32
+        ensures count { result ≡ length self.now.clusters }
+        ensures within { result ≤ length self.now.controls }
     {
         self.clusters.len() as u32
+    }
+
+    /// The flags of a control, with those of its cluster.
+    pub(crate) fn flags(&self, number: u32) -> Flags
+        requires { number < length self.now.controls }
+        ensures { result ≡ plan_flags self.now number }
+    {
+        let flags = self.control(number).flags();
+        if self.leads(number) {
+            flags.union(Flags::UPDATE)
+        } else {
+            flags
+        }
+    }
+
+    // Whether a control is the master of an auto cluster.
+    fn leads(&self, number: u32) -> bool
+        ensures { result ≡ list_any (leads number) self.now.clusters }
+    {
+        self.clusters.iter().any(|cluster| cluster.leads(number))
     }
 
     /// Whether a handler has a control of this id of its own.
@@ -272,6 +318,42 @@ fn place_of(clusters: &[Cluster], control: u32) -> Option<usize>
     ensures { result ≡ position (has_member control) clusters.now }
 {
     clusters.iter().position(|cluster| cluster.has(control))
+}
+
+// Gives each control below a number that is in no cluster one of its own, the last.
+fn cluster_each(clusters: &mut Vec<Cluster>, count: u32)
+    requires { length clusters.old.items + count ≤ vec_capacity clusters.old }
+    ensures { clusters.new.items ≡ each_clustered clusters.old.items count }
+{
+    for control in 0..count {
+        cluster_alone(clusters, control);
+    }
+}
+
+// Gives a control that is in no cluster one of its own, the last.
+fn cluster_alone(clusters: &mut Vec<Cluster>, control: u32)
+    requires { length clusters.old.items < vec_capacity clusters.old }
+    ensures clusters { clusters.new.items ≡ with_alone clusters.old.items control }
+    ensures room { vec_capacity clusters.new ≡ vec_capacity clusters.old }
+    ensures few { length clusters.new.items ≤ length clusters.old.items + 1 }
+{
+    if !is_clustered(clusters.as_slice(), control) {
+        clusters.push_reserved(Cluster::alone(control));
+    }
+}
+
+// Whether a control is in one of some clusters.
+fn is_clustered(clusters: &[Cluster], control: u32) -> bool
+    ensures { result ≡ list_any (has_member control) clusters.now }
+{
+    clusters.iter().any(|cluster| cluster.has(control))
+}
+
+// Whether there are no numbers, or more than a cluster can have.
+fn misfits(numbers: &[u32]) -> bool
+    ensures { result ≡ misfits numbers.now }
+{
+    numbers.is_empty() || numbers.len() > MAX_MEMBERS
 }
 
 // Whether each number is below a bound.

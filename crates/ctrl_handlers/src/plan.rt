@@ -1,7 +1,8 @@
-ghost use Rattle.std.specs.Prelude.{◌≡◌, ◌<◌, ◌≤◌, ℕ, None, Some, length, IfSome, IsTrue, ◌↔◌, MatchOption, MatchResult};
+ghost use Rattle.std.specs.Prelude.{◌≡◌, ◌<◌, ◌≤◌, ℕ, false, None, Some, length, IfSome, IsTrue, ◌↔◌, MatchOption, MatchResult};
 ghost use Rattle.std.specs.List.{All};
 ghost use Rattle.ctrl_types.specs.declared.errno.Errno.TheVariants.{EINVAL};
-ghost use Rattle.ctrl_handlers.specs.Plan.{IsPlan, control as control_of, menu_item, cluster_of, cluster_count, calls_of, members};
+ghost use Rattle.ctrl_handlers.specs.Plan.{IsPlan, IsFinished, control as control_of, menu_item, cluster_of, cluster_at, calls_of, no_calls, members, names_twice, plan_flags};
+ghost use Rattle.ctrl_calls.specs.declared.row.TheConstants.{MAX_MEMBERS};
 ghost use Rattle.ctrl_handlers.specs.Visible.{visible, find as find_in, next_id};
 
 use crate::limits::{MAX_CONTROLS, MAX_HANDLERS};
@@ -11,7 +12,7 @@ use crate::outline::Outline;
 use crate::showing::{first_with_id, least_above};
 use ctrl_calls::{Calls, Driver, Notifier, Validator};
 use ctrl_settle::Ctrl;
-use ctrl_types::{CtrlId, Errno};
+use ctrl_types::{CtrlId, Errno, Flags};
 use std::marker::Model;
 
 /// What a device is built of: its controls, its handlers, the items of its menus and its clusters, with the driver's closures
@@ -19,7 +20,7 @@ use std::marker::Model;
 /// None of its calls takes memory.
 pub struct Plan<D: Driver> {
     outline: Outline,
-    // the closures of each named cluster
+    // the closures of each cluster that was named
     calls: Vec<Calls<D>>,
     // what each handler shows
     shown: Vec<NumberList>,
@@ -27,14 +28,14 @@ pub struct Plan<D: Driver> {
 
 impl<D: Driver> Model for Plan<D> {
     ghost use Rattle.std.specs.Prelude.{◌≡◌, length};
-    ghost use Rattle.ctrl_handlers.specs.Plan.{PlanData, all_calls};
+    ghost use Rattle.ctrl_handlers.specs.Plan.{PlanData, IsFinished, HasCalls};
     ghost use Rattle.ctrl_handlers.specs.Visible.{shown_below};
 
     ghost Value = { PlanData };
 
     ghost view = { λ p. p.outline };
 
-    ghost invariant = { λ p. (p.calls.items ≡ all_calls p.outline) × (p.shown.items ≡ shown_below p.outline (length p.outline.handlers)) };
+    ghost invariant = { λ p. IsFinished p.outline × HasCalls p.outline p.calls.items × (p.shown.items ≡ shown_below p.outline (length p.outline.handlers)) };
 }
 
 impl<D: Driver> Drop for Plan<D> {
@@ -48,7 +49,7 @@ impl<D: Driver> Drop for Plan<D> {
 }
 
 impl<D: Driver> Plan<D> {
-    ghost use Rattle.ctrl_handlers.specs.Plan.{all_calls};
+    ghost use Rattle.ctrl_handlers.specs.Plan.{HasCalls};
     ghost use Rattle.ctrl_handlers.specs.Visible.{shown_below};
 
     /// The plan of these parts.
@@ -57,7 +58,8 @@ impl<D: Driver> Plan<D> {
         calls: Vec<Calls<D>>,
         shown: Vec<NumberList>,
     ) -> Plan<D>
-        requires calls { calls.items ≡ all_calls outline }
+        requires finished { IsFinished outline }
+        requires calls { HasCalls outline calls.items }
         requires shown { shown.items ≡ shown_below outline (length outline.handlers) }
         ensures { result ≡ outline }
     {
@@ -126,7 +128,7 @@ impl<D: Driver> Plan<D> {
         self.outline.controls()
     }
 
-    /// The control with a number.
+    /// The control with a number. The caller owes a number below `control_count`.
     pub fn control(&self, number: u32) -> Ctrl
         requires { number < length self.now.controls }
         ensures control { result ≡ control_of self.now number }
@@ -159,37 +161,54 @@ impl<D: Driver> Plan<D> {
         self.outline.has_handler(number)
     }
 
-    /// How many clusters there are (Linux driver API, "V4L2 Controls", "Control Clusters"): as yet as many as controls. Those
-    /// that cluster calls named come first, in the order of the calls, and then each other control is a cluster of its own.
+    /// How many clusters there are, at most as many as controls (Linux driver API, "V4L2 Controls", "Control Clusters"). Those
+    /// that cluster calls named come first, in the order of the calls, and then each other control is a cluster of its own, in the
+    /// order of the controls.
     pub fn cluster_count(&self) -> u32
-        ensures { result ≡ cluster_count self.now }
+        ensures count { result ≡ length self.now.clusters }
+        ensures within { result ≤ length self.now.controls }
     {
-        self.control_count()
+        self.outline.cluster_count()
     }
 
-    /// How many clusters were named by cluster calls.
-    pub fn named_count(&self) -> u32
-        ensures { result ≡ length self.now.clusters }
+    /// The cluster that a control is in, by its number. The caller owes a control's number, below `control_count`.
+    pub fn cluster_of(&self, control: u32) -> u32
+        requires { control < length self.now.controls }
+        ensures cluster { cluster_of self.now control ≡ Some result }
+        ensures within { result < length self.now.clusters }
     {
-        self.outline.named_count()
+        self.outline.cluster_of(control).unwrap()
     }
 
-    /// The named cluster that a control is in, by its number.
-    pub fn cluster_of(&self, control: u32) -> Option<u32>
-        ensures cluster { result ≡ cluster_of self.now control }
-        ensures within { IfSome result (λ k. k < length self.now.clusters) }
-    {
-        self.outline.cluster_of(control)
-    }
-
-    /// A named cluster's members, by their numbers; the first is its master, and as yet there is one.
+    /// A cluster's members, 1 to 8 of them, by their numbers; the first is its master. None stands there twice. The caller owes
+    /// a cluster's number, below `cluster_count`.
     pub fn members(&self, cluster: u32) -> &[u32]
         requires { cluster < length self.now.clusters }
         ensures members { result.now ≡ members self.now cluster }
         ensures known { All (λ c. c < length self.now.controls) result.now }
-        ensures one { length result.now ≡ 1 }
+        ensures some { 0 < length result.now }
+        ensures few { length result.now ≤ MAX_MEMBERS }
+        ensures differ { names_twice result.now ≡ false }
     {
         self.outline.members(cluster)
+    }
+
+    /// The manual value of a cluster's master, where it is an auto cluster (Linux driver API, "V4L2 Controls", "Handling
+    /// autogain/gain-type Controls with Auto Clusters"). The caller owes a cluster's number, below `cluster_count`.
+    pub fn manual(&self, cluster: u32) -> Option<i64>
+        requires { cluster < length self.now.clusters }
+        ensures { result ≡ (cluster_at self.now cluster).manual }
+    {
+        self.outline.manual(cluster)
+    }
+
+    /// The flags that a control has by the plan: those that it was described with, and UPDATE where it is the master of an auto
+    /// cluster. The caller owes a control's number, below `control_count`.
+    pub fn flags(&self, number: u32) -> Flags
+        requires { number < length self.now.controls }
+        ensures { result ≡ plan_flags self.now number }
+    {
+        self.outline.flags(number)
     }
 
     /// The validator of a cluster, where it has one. There is none where there is no such cluster.
@@ -208,9 +227,9 @@ impl<D: Driver> Plan<D> {
         calls.notifier.as_ref()
     }
 
-    // The closures of a named cluster.
+    // The closures of a cluster that was named.
     fn calls_of(&self, cluster: u32) -> Option<&Calls<D>>
-        ensures { MatchOption result (calls_of self.now cluster ≡ record { validator = None; notifier = None }) (λ c. calls_of self.now cluster ≡ c.now) }
+        ensures { MatchOption result (calls_of self.now cluster ≡ no_calls) (λ c. calls_of self.now cluster ≡ c.now) }
     {
         self.calls.get(cluster as usize)
     }

@@ -3,7 +3,10 @@ ghost use Rattle.ctrl_calls.specs.declared.verdict.Verdict.TheVariants.{Accept};
 
 use super::*;
 use bitflags::Flags as FlagSet;
-use ctrl_calls::{Calls, ClusterRow, Driver, Judging, Notifies, Telling, Validates, Verdict};
+use ctrl_calls::{
+    Calls, ClusterRow, Driver, Judging, Notifier, Notifies, Relation, Relations, Telling,
+    Validates, Validator, Verdict,
+};
 use ctrl_settle::Ctrl;
 use ctrl_types::{CtrlId, Errno, Flags, Kind};
 use std::alloc::Global;
@@ -52,10 +55,15 @@ impl Notifies for Silent {
     ghost told = { λ _ _ _. ⊤ };
 }
 
-fn no_calls() -> Calls<Silent> {
+// Closures of the relation with this number.
+fn accepting(number: u32) -> Calls<Silent> {
+    let relation = Relation {
+        number,
+        bounds: [0; 4],
+    };
     Calls {
-        validator: None,
-        notifier: None,
+        validator: Some(Validator::new(relation, Accepts)),
+        notifier: Some(Notifier::new(relation, Says)),
     }
 }
 
@@ -148,45 +156,231 @@ fn adding_handlers(rt: HostRuntime) {
     assert_eq!(rt; plan.next_id(2, CtrlId(0)), Err(Errno::EINVAL));
 }
 
-#[test]
-fn clusters(rt: HostRuntime) {
-    let mut builder = PlanBuilder::<Silent>::new(rt.alloc());
+// A builder of one handler with this many controls.
+fn builder_of(rt: &impl Abort, alloc: Global, count: u32) -> PlanBuilder<Silent> {
+    let mut builder = PlanBuilder::new(alloc);
     assert_eq!(rt; builder.handler(), Ok(0));
-    assert_eq!(rt; builder.control(0, number(&rt, 1, false)), Ok(0));
-    assert_eq!(rt; builder.control(0, number(&rt, 2, false)), Ok(1));
-    assert_eq!(rt;
-        cluster_fault(&mut builder, &[]),
-        Some(PlanFault::ClusterSize)
-    );
-    assert_eq!(rt;
-        cluster_fault(&mut builder, &[0, 1]),
-        Some(PlanFault::ClusterSize)
-    );
-    assert_eq!(rt;
-        cluster_fault(&mut builder, &[2]),
-        Some(PlanFault::UnknownNumber)
-    );
-    assert_eq!(rt; cluster_fault(&mut builder, &[1]), None);
-    assert_eq!(rt;
-        cluster_fault(&mut builder, &[1]),
-        Some(PlanFault::InCluster)
-    );
-    let Ok(plan) = builder.finish() else {
-        panic!(rt; "no plan");
-    };
-    assert_eq!(rt; plan.cluster_of(1), Some(0));
-    assert_eq!(rt; plan.cluster_of(0), None);
-    assert_eq!(rt; plan.named_count(), 1);
-    assert_eq!(rt; plan.cluster_count(), 2);
-    assert!(rt; plan.validator(0).is_none());
-    assert!(rt; plan.notifier(0).is_none());
+    for id in 0..count {
+        assert_eq!(rt; builder.control(0, number(rt, id, false)), Ok(id));
+    }
+    builder
 }
 
-fn cluster_fault(builder: &mut PlanBuilder<Silent>, members: &[u32]) -> Option<PlanFault> {
-    match builder.cluster(members, no_calls()) {
-        Ok(_) => None,
-        Err((_, fault)) => Some(fault),
+fn finished(rt: &impl Abort, builder: PlanBuilder<Silent>) -> Plan<Silent> {
+    match builder.finish() {
+        Ok(plan) => plan,
+        Err(_) => panic!(rt; "no plan"),
     }
+}
+
+// The answer of a cluster call, where a refusal handed its closures back.
+fn named(
+    rt: &impl Abort,
+    builder: &mut PlanBuilder<Silent>,
+    members: &[u32],
+) -> Result<u32, PlanFault> {
+    match builder.cluster(members, accepting(7)) {
+        Ok(cluster) => Ok(cluster),
+        Err((calls, fault)) => {
+            assert_eq!(rt; calls.relations(), accepting(7).relations());
+            Err(fault)
+        }
+    }
+}
+
+// The same of an auto cluster with this manual value.
+fn named_auto(
+    rt: &impl Abort,
+    builder: &mut PlanBuilder<Silent>,
+    members: &[u32],
+    manual: i64,
+) -> Result<u32, PlanFault> {
+    match builder.auto_cluster(members, manual, accepting(7)) {
+        Ok(cluster) => Ok(cluster),
+        Err((calls, fault)) => {
+            assert_eq!(rt; calls.relations(), accepting(7).relations());
+            Err(fault)
+        }
+    }
+}
+
+// A cluster has these members and this manual value, and each member is in it.
+fn has_members(
+    rt: &impl Abort,
+    plan: &Plan<Silent>,
+    cluster: u32,
+    members: &[u32],
+    manual: Option<i64>,
+) {
+    assert!(rt; cluster < plan.cluster_count());
+    assert_eq!(rt; plan.members(cluster), members);
+    assert_eq!(rt; plan.manual(cluster), manual);
+    for &member in members {
+        assert!(rt; member < plan.control_count());
+        assert_eq!(rt; plan.cluster_of(member), cluster);
+    }
+}
+
+fn relations_of(plan: &Plan<Silent>, cluster: u32) -> Relations {
+    Relations {
+        validator: plan
+            .validator(cluster)
+            .map(|validator| validator.relation()),
+        notifier: plan.notifier(cluster).map(|notifier| notifier.relation()),
+    }
+}
+
+fn flags_of(rt: &impl Abort, plan: &Plan<Silent>, control: u32) -> Flags {
+    assert!(rt; control < plan.control_count());
+    plan.flags(control)
+}
+
+#[test]
+fn clusters(rt: HostRuntime) {
+    let mut builder = builder_of(&rt, rt.alloc(), 5);
+    assert_eq!(rt; named(&rt, &mut builder, &[4]), Ok(0));
+    assert_eq!(rt; named(&rt, &mut builder, &[3, 1]), Ok(1));
+    let plan = finished(&rt, builder);
+    has_members(&rt, &plan, 0, &[4], None);
+    has_members(&rt, &plan, 1, &[3, 1], None);
+    // the lone ones come after them, in the order of the controls, and have no closures
+    has_members(&rt, &plan, 2, &[0], None);
+    has_members(&rt, &plan, 3, &[2], None);
+    assert_eq!(rt; plan.cluster_count(), 4);
+    for cluster in 0..2 {
+        assert_eq!(rt; relations_of(&plan, cluster), accepting(7).relations());
+    }
+    let none = Relations {
+        validator: None,
+        notifier: None,
+    };
+    for cluster in 2..5 {
+        assert_eq!(rt; relations_of(&plan, cluster), none);
+    }
+    for control in 0..5 {
+        assert_eq!(rt; flags_of(&rt, &plan, control), Flags::empty());
+    }
+}
+
+#[test]
+fn cluster_faults(rt: HostRuntime) {
+    let mut builder = builder_of(&rt, rt.alloc(), 10);
+    assert_eq!(rt; named(&rt, &mut builder, &[9, 8]), Ok(0));
+    // the size comes first, then numbers that aren't there, then controls that are in a cluster
+    let faults = [
+        ([].as_slice(), PlanFault::ClusterSize),
+        (
+            [0, 1, 2, 3, 4, 5, 6, 7, 8].as_slice(),
+            PlanFault::ClusterSize,
+        ),
+        (
+            [10, 10, 10, 10, 10, 10, 10, 10, 10].as_slice(),
+            PlanFault::ClusterSize,
+        ),
+        ([10].as_slice(), PlanFault::UnknownNumber),
+        ([0, u32::MAX].as_slice(), PlanFault::UnknownNumber),
+        ([9, 10].as_slice(), PlanFault::UnknownNumber),
+        ([0, 0, 10].as_slice(), PlanFault::UnknownNumber),
+        ([8].as_slice(), PlanFault::InCluster),
+        ([0, 1, 9].as_slice(), PlanFault::InCluster),
+        ([0, 1, 0].as_slice(), PlanFault::InCluster),
+        ([0, 1, 2, 3, 4, 5, 6, 6].as_slice(), PlanFault::InCluster),
+    ];
+    for (members, fault) in faults {
+        assert_eq!(rt; named(&rt, &mut builder, members), Err(fault));
+        assert_eq!(rt; named_auto(&rt, &mut builder, members, 0), Err(fault));
+    }
+    // nothing was kept of them
+    assert_eq!(rt; named(&rt, &mut builder, &[0]), Ok(1));
+    let plan = finished(&rt, builder);
+    assert_eq!(rt; plan.cluster_count(), 9);
+    has_members(&rt, &plan, 0, &[9, 8], None);
+    has_members(&rt, &plan, 1, &[0], None);
+    has_members(&rt, &plan, 2, &[1], None);
+    has_members(&rt, &plan, 8, &[7], None);
+}
+
+#[test]
+fn a_cluster_of_eight(rt: HostRuntime) {
+    let mut builder = builder_of(&rt, rt.alloc(), 9);
+    let members = [8, 6, 4, 2, 0, 1, 3, 5];
+    assert_eq!(rt; named(&rt, &mut builder, &members), Ok(0));
+    let plan = finished(&rt, builder);
+    has_members(&rt, &plan, 0, &members, None);
+    has_members(&rt, &plan, 1, &[7], None);
+    assert_eq!(rt; plan.cluster_count(), 2);
+}
+
+#[test]
+fn auto_clusters(rt: HostRuntime) {
+    let mut builder = builder_of(&rt, rt.alloc(), 8);
+    assert_eq!(rt; named_auto(&rt, &mut builder, &[2, 1, 0], 1), Ok(0));
+    // a master of its own alone, and values that a master of 0 to 9 can't take
+    assert_eq!(rt; named_auto(&rt, &mut builder, &[3], 0), Ok(1));
+    assert_eq!(rt; named_auto(&rt, &mut builder, &[4, 5], i64::MIN), Ok(2));
+    assert_eq!(rt; named_auto(&rt, &mut builder, &[6], 10), Ok(3));
+    let plan = finished(&rt, builder);
+    has_members(&rt, &plan, 0, &[2, 1, 0], Some(1));
+    has_members(&rt, &plan, 1, &[3], Some(0));
+    has_members(&rt, &plan, 2, &[4, 5], Some(i64::MIN));
+    has_members(&rt, &plan, 3, &[6], Some(10));
+    has_members(&rt, &plan, 4, &[7], None);
+    assert_eq!(rt; plan.cluster_count(), 5);
+    for master in [2, 3, 4, 6] {
+        assert_eq!(rt; flags_of(&rt, &plan, master), Flags::UPDATE);
+    }
+    for other in [0, 1, 5, 7] {
+        assert_eq!(rt; flags_of(&rt, &plan, other), Flags::empty());
+    }
+}
+
+#[test]
+fn masters_keep_their_flags(rt: HostRuntime) {
+    let mut builder = PlanBuilder::<Silent>::new(rt.alloc());
+    assert_eq!(rt; builder.handler(), Ok(0));
+    let flags = Flags::READ_ONLY.union(Flags::DISABLED);
+    for id in 0..2 {
+        let made = Ctrl::new(CtrlId(id), Kind::Integer, 0, 9, 1, 0, 0, flags, false);
+        assert_eq!(rt; builder.control(0, made.expect(&rt, "a control")), Ok(id));
+    }
+    assert_eq!(rt; named_auto(&rt, &mut builder, &[1, 0], 0), Ok(0));
+    let plan = finished(&rt, builder);
+    assert_eq!(rt; flags_of(&rt, &plan, 1), flags.union(Flags::UPDATE));
+    assert_eq!(rt; flags_of(&rt, &plan, 0), flags);
+}
+
+// Where memory is refused, a builder is as before: the same call is accepted the second time.
+#[test]
+fn refused_memory(rt: HostRuntime) {
+    let mut builder = PlanBuilder::<Silent>::new(rt.alloc());
+    if builder.handler() == Err(PlanFault::Memory) {
+        assert_eq!(rt; builder.handler(), Ok(0));
+    }
+    for id in 0..6 {
+        let ctrl = number(&rt, id, false);
+        if builder.control(0, ctrl) == Err(PlanFault::Memory) {
+            assert_eq!(rt; builder.control(0, ctrl), Ok(id));
+        }
+    }
+    if named(&rt, &mut builder, &[5, 4]) == Err(PlanFault::Memory) {
+        assert_eq!(rt; named(&rt, &mut builder, &[5, 4]), Ok(0));
+    }
+    if named_auto(&rt, &mut builder, &[2, 3], 1) == Err(PlanFault::Memory) {
+        assert_eq!(rt; named_auto(&rt, &mut builder, &[2, 3], 1), Ok(1));
+    }
+    let plan = match builder.finish() {
+        Ok(plan) => plan,
+        Err((builder, fault)) => {
+            assert_eq!(rt; fault, PlanFault::Memory);
+            finished(&rt, builder)
+        }
+    };
+    has_members(&rt, &plan, 0, &[5, 4], None);
+    has_members(&rt, &plan, 1, &[2, 3], Some(1));
+    has_members(&rt, &plan, 2, &[0], None);
+    has_members(&rt, &plan, 3, &[1], None);
+    assert_eq!(rt; plan.cluster_count(), 4);
+    assert_eq!(rt; plan.shown(0), [0, 1, 2, 3, 4, 5].as_slice());
 }
 
 // Handler 3 adds 1 and 2, and each of them adds 0. Id 40 is declared in 1 and in 2. Id 60 is declared in 0, and 1 and 2 have

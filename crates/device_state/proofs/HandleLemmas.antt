@@ -1,7 +1,7 @@
 -- What a call does to the device: where it adds no step, where it opens or closes a file handle, where it sets a control.
-use Rattle.std.proofs.Common.{◌≡◌, ℕ, ℤ, ◌<◌, ◌≤◌, ◌+◌, ◌==◌, ◌&&◌, Bool, true, false, List, [], ◌∷◌, ◌++◌, length, Option, Some, None, Ok, Err, IsSome, is_some, refl, ap, sym, ◌∙◌, arith, inl, inr, count_by, cond, unwrap_or, eq-eqb}
+use Rattle.std.proofs.Common.{◌≡◌, ◌≢◌, ℕ, ℤ, ◌<◌, ◌≤◌, ◌+◌, ◌==◌, ◌&&◌, Bool, true, false, List, [], ◌∷◌, ◌++◌, length, Option, Some, None, Ok, Err, IsSome, is_some, refl, ap, sym, ◌∙◌, arith, inl, inr, count_by, cond, unwrap_or, eq-eqb}
+use Rattle.std.specs.List.{list_any}
 use Rattle.std.proofs.lemmas.List.{append-nil}
-use Rattle.std.proofs.lemmas.List.Sums.{sum_by-cons}
 use Rattle.history.specs.Past.{past, entered}
 use Rattle.history.proofs.Pasts.{length_past}
 use Rattle.ctrl_calls.specs.Meanings.{Verdicts, Words}
@@ -12,41 +12,36 @@ use Rattle.ctrl_types.specs.declared.errno.Fault.{Fault}
 use Rattle.ctrl_types.specs.declared.ids.CtrlId.{CtrlId}
 use Rattle.ctrl_types.specs.declared.ids.ExtControl.{ExtControl}
 use Rattle.ctrl_types.specs.declared.ids.FhId.{FhId}
+use Rattle.ctrl_types.specs.declared.ids.Pair.{Pair}
 use Rattle.ctrl_types.specs.declared.ids.RequestId.{RequestId}
 use Rattle.device_state.specs.declared.ask.Ask.{Ask}
 use Rattle.device_state.specs.declared.ask.Ask.TheVariants as asks
 use Rattle.device_state.specs.declared.ask.Reply.{Reply}
 use Rattle.device_state.specs.declared.ask.Reply.TheVariants.{Fh, Done, Controls}
 use Rattle.device_state.specs.declared.ask.Step.{Step}
-use Rattle.device_state.specs.declared.ask.Step.TheVariants.{OpenFh, CloseFh, Set}
-use Rattle.ctrl_handlers.specs.ClusterData.{ClusterData}
-use Rattle.ctrl_handlers.specs.Plan.{PlanData, IsPlan, master}
-use Rattle.device_state.specs.Clusters.{becomes}
+use Rattle.device_state.specs.declared.ask.Step.TheVariants.{OpenFh, CloseFh, Set, Grab}
+use Rattle.ctrl_handlers.specs.Plan.{PlanData, IsPlan, cluster_of, members}
+use Rattle.device_state.specs.Grabs.{is_grabbed, grabbed}
+use Rattle.device_state.specs.Overlay.{with_row, overlay}
 use Rattle.device_state.specs.Steps.{Past, handler_of, shown}
-use Rattle.device_state.specs.Values.{now}
-use Rattle.device_state.specs.Told.{is_changed, told_of}
-use Rattle.device_state.specs.Answers.{Answer, answer_of, open_answer, close_answer, query_answer, next_answer, set_one, refused_at, told_answer, MayAnswer, taken, step_of}
-use Rattle.device_state.specs.Device.{DeviceData, Handles, SetsOne, with_step, step_changes}
-use Rattle.device_state.proofs.OverlayLemmas.{length_now}
-use Rattle.device_state.proofs.TellLemmas.{changes_one, told_one, member_of}
+use Rattle.device_state.specs.Values.{Values, now}
+use Rattle.device_state.specs.Told.{changes, row_changes, told_count, told_of}
+use Rattle.device_state.specs.Answers.{Answer, answer_of, open_answer, close_answer, grab_answer, query_answer, next_answer, set_one, set_becomes, own_cluster, refused_at, told_answer, MayAnswer, taken, step_of}
+use Rattle.device_state.specs.Device.{DeviceData, Handles, SetsOne, may_ask, with_step, step_changes, set_changes}
+use Rattle.device_state.proofs.PresentLemmas.{length_now}
+use Rattle.device_state.proofs.OverlayLemmas.{overlay_one}
+use Rattle.device_state.proofs.TellLemmas.{changes_own, changes_other, told_none, told_one}
+use Rattle.device_state.proofs.KeptLemmas.{own_is}
 
 -- no call yet
 abbrev pub at_rest : Work
 at_rest = record { asked = 0; told = 0 }
 
-asked_at_rest : (work : Work) → work ≡ at_rest → work.asked ≤ 1
-asked_at_rest work rest = omega (arith, ap (λ (w : Work). w.asked) rest)
-
-and_false : (b : Bool) → (b && false) ≡ false
-and_false true = refl
-and_false false = refl
-
-count_none : (cs : List ClusterData) → count_by (λ k. is_some k.calls.notifier && false) cs ≡ 0
-count_none [] = refl
-count_none (x ∷ xs) = rw (sum_by-cons (λ (k : ClusterData). cond (is_some k.calls.notifier && false) 1 0) x xs, and_false (is_some x.calls.notifier), count_none xs) refl
+asked_at_rest : (work : Work) (n : ℕ) → work ≡ at_rest → work.asked ≤ n
+asked_at_rest work n rest = omega (arith, ap (λ (w : Work). w.asked) rest)
 
 -- a call that adds no step
-pub handles_none : (verdicts : Verdicts) (old : DeviceData) (work : Work) (seat : ℕ) (ask : Ask) (answer : Answer) → work.told ≡ 0 → work.asked ≤ 1
+pub handles_none : (verdicts : Verdicts) (old : DeviceData) (work : Work) (seat : ℕ) (ask : Ask) (answer : Answer) → work.told ≡ 0 → work.asked ≤ may_ask ask
     → taken old.plan (past old.steps) ask answer ≡ None → MayAnswer verdicts old.plan (past old.steps) old.words ask answer
     → Handles verdicts old (record old { work = work }) seat ask answer
 handles_none verdicts old work seat ask answer told asked none may = record {
@@ -55,7 +50,7 @@ handles_none verdicts old work seat ask answer told asked none may = record {
   refused = λ _. refl;
   steps = rw none (sym (append-nil old.steps));
   words = λ k lt same. refl;
-  told = rw none (told ∙ sym (count_none old.plan.clusters));
+  told = rw none (told ∙ sym (told_none old.plan (step_changes verdicts old.plan (past old.steps) None) (λ c. refl)));
   asked = asked;
 }
 
@@ -86,42 +81,42 @@ pub handles_get : (verdicts : Verdicts) (old : DeviceData) (work : Work) (seat :
     → MayAnswer verdicts old.plan (past old.steps) old.words (asks.GetCtrls fh which request list) answer
     → Handles verdicts old (record old { work = work }) seat (asks.GetCtrls fh which request list) answer
 handles_get verdicts old work seat fh which request list answer rest may =
-    handles_none verdicts old work seat _ answer (ap (λ (w : Work). w.told) rest) (asked_at_rest work rest) (taken_get old.plan (past old.steps) fh which request list answer) may
+    handles_none verdicts old work seat _ answer (ap (λ (w : Work). w.told) rest) (asked_at_rest work _ rest) (taken_get old.plan (past old.steps) fh which request list answer) may
 
 -- reading a word
 pub handles_told : (verdicts : Verdicts) (old : DeviceData) (work : Work) (seat cluster : ℕ) (answer : Answer) → work ≡ at_rest
     → answer ≡ told_answer old.plan old.words cluster
     → Handles verdicts old (record old { work = work }) seat (asks.Told cluster) answer
 handles_told verdicts old work seat cluster answer rest is =
-    handles_none verdicts old work seat _ answer (ap (λ (w : Work). w.told) rest) (asked_at_rest work rest) (taken_told old.plan (past old.steps) cluster answer) (inl is)
+    handles_none verdicts old work seat _ answer (ap (λ (w : Work). w.told) rest) (asked_at_rest work _ rest) (taken_told old.plan (past old.steps) cluster answer) (inl is)
 
 -- a query
 pub handles_query : (verdicts : Verdicts) (old : DeviceData) (work : Work) (seat : ℕ) (fh : FhId) (id : CtrlId) (answer : Answer) → work ≡ at_rest
-    → answer ≡ query_answer old.plan (past old.steps) fh id
+    → answer ≡ query_answer verdicts old.plan (past old.steps) fh id
     → Handles verdicts old (record old { work = work }) seat (asks.Query fh id) answer
 handles_query verdicts old work seat fh id answer rest is =
-    handles_none verdicts old work seat _ answer (ap (λ (w : Work). w.told) rest) (asked_at_rest work rest) (taken_query old.plan (past old.steps) fh id answer) (inl is)
+    handles_none verdicts old work seat _ answer (ap (λ (w : Work). w.told) rest) (asked_at_rest work _ rest) (taken_query old.plan (past old.steps) fh id answer) (inl is)
 
 -- the next id
 pub handles_next : (verdicts : Verdicts) (old : DeviceData) (work : Work) (seat : ℕ) (fh : FhId) (id : CtrlId) (answer : Answer) → work ≡ at_rest
     → answer ≡ next_answer old.plan (past old.steps) fh id
     → Handles verdicts old (record old { work = work }) seat (asks.NextId fh id) answer
 handles_next verdicts old work seat fh id answer rest is =
-    handles_none verdicts old work seat _ answer (ap (λ (w : Work). w.told) rest) (asked_at_rest work rest) (taken_next old.plan (past old.steps) fh id answer) (inl is)
+    handles_none verdicts old work seat _ answer (ap (λ (w : Work). w.told) rest) (asked_at_rest work _ rest) (taken_next old.plan (past old.steps) fh id answer) (inl is)
 
 -- an item of a menu
 pub handles_item : (verdicts : Verdicts) (old : DeviceData) (work : Work) (seat : ℕ) (fh : FhId) (id : CtrlId) (index : ℕ) (answer : Answer) → work ≡ at_rest
     → MayAnswer verdicts old.plan (past old.steps) old.words (asks.MenuItem fh id index) answer
     → Handles verdicts old (record old { work = work }) seat (asks.MenuItem fh id index) answer
 handles_item verdicts old work seat fh id index answer rest may =
-    handles_none verdicts old work seat _ answer (ap (λ (w : Work). w.told) rest) (asked_at_rest work rest) (taken_item old.plan (past old.steps) fh id index answer) may
+    handles_none verdicts old work seat _ answer (ap (λ (w : Work). w.told) rest) (asked_at_rest work _ rest) (taken_item old.plan (past old.steps) fh id index answer) may
 
 -- a refusal before anybody is asked
 pub handles_refused : (verdicts : Verdicts) (old new : DeviceData) (work : Work) (seat : ℕ) (ask : Ask) (fault : Fault) → new ≡ record old { work = work } → work ≡ at_rest
     → MayAnswer verdicts old.plan (past old.steps) old.words ask (Err fault)
     → Handles verdicts old new seat ask (Err fault)
 handles_refused verdicts old new work seat ask fault begin rest may =
-    rw begin (handles_none verdicts old work seat ask (Err fault) (ap (λ (w : Work). w.told) rest) (asked_at_rest work rest) refl may)
+    rw begin (handles_none verdicts old work seat ask (Err fault) (ap (λ (w : Work). w.told) rest) (asked_at_rest work _ rest) refl may)
 
 abbrev opened_as : ℕ → Answer
 opened_as n = Ok (Fh (record { 0 = n }))
@@ -136,8 +131,8 @@ handles_open verdicts old work seat handler fh rest is number = record {
   refused = λ e. cc;
   steps = refl;
   words = λ k lt same. refl;
-  told = ap (λ (w : Work). w.told) rest ∙ sym (count_none old.plan.clusters);
-  asked = asked_at_rest work rest;
+  told = ap (λ (w : Work). w.told) rest ∙ sym (told_none old.plan (step_changes verdicts old.plan (past old.steps) (Some (OpenFh handler))) (λ c. refl));
+  asked = asked_at_rest work _ rest;
 }
 
 -- a close tells nobody
@@ -150,8 +145,22 @@ handles_close verdicts old work seat fh rest is = record {
   refused = λ e. cc;
   steps = refl;
   words = λ k lt same. refl;
-  told = ap (λ (w : Work). w.told) rest ∙ sym (count_none old.plan.clusters);
-  asked = asked_at_rest work rest;
+  told = ap (λ (w : Work). w.told) rest ∙ sym (told_none old.plan (step_changes verdicts old.plan (past old.steps) (Some (CloseFh fh))) (λ c. refl));
+  asked = asked_at_rest work _ rest;
+}
+
+-- a grab tells nobody
+pub handles_grab : (verdicts : Verdicts) (old : DeviceData) (work : Work) (seat c : ℕ) (on : Bool) → work ≡ at_rest
+    → grab_answer old.plan (past old.steps) c ≡ Ok Done
+    → Handles verdicts old (with_step (record old { work = work }) seat (Grab c on)) seat (asks.Grab c on) (Ok Done)
+handles_grab verdicts old work seat c on rest is = record {
+  plan = refl;
+  answers = inl (sym is);
+  refused = λ e. cc;
+  steps = refl;
+  words = λ k lt same. refl;
+  told = ap (λ (w : Work). w.told) rest ∙ sym (told_none old.plan (step_changes verdicts old.plan (past old.steps) (Some (Grab c on))) (λ c. refl));
+  asked = asked_at_rest work _ rest;
 }
 
 -- the step of a set of one control
@@ -159,38 +168,64 @@ set_step : (plan : PlanData) (older : Past) (fh : FhId) (request : Option Reques
     → step_of plan older (asks.SetCtrls fh 0 request (entry ∷ [])) ≡ Some (Set fh (record { control = c; value = entry.value } ∷ []))
 set_step plan older fh request entry c found = ap (λ (o : Option ℕ). Some (Set fh (record { control = unwrap_or o 0; value = entry.value } ∷ []))) found
 
--- what it changes
-set_changes : (verdicts : Verdicts) (old : DeviceData) (fh : FhId) (request : Option RequestId) (entry : ExtControl) (c : ℕ) (value : ℤ) (reply : Reply)
-    → shown old.plan (past old.steps) fh entry.id ≡ Some c → c < length old.plan.controls → becomes verdicts old.plan c entry.value ≡ Ok value
-    → (d : ℕ) → step_changes verdicts old.plan (past old.steps) (taken old.plan (past old.steps) (asks.SetCtrls fh 0 request (entry ∷ [])) (Ok reply)) d
-    ≡ (c == d && is_changed old.plan (now verdicts old.plan (past old.steps)) c value)
-set_changes verdicts old fh request entry c value reply found within becoming d =
-    let present = now verdicts old.plan (past old.steps) in
-    let there : c < length present = omega (arith, length_now verdicts old.plan (past old.steps)) in
-    ap (λ (o : Option Step). step_changes verdicts old.plan (past old.steps) o d) (set_step old.plan (past old.steps) fh request entry c found)
-    ∙ changes_one verdicts old.plan present fh c d entry.value value there becoming
+-- a control that is set, in the cluster k, which gets the row
+pub record Sets (verdicts : Verdicts) (plan : PlanData) (older : Past) (fh : FhId) (entry : ExtControl) (c k : ℕ) (row : List ℤ) : Type 0 where
+  pub plans : IsPlan plan
+  pub found : shown plan older fh entry.id ≡ Some c
+  pub clustered : cluster_of plan c ≡ Some k
+  pub within : k < length plan.clusters
+  pub free : is_grabbed (grabbed plan older) c ≡ false
+  pub becoming : set_becomes verdicts plan older c entry.value ≡ Ok row
+  pub long : length row ≡ length (members plan k)
 
-own_change : (c d : ℕ) (b : Bool) → d ≡ c → (c == d && b) ≡ false → b ≡ false
-own_change c d b is h = sym (ap (λ (t : Bool). t && b) (eq-eqb c d (sym is))) ∙ h
+-- what it changes of some controls: what its row changes
+set_changing : (verdicts : Verdicts) (plan : PlanData) (older : Past) (fh : FhId) (request : Option RequestId) (entry : ExtControl) (c k : ℕ) (row : List ℤ) (reply : Reply)
+    → Sets verdicts plan older fh entry c k row → (cs : List ℕ)
+    → list_any (step_changes verdicts plan older (taken plan older (asks.SetCtrls fh 0 request (entry ∷ [])) (Ok reply))) cs
+    ≡ list_any (changes plan (now verdicts plan older) (with_row (now verdicts plan older) (members plan k) row) (Set fh (record { control = c; value = entry.value } ∷ []))) cs
+set_changing verdicts plan older fh request entry c k row reply sets cs =
+    let pair : Pair = record { control = c; value = entry.value } in
+    let becomes_row = rw (own_is plan c k sets.clustered) at sets.becoming in
+    ap (λ (o : Option Step). list_any (step_changes verdicts plan older o) cs) (set_step plan older fh request entry c sets.found)
+    ∙ ap (λ (after : Values). list_any (changes plan (now verdicts plan older) after (Set fh (pair ∷ []))) cs)
+    (overlay_one verdicts plan (now verdicts plan older) (grabbed plan older) pair k row sets.plans sets.clustered sets.free becomes_row)
+
+-- in its own cluster
+set_own : (verdicts : Verdicts) (plan : PlanData) (older : Past) (fh : FhId) (request : Option RequestId) (entry : ExtControl) (c k : ℕ) (row : List ℤ) (reply : Reply)
+    → Sets verdicts plan older fh entry c k row
+    → list_any (step_changes verdicts plan older (taken plan older (asks.SetCtrls fh 0 request (entry ∷ [])) (Ok reply))) (members plan k) ≡ set_changes verdicts plan older c entry.value k row
+set_own verdicts plan older fh request entry c k row reply sets =
+    set_changing verdicts plan older fh request entry c k row reply sets (members plan k)
+    ∙ changes_own plan (now verdicts plan older) fh (record { control = c; value = entry.value } ∷ []) k row sets.plans (length_now verdicts plan older) sets.long
+
+-- and in no other
+set_others : (verdicts : Verdicts) (plan : PlanData) (older : Past) (fh : FhId) (request : Option RequestId) (entry : ExtControl) (c k : ℕ) (row : List ℤ) (reply : Reply)
+    → Sets verdicts plan older fh entry c k row → (j : ℕ) → j < length plan.clusters → j ≢ k
+    → list_any (step_changes verdicts plan older (taken plan older (asks.SetCtrls fh 0 request (entry ∷ [])) (Ok reply))) (members plan j) ≡ false
+set_others verdicts plan older fh request entry c k row reply sets j lt other =
+    set_changing verdicts plan older fh request entry c k row reply sets (members plan j)
+    ∙ changes_other plan (now verdicts plan older) fh (record { control = c; value = entry.value }) j k row sets.plans lt sets.within sets.clustered other
 
 -- an accepted set of one control
-pub handles_set : (verdicts : Verdicts) (told : Words) (old new : DeviceData) (work : Work) (seat : ℕ) (fh : FhId) (request : Option RequestId) (entry : ExtControl) (c : ℕ) (value : ℤ) (reply : Reply)
-    → work.told ≡ 0 → work.asked ≤ 1 → IsPlan old.plan
-    → SetsOne verdicts told (record old { work = work }) new seat fh c entry.value value
-    → shown old.plan (past old.steps) fh entry.id ≡ Some c → c < length old.plan.controls → becomes verdicts old.plan c entry.value ≡ Ok value
+pub handles_set : (verdicts : Verdicts) (told : Words) (old new : DeviceData) (work : Work) (seat : ℕ) (fh : FhId) (request : Option RequestId) (entry : ExtControl) (c k : ℕ) (row : List ℤ) (reply : Reply)
+    → work.told ≡ 0 → work.asked ≤ 1
+    → SetsOne verdicts told (record old { work = work }) new seat fh c entry.value k row
+    → Sets verdicts old.plan (past old.steps) fh entry c k row
     → answer_of verdicts old.plan (past old.steps) old.words (asks.SetCtrls fh 0 request (entry ∷ [])) ≡ Ok reply
     → Handles verdicts old new seat (asks.SetCtrls fh 0 request (entry ∷ [])) (Ok reply)
-handles_set verdicts told old new work seat fh request entry c value reply none few plans sets found within becoming answered =
-    let changed = is_changed old.plan (now verdicts old.plan (past old.steps)) c value in
-    let changing = set_changes verdicts old fh request entry c value reply found within becoming in
+handles_set verdicts told old new work seat fh request entry c k row reply none few does sets answered =
+    let changed = set_changes verdicts old.plan (past old.steps) c entry.value k row in
+    let own = set_own verdicts old.plan (past old.steps) fh request entry c k row reply sets in
+    let step = taken old.plan (past old.steps) (asks.SetCtrls fh 0 request (entry ∷ [])) (Ok reply) in
     record {
-      plan = sets.plan;
+      plan = does.plan;
       answers = inl (sym answered);
       refused = λ e. cc;
-      steps = sets.steps ∙ ap (λ (o : Option Step). old.steps ++ entered seat o) (sym (set_step old.plan (past old.steps) fh request entry c found));
-      words = λ k lt same. sets.words.others k (λ is. own_change c (master old.plan k) changed (member_of old.plan c k plans is).1 (sym (changing (master old.plan k)) ∙ same));
-      told = ap (λ (w : Work). w.told) sets.work ∙ ap (told_of old.plan c changed) none ∙ sym (told_one old.plan c changed _ plans changing);
-      asked = omega (arith, few, ap (λ (w : Work). w.asked) sets.work);
+      steps = does.steps ∙ ap (λ (o : Option Step). old.steps ++ entered seat o) (sym (set_step old.plan (past old.steps) fh request entry c sets.found));
+      words = λ j lt same. does.words.others j (λ e. sym own ∙ ap (λ (i : ℕ). list_any (step_changes verdicts old.plan (past old.steps) step) (members old.plan i)) (sym e) ∙ same);
+      told = ap (λ (w : Work). w.told) does.work ∙ ap (told_of old.plan k changed) none
+          ∙ sym (told_one old.plan k changed (step_changes verdicts old.plan (past old.steps) step) sets.within own (set_others verdicts old.plan (past old.steps) fh request entry c k row reply sets));
+      asked = omega (arith, few, ap (λ (w : Work). w.asked) does.work);
     }
 
 -- a set of one control by an open file handle is answered as that one
@@ -223,13 +258,13 @@ lacks_one verdicts old new start work seat fh request entry begin rest told aske
     (inr (rw is_open refl, refl)))
 
 -- a set of one control that is accepted
-pub accepted_one : (verdicts : Verdicts) (told : Words) (old between new : DeviceData) (start work : Work) (seat : ℕ) (fh : FhId) (request : Option RequestId) (entry : ExtControl) (c : ℕ) (value : ℤ) (answers : List ExtControl)
+pub accepted_one : (verdicts : Verdicts) (told : Words) (old between new : DeviceData) (start work : Work) (seat : ℕ) (fh : FhId) (request : Option RequestId) (entry : ExtControl) (c k : ℕ) (row : List ℤ) (value : ℤ) (answers : List ExtControl)
     → between ≡ record old { work = work } → start ≡ at_rest → work.told ≡ start.told → work.asked ≤ start.asked + 1 → IsSome (handler_of (past old.steps) fh)
-    → IsPlan old.plan → shown old.plan (past old.steps) fh entry.id ≡ Some c → c < length old.plan.controls → becomes verdicts old.plan c entry.value ≡ Ok value
+    → Sets verdicts old.plan (past old.steps) fh entry c k row
     → set_one verdicts old.plan (past old.steps) entry (shown old.plan (past old.steps) fh entry.id) ≡ Ok (Controls (record { id = entry.id; value = value } ∷ []))
-    → answers ≡ record { id = entry.id; value = value } ∷ [] → SetsOne verdicts told between new seat fh c entry.value value
+    → answers ≡ record { id = entry.id; value = value } ∷ [] → SetsOne verdicts told between new seat fh c entry.value k row
     → Handles verdicts old new seat (asks.SetCtrls fh 0 request (entry ∷ [])) (Ok (Controls answers))
-accepted_one verdicts told old between new start work seat fh request entry c value answers begin rest untold asked is_open plans found within becoming is reply sets =
+accepted_one verdicts told old between new start work seat fh request entry c k row value answers begin rest untold asked is_open sets is reply does =
     rw reply
-    (handles_set verdicts told old new work seat fh request entry c value _ (told_since start work rest untold) (asked_since start work rest asked) plans
-    (rw begin at sets) found within becoming (set_answer verdicts old.plan (past old.steps) old.words fh request entry is_open ∙ is))
+    (handles_set verdicts told old new work seat fh request entry c k row _ (told_since start work rest untold) (asked_since start work rest asked)
+    (rw begin at does) sets (set_answer verdicts old.plan (past old.steps) old.words fh request entry is_open ∙ is))

@@ -14,7 +14,7 @@ use Rattle.ctrl_handlers.specs.Plan.{PlanData, menu_item}
 use Rattle.ctrl_handlers.specs.Visible.{next_id}
 use Rattle.device_state.specs.Steps.{Past, handler_of, shown}
 use Rattle.device_state.specs.Values.{Values, now}
-use Rattle.device_state.specs.Answers.{Answer, answer_of, list_answer, get_one, set_one, set_settled, query_one, next_one, next_of, item_one, item_of, refused, refused_at, is_list, no_memory, MayAnswer}
+use Rattle.device_state.specs.Answers.{Answer, answer_of, list_answer, get_one, set_one, set_settled, set_judged, query_one, next_one, next_of, item_one, item_of, refused, refused_at, is_list, no_memory, MayAnswer}
 
 -- where the answer is a refusal, whether it has an index is b
 HasIndex : Bool → Answer → Type 0
@@ -41,9 +41,13 @@ got : (plan : PlanData) (values : Values) (entry : ExtControl) (found : Option �
 got plan values entry None = at _ _
 got plan values entry (Some c) = search (either, at, accepted)
 
-settled : (past : Past) (entry : ExtControl) (value : Result ℤ Errno) → HasIndex true (set_settled past entry value)
-settled past entry (Err errno) = at _ _
-settled past entry (Ok value) = search (either, at, accepted)
+judged : (plan : PlanData) (past : Past) (entry : ExtControl) (c : ℕ) (row : Result (List ℤ) Errno) → HasIndex true (set_judged plan past entry c row)
+judged plan past entry c (Err errno) = at _ _
+judged plan past entry c (Ok row) = search (either, at, accepted)
+
+settled : (verdicts : Verdicts) (plan : PlanData) (past : Past) (entry : ExtControl) (c : ℕ) (value : Result ℤ Errno) → HasIndex true (set_settled verdicts plan past entry c value)
+settled verdicts plan past entry c (Err errno) = at _ _
+settled verdicts plan past entry c (Ok value) = judged plan past entry c _
 
 put : (verdicts : Verdicts) (plan : PlanData) (past : Past) (entry : ExtControl) (found : Option ℕ) → HasIndex true (set_one verdicts plan past entry found)
 put verdicts plan past entry None = at _ _
@@ -53,9 +57,9 @@ listed : (past : Past) (fh : FhId) (which : ℕ) (list : List ExtControl) (one :
 listed past fh which [] one h = search (either, at)
 listed past fh which (entry ∷ rest) one h = search (either, at, h)
 
-queried : (plan : PlanData) (found : Option ℕ) → HasIndex false (query_one plan found)
-queried plan None = plain _
-queried plan (Some c) = accepted false _
+queried : (verdicts : Verdicts) (plan : PlanData) (past : Past) (found : Option ℕ) → HasIndex false (query_one verdicts plan past found)
+queried verdicts plan past None = plain _
+queried verdicts plan past (Some c) = accepted false _
 
 next_found : (next : Option CtrlId) → HasIndex false (next_one next)
 next_found None = plain _
@@ -80,6 +84,7 @@ answered verdicts plan past words (asks.GetCtrls fh which request list) =
     listed past fh which list _ (λ e. got plan (now verdicts plan past) e (shown plan past fh e.id))
 answered verdicts plan past words (asks.SetCtrls fh which request list) =
     listed past fh which list _ (λ e. put verdicts plan past e (shown plan past fh e.id))
+answered verdicts plan past words (asks.Grab c on) = search (either, plain, accepted)
 answered verdicts plan past words (asks.Query fh id) = search (either, plain, queried)
 answered verdicts plan past words (asks.NextId fh id) = next plan id (handler_of past fh)
 answered verdicts plan past words (asks.MenuItem fh id index) = search (either, plain, item)
@@ -90,6 +95,7 @@ lacking (asks.OpenFh handler) = plain _
 lacking (asks.CloseFh fh) = plain _
 lacking (asks.GetCtrls fh which request list) = at _ _
 lacking (asks.SetCtrls fh which request list) = at _ _
+lacking (asks.Grab c on) = plain _
 lacking (asks.Query fh id) = plain _
 lacking (asks.NextId fh id) = plain _
 lacking (asks.MenuItem fh id index) = plain _

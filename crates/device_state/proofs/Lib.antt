@@ -1,4 +1,6 @@
 pub mod PastLemmas
+pub mod PresentLemmas
+pub mod RowLemmas
 pub mod OverlayLemmas
 pub mod TellLemmas
 pub mod KeptLemmas

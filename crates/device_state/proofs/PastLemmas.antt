@@ -1,5 +1,5 @@
 -- What one more entry makes of the definitions, and the file handles that a history opened.
-use Rattle.std.proofs.Common.{◌≡◌, ℕ, suc, ◌<◌, ◌≤◌, Bool, true, false, not, cond, List, [], ◌∷◌, ◌++◌, length, filter, None, Some, nat_eq, refl, ap, sym, subst, arith, length-append}
+use Rattle.std.proofs.Common.{◌≡◌, ℕ, suc, ◌<◌, ◌≤◌, Bool, true, false, not, cond, List, [], ◌∷◌, ◌++◌, length, filter, map, None, Some, nat_eq, refl, ap, sym, subst, arith, length-append}
 use Rattle.std.proofs.lemmas.Bool.Decides.{nat_tests}
 use Rattle.std.proofs.lemmas.List.{reverse-append}
 use Rattle.std.specs.Map.{lookup, remove_entry}
@@ -9,9 +9,11 @@ use Rattle.history.proofs.Pasts.{past_add, length_past}
 use Rattle.ctrl_calls.specs.Meanings.{Verdicts}
 use Rattle.ctrl_types.specs.declared.ids.FhId.{FhId}
 use Rattle.device_state.specs.declared.ask.Step.{Step}
-use Rattle.device_state.specs.declared.ask.Step.TheVariants.{OpenFh, CloseFh, Set}
+use Rattle.device_state.specs.declared.ask.Step.TheVariants.{OpenFh, CloseFh, Set, Grab}
 use Rattle.ctrl_handlers.specs.Plan.{PlanData}
 use Rattle.device_state.specs.Steps.{History, Past, opened, opened_after, handler_of}
+use Rattle.device_state.specs.Grabs.{grabbed, grabbed_after}
+use Rattle.device_state.specs.Marks.{flags_under, flags_now}
 use Rattle.device_state.specs.Values.{defaults, now, now_after}
 use Rattle.device_state.specs.Legal.{IsLegal, MayFollow}
 
@@ -34,9 +36,27 @@ unfolding opened
 opened_add steps e = rw (past_add steps e, length_past steps) refl
 
 -- the present values after one more entry
-pub now_add : (verdicts : Verdicts) (plan : PlanData) (steps : History) (e : Entry Step) → now verdicts plan (past (steps ++ e ∷ [])) ≡ now_after verdicts plan e.step (now verdicts plan (past steps))
+pub now_add : (verdicts : Verdicts) (plan : PlanData) (steps : History) (e : Entry Step) → now verdicts plan (past (steps ++ e ∷ [])) ≡ now_after verdicts plan (grabbed plan (past steps)) e.step (now verdicts plan (past steps))
 unfolding now
 now_add verdicts plan steps e = rw (past_add steps e) refl
+
+-- the grabs before the first entry, and after one more
+pub grabbed_start : (plan : PlanData) → grabbed plan (past []) ≡ map (λ _. false) plan.controls
+unfolding grabbed
+grabbed_start plan = refl
+
+pub grabbed_add : (plan : PlanData) (steps : History) (e : Entry Step) → grabbed plan (past (steps ++ e ∷ [])) ≡ grabbed_after e.step (grabbed plan (past steps))
+unfolding grabbed
+grabbed_add plan steps e = rw (past_add steps e) refl
+
+-- the flags before the first entry, and after one more
+pub flags_start : (verdicts : Verdicts) (plan : PlanData) (c : ℕ) → flags_now verdicts plan (past []) c ≡ flags_under plan (defaults plan) (map (λ _. false) plan.controls) c
+unfolding now grabbed
+flags_start verdicts plan c = refl
+
+pub flags_add : (verdicts : Verdicts) (plan : PlanData) (steps : History) (e : Entry Step) (c : ℕ) → flags_now verdicts plan (past (steps ++ e ∷ [])) c
+    ≡ flags_under plan (now_after verdicts plan (grabbed plan (past steps)) e.step (now verdicts plan (past steps))) (grabbed_after e.step (grabbed plan (past steps))) c
+flags_add verdicts plan steps e c = rw (now_add verdicts plan steps e, grabbed_add plan steps e) refl
 
 -- what makes one more entry legal
 pub legal_add : (verdicts : Verdicts) (plan : PlanData) (steps : History) (e : Entry Step) → IsLegal verdicts plan (past steps) → MayFollow verdicts plan (past steps) e.step → IsLegal verdicts plan (past (steps ++ e ∷ []))
@@ -86,6 +106,7 @@ unfolding AreBelow
 after_below n (OpenFh handler) os h = below_append (suc n) os ((n, handler) ∷ []) (below_more n (suc n) os (omega arith) h) (omega arith, tt)
 after_below n (CloseFh fh) os h = below_more n (suc n) _ (omega arith) (below_filter n _ os h)
 after_below n (Set fh pairs) os h = below_more n (suc n) os (omega arith) h
+after_below n (Grab c on) os h = below_more n (suc n) os (omega arith) h
 
 -- a file handle's id is the number of a step that was made
 opened_below : (past : Past) → AreBelow (length past) (opened past)
@@ -145,6 +166,7 @@ after_rising : (n : ℕ) (step : Step) (os : List (ℕ × ℕ)) → AreRising os
 after_rising n (OpenFh handler) os h b = rising_push n handler os h b
 after_rising n (CloseFh fh) os h b = rising_filter _ os h
 after_rising n (Set fh pairs) os h b = h
+after_rising n (Grab c on) os h b = h
 
 -- the ids of the open file handles rise in the order of their opening
 pub opened_rising : (past : Past) → AreRising (opened past)
@@ -211,6 +233,7 @@ after_absent : (n : ℕ) (step : Step) (k : ℕ) (os : List (ℕ × ℕ)) → k 
 after_absent n (OpenFh handler) k os lt h = absent_push k n handler os lt h
 after_absent n (CloseFh fh) k os lt h = still_absent k _ os h
 after_absent n (Set fh pairs) k os lt h = h
+after_absent n (Grab c on) k os lt h = h
 
 older_gone : (newer older : Past) (fh : FhId) → fh.0 < length older → handler_of older fh ≡ None → handler_of (newer ++ older) fh ≡ None
 unfolding opened

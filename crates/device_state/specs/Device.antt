@@ -1,19 +1,22 @@
 -- What a device is seen as, and what a call does to it (of this project).
 use Rattle.std.specs.Prelude.{◌≡◌, ℕ, ℤ, Bool, false, ◌≤◌, [], ◌∷◌, ◌++◌, List, Option, None, Some, IsErr, length, ◌<◌, slice_index}
+use Rattle.std.specs.List.{list_any}
 use Rattle.history.specs.Past.{past, entered}
 use Rattle.ctrl_calls.specs.declared.work.Work.{Work}
 use Rattle.device_state.specs.declared.ask.Ask.{Ask}
+use Rattle.device_state.specs.declared.ask.Ask.TheVariants as asks
 use Rattle.device_state.specs.declared.ask.Step.{Step}
 use Rattle.device_state.specs.declared.ask.Step.TheVariants.{Set}
-use Rattle.ctrl_handlers.specs.Plan.{PlanData, master}
+use Rattle.ctrl_handlers.specs.Plan.{PlanData, members}
 use Rattle.ctrl_calls.specs.Meanings.{Verdicts, Words}
 use Rattle.ctrl_types.specs.declared.ids.FhId.{FhId}
 use Rattle.device_state.specs.Steps.{History, Past}
+use Rattle.device_state.specs.Grabs.{grabbed}
 use Rattle.device_state.specs.Values.{now, now_after}
-use Rattle.device_state.specs.Told.{changes, told_count, is_changed, told_of, IsTold}
+use Rattle.device_state.specs.Told.{changes, told_count, row_changes, told_of, IsTold}
 use Rattle.device_state.specs.Answers.{Answer, MayAnswer, taken}
 
--- A device: what it was built of, the steps that it accepted, the words that its named clusters were told last, and how often
+-- A device: what it was built of, the steps that it accepted, the words that its clusters were told last, and how often
 -- the last call asked validators and told notifiers.
 pub record DeviceData : Type 0 where
   pub plan : PlanData
@@ -28,10 +31,16 @@ with_step device seat step = record device { steps = device.steps ++ record { se
 -- whether a step changes a control, after a past
 abbrev pub step_changes : Verdicts → PlanData → Past → Option Step → ℕ → Bool
 step_changes verdicts plan past None c = false
-step_changes verdicts plan past (Some step) c = changes plan (now verdicts plan past) (now_after verdicts plan step (now verdicts plan past)) step c
+step_changes verdicts plan past (Some step) c = changes plan (now verdicts plan past) (now_after verdicts plan (grabbed plan past) step (now verdicts plan past)) step c
+
+-- how many validators an ask may have asked: a set of one control that of its cluster, every other ask none
+abbrev pub may_ask : Ask → ℕ
+may_ask (asks.SetCtrls fh which request list) = 1
+may_ask _ = 0
 
 -- What a call at a seat does: the answer is one that the ask may get, and the steps grow by the one that it takes, or by none.
--- Each cluster with a changed control is told once, and the word of every other stays. At most one validator is asked.
+-- Each cluster with a changed member is told once, and the word of every other stays. Only a set may ask validators, and asks one at
+-- most.
 pub record Handles (verdicts : Verdicts) (old new : DeviceData) (seat : ℕ) (ask : Ask) (answer : Answer) : Type 0 where
   pub plan : new.plan ≡ old.plan
   pub answers : MayAnswer verdicts old.plan (past old.steps) old.words ask answer
@@ -39,14 +48,20 @@ pub record Handles (verdicts : Verdicts) (old new : DeviceData) (seat : ℕ) (as
   pub refused : IsErr answer → new ≡ record old { work = new.work }
   pub steps : new.steps ≡ old.steps ++ entered seat (taken old.plan (past old.steps) ask answer)
   pub words : (k : ℕ) → k < length old.plan.clusters
-      → step_changes verdicts old.plan (past old.steps) (taken old.plan (past old.steps) ask answer) (master old.plan k) ≡ false
+      → list_any (step_changes verdicts old.plan (past old.steps) (taken old.plan (past old.steps) ask answer)) (members old.plan k) ≡ false
       → slice_index new.words k ≡ slice_index old.words k
   pub told : new.work.told ≡ told_count old.plan (step_changes verdicts old.plan (past old.steps) (taken old.plan (past old.steps) ask answer))
-  pub asked : new.work.asked ≤ 1
+  pub asked : new.work.asked ≤ may_ask ask
 
--- What an accepted set of one control does: it adds its step, and the control's cluster is told where the control changed.
-pub record SetsOne (verdicts : Verdicts) (told : Words) (old new : DeviceData) (seat : ℕ) (fh : FhId) (c : ℕ) (asked value : ℤ) : Type 0 where
+-- whether a set of one control, after a past, changes a member of the cluster that gets this row
+abbrev pub set_changes : Verdicts → PlanData → Past → ℕ → ℤ → ℕ → List ℤ → Bool
+set_changes verdicts plan past c asked k row =
+    row_changes plan (now verdicts plan past) (record { control = c; value = asked } ∷ []) (members plan k) row
+
+-- What an accepted set of one control does: it adds its step, and the control's cluster, which gets the row, is told where the row
+-- changes a member.
+pub record SetsOne (verdicts : Verdicts) (told : Words) (old new : DeviceData) (seat : ℕ) (fh : FhId) (c : ℕ) (asked : ℤ) (k : ℕ) (row : List ℤ) : Type 0 where
   pub plan : new.plan ≡ old.plan
   pub steps : new.steps ≡ old.steps ++ record { seat = seat; step = Set fh (record { control = c; value = asked } ∷ []) } ∷ []
-  pub words : IsTold told old.plan c (is_changed old.plan (now verdicts old.plan (past old.steps)) c value) value old.words new.words
-  pub work : new.work ≡ record old.work { told = told_of old.plan c (is_changed old.plan (now verdicts old.plan (past old.steps)) c value) old.work.told }
+  pub words : IsTold told old.plan k (set_changes verdicts old.plan (past old.steps) c asked k row) row old.words new.words
+  pub work : new.work ≡ record old.work { told = told_of old.plan k (set_changes verdicts old.plan (past old.steps) c asked k row) old.work.told }

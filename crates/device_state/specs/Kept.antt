@@ -4,17 +4,22 @@ use Rattle.history.specs.Past.{past}
 use Rattle.device_state.specs.declared.limits.TheConstants.{MAX_STEPS}
 use Rattle.ctrl_handlers.specs.Plan.{PlanData}
 use Rattle.device_state.specs.Steps.{History, opened}
+use Rattle.device_state.specs.Grabs.{Grabs, grabbed}
 use Rattle.device_state.specs.Values.{Values, now}
+use Rattle.device_state.specs.Marks.{flags_under, flags_now}
 use Rattle.ctrl_calls.specs.Meanings.{Verdicts}
 use Rattle.ctrl_calls.specs.Meanings.{Words}
 use Rattle.device_state.specs.Told.{AreTold}
 use Rattle.device_state.specs.Legal.{IsLegal}
 
--- The steps came about and are not more than are kept; the table of file handles has the open ones, the values are the present
--- ones, and each cluster has a word that it may have been told of them.
-pub record IsKept (verdicts : Verdicts) (told : Words) (plan : PlanData) (steps : History) (handles : List (ℕ × ℕ)) (values : Values) (words : List ℕ) : Type 0 where
+-- The steps came about and are not more than are kept; the table of file handles has the open ones, the grabs are those that
+-- hold, the values are the present ones, and with both go the present flags; each cluster has a word that it may have been told of
+-- its row.
+pub record IsKept (verdicts : Verdicts) (told : Words) (plan : PlanData) (steps : History) (handles : List (ℕ × ℕ)) (grabs : Grabs) (values : Values) (words : List ℕ) : Type 0 where
   pub legal : IsLegal verdicts plan (past steps)
   pub few : length steps ≤ MAX_STEPS
   pub are_open : handles ≡ opened (past steps)
+  pub are_grabbed : grabs ≡ grabbed plan (past steps)
   pub are_present : values ≡ now verdicts plan (past steps)
+  pub have_flags : (c : ℕ) → flags_under plan values grabs c ≡ flags_now verdicts plan (past steps) c
   pub are_told : AreTold told plan values words

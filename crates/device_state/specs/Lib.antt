@@ -12,9 +12,12 @@ pub use Rattle.ctrl_handlers.specs.Visible
 pub use Rattle.ctrl_handlers.specs.Builder
 pub use Rattle.ctrl_clusters.specs.Rows
 pub use Rattle.ctrl_clusters.specs.Judging
+pub use Rattle.ctrl_clusters.specs.AutoClusters
 pub mod Steps
-pub mod Clusters
+pub mod Grabs
+pub mod Overlay
 pub mod Values
+pub mod Marks
 pub mod Told
 pub mod Info
 pub mod Answers

@@ -39,6 +39,13 @@ pub enum Ask {
         /// The controls and their values.
         list: ControlList,
     },
+    /// Grabs a control, so that a set of it is refused, or lets it go (Linux driver API, `v4l2_ctrl_grab`).
+    Grab {
+        /// The control's number.
+        control: u32,
+        /// Whether it is to be grabbed.
+        on: bool,
+    },
     /// Reads what a control is like (`VIDIOC_QUERY_EXT_CTRL`).
     Query {
         /// The file handle.
@@ -107,5 +114,12 @@ pub enum Step {
         fh: FhId,
         /// The values, as they were given.
         pairs: PairList,
+    },
+    /// A control was grabbed, or let go.
+    Grab {
+        /// The control's number.
+        control: u32,
+        /// Whether it was grabbed.
+        on: bool,
     },
 }

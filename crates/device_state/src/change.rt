@@ -1,36 +1,35 @@
-ghost use Rattle.std.specs.Prelude.{◌≡◌, ◌<◌, ◌≤◌, length, IfOk};
-ghost use Rattle.ctrl_handlers.specs.Plan.{calls_of, master};
-ghost use Rattle.device_state.specs.Values.{value_at};
-ghost use Rattle.device_state.specs.Told.{AreTold, IsTold, MayBeTold, told_of};
+//! Whom a device tells of rows.
 
-use crate::judge::tell;
-use ctrl_calls::{Driver, Work};
+ghost use Rattle.std.specs.Prelude.{◌≡◌, ◌<◌, length, IfOk};
+ghost use Rattle.ctrl_handlers.specs.Plan.{calls_of, members};
+ghost use Rattle.device_state.specs.Values.{row_of};
+ghost use Rattle.device_state.specs.Told.{AreTold, IsTold, MayBeTold, told_by, told_of};
+
+use crate::row::present_row;
+use ctrl_calls::{ClusterRow, Driver, Work};
 use ctrl_handlers::Plan;
 use std::alloc::{AllocError, Global};
 
-/// Tells the cluster of a control, where the control changed, its new value, and keeps the word.
+/// Tells a cluster its new row, where the row changed a member, and keeps the word.
 pub(crate) fn tell_change<D: Driver>(
     plan: &Plan<D>,
     words: &mut Vec<u64>,
-    control: u32,
+    cluster: u32,
     changed: bool,
-    value: i64,
+    row: &ClusterRow,
     work: &mut Work,
 )
-    requires { length words.old.items ≡ length plan.now.clusters }
-    ensures words { IsTold D.told plan.now control changed value words.old.items words.new.items }
-    ensures work { work.new ≡ record work.old { told = told_of plan.now control changed work.old.told } }
+    requires known { cluster < length plan.now.clusters }
+    requires each { length words.old.items ≡ length plan.now.clusters }
+    ensures words { IsTold D.told plan.now cluster changed row.now words.old.items words.new.items }
+    ensures work { work.new ≡ record work.old { told = told_of plan.now cluster changed work.old.told } }
 {
-    if !changed {
-        return;
-    }
-    if let Some(cluster) = plan.cluster_of(control) {
-        words[cluster as usize] = tell(plan, cluster, value, work);
+    if changed {
+        words[cluster as usize] = tell(plan, cluster, row, work);
     }
 }
 
-/// Tells each named cluster the value of its control, in rising number, and answers the words. Nobody is told where memory
-/// is wanting.
+/// Tells each cluster its row, in rising number, and answers the words. Nobody is told where memory is wanting.
 pub(crate) fn first_words<D: Driver>(
     alloc: Global,
     plan: &Plan<D>,
@@ -39,7 +38,7 @@ pub(crate) fn first_words<D: Driver>(
     requires { length values.now ≡ length plan.now.controls }
     ensures { IfOk result (λ words. AreTold D.told plan.now values.now words.items) }
 {
-    let count = plan.named_count();
+    let count = plan.cluster_count();
     let mut words = Vec::with_capacity(alloc, count as usize)?;
     let mut work = Work::new();
     for cluster in 0..count {
@@ -48,16 +47,28 @@ pub(crate) fn first_words<D: Driver>(
     Ok(words)
 }
 
-// Tells a cluster the value of its control, and answers the word.
+// Tells a cluster its row of these values, and answers the word.
 fn tell_present<D: Driver>(plan: &Plan<D>, values: &[i64], cluster: u32, work: &mut Work) -> u64
     requires known { cluster < length plan.now.clusters }
     requires there { length values.now ≡ length plan.now.controls }
-    ensures { MayBeTold D.told (calls_of plan.now cluster).notifier (value_at values.now (master plan.now cluster)) result }
+    ensures { MayBeTold D.told (calls_of plan.now cluster).notifier (row_of values.now (members plan.now cluster)) result }
 {
-    tell(
-        plan,
-        cluster,
-        values[plan.members(cluster)[0] as usize],
-        work,
-    )
+    let row = present_row(values, plan.members(cluster));
+    tell(plan, cluster, &row, work)
+}
+
+/// Tells a cluster a row, and answers the word; 0 where it has no notifier.
+pub(crate) fn tell<D: Driver>(
+    plan: &Plan<D>,
+    cluster: u32,
+    row: &ClusterRow,
+    work: &mut Work,
+) -> u64
+    ensures word { MayBeTold D.told (calls_of plan.now cluster).notifier row.now result }
+    ensures told { work.new ≡ record work.old { told = told_by (calls_of plan.now cluster).notifier work.old.told } }
+{
+    match plan.notifier(cluster) {
+        Some(notifier) => ctrl_calls::tell(notifier, row, work),
+        None => 0,
+    }
 }

@@ -1,4 +1,4 @@
-ghost use Rattle.std.specs.Prelude.{◌≡◌, ◌<◌, ◌≤◌, ◌+◌, ℕ, Bool, [], ◌∷◌, map, length, None, Some, Option, Ok, Err, IsOk, IfOk, IfErr, IfSome, OnOk, OnErr, IsSome};
+ghost use Rattle.std.specs.Prelude.{◌≡◌, ◌<◌, ◌≤◌, ◌+◌, ℕ, Bool, false, [], ◌∷◌, map, length, None, Some, Option, Ok, Err, IsOk, IfOk, IfErr, IfSome, OnOk, OnErr, IsSome};
 ghost use Rattle.history.specs.Past.{past};
 ghost use Rattle.ctrl_types.specs.declared.errno.Errno.TheVariants.{ENOMEM};
 ghost use Rattle.ctrl_types.specs.declared.ids.ExtControl.{ExtControl as ExtControlOf};
@@ -6,12 +6,13 @@ ghost use Rattle.ctrl_types.specs.declared.ids.RequestId.{RequestId as RequestId
 ghost use Rattle.device_state.specs.declared.ask.Ask.TheVariants as asks;
 ghost use Rattle.device_state.specs.declared.ask.Reply.TheVariants as replies;
 ghost use Rattle.device_state.specs.declared.ask.Step.TheVariants as steps;
-ghost use Rattle.device_state.specs.Clusters.{becomes};
-ghost use Rattle.ctrl_handlers.specs.Plan.{IsPlan};
+ghost use Rattle.ctrl_handlers.specs.Plan.{IsPlan, cluster_of, members};
+ghost use Rattle.device_state.specs.Grabs.{is_grabbed, grabbed};
+ghost use Rattle.device_state.specs.Marks.{flags_now};
 ghost use Rattle.device_state.specs.Steps.{opened, handler_of, shown};
 ghost use Rattle.device_state.specs.Values.{defaults, value_at, now};
-ghost use Rattle.device_state.specs.Told.{AreTold, is_changed};
-ghost use Rattle.device_state.specs.Answers.{Answer, refused, refused_at, are_all_open, is_full, open_answer, close_answer, query_answer, next_answer, list_answer, get_one, set_one, told_answer, answer_of, MayAnswer};
+ghost use Rattle.device_state.specs.Told.{AreTold, row_changes};
+ghost use Rattle.device_state.specs.Answers.{Answer, refused, refused_at, are_all_open, is_full, open_answer, close_answer, grab_answer, own_cluster, set_becomes, set_judged, value_in, query_answer, next_answer, list_answer, get_one, set_one, told_answer, answer_of, MayAnswer};
 ghost use Rattle.device_state.specs.Legal.{IsLegal};
 ghost use Rattle.device_state.specs.Device.{Handles, SetsOne, with_step};
 
@@ -19,13 +20,15 @@ use crate::ask::{Ask, Reply, Step};
 use crate::change::{first_words, tell_change};
 use crate::control_list::ControlList;
 use crate::info::CtrlInfo;
-use crate::judge::becomes;
 use crate::limits::{MAX_FILE_HANDLES, MAX_STEPS};
 use crate::pair_list::PairList;
+use crate::row::{row_changes, value_in, write_row};
+use crate::start::{first_values, no_grabs};
 use bitflags::Flags as FlagSet;
-use ctrl_calls::{Driver, Work};
+use ctrl_calls::{ClusterRow, Driver, Work};
+use ctrl_clusters::{becomes, inactive};
 use ctrl_handlers::Plan;
-use ctrl_settle::Ctrl;
+use ctrl_settle::settle;
 use ctrl_types::{CtrlId, Errno, ExtControl, Fault, FhId, Flags, Pair, RequestId};
 use history::Entry;
 use indexmap::IndexMap;
@@ -34,14 +37,16 @@ use std::marker::Model;
 
 /// The controls of one device (Linux driver API, "V4L2 Controls"), and the history of the steps that it accepted. Contracts
 /// see it as its plan, those steps, the words that its clusters were told last, and the counts of the last call: its open file
-/// handles and its present values are what the steps make of them, at every moment.
+/// handles, its grabs, its present values and flags are what the steps make of them, at every moment.
 pub struct Device<D: Driver> {
     plan: Plan<D>,
     // the open file handles, each with its handler, in the order of their opening
     file_handles: IndexMap<u32, u32>,
+    // whether a control is grabbed, by control
+    grabs: Vec<bool>,
     // the present values, by control
     values: Vec<i64>,
-    // the words told last, by named cluster
+    // the words told last, by cluster
     words: Vec<u64>,
     steps: Vec<Entry<Step>>,
     work: Work,
@@ -57,7 +62,7 @@ impl<D: Driver> Model for Device<D> {
 
     ghost view = { λ d. record { plan = d.plan; steps = d.steps.items; words = d.words.items; work = d.work } };
 
-    ghost invariant = { λ d. IsKept D.verdict D.told d.plan d.steps.items d.file_handles.entries d.values.items d.words.items };
+    ghost invariant = { λ d. IsKept D.verdict D.told d.plan d.steps.items d.file_handles.entries d.grabs.items d.values.items d.words.items };
 }
 
 impl<D: Driver> Drop for Device<D> {
@@ -65,6 +70,7 @@ impl<D: Driver> Drop for Device<D> {
         let Device {
             plan: _,
             file_handles: _,
+            grabs: _,
             values: _,
             words: _,
             steps: _,
@@ -75,13 +81,16 @@ impl<D: Driver> Drop for Device<D> {
 }
 
 impl<D: Driver> Device<D> {
-    /// A device of this plan, with its defaults, without steps. Each notifier is told the default of its control, in rising
-    /// number of the clusters (of this project). ENOMEM (12) where a growth was refused, with the plan; then nobody was told.
+    /// A device of this plan, with its defaults, without steps and grabs. Each notifier is told the defaults of its cluster, in
+    /// rising number of the clusters (of this project). ENOMEM (12) where a growth was refused, with the plan; then nobody was told.
     pub fn new(alloc: Global, plan: Plan<D>) -> Result<Device<D>, (Plan<D>, Errno)>
         ensures ok { IfOk result (λ d. (d.plan ≡ plan) × (d.steps ≡ []) × AreTold D.told plan (defaults plan) d.words × (d.work ≡ record { asked = 0; told = 0 })) }
         ensures err { IfErr result (λ e. (e.0 ≡ plan) × (e.1 ≡ ENOMEM)) }
     {
         let Ok(values) = first_values(alloc, &plan) else {
+            return Err((plan, Errno::ENOMEM));
+        };
+        let Ok(grabs) = no_grabs(alloc, plan.controls()) else {
             return Err((plan, Errno::ENOMEM));
         };
         let Ok(words) = first_words(alloc, &plan, values.as_slice()) else {
@@ -90,6 +99,7 @@ impl<D: Driver> Device<D> {
         Ok(Device {
             plan,
             file_handles: IndexMap::new(alloc),
+            grabs,
             values,
             words,
             steps: Vec::new(alloc),
@@ -105,8 +115,8 @@ impl<D: Driver> Device<D> {
         &self.plan
     }
 
-    /// The steps that were accepted, oldest first. They are legal, and there are at most 1,000,000 of them; each named cluster
-    /// has a word that it may have been told of the values that they make.
+    /// The steps that were accepted, oldest first. They are legal, and there are at most 1,000,000 of them; each cluster has a
+    /// word that it may have been told of the values that they make.
     pub fn steps(&self) -> &[Entry<Step>]
         ensures steps { result.now ≡ self.now.steps }
         ensures legal { IsLegal D.verdict self.now.plan (past self.now.steps) }
@@ -124,13 +134,16 @@ impl<D: Driver> Device<D> {
     }
 
     /// Answers an ask of the seat with this number, which is any `u32`. An accepted ask adds its step to the history, if it
-    /// has one; a refusal leaves the device as it was, but for the counts of `work`. Each cluster whose control changed is told
-    /// once, and keeps a word of its new value; the word of every other stays.
+    /// has one; a refusal leaves the device as it was, but for the counts of `work`. Each cluster with a changed member is told
+    /// its new row once, and its word is kept; the word of every other stays.
     ///
     /// `OpenFh` is refused, without an index, with EINVAL (22) where there is no such handler, with ENOSPC (28) where 64 file
     /// handles are open or 1,000,000 steps are kept, and with ENOMEM (12) where a growth was refused. `CloseFh` is refused,
     /// without an index, with EBADF (9) where `fh` isn't open, with ENOSPC where 1,000,000 steps are kept, and with ENOMEM
-    /// where a growth was refused; a file handle that was closed isn't opened again. For the refusals of lists, each with its
+    /// where a growth was refused; a file handle that was closed isn't opened again. `Grab` grabs a control, whatever its flags,
+    /// or lets it go (Linux driver API, `v4l2_ctrl_grab`): as long as it is grabbed it has GRABBED and a set of it is refused; it
+    /// is refused, without an index, with EINVAL where there is no such control, with ENOSPC where 1,000,000 steps are kept, and
+    /// with ENOMEM where a growth was refused; a grab that holds already is accepted, and is a step. For the refusals of lists, each with its
     /// index, see `get` and `set`; for those of `Query` and `Told` see `query` and `told`.
     ///
     /// `NextId` tells the least id that is shown to `fh` and greater than `id`, DISABLED controls counted (Linux userspace API,
@@ -167,6 +180,7 @@ impl<D: Driver> Device<D> {
                 request,
                 list,
             } => self.set(seat, *fh, *which, *request, list),
+            Ask::Grab { control, on } => self.grab(seat, *control, *on),
             Ask::Query { fh, id } => self.query(*fh, *id),
             Ask::NextId { fh, id } => self.next(*fh, *id),
             Ask::MenuItem { fh, id, index } => self.item(*fh, *id, *index),
@@ -197,18 +211,39 @@ impl<D: Driver> Device<D> {
 
     /// Sets controls to what their values become, as `handle` on `Ask::SetCtrls` of these fields does (Linux userspace API,
     /// "ioctl VIDIOC_S_EXT_CTRLS"; Linux driver API, "V4L2 Controls", "Control Clusters"; the order of the refusals and the
-    /// index are of this project). A value settles, and then the cluster's validator judges it, asked at most once. The answer
-    /// has the values that the controls took; the step keeps them as they were given. Where a control changed, that is where
-    /// its value differs or it acts on each write, its cluster's notifier is told the new value, once, and its word is kept.
+    /// index are of this project). The values of a cluster's members, overwritten by those that are asked for, settle in member
+    /// order, and then the cluster's validator judges the row, asked at most once; it may change any member. The answer has the
+    /// values that the controls took; the step keeps them as they were given. Where a member changed, that is where its value
+    /// differs, or it acts on each write and was asked for, the cluster's notifier is told the new row, once, and its word is
+    /// kept.
     ///
     /// Refused, in this order, with EBADF (9) where `fh` isn't open; EINVAL (22) where, as yet, `which` isn't 0 or `list`
     /// hasn't one entry; EINVAL where the id isn't shown to `fh` or its control is DISABLED; EACCES (13) where it is
-    /// READ_ONLY; the errno of `ctrl_settle::settle` where the value doesn't settle; the validator's errno where it refuses
-    /// with EACCES, EBUSY (16), EINVAL or ERANGE (34), and EINVAL where it refuses with another, or answers a row of another
+    /// READ_ONLY; EBUSY (16) where it is grabbed; the errno of `ctrl_settle::settle` where the value doesn't settle, and then of
+    /// the first member that doesn't; the validator's errno where it refuses
+    /// with EACCES, EBUSY, EINVAL or ERANGE (34), and EINVAL where it refuses with another, or answers a row of another
     /// length or with a value that settling would change or refuse; ENOSPC (28) where 1,000,000 steps are kept. ENOMEM (12) may
     /// stand in place of any answer from the third on. The index is the number of entries. Nothing is changed then but the
     /// counts of `work`, and no notifier is told. `request` is ignored.
     pub fn set(
+        &mut self,
+        seat: u32,
+        fh: FhId,
+        which: u32,
+        request: Option<RequestId>,
+        list: &ControlList,
+    ) -> Result<Reply, Fault>
+        ensures handles { Handles D.verdict self.old self.new seat (asks.SetCtrls fh which request list.now) result }
+        ensures told { AreTold D.told self.new.plan (now D.verdict self.new.plan (past self.new.steps)) self.new.words }
+    {
+        let answer = self.set_list(seat, fh, which, request, list);
+        // the words are such as were told, as the contract of `steps` says
+        let _kept = self.steps();
+        answer
+    }
+
+    // Sets the controls of a list.
+    fn set_list(
         &mut self,
         seat: u32,
         fh: FhId,
@@ -228,7 +263,8 @@ impl<D: Driver> Device<D> {
     }
 
     /// What a control is like, as `handle` on `Ask::Query` of these fields at any seat does (Linux userspace API, "ioctls
-    /// VIDIOC_QUERYCTRL, VIDIOC_QUERY_EXT_CTRL and VIDIOC_QUERYMENU"). A control that is DISABLED is found. Refused, in this
+    /// VIDIOC_QUERYCTRL, VIDIOC_QUERY_EXT_CTRL and VIDIOC_QUERYMENU"), with its present flags: those of the plan, GRABBED where
+    /// it is grabbed, and INACTIVE where its auto cluster makes it so. A control that is DISABLED is found. Refused, in this
     /// order, without an index, with EBADF (9) where `fh` isn't open, and EINVAL (22) where the id isn't shown to it. It takes
     /// no memory, and changes nothing but the counts of `work`.
     pub fn query(&mut self, fh: FhId, id: CtrlId) -> Result<Reply, Fault>
@@ -402,70 +438,131 @@ impl<D: Driver> Device<D> {
         let mut work = Work::new();
         let judged = self.judge_one(fh, entry, &mut work);
         self.work = work;
-        let (number, value) = match judged {
+        let (number, row) = match judged {
             Ok(taken) => taken,
             Err(errno) => return refused_at(errno, 1),
         };
-        match self.accept_set(seat, fh, entry, number, value) {
+        match self.accept_set(seat, fh, entry, number, &row) {
             Ok(answers) => Ok(Reply::Controls(answers)),
             Err(_) => refused_at(Errno::ENOMEM, 1),
         }
     }
 
-    // The refusals of an entry that is to be set; else the control that it is of, and what its value becomes.
-    fn judge_one(&self, fh: FhId, entry: ExtControl, work: &mut Work) -> Result<(u32, i64), Errno>
+    // The refusals of an entry that is to be set; else the control that it is of, and what its cluster's row becomes.
+    fn judge_one(
+        &self,
+        fh: FhId,
+        entry: ExtControl,
+        work: &mut Work,
+    ) -> Result<(u32, ClusterRow), Errno>
         ensures err { IfErr result (λ errno. set_one D.verdict self.now.plan (past self.now.steps) entry (shown self.now.plan (past self.now.steps) fh entry.id) ≡ refused_at errno 1) }
         ensures ok { IfOk result (λ taken. set_one D.verdict self.now.plan (past self.now.steps) entry (shown self.now.plan (past self.now.steps) fh entry.id)
-            ≡ Ok (replies.Controls (record { id = entry.id; value = taken.1 } ∷ []))) }
+            ≡ Ok (replies.Controls (record { id = entry.id; value = value_in (members self.now.plan (own_cluster self.now.plan taken.0)) taken.1 taken.0 } ∷ []))) }
         ensures shown { IfOk result (λ taken. shown self.now.plan (past self.now.steps) fh entry.id ≡ Some taken.0) }
         ensures known { IfOk result (λ taken. taken.0 < length self.now.plan.controls) }
-        ensures becomes { IfOk result (λ taken. becomes D.verdict self.now.plan taken.0 entry.value ≡ Ok taken.1) }
+        ensures free { IfOk result (λ taken. is_grabbed (grabbed self.now.plan (past self.now.steps)) taken.0 ≡ false) }
+        ensures clustered { IfOk result (λ taken. cluster_of self.now.plan taken.0 ≡ Some (own_cluster self.now.plan taken.0)) }
+        ensures within { IfOk result (λ taken. own_cluster self.now.plan taken.0 < length self.now.plan.clusters) }
+        ensures becomes { IfOk result (λ taken. set_becomes D.verdict self.now.plan (past self.now.steps) taken.0 entry.value ≡ Ok taken.1) }
+        ensures long { IfOk result (λ taken. length taken.1 ≡ length (members self.now.plan (own_cluster self.now.plan taken.0))) }
         ensures room { IfOk result (λ _. length self.now.steps < MAX_STEPS) }
         ensures plan { IfOk result (λ _. IsPlan self.now.plan) }
         ensures asked { work.new.asked ≤ work.old.asked + 1 }
         ensures told { work.new.told ≡ work.old.told }
     {
-        let Some(number) = self.shown(fh, entry.id) else {
-            return Err(Errno::EINVAL);
-        };
-        let flags = self.plan.control(number).flags();
-        if flags.contains(Flags::DISABLED) {
-            return Err(Errno::EINVAL);
-        }
-        if flags.contains(Flags::READ_ONLY) {
-            return Err(Errno::EACCES);
-        }
-        match becomes(&self.plan, number, entry.value, work) {
+        let number = self.may_set(fh, entry)?;
+        match self.becomes_one(number, entry.value, work) {
             Err(errno) => Err(errno),
             Ok(_) if self.is_full() => Err(Errno::ENOSPC),
-            Ok(value) => Ok((number, value)),
+            Ok(row) => Ok((number, row)),
         }
     }
 
-    // Sets one control, as shown under an id, to what the value that is asked for becomes, after the refusals.
-    #[tactic(auto, using(crate::proofs::OverlayLemmas::length_now))]
+    // The refusals of an entry that is to be set, before its cluster is judged; else the control that it is of.
+    fn may_set(&self, fh: FhId, entry: ExtControl) -> Result<u32, Errno>
+        ensures err { IfErr result (λ errno. set_one D.verdict self.now.plan (past self.now.steps) entry (shown self.now.plan (past self.now.steps) fh entry.id) ≡ refused_at errno 1) }
+        ensures ok { IfOk result (λ c. set_one D.verdict self.now.plan (past self.now.steps) entry (shown self.now.plan (past self.now.steps) fh entry.id)
+            ≡ set_judged self.now.plan (past self.now.steps) entry c (set_becomes D.verdict self.now.plan (past self.now.steps) c entry.value)) }
+        ensures shown { IfOk result (λ c. shown self.now.plan (past self.now.steps) fh entry.id ≡ Some c) }
+        ensures known { IfOk result (λ c. c < length self.now.plan.controls) }
+        ensures free { IfOk result (λ c. is_grabbed (grabbed self.now.plan (past self.now.steps)) c ≡ false) }
+        ensures plan { IfOk result (λ _. IsPlan self.now.plan) }
+    {
+        let Some(number) = self.shown(fh, entry.id) else {
+            return Err(Errno::EINVAL);
+        };
+        let ctrl = self.plan.control(number);
+        if ctrl.flags().contains(Flags::DISABLED) {
+            return Err(Errno::EINVAL);
+        }
+        if ctrl.flags().contains(Flags::READ_ONLY) {
+            return Err(Errno::EACCES);
+        }
+        if self.is_grabbed(number) {
+            return Err(Errno::EBUSY);
+        }
+        match settle(&ctrl, entry.value) {
+            Ok(_) => Ok(number),
+            Err(errno) => Err(errno),
+        }
+    }
+
+    // What the row of a control's cluster becomes where the control alone is set.
+    fn becomes_one(&self, number: u32, asked: i64, work: &mut Work) -> Result<ClusterRow, Errno>
+        requires { number < length self.now.plan.controls }
+        ensures row { result ≡ set_becomes D.verdict self.now.plan (past self.now.steps) number asked }
+        ensures clustered { cluster_of self.now.plan number ≡ Some (own_cluster self.now.plan number) }
+        ensures within { own_cluster self.now.plan number < length self.now.plan.clusters }
+        ensures long { IfOk result (λ row. length row ≡ length (members self.now.plan (own_cluster self.now.plan number))) }
+        ensures asked { work.new.asked ≤ work.old.asked + 1 }
+        ensures told { work.new.told ≡ work.old.told }
+    {
+        let pair = Pair {
+            control: number,
+            value: asked,
+        };
+        becomes(
+            &self.plan,
+            self.plan.cluster_of(number),
+            self.present(),
+            &[pair],
+            work,
+        )
+    }
+
+    // Gives the cluster of one control, as shown under an id, the row that it becomes where the control is set, after the
+    // refusals.
     fn accept_set(
         &mut self,
         seat: u32,
         fh: FhId,
         entry: ExtControl,
         number: u32,
-        value: i64,
+        row: &ClusterRow,
     ) -> Result<ControlList, AllocError>
         requires accepted { IsOk (answer_of D.verdict self.old.plan (past self.old.steps) [] (asks.SetCtrls fh 0 None (entry ∷ []))) }
         requires room { length self.old.steps < MAX_STEPS }
         requires shown { shown self.old.plan (past self.old.steps) fh entry.id ≡ Some number }
         requires known { number < length self.old.plan.controls }
-        requires becomes { becomes D.verdict self.old.plan number entry.value ≡ Ok value }
-        ensures answers { IfOk result (λ answers. answers ≡ record { id = entry.id; value = value } ∷ []) }
-        ensures ok { IfOk result (λ _. SetsOne D.verdict D.told self.old self.new seat fh number entry.value value) }
+        requires free { is_grabbed (grabbed self.old.plan (past self.old.steps)) number ≡ false }
+        requires becomes { set_becomes D.verdict self.old.plan (past self.old.steps) number entry.value ≡ Ok row.now }
+        requires long { length row.now ≡ length (members self.old.plan (own_cluster self.old.plan number)) }
+        requires plan { IsPlan self.old.plan }
+        ensures answers { IfOk result (λ answers. answers ≡ record { id = entry.id; value = value_in (members self.old.plan (own_cluster self.old.plan number)) row.now number } ∷ []) }
+        ensures ok { IfOk result (λ _. SetsOne D.verdict D.told self.old self.new seat fh number entry.value (own_cluster self.old.plan number) row.now) }
         ensures err { OnErr result (self.new ≡ self.old) }
     {
-        let changed = self.is_changed(number, value);
+        let cluster = self.plan.cluster_of(number);
+        let members = self.plan.members(cluster);
+        let pair = Pair {
+            control: number,
+            value: entry.value,
+        };
+        let changed = row_changes(&self.plan, self.values.as_slice(), &[pair], members, row);
         self.steps.reserve(1)?;
-        let answers = one_control(self.alloc, entry.id, value)?;
-        let pairs = one_pair(self.alloc, number, entry.value)?;
-        self.values[number as usize] = value;
+        let answers = one_control(self.alloc, entry.id, value_in(members, row, number))?;
+        let pairs = one_pair(self.alloc, pair)?;
+        write_row(&mut self.values, members, row);
         self.steps.push_reserved(Entry {
             seat,
             step: Step::Set { fh, pairs },
@@ -473,12 +570,54 @@ impl<D: Driver> Device<D> {
         tell_change(
             &self.plan,
             &mut self.words,
-            number,
+            cluster,
             changed,
-            value,
+            row,
             &mut self.work,
         );
         Ok(answers)
+    }
+
+    fn grab(&mut self, seat: u32, control: u32, on: bool) -> Result<Reply, Fault>
+        ensures { Handles D.verdict self.old self.new seat (asks.Grab control on) result }
+    {
+        self.work = Work::new();
+        if let Err(fault) = self.read_grab(control) {
+            return Err(fault);
+        }
+        match self.accept_grab(seat, control, on) {
+            Ok(()) => Ok(Reply::Done),
+            Err(_) => refused(Errno::ENOMEM),
+        }
+    }
+
+    // The refusals of a grab.
+    fn read_grab(&self, control: u32) -> Result<(), Fault>
+        ensures ok { IfOk result (λ _. grab_answer self.now.plan (past self.now.steps) control ≡ Ok replies.Done) }
+        ensures err { IfErr result (λ fault. grab_answer self.now.plan (past self.now.steps) control ≡ Err fault) }
+    {
+        if control >= self.plan.control_count() {
+            return Err(plain(Errno::EINVAL));
+        }
+        if self.is_full() {
+            return Err(plain(Errno::ENOSPC));
+        }
+        Ok(())
+    }
+
+    // Grabs a control or lets it go, after the refusals.
+    fn accept_grab(&mut self, seat: u32, control: u32, on: bool) -> Result<(), AllocError>
+        requires { IsOk (grab_answer self.old.plan (past self.old.steps) control) }
+        ensures ok { OnOk result (self.new ≡ with_step self.old seat (steps.Grab control on)) }
+        ensures err { OnErr result (self.new ≡ self.old) }
+    {
+        self.steps.reserve(1)?;
+        self.grabs[control as usize] = on;
+        self.steps.push_reserved(Entry {
+            seat,
+            step: Step::Grab { control, on },
+        });
+        Ok(())
     }
 
     // The handler of a file handle, if it is open.
@@ -510,7 +649,7 @@ impl<D: Driver> Device<D> {
     }
 
     // The present value of a control.
-    #[tactic(auto, using(crate::proofs::OverlayLemmas::length_now))]
+    #[tactic(auto, using(crate::proofs::PresentLemmas::length_now))]
     fn value(&self, number: u32) -> i64
         requires { number < length self.now.plan.controls }
         ensures { result ≡ value_at (now D.verdict self.now.plan (past self.now.steps)) number }
@@ -518,25 +657,51 @@ impl<D: Driver> Device<D> {
         self.values[number as usize]
     }
 
-    // Whether a value that is written changes its control.
-    fn is_changed(&self, number: u32, value: i64) -> bool
-        requires { number < length self.now.plan.controls }
-        ensures changed { result ≡ is_changed self.now.plan (now D.verdict self.now.plan (past self.now.steps)) number value }
-        ensures plan { IsPlan self.now.plan }
+    // The present values.
+    #[tactic(auto, using(crate::proofs::PresentLemmas::length_now))]
+    fn present(&self) -> &[i64]
+        ensures values { result.now ≡ now D.verdict self.now.plan (past self.now.steps) }
+        ensures long { length result.now ≡ length self.now.plan.controls }
     {
-        let flags = self.plan.control(number).flags();
-        self.value(number) != value || flags.contains(Flags::EXECUTE_ON_WRITE)
+        self.values.as_slice()
+    }
+
+    // Whether a control is grabbed.
+    #[tactic(auto, using(crate::proofs::PresentLemmas::length_grabbed))]
+    fn is_grabbed(&self, number: u32) -> bool
+        requires { number < length self.now.plan.controls }
+        ensures { result ≡ is_grabbed (grabbed self.now.plan (past self.now.steps)) number }
+    {
+        self.grabs[number as usize]
+    }
+
+    // The present flags of a control.
+    fn flags(&self, number: u32) -> Flags
+        requires { number < length self.now.plan.controls }
+        ensures { result ≡ flags_now D.verdict self.now.plan (past self.now.steps) number }
+    {
+        let mut flags = self.plan.flags(number);
+        if self.is_grabbed(number) {
+            flags = flags.union(Flags::GRABBED);
+        }
+        if inactive(&self.plan, self.present(), number) {
+            flags = flags.union(Flags::INACTIVE);
+        }
+        flags
     }
 
     // What the control that is shown to a file handle under an id is like.
     fn info(&self, fh: FhId, id: CtrlId) -> Result<Reply, Fault>
-        ensures { result ≡ query_answer self.now.plan (past self.now.steps) fh id }
+        ensures { result ≡ query_answer D.verdict self.now.plan (past self.now.steps) fh id }
     {
         if self.handler_of(fh).is_none() {
             return refused(Errno::EBADF);
         }
         match self.shown(fh, id) {
-            Some(number) => Ok(Reply::Info(CtrlInfo::of(&self.plan.control(number)))),
+            Some(number) => {
+                let ctrl = self.plan.control(number);
+                Ok(Reply::Info(CtrlInfo::of(&ctrl, self.flags(number))))
+            }
             None => refused(Errno::EINVAL),
         }
     }
@@ -577,31 +742,11 @@ impl<D: Driver> Device<D> {
     fn word(&self, cluster: u32) -> Result<Reply, Fault>
         ensures { result ≡ told_answer self.now.plan self.now.words cluster }
     {
-        if cluster >= self.plan.cluster_count() {
-            return refused(Errno::EINVAL);
-        }
         match self.words.get(cluster as usize) {
             Some(word) => Ok(Reply::Word(*word)),
-            None => Ok(Reply::Word(0)),
+            None => refused(Errno::EINVAL),
         }
     }
-}
-
-// The values of a device without steps.
-fn first_values<D: Driver>(alloc: Global, plan: &Plan<D>) -> Result<Vec<i64>, AllocError>
-    ensures { IfOk result (λ v. v.items ≡ defaults plan.now) }
-{
-    default_values(alloc, plan.controls())
-}
-
-// The default of each control.
-fn default_values(alloc: Global, controls: &[Ctrl]) -> Result<Vec<i64>, AllocError>
-    ensures { IfOk result (λ v. v.items ≡ map (λ c. c.default_value) controls.now) }
-{
-    controls
-        .iter()
-        .map(|ctrl| ctrl.default_value())
-        .collect(alloc)
 }
 
 // A fault without an index.
@@ -643,10 +788,10 @@ fn one_control(alloc: Global, id: CtrlId, value: i64) -> Result<ControlList, All
 }
 
 // A list of one pair.
-fn one_pair(alloc: Global, control: u32, value: i64) -> Result<PairList, AllocError>
-    ensures { IfOk result (λ list. list ≡ record { control = control; value = value } ∷ []) }
+fn one_pair(alloc: Global, pair: Pair) -> Result<PairList, AllocError>
+    ensures { IfOk result (λ list. list ≡ pair ∷ []) }
 {
     let mut items = Vec::with_capacity(alloc, 1)?;
-    items.push_reserved(Pair { control, value });
+    items.push_reserved(pair);
     Ok(PairList::from_vec(items))
 }

@@ -20,14 +20,14 @@ pub struct CtrlInfo {
     pub step: u64,
     /// The value that it has before the first set.
     pub default_value: i64,
-    /// What holds of it.
+    /// Its present flags: those that it was described with, UPDATE of an auto cluster's master, GRABBED and INACTIVE.
     pub flags: Flags,
 }
 
 impl CtrlInfo {
-    // What a query tells of a control.
-    pub(crate) fn of(ctrl: &Ctrl) -> CtrlInfo
-        ensures { result ≡ info_of ctrl.now }
+    // What a query tells of a control that has these flags.
+    pub(crate) fn of(ctrl: &Ctrl, flags: Flags) -> CtrlInfo
+        ensures { result ≡ info_of ctrl.now flags }
     {
         CtrlInfo {
             id: ctrl.id(),
@@ -36,7 +36,7 @@ impl CtrlInfo {
             maximum: ctrl.maximum(),
             step: ctrl.step(),
             default_value: ctrl.default_value(),
-            flags: ctrl.flags(),
+            flags,
         }
     }
 }

@@ -1,7 +1,8 @@
 //! What the definitions over the history say of one more entry. Each function is a law that its contract states; none has
 //! anything to do.
 
-ghost use Rattle.std.specs.Prelude.{◌≡◌, ◌<◌, ℕ, false, [], ◌∷◌, ◌++◌, List, length, is_some, None, Err};
+ghost use Rattle.std.specs.Prelude.{◌≡◌, ◌<◌, ℕ, false, [], ◌∷◌, ◌++◌, List, length, map, is_some, None, Err};
+ghost use Rattle.std.specs.List.{list_any};
 ghost use Rattle.history.specs.declared.entry.Entry.{Entry};
 ghost use Rattle.history.specs.Past.{past};
 ghost use Rattle.ctrl_calls.specs.Meanings.{Verdicts};
@@ -10,7 +11,9 @@ ghost use Rattle.ctrl_types.specs.declared.ids.FhId.{FhId};
 ghost use Rattle.device_state.specs.declared.ask.Ask.{Ask};
 ghost use Rattle.device_state.specs.declared.ask.Step.{Step};
 ghost use Rattle.device_state.specs.declared.ask.Step.TheVariants.{CloseFh};
-ghost use Rattle.ctrl_handlers.specs.Plan.{PlanData, master};
+ghost use Rattle.ctrl_handlers.specs.Plan.{PlanData, members};
+ghost use Rattle.device_state.specs.Grabs.{grabbed, grabbed_after};
+ghost use Rattle.device_state.specs.Marks.{flags_under, flags_now};
 ghost use Rattle.device_state.specs.Steps.{History, Past, opened, opened_after, handler_of};
 ghost use Rattle.device_state.specs.Values.{defaults, now, now_after};
 ghost use Rattle.device_state.specs.Answers.{MayAnswer, is_list};
@@ -38,14 +41,30 @@ pub fn closed_handles()
 #[tactic(auto, using(crate::proofs::PastLemmas::now_start, crate::proofs::PastLemmas::now_add))]
 pub fn present_values()
     ensures start { (verdicts : Verdicts) (plan : PlanData) → now verdicts plan (past []) ≡ defaults plan }
-    ensures one_more { (verdicts : Verdicts) (plan : PlanData) (steps : History) (e : Entry Step) → now verdicts plan (past (steps ++ e ∷ [])) ≡ now_after verdicts plan e.step (now verdicts plan (past steps)) }
+    ensures one_more { (verdicts : Verdicts) (plan : PlanData) (steps : History) (e : Entry Step) → now verdicts plan (past (steps ++ e ∷ [])) ≡ now_after verdicts plan (grabbed plan (past steps)) e.step (now verdicts plan (past steps)) }
 {}
 
-/// The words that a driver's clusters were told stay such as they may have been told, as long as no cluster's control
-/// changes.
+/// At first no control is grabbed; one more entry makes of the grabs what its step makes of them.
+#[tactic(auto, using(crate::proofs::PastLemmas::grabbed_start, crate::proofs::PastLemmas::grabbed_add))]
+pub fn grabbed_controls()
+    ensures start { (plan : PlanData) → grabbed plan (past []) ≡ map (λ _. false) plan.controls }
+    ensures one_more { (plan : PlanData) (steps : History) (e : Entry Step) → grabbed plan (past (steps ++ e ∷ [])) ≡ grabbed_after e.step (grabbed plan (past steps)) }
+{}
+
+/// The present flags are those that the present values and the grabs make; one more entry makes of them what its step makes of
+/// both.
+#[tactic(auto, using(crate::proofs::PastLemmas::flags_start, crate::proofs::PastLemmas::flags_add))]
+pub fn present_flags()
+    ensures start { (verdicts : Verdicts) (plan : PlanData) (c : ℕ) → flags_now verdicts plan (past []) c ≡ flags_under plan (defaults plan) (map (λ _. false) plan.controls) c }
+    ensures one_more { (verdicts : Verdicts) (plan : PlanData) (steps : History) (e : Entry Step) (c : ℕ) → flags_now verdicts plan (past (steps ++ e ∷ [])) c
+        ≡ flags_under plan (now_after verdicts plan (grabbed plan (past steps)) e.step (now verdicts plan (past steps))) (grabbed_after e.step (grabbed plan (past steps))) c }
+{}
+
+/// The words that a driver's clusters were told stay such as they may have been told, as long as no cluster changes.
 pub fn told_words<D: Driver>()
     ensures { (verdicts : Verdicts) (plan : PlanData) (steps : History) (e : Entry Step) (words : List ℕ) → AreTold D.told plan (now verdicts plan (past steps)) words
-        → ((k : ℕ) → k < length plan.clusters → changes plan (now verdicts plan (past steps)) (now_after verdicts plan e.step (now verdicts plan (past steps))) e.step (master plan k) ≡ false)
+        → ((k : ℕ) → k < length plan.clusters
+        → list_any (changes plan (now verdicts plan (past steps)) (now_after verdicts plan (grabbed plan (past steps)) e.step (now verdicts plan (past steps))) e.step) (members plan k) ≡ false)
         → AreTold D.told plan (now verdicts plan (past (steps ++ e ∷ []))) words }
 {}
 

@@ -6,11 +6,12 @@ mod change;
 mod control_list;
 mod device;
 mod info;
-mod judge;
 pub mod laws;
 mod limits;
 mod pair_list;
+mod row;
 mod serve;
+mod start;
 
 pub use ask::{Ask, Reply, Step};
 pub use control_list::ControlList;

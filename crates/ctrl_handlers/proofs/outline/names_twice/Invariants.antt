@@ -1,5 +1,5 @@
 use Rattle.std.proofs.Common.{◌≡◌, drop}
-use Rattle.ctrl_handlers.specs.Builder.{names_twice}
+use Rattle.ctrl_handlers.specs.Plan.{names_twice}
 use Rattle.ctrl_handlers.proofs.outline.names_twice.Given as goal
 
 -- the answer stands among the numbers that are left

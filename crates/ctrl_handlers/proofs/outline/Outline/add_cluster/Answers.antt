@@ -1,5 +1,3 @@
-use Rattle.std.proofs.Common.{◌≡◌, ◌∷◌, ◌++◌, [], List, None, ap, ◌∙◌}
-use Rattle.ctrl_handlers.specs.ClusterData.{ClusterData}
 use Rattle.ctrl_handlers.proofs.ClusterLemmas.{is_plan_add, may_cluster}
 use Rattle.ctrl_handlers.proofs.outline.Outline.add_cluster.Goals as goal
 
@@ -7,4 +5,4 @@ use Rattle.ctrl_handlers.proofs.outline.Outline.add_cluster.Goals as goal
 pub invariant_of-self-2 : goal.invariant_of-self-2
 invariant_of-self-2 c =
     rw (c.in_ok-push.ensures.items, c.new.ensures)
-    (is_plan_add _ c.args.members.now c.args.calls c.self.invariant (may_cluster _ c.args.members.now (rw (← c.self.view_is) at c.requires)))
+    (is_plan_add _ c.args.members.now c.args.manual c.args.calls c.self.invariant (may_cluster _ c.args.members.now (rw (← c.self.view_is) at c.requires)))

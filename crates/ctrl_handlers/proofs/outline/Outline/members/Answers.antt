@@ -1,4 +1,4 @@
-use Rattle.std.proofs.Common.{◌≡◌, ◌<◌, length, ap, ◌∙◌}
+use Rattle.std.proofs.Common.{◌<◌, length, ap, ◌∙◌}
 use Rattle.std.proofs.lemmas.List.{get_or_default}
 use Rattle.ctrl_handlers.specs.ClusterData.{ClusterData}
 use Rattle.ctrl_handlers.specs.Plan.{PlanData, no_cluster}
@@ -12,10 +12,26 @@ returns-clause-known c =
     let are = c.members.ensures ∙ ap (λ (k : ClusterData). k.members) (c.index-cluster.ensures ∙ get_or_default clusters c.args.cluster c.index-cluster.result.now no_cluster there) in
     rw (are, ← c.self.view_is) (c.self.invariant.members_known c.args.cluster)
 
--- of which there is one
-pub returns-clause-one : goal.returns-clause-one
-returns-clause-one c =
+-- there are some
+pub returns-clause-some : goal.returns-clause-some
+returns-clause-some c =
     let clusters = c.self.inside.clusters.items in
     let there : c.args.cluster < length clusters = rw (ap (λ (p : PlanData). p.clusters) c.self.view_is) c.requires in
     let are = c.members.ensures ∙ ap (λ (k : ClusterData). k.members) (c.index-cluster.ensures ∙ get_or_default clusters c.args.cluster c.index-cluster.result.now no_cluster there) in
-    rw are (c.self.invariant.one_member c.args.cluster there)
+    rw are (c.self.invariant.some_members c.args.cluster there)
+
+-- and not too many
+pub returns-clause-few : goal.returns-clause-few
+returns-clause-few c =
+    let clusters = c.self.inside.clusters.items in
+    let there : c.args.cluster < length clusters = rw (ap (λ (p : PlanData). p.clusters) c.self.view_is) c.requires in
+    let are = c.members.ensures ∙ ap (λ (k : ClusterData). k.members) (c.index-cluster.ensures ∙ get_or_default clusters c.args.cluster c.index-cluster.result.now no_cluster there) in
+    rw are (c.self.invariant.few_members c.args.cluster)
+
+-- and they differ
+pub returns-clause-differ : goal.returns-clause-differ
+returns-clause-differ c =
+    let clusters = c.self.inside.clusters.items in
+    let there : c.args.cluster < length clusters = rw (ap (λ (p : PlanData). p.clusters) c.self.view_is) c.requires in
+    let are = c.members.ensures ∙ ap (λ (k : ClusterData). k.members) (c.index-cluster.ensures ∙ get_or_default clusters c.args.cluster c.index-cluster.result.now no_cluster there) in
+    rw are (c.self.invariant.members_differ c.args.cluster)

@@ -9,7 +9,7 @@ use Rattle.ctrl_handlers.proofs.plan.Plan.shown.Goals as goal
 pub index-list-requires : goal.index-list-requires
 index-list-requires g c =
     let plan = c.args.self.now in
-    let are = c.self.invariant.1 ∙ ap (λ (p : PlanData). shown_below p (length p.handlers)) c.self.view_is in
+    let are = c.self.invariant.2 ∙ ap (λ (p : PlanData). shown_below p (length p.handlers)) c.self.view_is in
     let within : c.args.handler < length plan.handlers = c.if-not-has_handler.ensures.there.0 refl in
     omega (arith, within, ap length are, length-shown_below plan (length plan.handlers), c.self.inside.shown.ok.0)
 
@@ -18,7 +18,7 @@ pub returns-clause-shown : goal.returns-clause-shown
 returns-clause-shown g c =
     let plan = c.args.self.now in
     let lists = c.self.inside.shown.items in
-    let are : lists ≡ shown_below plan (length plan.handlers) = c.self.invariant.1 ∙ ap (λ (p : PlanData). shown_below p (length p.handlers)) c.self.view_is in
+    let are : lists ≡ shown_below plan (length plan.handlers) = c.self.invariant.2 ∙ ap (λ (p : PlanData). shown_below p (length p.handlers)) c.self.view_is in
     let within : c.args.handler < length plan.handlers = c.if-not-has_handler.ensures.there.0 refl in
     let place : c.args.handler < length lists = omega (arith, within, ap length are, length-shown_below plan (length plan.handlers)) in
     c.as_slice.ensures ∙ c.index-list.ensures ∙ get_or_default lists c.args.handler c.index-list.result.now [] place

@@ -1,7 +1,7 @@
 use Rattle.std.proofs.Common.{◌≡◌, [], ◌∷◌, inl, sym, ap}
 use Rattle.device_state.specs.Device.{DeviceData}
 use Rattle.device_state.proofs.HandleLemmas.{handles_refused}
-use Rattle.device_state.proofs.device.Device.set.Goals as goal
+use Rattle.device_state.proofs.device.Device.set_list.Goals as goal
 
 -- a list of one about the present values is answered as that one
 pub returns-in-Ok : goal.returns-in-Ok

@@ -1,0 +1,37 @@
+//! Which controls of an auto cluster are inactive.
+
+ghost use Rattle.std.specs.Prelude.{◌≡◌, ◌<◌, length};
+ghost use Rattle.ctrl_clusters.specs.AutoClusters.{inactive, is_automatic};
+
+use ctrl_calls::Driver;
+use ctrl_handlers::Plan;
+
+/// Whether a control is inactive: it is a member, but not the master, of an auto cluster, and the value of the master isn't the
+/// manual value (Linux driver API, "V4L2 Controls", "Handling autogain/gain-type Controls with Auto Clusters"). A control of any
+/// other cluster never is. An inactive control keeps its value and may be set.
+///
+/// - `plan`: what the device is built of.
+/// - `values`: a value for each control, in the order of their numbers; the caller owes exactly as many.
+/// - `control`: the number of a control; the caller owes one below `Plan::control_count`.
+///
+/// It takes no memory and refuses nothing.
+#[tactic(auto, unfolding(crate::specs::AutoClusters::inactive))]
+pub fn inactive<D: Driver>(plan: &Plan<D>, values: &[i64], control: u32) -> bool
+    requires known { control < length plan.now.controls }
+    requires values { length values.now ≡ length plan.now.controls }
+    ensures { result ≡ inactive plan.now values.now control }
+{
+    let cluster = plan.cluster_of(control);
+    let master = plan.members(cluster)[0];
+    master != control && is_automatic(plan.manual(cluster), values[master as usize])
+}
+
+// Whether there is a manual value, and a value is another.
+fn is_automatic(manual: Option<i64>, value: i64) -> bool
+    ensures { result ≡ is_automatic manual value }
+{
+    match manual {
+        Some(manual) => value != manual,
+        None => false,
+    }
+}
