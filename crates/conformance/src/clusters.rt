@@ -1,5 +1,6 @@
 //! Clusters of several members and grabs on a plan of its own: what a device answers, keeps and tells.
 
+use crate::asking::{expect_calls, get as get_of, refused as refused_at, set as set_of, tried};
 use crate::mirrors::{MIRRORS, MirrorJudge, MirrorTeller, Mirrors, REFUSES};
 use bitflags::Flags as FlagSet;
 use ctrl_calls::{Calls, Notifier, Relation, Validator, Work};
@@ -308,5 +309,53 @@ fn members_are_inactive_beside_another_value(rt: HostRuntime) -> Result<(), Fail
     for control in [LEAD, STUBBORN, 3] {
         assert_eq!(rt; flags(&mut device, control)?, 0);
     }
+    Ok(())
+}
+
+// A refused cluster stands at its first entry, and no other is changed.
+#[test]
+fn a_list_with_a_refused_cluster(rt: HostRuntime) -> Result<(), Fail> {
+    const SECOND: &[(u32, i64)] = &[(100, 7), (102, 5), (104, 1)];
+    const FIRST: &[(u32, i64)] = &[(103, 5), (100, 7), (102, 5)];
+    const THIRD: &[(u32, i64)] = &[(104, 3), (100, 7), (103, 1)];
+    const BEFORE: &[(u32, i64)] = &[(100, 0), (102, 0), (103, 0), (104, 0)];
+    let mut device = opened(rt.alloc())?;
+    let whole = refused_at(Errno::EACCES, 3);
+    let all = [
+        (tried(0, SECOND, refused_at(Errno::EACCES, 1)), 2, 0),
+        (set_of(0, SECOND, whole), 2, 0),
+        (tried(0, FIRST, refused_at(Errno::EACCES, 0)), 1, 0),
+        (set_of(0, FIRST, whole), 1, 0),
+        (tried(0, THIRD, refused_at(Errno::EACCES, 2)), 2, 0),
+        (set_of(0, THIRD, whole), 2, 0),
+        (get_of(0, BEFORE, Ok(&[0, 2, 3, 4])), 0, 0),
+    ];
+    expect_calls(&rt, &mut device, &all)?;
+    assert_eq!(rt; word(&mut device, 0)?, 1);
+    assert_eq!(rt; word(&mut device, 1)?, 23);
+    assert_eq!(rt; device.steps().len(), 1);
+    Ok(())
+}
+
+#[test]
+fn a_list_over_two_clusters(rt: HostRuntime) -> Result<(), Fail> {
+    const PAIRS: &[(u32, i64)] = &[(107, 8), (100, 7), (104, 3), (100, 6), (111, 2)];
+    const VALUES: &[i64] = &[8, 6, 3, 6, 2];
+    const READ: &[(u32, i64)] = &[(101, 0), (107, 0), (104, 0)];
+    let mut device = opened(rt.alloc())?;
+    expect_calls(&rt, &mut device, &[(tried(0, PAIRS, Ok(VALUES)), 1, 0)])?;
+    assert_eq!(rt; word(&mut device, 0)?, 1);
+    assert_eq!(rt; flags(&mut device, 7)?, 0x10);
+    expect_calls(&rt, &mut device, &[(set_of(0, PAIRS, Ok(VALUES)), 1, 1)])?;
+    assert_eq!(rt; word(&mut device, 0)?, 66);
+    assert_eq!(rt; flags(&mut device, 7)?, 0);
+    let all = [
+        (get_of(0, READ, Ok(&[6, 8, 3])), 0, 0),
+        // what changes no value tells nobody, but is a step
+        (set_of(0, PAIRS, Ok(VALUES)), 1, 0),
+        (set_of(0, &[], Ok(&[])), 0, 0),
+    ];
+    expect_calls(&rt, &mut device, &all)?;
+    assert_eq!(rt; device.steps().len(), 4);
     Ok(())
 }

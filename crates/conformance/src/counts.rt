@@ -5,6 +5,7 @@ ghost use Rattle.std.specs.Prelude.{⊤};
 ghost use Rattle.ctrl_calls.specs.Meanings.{JudgesBy, TellsBy};
 ghost use Rattle.conformance.specs.Closures.{mirror_verdict};
 
+use crate::asking::{Case, expect_case, get, refused as refused_at, set, tried};
 use crate::mirrors::{MIRRORS, digits_word, mirror};
 use bitflags::Flags as FlagSet;
 use ctl_script::{
@@ -131,14 +132,34 @@ fn sets<D: Driver>(
             Err(fault) => Err(fault),
         };
         assert_eq!(rt; answer, set.answer);
-        assert_eq!(rt; device.work(), set.calls);
-        let now = counts.now();
-        assert_eq!(rt;
-            now.asked.wrapping_sub(counts.before.asked),
-            set.calls.asked
-        );
-        assert_eq!(rt; now.told.wrapping_sub(counts.before.told), set.calls.told);
-        counts.before = now;
+        expect_calls(rt, device, counts, set.calls);
+    }
+    Ok(())
+}
+
+// Compares the calls of closures since the last look with what the device counts and with what is to be.
+fn expect_calls<D: Driver>(rt: &impl Abort, device: &Device<D>, counts: &mut Counts, calls: Work) {
+    assert_eq!(rt; device.work(), calls);
+    let now = counts.now();
+    assert_eq!(rt; now.asked.wrapping_sub(counts.before.asked), calls.asked);
+    assert_eq!(rt; now.told.wrapping_sub(counts.before.told), calls.told);
+    counts.before = now;
+}
+
+// Asks lists in turn, each with the calls of closures: validators asked and notifiers told.
+fn expect_all<D: Driver, R: AllocGlobal + Abort>(
+    rt: &R,
+    device: &mut Device<D>,
+    counts: &mut Counts,
+    cases: &[(Case<'_>, u64, u64)],
+) -> Result<(), Fail> {
+    for (case, asked, told) in cases {
+        expect_case(rt, device, *case)?;
+        let calls = Work {
+            asked: *asked,
+            told: *told,
+        };
+        expect_calls(rt, device, counts, calls);
     }
     Ok(())
 }
@@ -151,7 +172,15 @@ const RED: u32 = 0x0098_090e;
 
 const BLUE: u32 = 0x0098_090f;
 
-// Sets on the sample device with these closures.
+const BRIGHTNESS: u32 = 0x0098_0900;
+
+const BUTTON: u32 = 0x0098_090d;
+
+const HFLIP: u32 = 0x0098_0914;
+
+const POWER: u32 = 0x0098_0918;
+
+// Sets and lists on the sample device with these closures.
 fn on_the_sample<D: Driver, R: AllocGlobal + Abort>(
     rt: &R,
     limit: D::Judge,
@@ -193,6 +222,17 @@ fn on_the_sample<D: Driver, R: AllocGlobal + Abort>(
     };
     let plan = sample_plan(rt.alloc(), of_gain, of_balance, of_button, of_brightness)?;
     let mut device = start(rt, rt.alloc(), plan, &mut counts, 4, 1)?;
+    sample_sets(rt, &mut device, &mut counts)?;
+    sample_lists(rt, &mut device, &mut counts)?;
+    refused_lists(rt, &mut device, &mut counts)
+}
+
+// Sets of one control on the fresh sample device.
+fn sample_sets<D: Driver, R: AllocGlobal + Abort>(
+    rt: &R,
+    device: &mut Device<D>,
+    counts: &mut Counts,
+) -> Result<(), Fail> {
     let all = [
         // the gain is lessened, and then stays
         taken(GAIN, 250, 200, 1, 1),
@@ -205,19 +245,76 @@ fn on_the_sample<D: Driver, R: AllocGlobal + Abort>(
         taken(BLUE, 128, 128, 1, 0),
         taken(BLUE, 184, 184, 1, 1),
         // each press is told, and nobody asks of the button and of brightness
-        taken(0x0098_090d, 1, 0, 0, 1),
-        taken(0x0098_090d, 1, 0, 0, 1),
-        taken(0x0098_0900, 4, 4, 0, 1),
-        taken(0x0098_0900, 5, 4, 0, 0),
+        taken(BUTTON, 1, 0, 0, 1),
+        taken(BUTTON, 1, 0, 0, 1),
+        taken(BRIGHTNESS, 4, 4, 0, 1),
+        taken(BRIGHTNESS, 5, 4, 0, 0),
         // a control alone, and none
-        taken(0x0098_0914, 1, 1, 0, 0),
+        taken(HFLIP, 1, 1, 0, 0),
         refused(0x0098_0903, 3, 0),
     ];
-    sets(rt, rt.alloc(), &mut device, &mut counts, all.as_slice())
+    sets(rt, rt.alloc(), device, counts, all.as_slice())
+}
+
+// Lists over several clusters, behind those sets: each validator is asked once.
+fn sample_lists<D: Driver, R: AllocGlobal + Abort>(
+    rt: &R,
+    device: &mut Device<D>,
+    counts: &mut Counts,
+) -> Result<(), Fail> {
+    const ALL: &[(u32, i64)] = &[
+        (AUTOGAIN, 1),
+        (RED, 100),
+        (GAIN, 9),
+        (BLUE, 90),
+        (BRIGHTNESS, 7),
+        (BUTTON, 1),
+    ];
+    const VALUES: &[i64] = &[1, 100, 9, 90, 8, 0];
+    const TWICE: &[(u32, i64)] = &[(GAIN, 250), (RED, 1), (GAIN, 5)];
+    const LAST: &[i64] = &[5, 1, 5];
+    let cases = [
+        (tried(0, ALL, Ok(VALUES)), 2, 0),
+        (set(0, ALL, Ok(VALUES)), 2, 4),
+        // the button alone acts again
+        (set(0, ALL, Ok(VALUES)), 2, 1),
+        (tried(0, TWICE, Ok(LAST)), 2, 0),
+        (set(0, TWICE, Ok(LAST)), 2, 2),
+        // clusters without closures, and no cluster
+        (set(0, &[(HFLIP, 0), (POWER, 2)], Ok(&[0, 2])), 0, 0),
+        (set(0, &[], Ok(&[])), 0, 0),
+        (tried(0, &[], Ok(&[])), 0, 0),
+        (get(0, &[], Ok(&[])), 0, 0),
+    ];
+    expect_all(rt, device, counts, &cases)
+}
+
+// Refused lists, behind those: nobody is asked where an entry is refused, nor of a cluster behind one that is, and nobody is told.
+fn refused_lists<D: Driver, R: AllocGlobal + Abort>(
+    rt: &R,
+    device: &mut Device<D>,
+    counts: &mut Counts,
+) -> Result<(), Fail> {
+    const LATE: &[(u32, i64)] = &[(GAIN, 6), (RED, 200), (BLUE, 200)];
+    const EARLY: &[(u32, i64)] = &[(RED, 200), (BLUE, 200), (GAIN, 6)];
+    const HIGH: &[(u32, i64)] = &[(GAIN, 6), (POWER, 4)];
+    const UNKNOWN: &[(u32, i64)] = &[(GAIN, 6), (0x0098_0999, 4)];
+    const READ: &[(u32, i64)] = &[(GAIN, 0), (RED, 0), (BLUE, 0), (BRIGHTNESS, 0)];
+    let whole = refused_at(Errno::EINVAL, 3);
+    let cases = [
+        (tried(0, LATE, refused_at(Errno::EINVAL, 1)), 2, 0),
+        (set(0, LATE, whole), 2, 0),
+        (tried(0, EARLY, refused_at(Errno::EINVAL, 0)), 1, 0),
+        (set(0, EARLY, whole), 1, 0),
+        (tried(0, HIGH, refused_at(Errno::ERANGE, 1)), 0, 0),
+        (set(0, UNKNOWN, refused_at(Errno::EINVAL, 2)), 0, 0),
+        (get(0, READ, Ok(&[5, 1, 90, 8])), 0, 0),
+    ];
+    expect_all(rt, device, counts, &cases)
 }
 
 #[test]
-fn sets_on_the_sample_device(rt: HostRuntime) -> Result<(), Fail> {
+fn sets_and_lists_on_the_sample_device(rt: HostRuntime) -> Result<(), Fail> {
     let asked = Arc::new(rt.alloc(), AtomicU64::new(0))?;
     let told = Arc::new(rt.alloc(), AtomicU64::new(0))?;
     let limit: Judge = counting!(rt, asked, gain_verdict);

@@ -49,12 +49,12 @@ fn device(alloc: Global) -> Result<Device<Plain>, Fail> {
     }
 }
 
-fn list(alloc: Global, id: u32, value: i64, count: u8) -> Result<ControlList, AllocError> {
+fn list(alloc: Global, id: u32, value: i64) -> Result<ControlList, AllocError> {
     let entry = ExtControl {
         id: CtrlId(id),
         value,
     };
-    Ok(ControlList::from_vec(vec![in alloc; entry; usize::from(count)]?))
+    Ok(ControlList::from_vec(vec![in alloc; entry; 1]?))
 }
 
 // The value that a list of one is answered, or the refusal.
@@ -67,13 +67,6 @@ fn value(answer: Result<Reply, Fault>) -> Result<Option<i64>, Fault> {
         Ok(_) => Ok(None),
         Err(fault) => Err(fault),
     }
-}
-
-fn fault(errno: Errno, index: u32) -> Result<Option<i64>, Fault> {
-    Err(Fault {
-        errno,
-        index: Some(index),
-    })
 }
 
 #[test]
@@ -125,98 +118,37 @@ fn handle_get_and_set(rt: HostRuntime) -> Result<(), Fail> {
     let opened = device.handle(3, &Ask::OpenFh { handler: 0 });
     assert!(rt; matches!(opened, Ok(Reply::Fh(FhId(0)))));
     let fh = FhId(0);
-    let entry = list(rt.alloc(), PLAIN, -3, 1)?;
+    let entry = list(rt.alloc(), PLAIN, -3)?;
+    assert_eq!(rt; value(device.get(fh, 0, None, &entry)), Ok(Some(5)));
+    assert_eq!(rt; value(device.try_set(fh, 0, None, &entry)), Ok(Some(-5)));
     assert_eq!(rt; value(device.get(fh, 0, None, &entry)), Ok(Some(5)));
     assert_eq!(rt; value(device.set(7, fh, 0, None, &entry)), Ok(Some(-5)));
     assert_eq!(rt; value(device.get(fh, 0, None, &entry)), Ok(Some(-5)));
+    let tried = Ask::TryCtrls {
+        fh,
+        which: 0,
+        request: None,
+        list: list(rt.alloc(), PLAIN, 9)?,
+    };
+    assert_eq!(rt; value(device.handle(1, &tried)), Ok(Some(10)));
     let set = Ask::SetCtrls {
         fh,
         which: 0,
         request: None,
-        list: list(rt.alloc(), PLAIN, 9, 1)?,
+        list: list(rt.alloc(), PLAIN, 9)?,
     };
     assert_eq!(rt; value(device.handle(1, &set)), Ok(Some(10)));
     let get = Ask::GetCtrls {
         fh,
         which: 0,
         request: None,
-        list: list(rt.alloc(), PLAIN, 0, 1)?,
+        list: list(rt.alloc(), PLAIN, 0)?,
     };
     assert_eq!(rt; value(device.handle(1, &get)), Ok(Some(10)));
     assert_eq!(rt; device.steps().len(), 3);
     for (step, seat) in device.steps().iter().zip([3, 7, 1].as_slice()) {
         assert_eq!(rt; step.seat, *seat);
     }
-    Ok(())
-}
-
-#[test]
-fn flags_that_refuse(rt: HostRuntime) -> Result<(), Fail> {
-    let mut device = device(rt.alloc())?;
-    let opened = device.handle(0, &Ask::OpenFh { handler: 0 });
-    assert!(rt; opened.is_ok());
-    let fh = FhId(0);
-    let disabled = list(rt.alloc(), DISABLED, 0, 1)?;
-    assert_eq!(rt;
-        value(device.get(fh, 0, None, &disabled)),
-        fault(Errno::EINVAL, 1)
-    );
-    assert_eq!(rt;
-        value(device.set(0, fh, 0, None, &disabled)),
-        fault(Errno::EINVAL, 1)
-    );
-    let read_only = list(rt.alloc(), READ_ONLY, 0, 1)?;
-    assert_eq!(rt; value(device.get(fh, 0, None, &read_only)), Ok(Some(5)));
-    assert_eq!(rt;
-        value(device.set(0, fh, 0, None, &read_only)),
-        fault(Errno::EACCES, 1)
-    );
-    let write_only = list(rt.alloc(), WRITE_ONLY, 0, 1)?;
-    assert_eq!(rt;
-        value(device.get(fh, 0, None, &write_only)),
-        fault(Errno::EACCES, 1)
-    );
-    assert_eq!(rt; value(device.set(0, fh, 0, None, &write_only)), Ok(Some(0)));
-    let unknown = list(rt.alloc(), 0, 0, 1)?;
-    assert_eq!(rt;
-        value(device.get(fh, 0, None, &unknown)),
-        fault(Errno::EINVAL, 1)
-    );
-    assert_eq!(rt;
-        value(device.set(0, fh, 0, None, &unknown)),
-        fault(Errno::EINVAL, 1)
-    );
-    assert_eq!(rt; device.steps().len(), 2);
-    Ok(())
-}
-
-#[test]
-fn lists_that_are_not_one_entry_of_the_present(rt: HostRuntime) -> Result<(), Fail> {
-    let mut device = device(rt.alloc())?;
-    let opened = device.handle(0, &Ask::OpenFh { handler: 0 });
-    assert!(rt; opened.is_ok());
-    let fh = FhId(0);
-    for count in [0u8, 2, 65] {
-        let entries = list(rt.alloc(), PLAIN, 0, count)?;
-        let refused = fault(Errno::EINVAL, u32::from(count));
-        assert_eq!(rt; value(device.get(fh, 0, None, &entries)), refused);
-        assert_eq!(rt; value(device.set(0, fh, 0, None, &entries)), refused);
-        let unopened = fault(Errno::EBADF, u32::from(count));
-        assert_eq!(rt; value(device.get(FhId(1), 0, None, &entries)), unopened);
-        assert_eq!(rt; value(device.set(0, FhId(1), 0, None, &entries)), unopened);
-    }
-    let entry = list(rt.alloc(), PLAIN, 0, 1)?;
-    for which in [1u32, 0x0f00_0000, 0x0f01_0000, 0x0098_0000] {
-        assert_eq!(rt;
-            value(device.get(fh, which, None, &entry)),
-            fault(Errno::EINVAL, 1)
-        );
-        assert_eq!(rt;
-            value(device.set(0, fh, which, None, &entry)),
-            fault(Errno::EINVAL, 1)
-        );
-    }
-    assert_eq!(rt; device.steps().len(), 1);
     Ok(())
 }
 

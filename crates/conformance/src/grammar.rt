@@ -6,7 +6,7 @@ use std::test::Fail;
 
 #[test]
 fn lines_that_are_no_command(rt: HostRuntime) -> Result<(), Fail> {
-    let lines: [&[u8]; 90] = [
+    let lines: [&[u8]; 101] = [
         b"set f cur hflip",
         b"set f cur hflip=",
         b"set f cur =1",
@@ -31,6 +31,17 @@ fn lines_that_are_no_command(rt: HostRuntime) -> Result<(), Fail> {
         b"set f 0 hflip=1",
         b"set f",
         b"set",
+        b"try",
+        b"try f",
+        b"try f cur hflip",
+        b"try f cur hflip=1 vflip",
+        b"try f cur hflip=",
+        b"try f cur hflip=9223372036854775808",
+        b"try f now hflip=1",
+        b"try f_ cur hflip=1",
+        b"try f req: hflip=1",
+        b"Try f cur hflip=1",
+        b"tries f cur hflip=1",
         b"get f cur hflip=1",
         b"get f",
         b"get",
@@ -124,7 +135,7 @@ fn bytes_that_no_word_has(rt: HostRuntime) -> Result<(), Fail> {
 
 #[test]
 fn words_in_each_form(rt: HostRuntime) -> Result<(), Fail> {
-    let words: [(&[u8], &[u8]); 14] = [
+    let words: [(&[u8], &[u8]); 18] = [
         (b"set f cur 0x00980903=10", b"ok 9"),
         (b"set f cur 0x98090D=1", b"error 22 index 1"),
         (b"get f 0x0 hue", b"ok 9"),
@@ -133,8 +144,12 @@ fn words_in_each_form(rt: HostRuntime) -> Result<(), Fail> {
         (b"set f cur hue=-9223372036854775808", b"ok 0"),
         (b"set f cur hue=9223372036854775807", b"ok 9"),
         (b"set f cur hue=0000000000000000001", b"ok 0"),
-        (b"get f def hue", b"error 22 index 1"),
-        (b"get f user hue", b"error 22 index 1"),
+        (b"get f def hue", b"ok 0"),
+        (b"get f user hue", b"ok 0"),
+        (b"try f cur 0x980903=10 vflip=-1", b"ok 9 1"),
+        (b"try f user hue=-9223372036854775808", b"ok 0"),
+        (b"set f  cur  hue=3   vflip=0 ", b"ok 3 0"),
+        (b"get f 0x980000 hue 0x00980915", b"ok 3 0"),
         (b"get f camera", b"error 22 index 0"),
         (b"get f req:r hue vflip", b"error 22 index 2"),
         (b"query f 0x98091F", b"error 22"),
@@ -205,11 +220,11 @@ fn each_word_of_the_sample(rt: HostRuntime) -> Result<(), Fail> {
 #[test]
 fn all_words_in_one_list(rt: HostRuntime) -> Result<(), Fail> {
     let script =
-        b"open f 0\nget f cur autogain gain hflip vflip hue brightness power button red blue\nget f cur hflip\nget f cur vflip\nget f cur hue\n";
+        b"open f 0\nget f cur autogain gain hflip vflip hue brightness power button red blue\nopen g 1\nget g cur autogain gain hflip vflip brightness power red blue\nset g cur autogain=0 gain=1 hflip=1 vflip=1 brightness=4 power=0 button=1 red=2 blue=3\nget f cur autogain gain hflip vflip hue\n";
     expect(
         &rt,
         script,
-        b"ok\nerror 22 index 10\nok 0\nok 0\nok 0\n",
+        b"ok\nerror 22 index 10\nok\nok 1 16 0 0 0 1 128 128\nok 0 1 1 1 4 0 0 2 3\nok 0 1 1 1 0\n",
         Outcome::Finished,
     )
 }

@@ -1,7 +1,9 @@
 //! Tests across the crates: scripts on the sample device with their reply lines, faults of readers, writers and memory,
-//! clusters and grabs, how often closures are called, and the public calls of the device.
+//! lists, clusters and grabs, how often closures are called, and the public calls of the device.
 #![tactic(auto)]
 
+#[cfg(test)]
+mod asking;
 #[cfg(test)]
 mod clusters;
 #[cfg(test)]
@@ -12,9 +14,13 @@ pub mod driver;
 #[cfg(test)]
 mod faults;
 #[cfg(test)]
+mod flags;
+#[cfg(test)]
 mod grammar;
 #[cfg(test)]
 mod handlers;
+#[cfg(test)]
+mod lists;
 #[cfg(test)]
 mod memory;
 #[cfg(test)]

@@ -1,10 +1,11 @@
 //! Allocations that are refused. With ample memory each script answers as ever; where one allocation is refused (`rt try
 //! --test --fail-alloc 1..`), a refused command changes nothing and the same command again is answered as ever.
 
+use crate::asking::{FORMS, Form, ask_of, is_answered, list_of};
 use crate::driver::{Plain, of_balance, of_brightness, of_button, of_gain};
 use crate::rows::{
-    Row, clusters_and_grabs_row, cut_line_row, first_path_row, menu_items_row, next_ids_row,
-    private_control_row, unbound_handle_row, unknown_handler_row,
+    Row, clusters_and_grabs_row, cut_line_row, first_path_row, lists_row, menu_items_row,
+    next_ids_row, private_control_row, unbound_handle_row, unknown_handler_row,
 };
 use crate::streams::{Sink, Source};
 use ctl_script::{Outcome, run_script, sample_plan};
@@ -253,6 +254,78 @@ fn grabs_again<R: AllocGlobal + Abort>(rt: &R) -> Result<(), AllocError> {
     Ok(())
 }
 
+// A list of several controls, answered as ever, at once or the second time.
+fn list_again<R: AllocGlobal + Abort>(
+    rt: &R,
+    device: &mut Device<Plain>,
+    form: Form,
+    pairs: &[(u32, i64)],
+    expected: Result<&[i64], Fault>,
+) -> Result<(), AllocError> {
+    let list = list_of(rt, pairs)?;
+    let index = list.len();
+    let answer = answered(rt, device, &ask_of(form, list), Some(index));
+    assert!(rt; is_answered(&answer, expected), "{form:?} {pairs:?}");
+    Ok(())
+}
+
+// Gets, tries and sets of lists over several clusters, each answered as ever, at once or the second time.
+fn lists_again<R: AllocGlobal + Abort>(rt: &R) -> Result<(), AllocError> {
+    let mut device = device(rt)?;
+    let opened = answered(rt, &mut device, &Ask::OpenFh { handler: 1 }, None);
+    assert!(rt; matches!(opened, Ok(Reply::Fh(FhId(0)))));
+    // gain, red, blue, brightness and gain
+    let pairs = [
+        (0x0098_0913, 7),
+        (0x0098_090e, 100),
+        (0x0098_090f, 90),
+        (0x0098_0900, 2),
+        (0x0098_0913, 250),
+    ];
+    let before = Ok([16, 128, 128, 0, 16].as_slice());
+    let after = Ok([200, 100, 90, 4, 200].as_slice());
+    list_again(rt, &mut device, Form::Get, &pairs, before)?;
+    list_again(rt, &mut device, Form::Try, &pairs, after)?;
+    list_again(rt, &mut device, Form::Get, &pairs, before)?;
+    assert_eq!(rt; word(&mut device, 1), Some(32896));
+    assert_eq!(rt; device.steps().len(), 1);
+    list_again(rt, &mut device, Form::Set, &pairs, after)?;
+    assert_eq!(rt; word(&mut device, 0), Some(456));
+    assert_eq!(rt; word(&mut device, 1), Some(25690));
+    list_again(rt, &mut device, Form::Get, &pairs, after)?;
+    // gain, red and blue, of which the last two are refused
+    let refused = [(0x0098_0913, 7), (0x0098_090e, 200), (0x0098_090f, 200)];
+    for (form, index) in [(Form::Try, 1), (Form::Set, 3)] {
+        let fault = Fault {
+            errno: Errno::EINVAL,
+            index: Some(index),
+        };
+        list_again(rt, &mut device, form, &refused, Err(fault))?;
+    }
+    list_again(rt, &mut device, Form::Get, &pairs, after)?;
+    assert_eq!(rt; device.steps().len(), 2);
+    Ok(())
+}
+
+// Lists without entries: a get and a try take no memory; a set is a step.
+fn empty_lists_again<R: AllocGlobal + Abort>(rt: &R) -> Result<(), AllocError> {
+    let mut device = device(rt)?;
+    let opened = answered(rt, &mut device, &Ask::OpenFh { handler: 1 }, None);
+    assert!(rt; matches!(opened, Ok(Reply::Fh(FhId(0)))));
+    for _ in 0..5 {
+        for form in FORMS {
+            let ask = ask_of(form, ControlList::from_vec(Vec::new(rt.alloc())));
+            let answer = match form {
+                Form::Get | Form::Try => device.handle(0, &ask),
+                Form::Set => answered(rt, &mut device, &ask, Some(0)),
+            };
+            assert!(rt; is_answered(&answer, Ok(&[])), "{form:?}");
+        }
+    }
+    assert_eq!(rt; device.steps().len(), 6);
+    Ok(())
+}
+
 fn is_named(answer: &Result<Reply, Fault>, text: &str) -> bool {
     match answer {
         Ok(Reply::Item(MenuItem::Name(name))) => name.as_str() == text,
@@ -271,6 +344,7 @@ fn scripts_after_a_refused_allocation(rt: HostRuntime) {
         next_ids_row(),
         menu_items_row(),
         clusters_and_grabs_row(),
+        lists_row(),
     ] {
         if answers(&rt, &row).is_err() {
             // no second allocation is refused
@@ -304,5 +378,19 @@ fn items_after_a_refused_allocation(rt: HostRuntime) {
 fn grabs_after_a_refused_allocation(rt: HostRuntime) {
     if grabs_again(&rt).is_err() {
         assert!(rt; grabs_again(&rt).is_ok());
+    }
+}
+
+#[test]
+fn lists_after_a_refused_allocation(rt: HostRuntime) {
+    if lists_again(&rt).is_err() {
+        assert!(rt; lists_again(&rt).is_ok());
+    }
+}
+
+#[test]
+fn empty_lists_after_a_refused_allocation(rt: HostRuntime) {
+    if empty_lists_again(&rt).is_err() {
+        assert!(rt; empty_lists_again(&rt).is_ok());
     }
 }

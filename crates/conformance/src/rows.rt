@@ -95,21 +95,21 @@ pub fn rounding_row() -> Row {
     }
 }
 
-/// A skipped item and one outside the range are refused.
-pub fn menu_refusals_row() -> Row {
-    Row {
-        script: b"open f 1\nset f cur power=3\nset f cur power=4\nset f cur power=2\n",
-        reply: b"ok\nerror 22 index 1\nerror 34 index 1\nok 2\n",
-        outcome: Outcome::Finished,
-    }
-}
-
 /// A number outside its type isn't one.
 pub fn number_out_of_range_row() -> Row {
     Row {
         script: b"open f 1\nset f cur red=9223372036854775808\n",
         reply: b"ok\nline 2: not a command\n",
         outcome: Outcome::BadLine(2),
+    }
+}
+
+/// Lists of several controls: gets and tries change nothing, and a set changes each cluster or none.
+pub fn lists_row() -> Row {
+    Row {
+        script: b"open f 1\ntry f cur autogain=0 gain=250 brightness=2\nget f cur autogain gain brightness\nset f cur gain=5 blue=200 red=200\nset f cur blue=200 gain=250 red=100 button=1\nget f cur red blue gain\nget f cur\nset f cur\ntry f cur red=1 0x00980999=1\nget f def red gain\n",
+        reply: b"ok\nok 0 200 4\nok 1 16 0\nerror 22 index 3\nok 200 200 100 0\nok 100 200 200\nok\nok\nerror 22 index 1\nok 128 16\n",
+        outcome: Outcome::Finished,
     }
 }
 
@@ -246,14 +246,14 @@ fn rounding(rt: HostRuntime) -> Result<(), Fail> {
 }
 
 #[test]
-fn menu_refusals(rt: HostRuntime) -> Result<(), Fail> {
-    let row = menu_refusals_row();
+fn number_out_of_range(rt: HostRuntime) -> Result<(), Fail> {
+    let row = number_out_of_range_row();
     expect(&rt, row.script, row.reply, row.outcome)
 }
 
 #[test]
-fn number_out_of_range(rt: HostRuntime) -> Result<(), Fail> {
-    let row = number_out_of_range_row();
+fn lists(rt: HostRuntime) -> Result<(), Fail> {
+    let row = lists_row();
     expect(&rt, row.script, row.reply, row.outcome)
 }
 

@@ -136,3 +136,16 @@ pub fn expect<R: AllocGlobal + Abort>(
     assert_eq!(rt; ended, outcome, "{script:?}");
     Ok(())
 }
+
+/// Runs commands on a fresh sample device, and compares the reply line of each.
+pub fn expect_each<R: AllocGlobal + Abort>(rt: &R, lines: &[(&str, &str)]) -> Result<(), Fail> {
+    let mut script = Vec::new(rt.alloc());
+    let mut reply = Vec::new(rt.alloc());
+    for (command, line) in lines {
+        script.extend_from_slice(command.as_bytes())?;
+        script.push(b'\n')?;
+        reply.extend_from_slice(line.as_bytes())?;
+        reply.push(b'\n')?;
+    }
+    expect(rt, script.as_slice(), reply.as_slice(), Outcome::Finished)
+}

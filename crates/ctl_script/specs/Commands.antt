@@ -10,7 +10,7 @@ use Rattle.ctl_script.specs.Names.{name_of}
 use Rattle.ctl_script.specs.declared.command.Binding.{Binding}
 use Rattle.ctl_script.specs.declared.command.Binding.TheVariants as bindings
 use Rattle.ctl_script.specs.declared.command.Command.{Command}
-use Rattle.ctl_script.specs.declared.command.Command.TheVariants.{Open, Close, Get, Set, Grab, Query, Next, Menu, Told}
+use Rattle.ctl_script.specs.declared.command.Command.TheVariants.{Open, Close, Get, Set, Try, Grab, Query, Next, Menu, Told}
 use Rattle.ctl_script.specs.declared.command.WhichWord.{WhichWord}
 use Rattle.ctl_script.specs.declared.command.WhichWord.TheVariants.{Number, Request}
 use Rattle.ctl_script.specs.declared.fault.LineFault.{LineFault}
@@ -155,6 +155,7 @@ verb_of word =
     else if bytes_eq word (codes "close") then Some verbs.Close
     else if bytes_eq word (codes "get") then Some verbs.Get
     else if bytes_eq word (codes "set") then Some verbs.Set
+    else if bytes_eq word (codes "try") then Some verbs.Try
     else if bytes_eq word (codes "grab") then Some verbs.Grab
     else if bytes_eq word (codes "query") then Some verbs.Query
     else if bytes_eq word (codes "next") then Some verbs.Next
@@ -168,6 +169,7 @@ command_of (Some verbs.Open) operands = open_of operands
 command_of (Some verbs.Close) operands = close_of operands
 command_of (Some verbs.Get) operands = list_command_of (λ fh which list. Get fh which list) Control operands
 command_of (Some verbs.Set) operands = list_command_of (λ fh which list. Set fh which list) ControlWithValue operands
+command_of (Some verbs.Try) operands = list_command_of (λ fh which list. Try fh which list) ControlWithValue operands
 command_of (Some verbs.Grab) operands = grab_of operands
 command_of (Some verbs.Query) operands = query_of operands
 command_of (Some verbs.Next) operands = next_of operands
@@ -194,6 +196,7 @@ binding_of (Open fh handler) = bindings.FileHandle fh
 binding_of (Close fh) = bindings.None
 binding_of (Get fh which list) = bindings.None
 binding_of (Set fh which list) = bindings.None
+binding_of (Try fh which list) = bindings.None
 binding_of (Grab control on) = bindings.None
 binding_of (Query fh id) = bindings.None
 binding_of (Next fh id) = bindings.None

@@ -47,6 +47,15 @@ pub enum Command {
         /// The controls and their values.
         list: ControlList,
     },
+    /// `try FH WHICH CTRL=V ..`: tries what controls would be set to.
+    Try {
+        /// The file handle.
+        fh: Name,
+        /// Which values.
+        which: WhichWord,
+        /// The controls and their values.
+        list: ControlList,
+    },
     /// `grab WORD on` or `grab WORD off`: grabs a control, or releases it.
     Grab {
         /// The control's number.
@@ -156,6 +165,15 @@ impl Command {
             Command::Set { fh, which, list } => {
                 let (which, request) = which.fields(names);
                 Ask::SetCtrls {
+                    fh: names.fh(fh),
+                    which,
+                    request,
+                    list,
+                }
+            }
+            Command::Try { fh, which, list } => {
+                let (which, request) = which.fields(names);
+                Ask::TryCtrls {
                     fh: names.fh(fh),
                     which,
                     request,

@@ -54,6 +54,7 @@ enum Verb {
     Close,
     Get,
     Set,
+    Try,
     Grab,
     Query,
     Next,
@@ -69,6 +70,7 @@ fn read_verb(word: &[u8]) -> Option<Verb>
         b"close" => Some(Verb::Close),
         b"get" => Some(Verb::Get),
         b"set" => Some(Verb::Set),
+        b"try" => Some(Verb::Try),
         b"grab" => Some(Verb::Grab),
         b"query" => Some(Verb::Query),
         b"next" => Some(Verb::Next),
@@ -87,6 +89,7 @@ fn read_command(alloc: Global, verb: &[u8], operands: &[&[u8]]) -> Result<Comman
         Some(Verb::Close) => read_close(operands),
         Some(Verb::Get) => read_get(alloc, operands),
         Some(Verb::Set) => read_set(alloc, operands),
+        Some(Verb::Try) => read_try(alloc, operands),
         Some(Verb::Grab) => read_grab(operands),
         Some(Verb::Query) => read_query(operands),
         Some(Verb::Next) => read_next(operands),
@@ -216,6 +219,20 @@ fn read_set(alloc: Global, operands: &[&[u8]]) -> Result<Command, LineFault>
     };
     let list = read_list(alloc, EntryForm::ControlWithValue, entries)?;
     Ok(Command::Set { fh, which, list })
+}
+
+fn read_try(alloc: Global, operands: &[&[u8]]) -> Result<Command, LineFault>
+    requires { length operands.now < 2 ^ 32 }
+    ensures { IsRead result (list_command_of (λ fh which list. commands.Try fh which list) EntryForm.ControlWithValue (map (λ w. w.now) operands.now)) }
+{
+    let [fh, which, entries @ ..] = operands else {
+        return Err(LineFault::NotACommand);
+    };
+    let (Some(fh), Some(which)) = (Name::read(*fh), read_which(*which)) else {
+        return Err(LineFault::NotACommand);
+    };
+    let list = read_list(alloc, EntryForm::ControlWithValue, entries)?;
+    Ok(Command::Try { fh, which, list })
 }
 
 // Which values a list speaks of.

@@ -1,13 +1,14 @@
 -- The loops over a row.
-use Rattle.std.proofs.Common.{◌≡◌, ◌≢◌, ℕ, ℤ, suc, ◌<◌, ◌+◌, ◌==◌, ◌&&◌, Bool, true, false, pos, List, [], ◌∷◌, ◌++◌, length, take, drop, get_or, set, Option, None, Some, Result, Ok, Err, refl, sym, ap}
+use Rattle.std.proofs.Common.{◌≡◌, ◌≢◌, ℕ, ℤ, suc, eq-eqb, slice_get, ◌∙◌, ◌<◌, ◌+◌, ◌==◌, ◌&&◌, Bool, true, false, pos, List, [], ◌∷◌, ◌++◌, length, take, drop, get_or, set, if◌then◌else◌, Option, None, Some, Result, Ok, Err, refl, sym, ap}
 use Rattle.std.specs.Option.{option_or}
+use Rattle.std.proofs.lemmas.Option.{get_or_from_slice_get}
 use Rattle.std.proofs.lemmas.List.{append-nil, append_assoc, take_more_set, drop_more}
 use Rattle.ctrl_types.specs.declared.errno.Errno.{Errno}
 use Rattle.ctrl_types.specs.declared.ids.Pair.{Pair}
 use Rattle.ctrl_settle.specs.Control.{Control}
 use Rattle.ctrl_settle.specs.Settle.{settle}
 use Rattle.ctrl_handlers.specs.Plan.{control_in}
-use Rattle.ctrl_clusters.specs.Rows.{value_at, last_value, settle_row, settled_before}
+use Rattle.ctrl_clusters.specs.Rows.{value_at, last_value, settle_row, settled_before, value_in}
 use Rattle.ctrl_clusters.specs.Judging.{is_value, takes_row}
 
 -- what was found so far counts where the pairs that are left give nothing
@@ -75,3 +76,16 @@ pub takes_next : (controls : List Control) (members : List ℕ) (row : List ℤ)
     → takes_row controls (drop i members) (drop i row)
     ≡ (is_value (settle (control_in controls (get_or members i 0)) (value_at row i)) (value_at row i) && takes_row controls (drop (i + 1) members) (drop (i + 1) row))
 takes_next controls members row i within there = rw (drop_more members i 0 within, drop_more row i (pos 0) there) refl
+
+-- the next member is the control, or another is
+pub given_next : (members : List ℕ) (row : List ℤ) (c i : ℕ) → i < length members → i < length row
+    → value_in (drop i members) (drop i row) c ≡ (if get_or members i 0 == c then Some (value_at row i) else value_in (drop (i + 1) members) (drop (i + 1) row) c)
+given_next members row c i within there = rw (drop_more members i 0 within, drop_more row i (pos 0) there) refl
+
+-- the control is the next member
+pub given_here : (members : List ℕ) (row : List ℤ) (c i : ℕ) (v : ℤ) → i < length members → i < length row → get_or members i 0 ≡ c → slice_get row i ≡ Some v
+    → value_in (drop i members) (drop i row) c ≡ value_in members row c → Some v ≡ value_in members row c
+given_here members row c i v within there is has left =
+    let found : value_in (drop i members) (drop i row) c ≡ Some v =
+    given_next members row c i within there ∙ rw (eq-eqb (get_or members i 0) c is) (ap Some (get_or_from_slice_get row i v (pos 0) has)) in
+    sym found ∙ left

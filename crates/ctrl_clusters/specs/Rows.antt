@@ -1,5 +1,5 @@
 -- The row of a cluster under values that are asked for (Linux driver API, "V4L2 Controls", "Control Clusters").
-use Rattle.std.specs.Prelude.{ℕ, ℤ, pos, ◌==◌, if◌then◌else◌, List, [], ◌∷◌, map, Option, None, Some, Result, Ok, Err, slice_index_or, unwrap_or}
+use Rattle.std.specs.Prelude.{ℕ, ℤ, Bool, false, pos, ◌==◌, if◌then◌else◌, List, [], ◌∷◌, map, Option, None, Some, Result, Ok, Err, slice_index_or, unwrap_or}
 use Rattle.std.specs.Option.{option_or}
 use Rattle.ctrl_types.specs.declared.errno.Errno.{Errno}
 use Rattle.ctrl_types.specs.declared.errno.Errno.TheVariants.{EINVAL}
@@ -15,6 +15,14 @@ Values = List ℤ
 -- the value of one control
 abbrev pub value_at : Values → ℕ → ℤ
 value_at values c = slice_index_or values c (pos 0)
+
+-- for each control, in the order of their numbers, whether it is grabbed
+abbrev pub Grabs : Type 0
+Grabs = List Bool
+
+-- whether one control is
+abbrev pub is_grabbed : Grabs → ℕ → Bool
+is_grabbed grabs c = slice_index_or grabs c false
 
 -- the last value that a list of pairs gives a control
 abbrev pub last_value : List Pair → ℕ → Option ℤ
@@ -40,3 +48,9 @@ abbrev pub settle_row : List Control → List ℕ → List ℤ → Result (List 
 settle_row controls [] row = Ok []
 settle_row controls (c ∷ cs) [] = Err EINVAL
 settle_row controls (c ∷ cs) (v ∷ vs) = settled_before (settle (control_in controls c) v) (settle_row controls cs vs)
+
+-- the value that a row gives one of the members
+abbrev pub value_in : List ℕ → List ℤ → ℕ → Option ℤ
+value_in [] row c = None
+value_in (m ∷ ms) [] c = None
+value_in (m ∷ ms) (v ∷ vs) c = if m == c then Some v else value_in ms vs c

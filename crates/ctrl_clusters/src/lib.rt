@@ -8,6 +8,7 @@ mod rows;
 
 pub use auto_clusters::inactive;
 pub use judging::{becomes, judge};
+pub use rows::value_in;
 
 #[cfg(test)]
 mod tests;

@@ -5,7 +5,7 @@ ghost use Rattle.std.specs.List.{All};
 ghost use Rattle.ctrl_calls.specs.declared.row.TheConstants.{MAX_MEMBERS};
 ghost use Rattle.ctrl_settle.specs.Settle.{settle};
 ghost use Rattle.ctrl_handlers.specs.Plan.{control_in};
-ghost use Rattle.ctrl_clusters.specs.Rows.{value_at, last_value, overwritten, settle_row};
+ghost use Rattle.ctrl_clusters.specs.Rows.{value_at, last_value, overwritten, settle_row, value_in};
 ghost use Rattle.ctrl_clusters.specs.Judging.{is_value, takes_row};
 
 use ctrl_calls::{ClusterRow, MAX_MEMBERS};
@@ -100,4 +100,25 @@ fn takes_at(controls: &[Ctrl], member: u32, row: &ClusterRow, place: usize) -> b
     ensures { result ≡ is_value (settle (control_in controls.now member) (value_at row.now place)) (value_at row.now place) }
 {
     settle_at(controls, member, row, place) == Ok(row.value(place))
+}
+
+/// The value that a row gives one of a cluster's members, where the control is one (Linux driver API, "V4L2 Controls", "Control
+/// Clusters").
+///
+/// - `members`: the numbers of the cluster's members, in member order.
+/// - `row`: a value for each of them; the caller owes exactly as many.
+/// - `control`: the number of a control, which needn't be a member; then there is none.
+///
+/// It takes no memory and refuses nothing.
+#[tactic(auto, using(crate::proofs::RowLemmas::given_next))]
+pub fn value_in(members: &[u32], row: &ClusterRow, control: u32) -> Option<i64>
+    requires { length row.now ≡ length members.now }
+    ensures { result ≡ value_in members.now row.now control }
+{
+    for (place, &member) in members.iter().enumerate() {
+        if member == control {
+            return Some(row.value(place));
+        }
+    }
+    None
 }

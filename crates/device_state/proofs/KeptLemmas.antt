@@ -1,5 +1,5 @@
 -- Each kind of step keeps the device's parts what they are defined to be.
-use Rattle.std.proofs.Common.{◌≡◌, ℕ, nat_eq, ℤ, ◌<◌, Bool, false, map, List, [], ◌∷◌, ◌++◌, length, Option, Some, None, IsOk, Ok, unwrap_or, slice_set, refl, ap, sym, ◌∙◌, subst, arith, length-append}
+use Rattle.std.proofs.Common.{◌≡◌, ℕ, nat_eq, ◌<◌, Bool, false, map, List, [], ◌∷◌, ◌++◌, length, Some, None, IsOk, Ok, slice_set, refl, ap, sym, ◌∙◌, subst, arith, length-append}
 use Rattle.std.specs.Map.{lookup, remove_entry}
 use Rattle.std.proofs.lemmas.Grind.{common_steps}
 use Rattle.std.proofs.lemmas.Bool.Decides.{nat_tests}
@@ -12,21 +12,23 @@ use Rattle.ctrl_types.specs.declared.ids.Pair.{Pair}
 use Rattle.ctrl_calls.specs.Meanings.{Verdicts, Words}
 use Rattle.device_state.specs.declared.limits.TheConstants.{MAX_STEPS}
 use Rattle.device_state.specs.declared.ask.Ask.TheVariants as asks
+use Rattle.device_state.specs.declared.ask.Reply.{Reply}
+use Rattle.device_state.specs.declared.ask.Reply.TheVariants.{Controls}
 use Rattle.device_state.specs.declared.ask.Step.{Step}
 use Rattle.device_state.specs.declared.ask.Step.TheVariants.{OpenFh, CloseFh, Set, Grab}
-use Rattle.ctrl_handlers.specs.Plan.{PlanData, IsPlan, cluster_of, members}
-use Rattle.device_state.specs.Steps.{History, opened, shown}
-use Rattle.device_state.specs.Grabs.{Grabs, is_grabbed, grabbed}
-use Rattle.device_state.specs.Marks.{flags_under, flags_now}
-use Rattle.device_state.specs.Overlay.{with_row}
-use Rattle.device_state.specs.Values.{Values, now, defaults, row_of}
-use Rattle.device_state.specs.Told.{AreTold, IsTold}
-use Rattle.device_state.specs.Answers.{answer_of, open_answer, close_answer, grab_answer, own_cluster, set_becomes, step_of}
+use Rattle.ctrl_handlers.specs.Plan.{PlanData}
+use Rattle.ctrl_lists.specs.Touched.{TouchedData, AreJudged}
+use Rattle.device_state.specs.Steps.{History, opened}
+use Rattle.device_state.specs.Grabs.{Grabs, grabbed}
+use Rattle.device_state.specs.Values.{Values, now, defaults}
+use Rattle.device_state.specs.Told.{AreTold}
+use Rattle.device_state.specs.Answers.{Answer, open_answer, close_answer, grab_answer, is_full, set_list, step_of}
 use Rattle.device_state.specs.Legal.{IsLegal, MayFollow}
 use Rattle.device_state.specs.Kept.{IsKept}
+use Rattle.device_state.specs.Setting.{AreRetold, IsSettable, cluster_changes, row_given, written}
 use Rattle.device_state.proofs.PastLemmas.{opened_add, opened_fresh, opened_rising, drops_one, now_add, grabbed_add, legal_add}
 use Rattle.device_state.proofs.PresentLemmas.{length_now}
-use Rattle.device_state.proofs.OverlayLemmas.{overlay_one}
+use Rattle.device_state.proofs.OverlayLemmas.{overlaid_rows, rows_given}
 use Rattle.device_state.proofs.TellLemmas.{told_after}
 
 -- a device without steps
@@ -119,28 +121,29 @@ kept_grab verdicts told plan steps handles grabs values words seat c on kept acc
     (kept.are_present ∙ sym (now_add verdicts plan steps e))
     kept.are_told
 
--- a control's own cluster is the one that it is in
-pub own_is : (plan : PlanData) (c k : ℕ) → cluster_of plan c ≡ Some k → own_cluster plan c ≡ k
-own_is plan c k found = rw found refl
+-- where a list is set, one more step is kept
+set_room : (steps : History) → is_full (past steps) ≡ false → length steps < MAX_STEPS
+set_room steps room = grind (arith, nat_tests, length_past steps, room)
 
--- a set of one control, whose cluster k gets the row
-pub kept_set : (verdicts : Verdicts) (told : Words) (plan : PlanData) (steps : History) (handles : List (ℕ × ℕ)) (grabs : Grabs) (values : Values) (words new : List ℕ) (seat c k : ℕ) (fh : FhId) (entry : ExtControl) (changed : Bool) (row : List ℤ)
-    → IsPlan plan → IsKept verdicts told plan steps handles grabs values words → length steps < MAX_STEPS → IsOk (answer_of verdicts plan (past steps) [] (asks.SetCtrls fh 0 None (entry ∷ [])))
-    → shown plan (past steps) fh entry.id ≡ Some c → cluster_of plan c ≡ Some k → k < length plan.clusters → is_grabbed (grabbed plan (past steps)) c ≡ false
-    → set_becomes verdicts plan (past steps) c entry.value ≡ Ok row → length row ≡ length (members plan k)
-    → (changed ≡ false → row_of values (members plan k) ≡ row) → IsTold told plan k changed row words new
-    → IsKept verdicts told plan (steps ++ record { seat = seat; step = Set fh (record { control = c; value = entry.value } ∷ []) } ∷ []) handles grabs (with_row values (members plan k) row) new
-kept_set verdicts told plan steps handles grabs values words new seat c k fh entry changed row plans kept room accepted found clustered within free becoming long same is =
-    let pair : Pair = record { control = c; value = entry.value } in
-    let e : Entry Step = record { seat = seat; step = Set fh (pair ∷ []) } in
+accepted_set : (answer : Answer) (reply : Reply) → answer ≡ Ok reply → IsOk answer
+accepted_set answer reply is = rw is refl
+
+-- a set
+pub kept_set : (verdicts : Verdicts) (told : Words) (plan : PlanData) (steps : History) (handles : List (ℕ × ℕ)) (grabs : Grabs) (values : Values) (words new : List ℕ) (seat : ℕ) (fh : FhId) (which : ℕ) (list : List ExtControl) (touch : TouchedData)
+    → IsKept verdicts told plan steps handles grabs values words → IsSettable verdicts plan (past steps) fh which list touch
+    → AreRetold told plan (cluster_changes plan values touch.pairs (row_given touch.rows)) (row_given touch.rows) (length plan.clusters) words new
+    → IsKept verdicts told plan (steps ++ record { seat = seat; step = Set fh touch.pairs } ∷ []) handles grabs (written plan values (row_given touch.rows) (length plan.clusters)) new
+kept_set verdicts told plan steps handles grabs values words new seat fh which list touch kept sets retold =
+    let e : Entry Step = record { seat = seat; step = Set fh touch.pairs } in
     let many : length values ≡ length plan.controls = ap length kept.are_present ∙ length_now verdicts plan (past steps) in
-    let step_is : step_of plan (past steps) (asks.SetCtrls fh 0 None (entry ∷ [])) ≡ Some e.step =
-    ap (λ (o : Option ℕ). Some (Set fh (record { control = unwrap_or o 0; value = entry.value } ∷ []))) found in
-    let becomes_row = rw (own_is plan c k clustered) at becoming in
-    kept_add verdicts told plan steps handles handles grabs grabs values (with_row values (members plan k) row) words new e kept room
-    (asks.SetCtrls fh 0 None (entry ∷ []), accepted, step_is)
+    let judged : AreJudged verdicts plan values touch.pairs touch.pairs touch.rows =
+    subst (λ (v : Values). AreJudged verdicts plan v touch.pairs touch.pairs touch.rows) (sym kept.are_present) sets.judged in
+    let step_is : step_of plan (past steps) (asks.SetCtrls fh which None list) ≡ Some e.step = ap (λ (pairs : List Pair). Some (Set fh pairs)) (sym sets.own_pairs) in
+    kept_add verdicts told plan steps handles handles grabs grabs values (written plan values (row_given touch.rows) (length plan.clusters)) words new e kept (set_room steps sets.room)
+    (asks.SetCtrls fh which None list, accepted_set (set_list verdicts plan (past steps) fh which list) (Controls touch.answers) sets.accepted, step_is)
     (kept.are_open ∙ sym (opened_add steps e))
     (kept.are_grabbed ∙ sym (grabbed_add plan steps e))
-    (ap (λ (v : Values). with_row v (members plan k) row) kept.are_present
-    ∙ sym (now_add verdicts plan steps e ∙ overlay_one verdicts plan (now verdicts plan (past steps)) (grabbed plan (past steps)) pair k row plans clustered free becomes_row))
-    (told_after told plan values k changed row words new plans kept.are_told many within long same is)
+    (ap (λ (v : Values). written plan v (row_given touch.rows) (length plan.clusters)) kept.are_present
+    ∙ sym (overlaid_rows verdicts plan (now verdicts plan (past steps)) (grabbed plan (past steps)) touch.pairs touch.rows (length plan.clusters) sets.plans sets.judged sets.free (omega arith))
+    ∙ sym (now_add verdicts plan steps e))
+    (told_after told plan values touch.pairs (row_given touch.rows) words new (rows_given verdicts plan values touch.pairs touch.rows sets.plans many judged) kept.are_told retold)

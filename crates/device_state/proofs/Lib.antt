@@ -5,4 +5,5 @@ pub mod OverlayLemmas
 pub mod TellLemmas
 pub mod KeptLemmas
 pub mod HandleLemmas
+pub mod ListLemmas
 pub mod IndexLemmas

@@ -1,15 +1,13 @@
 -- What an ask is answered after a history, and the step that it adds (Linux userspace API, "ioctl VIDIOC_G_EXT_CTRLS,
 -- VIDIOC_S_EXT_CTRLS, VIDIOC_TRY_EXT_CTRLS", "ioctls VIDIOC_QUERYCTRL, VIDIOC_QUERY_EXT_CTRL and VIDIOC_QUERYMENU"; the order
 -- of the refusals and the index are of this project).
-use Rattle.std.specs.Prelude.{◌≡◌, ℕ, ℤ, Bool, true, false, ◌==◌, ◌&&◌, nat_eq, nat_le, position, if◌then◌else◌, List, [], ◌∷◌, length, map, Option, None, Some, is_some, slice_index, unwrap_or, Result, Ok, Err, IsOk, IsTrue, ◌⊎◌}
+use Rattle.std.specs.Prelude.{◌≡◌, ℕ, Bool, true, false, nat_le, if◌then◌else◌, List, [], length, Option, None, Some, is_some, slice_index, Result, Ok, Err, IsOk, IsTrue, ◌⊎◌}
 use Rattle.ctrl_types.specs.declared.errno.Errno.{Errno}
-use Rattle.ctrl_types.specs.declared.errno.Errno.TheVariants.{EBADF, ENOMEM, EACCES, EBUSY, EINVAL, ENOSPC}
+use Rattle.ctrl_types.specs.declared.errno.Errno.TheVariants.{EBADF, ENOMEM, EINVAL, ENOSPC}
 use Rattle.ctrl_types.specs.declared.errno.Fault.{Fault}
 use Rattle.ctrl_types.specs.Classes.{which_of}
 use Rattle.ctrl_types.specs.declared.which.Which.{Which}
-use Rattle.ctrl_types.specs.declared.which.Which.TheVariants.{Current}
-use Rattle.ctrl_types.specs.Flags.{contains}
-use Rattle.ctrl_types.specs.declared.flags.TheConstants.Flags.{DISABLED, READ_ONLY, WRITE_ONLY}
+use Rattle.ctrl_types.specs.declared.which.Which.TheVariants.{Defaults, Request}
 use Rattle.ctrl_types.specs.declared.ids.CtrlId.{CtrlId}
 use Rattle.ctrl_types.specs.declared.ids.ExtControl.{ExtControl}
 use Rattle.ctrl_types.specs.declared.ids.FhId.{FhId}
@@ -22,15 +20,15 @@ use Rattle.device_state.specs.declared.ask.Step.{Step}
 use Rattle.device_state.specs.declared.ask.Step.TheVariants as steps
 use Rattle.device_state.specs.declared.limits.TheConstants.{MAX_FILE_HANDLES, MAX_STEPS}
 use Rattle.ctrl_handlers.specs.declared.menu.MenuItem.{MenuItem}
-use Rattle.ctrl_handlers.specs.Plan.{PlanData, control, menu_item, cluster_of, members}
+use Rattle.ctrl_handlers.specs.Plan.{PlanData, control, menu_item}
 use Rattle.ctrl_handlers.specs.Visible.{next_id}
 use Rattle.ctrl_calls.specs.Meanings.{Verdicts}
-use Rattle.ctrl_settle.specs.Settle.{settle}
-use Rattle.ctrl_clusters.specs.Judging.{becomes}
+use Rattle.ctrl_lists.specs.View.{ViewData, pairs_of}
+use Rattle.ctrl_lists.specs.Answers.{ListAnswer, get_answer, set_answer, try_answer, may_lack}
 use Rattle.device_state.specs.Info.{info_of}
 use Rattle.device_state.specs.Steps.{Past, opened, handler_of, shown}
-use Rattle.device_state.specs.Grabs.{is_grabbed, grabbed}
-use Rattle.device_state.specs.Values.{Values, value_at, now}
+use Rattle.device_state.specs.Grabs.{Grabs, grabbed}
+use Rattle.device_state.specs.Values.{Values, now}
 use Rattle.device_state.specs.Marks.{flags_now}
 
 -- what a call answers
@@ -69,69 +67,58 @@ close_answer past fh =
     (if is_full past then refused ENOSPC else Ok Done)
     else refused EBADF
 
--- the present values are asked for
-abbrev pub is_current : Result Which Errno → Bool
-is_current (Ok Current) = true
-is_current _ = false
+-- a list that writes can't speak of the defaults; and no request exists as yet
+abbrev pub is_refused : Bool → Which → Bool
+is_refused writes Defaults = writes
+is_refused writes Request = true
+is_refused writes _ = false
 
--- a list of one, about the present values
-abbrev pub is_one_current : ℕ → List ExtControl → Bool
-is_one_current which list = is_current (which_of which) && (length list == 1)
+-- what a list that a handler gets is read against, at these values and grabs
+abbrev pub view_on : Values → Grabs → Bool → ℕ → Result Which Errno → Result ViewData Errno
+view_on values grabs writes handler (Err errno) = Err errno
+view_on values grabs writes handler (Ok which) =
+    if is_refused writes which then Err EINVAL
+    else Ok (record { handler = handler; which = which; values = values; grabs = grabs; asked = [] })
 
--- Getting one control: EINVAL where it isn't shown or is DISABLED; EACCES where it is WRITE_ONLY. Else its present value.
-abbrev pub get_one : PlanData → Values → ExtControl → Option ℕ → Answer
-get_one plan values entry None = refused_at EINVAL 1
-get_one plan values entry (Some c) =
-    if contains (control plan c).flags DISABLED then refused_at EINVAL 1
-    else if contains (control plan c).flags WRITE_ONLY then refused_at EACCES 1
-    else Ok (Controls (record { id = entry.id; value = value_at values c } ∷ []))
+-- the same, of the handler that a file handle is open on
+abbrev pub view_by : Values → Grabs → Bool → Option ℕ → Result Which Errno → Result ViewData Errno
+view_by values grabs writes None which = Err EBADF
+view_by values grabs writes (Some handler) which = view_on values grabs writes handler which
 
--- the cluster that a control is in; in a finished plan there is one
-abbrev pub own_cluster : PlanData → ℕ → ℕ
-own_cluster plan c = unwrap_or (cluster_of plan c) 0
+-- What a list is read against: EBADF where the file handle isn't open; EINVAL where `which` can't be read; EINVAL where it speaks of
+-- the defaults and the list writes, and where it speaks of a request. Else the present values, the grabs, and no pairs from before.
+abbrev pub list_view : Verdicts → PlanData → Past → FhId → ℕ → Bool → Result ViewData Errno
+list_view verdicts plan past fh which writes = view_by (now verdicts plan past) (grabbed plan past) writes (handler_of past fh) (which_of which)
 
--- the value that a row gives one of its members
-abbrev pub value_in : List ℕ → List ℤ → ℕ → ℤ
-value_in members row c = value_at row (unwrap_or (position (nat_eq c) members) 0)
+-- a list with so many entries: a refusal of what it is read against has their number as its index; else it is as of that
+abbrev pub list_answer : ℕ → Result ViewData Errno → (ViewData → Answer) → Answer
+list_answer count (Err errno) of = refused_at errno count
+list_answer count (Ok view) of = of view
 
--- Setting a control where its cluster's row becomes this: the errno where a member doesn't settle or the validator refuses; ENOSPC
--- where no further step is kept. Else the value that the row gives the control.
-abbrev pub set_judged : PlanData → Past → ExtControl → ℕ → Result (List ℤ) Errno → Answer
-set_judged plan past entry c (Err errno) = refused_at errno 1
-set_judged plan past entry c (Ok row) =
-    if is_full past then refused_at ENOSPC 1
-    else Ok (Controls (record { id = entry.id; value = value_in (members plan (own_cluster plan c)) row c } ∷ []))
+-- the controls of a list, or its fault
+abbrev pub controls_of : ListAnswer → Answer
+controls_of (Ok entries) = Ok (Controls entries)
+controls_of (Err fault) = Err fault
 
--- what the row of a control's cluster becomes where the control alone is set, over the present values
-abbrev pub set_becomes : Verdicts → PlanData → Past → ℕ → ℤ → Result (List ℤ) Errno
-set_becomes verdicts plan past c asked =
-    becomes verdicts plan (now verdicts plan past) (record { control = c; value = asked } ∷ []) (own_cluster plan c)
+-- the same of a set: ENOSPC where no further step is kept
+abbrev pub kept_controls : Bool → ℕ → ListAnswer → Answer
+kept_controls full count (Ok entries) = if full then refused_at ENOSPC count else Ok (Controls entries)
+kept_controls full count (Err fault) = Err fault
 
--- Setting a control that may be set: the errno where the value doesn't settle; then as its cluster judges the present values of the
--- other members with it.
-abbrev pub set_settled : Verdicts → PlanData → Past → ExtControl → ℕ → Result ℤ Errno → Answer
-set_settled verdicts plan past entry c (Err errno) = refused_at errno 1
-set_settled verdicts plan past entry c (Ok value) = set_judged plan past entry c (set_becomes verdicts plan past c entry.value)
+-- getting controls
+abbrev pub get_list : Verdicts → PlanData → Past → FhId → ℕ → List ExtControl → Answer
+get_list verdicts plan past fh which list =
+    list_answer (length list) (list_view verdicts plan past fh which false) (λ view. controls_of (get_answer plan view list))
 
--- Setting one control: EINVAL where it isn't shown or is DISABLED; EACCES where it is READ_ONLY; EBUSY where it is grabbed; then as
--- its value settles and its cluster judges.
-abbrev pub set_one : Verdicts → PlanData → Past → ExtControl → Option ℕ → Answer
-set_one verdicts plan past entry None = refused_at EINVAL 1
-set_one verdicts plan past entry (Some c) =
-    if contains (control plan c).flags DISABLED then refused_at EINVAL 1
-    else if contains (control plan c).flags READ_ONLY then refused_at EACCES 1
-    else if is_grabbed (grabbed plan past) c then refused_at EBUSY 1
-    else set_settled verdicts plan past entry c (settle (control plan c) entry.value)
+-- setting controls
+abbrev pub set_list : Verdicts → PlanData → Past → FhId → ℕ → List ExtControl → Answer
+set_list verdicts plan past fh which list =
+    list_answer (length list) (list_view verdicts plan past fh which true) (λ view. kept_controls (is_full past) (length list) (set_answer verdicts plan view list))
 
--- A list: EBADF where the file handle isn't open; EINVAL, as yet, where it isn't a list of one about the present values.
--- The index is the number of entries.
-abbrev pub list_answer : Past → FhId → ℕ → List ExtControl → (ExtControl → Answer) → Answer
-list_answer past fh which [] one =
-    if is_some (handler_of past fh) then refused_at EINVAL 0 else refused_at EBADF 0
-list_answer past fh which (entry ∷ rest) one =
-    if is_some (handler_of past fh) then
-    (if is_one_current which (entry ∷ rest) then one entry else refused_at EINVAL (length (entry ∷ rest)))
-    else refused_at EBADF (length (entry ∷ rest))
+-- trying controls
+abbrev pub try_list : Verdicts → PlanData → Past → FhId → ℕ → List ExtControl → Answer
+try_list verdicts plan past fh which list =
+    list_answer (length list) (list_view verdicts plan past fh which true) (λ view. controls_of (try_answer verdicts plan view list))
 
 -- Grabbing a control, or letting it go: EINVAL where there is no such control; ENOSPC where no further step is kept. Any control
 -- can be grabbed, and a grab that holds already is accepted.
@@ -187,31 +174,29 @@ told_answer plan words cluster =
 abbrev pub answer_of : Verdicts → PlanData → Past → List ℕ → Ask → Answer
 answer_of verdicts plan past words (asks.OpenFh handler) = open_answer plan past handler
 answer_of verdicts plan past words (asks.CloseFh fh) = close_answer past fh
-answer_of verdicts plan past words (asks.GetCtrls fh which request list) =
-    list_answer past fh which list (λ entry. get_one plan (now verdicts plan past) entry (shown plan past fh entry.id))
-answer_of verdicts plan past words (asks.SetCtrls fh which request list) =
-    list_answer past fh which list (λ entry. set_one verdicts plan past entry (shown plan past fh entry.id))
+answer_of verdicts plan past words (asks.GetCtrls fh which request list) = get_list verdicts plan past fh which list
+answer_of verdicts plan past words (asks.SetCtrls fh which request list) = set_list verdicts plan past fh which list
+answer_of verdicts plan past words (asks.TryCtrls fh which request list) = try_list verdicts plan past fh which list
 answer_of verdicts plan past words (asks.Grab c on) = grab_answer plan past c
 answer_of verdicts plan past words (asks.Query fh id) = query_answer verdicts plan past fh id
 answer_of verdicts plan past words (asks.NextId fh id) = next_answer plan past fh id
 answer_of verdicts plan past words (asks.MenuItem fh id index) = item_answer plan past fh id index
 answer_of verdicts plan past words (asks.Told cluster) = told_answer plan words cluster
 
--- ENOMEM may take the place of an accepted opening, close or grab and of an item of a menu, and for a list that of every answer
--- after the checks of the file handle, of `which` and of the count.
-abbrev pub list_is_read : Past → FhId → ℕ → List ExtControl → Bool
-list_is_read past fh which list = is_some (handler_of past fh) && is_one_current which list
-
-abbrev pub MayLackMemory : PlanData → Past → Ask → Type 0
-MayLackMemory plan past (asks.OpenFh handler) = IsOk (open_answer plan past handler)
-MayLackMemory plan past (asks.CloseFh fh) = IsOk (close_answer past fh)
-MayLackMemory plan past (asks.GetCtrls fh which request list) = IsTrue (list_is_read past fh which list)
-MayLackMemory plan past (asks.SetCtrls fh which request list) = IsTrue (list_is_read past fh which list)
-MayLackMemory plan past (asks.Grab c on) = IsOk (grab_answer plan past c)
-MayLackMemory plan past (asks.Query fh id) = ⊥
-MayLackMemory plan past (asks.NextId fh id) = ⊥
-MayLackMemory plan past (asks.MenuItem fh id index) = IsOk (item_answer plan past fh id index)
-MayLackMemory plan past (asks.Told cluster) = ⊥
+-- ENOMEM may take the place of an accepted opening, close or grab and of an item of a menu; for a list with entries, and not too
+-- many, that of every answer after the checks of the file handle and of `which`; and that of every accepted set.
+abbrev pub MayLackMemory : Verdicts → PlanData → Past → Ask → Type 0
+MayLackMemory verdicts plan past (asks.OpenFh handler) = IsOk (open_answer plan past handler)
+MayLackMemory verdicts plan past (asks.CloseFh fh) = IsOk (close_answer past fh)
+MayLackMemory verdicts plan past (asks.GetCtrls fh which request list) = IsOk (list_view verdicts plan past fh which false) × IsTrue (may_lack list)
+MayLackMemory verdicts plan past (asks.SetCtrls fh which request list) =
+    IsOk (list_view verdicts plan past fh which true) × (IsTrue (may_lack list) ⊎ IsOk (set_list verdicts plan past fh which list))
+MayLackMemory verdicts plan past (asks.TryCtrls fh which request list) = IsOk (list_view verdicts plan past fh which true) × IsTrue (may_lack list)
+MayLackMemory verdicts plan past (asks.Grab c on) = IsOk (grab_answer plan past c)
+MayLackMemory verdicts plan past (asks.Query fh id) = ⊥
+MayLackMemory verdicts plan past (asks.NextId fh id) = ⊥
+MayLackMemory verdicts plan past (asks.MenuItem fh id index) = IsOk (item_answer plan past fh id index)
+MayLackMemory verdicts plan past (asks.Told cluster) = ⊥
 
 -- want of memory, as the ask is told it
 abbrev pub no_memory : Ask → Answer
@@ -219,6 +204,7 @@ no_memory (asks.OpenFh handler) = refused ENOMEM
 no_memory (asks.CloseFh fh) = refused ENOMEM
 no_memory (asks.GetCtrls fh which request list) = refused_at ENOMEM (length list)
 no_memory (asks.SetCtrls fh which request list) = refused_at ENOMEM (length list)
+no_memory (asks.TryCtrls fh which request list) = refused_at ENOMEM (length list)
 no_memory (asks.Grab c on) = refused ENOMEM
 no_memory (asks.Query fh id) = refused ENOMEM
 no_memory (asks.NextId fh id) = refused ENOMEM
@@ -231,6 +217,7 @@ is_list (asks.OpenFh handler) = false
 is_list (asks.CloseFh fh) = false
 is_list (asks.GetCtrls fh which request list) = true
 is_list (asks.SetCtrls fh which request list) = true
+is_list (asks.TryCtrls fh which request list) = true
 is_list (asks.Grab c on) = false
 is_list (asks.Query fh id) = false
 is_list (asks.NextId fh id) = false
@@ -240,18 +227,29 @@ is_list (asks.Told cluster) = false
 -- an answer that the ask may get after this past
 abbrev pub MayAnswer : Verdicts → PlanData → Past → List ℕ → Ask → Answer → Type 0
 MayAnswer verdicts plan past words ask answer =
-    (answer ≡ answer_of verdicts plan past words ask) ⊎ (MayLackMemory plan past ask × (answer ≡ no_memory ask))
+    (answer ≡ answer_of verdicts plan past words ask) ⊎ (MayLackMemory verdicts plan past ask × (answer ≡ no_memory ask))
 
--- the pairs of a list: each entry's control, with the value as it was given
-abbrev pub pairs_of : PlanData → Past → FhId → List ExtControl → List Pair
-pairs_of plan past fh list = map (λ entry. record { control = unwrap_or (shown plan past fh entry.id) 0; value = entry.value }) list
+-- the pairs of a list that a handler gets; none where it can't be read
+abbrev pub pairs_on : PlanData → List ExtControl → ℕ → Result Which Errno → List Pair
+pairs_on plan list handler (Ok which) = pairs_of plan handler which list
+pairs_on plan list handler (Err errno) = []
+
+abbrev pub pairs_by : PlanData → List ExtControl → Option ℕ → Result Which Errno → List Pair
+pairs_by plan list (Some handler) which = pairs_on plan list handler which
+pairs_by plan list None which = []
+
+-- The pairs of a list: each entry's control, with the value as it was given. There are none where the list isn't read, which no list
+-- that is accepted meets.
+abbrev pub list_pairs : PlanData → Past → FhId → ℕ → List ExtControl → List Pair
+list_pairs plan past fh which list = pairs_by plan list (handler_of past fh) (which_of which)
 
 -- the step that an ask adds where it is accepted
 abbrev pub step_of : PlanData → Past → Ask → Option Step
 step_of plan past (asks.OpenFh handler) = Some (steps.OpenFh handler)
 step_of plan past (asks.CloseFh fh) = Some (steps.CloseFh fh)
 step_of plan past (asks.GetCtrls fh which request list) = None
-step_of plan past (asks.SetCtrls fh which request list) = Some (steps.Set fh (pairs_of plan past fh list))
+step_of plan past (asks.SetCtrls fh which request list) = Some (steps.Set fh (list_pairs plan past fh which list))
+step_of plan past (asks.TryCtrls fh which request list) = None
 step_of plan past (asks.Grab c on) = Some (steps.Grab c on)
 step_of plan past (asks.Query fh id) = None
 step_of plan past (asks.NextId fh id) = None

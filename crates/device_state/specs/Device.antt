@@ -1,20 +1,19 @@
 -- What a device is seen as, and what a call does to it (of this project).
-use Rattle.std.specs.Prelude.{◌≡◌, ℕ, ℤ, Bool, false, ◌≤◌, [], ◌∷◌, ◌++◌, List, Option, None, Some, IsErr, length, ◌<◌, slice_index}
+use Rattle.std.specs.Prelude.{◌≡◌, ℕ, Bool, false, ◌≤◌, [], ◌∷◌, ◌++◌, List, Option, None, Some, IsErr, length, ◌<◌, slice_index}
 use Rattle.std.specs.List.{list_any}
 use Rattle.history.specs.Past.{past, entered}
 use Rattle.ctrl_calls.specs.declared.work.Work.{Work}
 use Rattle.device_state.specs.declared.ask.Ask.{Ask}
 use Rattle.device_state.specs.declared.ask.Ask.TheVariants as asks
 use Rattle.device_state.specs.declared.ask.Step.{Step}
-use Rattle.device_state.specs.declared.ask.Step.TheVariants.{Set}
 use Rattle.ctrl_handlers.specs.Plan.{PlanData, members}
-use Rattle.ctrl_calls.specs.Meanings.{Verdicts, Words}
-use Rattle.ctrl_types.specs.declared.ids.FhId.{FhId}
+use Rattle.ctrl_calls.specs.Meanings.{Verdicts}
+use Rattle.ctrl_lists.specs.Touched.{touched}
 use Rattle.device_state.specs.Steps.{History, Past}
 use Rattle.device_state.specs.Grabs.{grabbed}
 use Rattle.device_state.specs.Values.{now, now_after}
-use Rattle.device_state.specs.Told.{changes, told_count, row_changes, told_of, IsTold}
-use Rattle.device_state.specs.Answers.{Answer, MayAnswer, taken}
+use Rattle.device_state.specs.Told.{changes, told_count}
+use Rattle.device_state.specs.Answers.{Answer, MayAnswer, list_pairs, taken}
 
 -- A device: what it was built of, the steps that it accepted, the words that its clusters were told last, and how often
 -- the last call asked validators and told notifiers.
@@ -33,14 +32,14 @@ abbrev pub step_changes : Verdicts → PlanData → Past → Option Step → ℕ
 step_changes verdicts plan past None c = false
 step_changes verdicts plan past (Some step) c = changes plan (now verdicts plan past) (now_after verdicts plan (grabbed plan past) step (now verdicts plan past)) step c
 
--- how many validators an ask may have asked: a set of one control that of its cluster, every other ask none
-abbrev pub may_ask : Ask → ℕ
-may_ask (asks.SetCtrls fh which request list) = 1
-may_ask _ = 0
+-- how many validators an ask may have asked: a set and a try one for each cluster that they touch, every other ask none
+abbrev pub may_ask : PlanData → Past → Ask → ℕ
+may_ask plan past (asks.SetCtrls fh which request list) = length (touched plan (list_pairs plan past fh which list))
+may_ask plan past (asks.TryCtrls fh which request list) = length (touched plan (list_pairs plan past fh which list))
+may_ask plan past _ = 0
 
 -- What a call at a seat does: the answer is one that the ask may get, and the steps grow by the one that it takes, or by none.
--- Each cluster with a changed member is told once, and the word of every other stays. Only a set may ask validators, and asks one at
--- most.
+-- Each cluster with a changed member is told once, and the word of every other stays. Only a set and a try may ask validators.
 pub record Handles (verdicts : Verdicts) (old new : DeviceData) (seat : ℕ) (ask : Ask) (answer : Answer) : Type 0 where
   pub plan : new.plan ≡ old.plan
   pub answers : MayAnswer verdicts old.plan (past old.steps) old.words ask answer
@@ -51,17 +50,4 @@ pub record Handles (verdicts : Verdicts) (old new : DeviceData) (seat : ℕ) (as
       → list_any (step_changes verdicts old.plan (past old.steps) (taken old.plan (past old.steps) ask answer)) (members old.plan k) ≡ false
       → slice_index new.words k ≡ slice_index old.words k
   pub told : new.work.told ≡ told_count old.plan (step_changes verdicts old.plan (past old.steps) (taken old.plan (past old.steps) ask answer))
-  pub asked : new.work.asked ≤ may_ask ask
-
--- whether a set of one control, after a past, changes a member of the cluster that gets this row
-abbrev pub set_changes : Verdicts → PlanData → Past → ℕ → ℤ → ℕ → List ℤ → Bool
-set_changes verdicts plan past c asked k row =
-    row_changes plan (now verdicts plan past) (record { control = c; value = asked } ∷ []) (members plan k) row
-
--- What an accepted set of one control does: it adds its step, and the control's cluster, which gets the row, is told where the row
--- changes a member.
-pub record SetsOne (verdicts : Verdicts) (told : Words) (old new : DeviceData) (seat : ℕ) (fh : FhId) (c : ℕ) (asked : ℤ) (k : ℕ) (row : List ℤ) : Type 0 where
-  pub plan : new.plan ≡ old.plan
-  pub steps : new.steps ≡ old.steps ++ record { seat = seat; step = Set fh (record { control = c; value = asked } ∷ []) } ∷ []
-  pub words : IsTold told old.plan k (set_changes verdicts old.plan (past old.steps) c asked k row) row old.words new.words
-  pub work : new.work ≡ record old.work { told = told_of old.plan k (set_changes verdicts old.plan (past old.steps) c asked k row) old.work.told }
+  pub asked : new.work.asked ≤ may_ask old.plan (past old.steps) ask

@@ -1,17 +1,10 @@
 -- Which controls are grabbed after a history (Linux driver API, "V4L2 Controls", `v4l2_ctrl_grab`).
-use Rattle.std.specs.Prelude.{ℕ, Bool, false, List, [], ◌∷◌, map, slice_index_or, slice_set}
+pub use Rattle.ctrl_clusters.specs.Rows.{Grabs, is_grabbed}
+use Rattle.std.specs.Prelude.{false, [], ◌∷◌, map, slice_set}
 use Rattle.device_state.specs.declared.ask.Step.{Step}
 use Rattle.device_state.specs.declared.ask.Step.TheVariants.{Grab}
 use Rattle.ctrl_handlers.specs.Plan.{PlanData}
 use Rattle.device_state.specs.Steps.{Past}
-
--- for each control, in the order of their numbers, whether it is grabbed
-abbrev pub Grabs : Type 0
-Grabs = List Bool
-
--- whether one control is
-abbrev pub is_grabbed : Grabs → ℕ → Bool
-is_grabbed grabs c = slice_index_or grabs c false
 
 -- a grab holds one control, or lets it go
 abbrev pub grabbed_after : Step → Grabs → Grabs

@@ -13,6 +13,10 @@ pub use Rattle.ctrl_handlers.specs.Builder
 pub use Rattle.ctrl_clusters.specs.Rows
 pub use Rattle.ctrl_clusters.specs.Judging
 pub use Rattle.ctrl_clusters.specs.AutoClusters
+pub use Rattle.ctrl_lists.specs.View
+pub use Rattle.ctrl_lists.specs.Checks
+pub use Rattle.ctrl_lists.specs.Touched
+pub use Rattle.ctrl_lists.specs.Answers as ListAnswers
 pub mod Steps
 pub mod Grabs
 pub mod Overlay
@@ -23,4 +27,5 @@ pub mod Info
 pub mod Answers
 pub mod Legal
 pub mod Device
+pub mod Setting
 pub mod Kept

@@ -6,7 +6,7 @@ use Rattle.ctrl_types.specs.declared.errno.Errno.TheVariants.{EBUSY}
 use Rattle.ctrl_types.specs.declared.ids.Pair.{Pair}
 use Rattle.ctrl_calls.specs.Meanings.{Verdicts}
 use Rattle.ctrl_handlers.specs.Plan.{PlanData, members}
-use Rattle.ctrl_clusters.specs.Rows.{Values}
+use Rattle.ctrl_clusters.specs.Rows.{Values, row_of}
 use Rattle.ctrl_clusters.specs.Judging.{becomes}
 use Rattle.device_state.specs.Grabs.{Grabs, is_grabbed}
 
@@ -50,3 +50,15 @@ overlaid verdicts plan values grabs pairs (suc k) =
 -- pairs laid over values, under these grabs
 abbrev pub overlay : Verdicts → PlanData → Values → Grabs → List Pair → Values
 overlay verdicts plan values grabs pairs = overlaid verdicts plan values grabs pairs (length plan.clusters)
+
+-- a row that is laid, or where it is refused the own one
+abbrev pub laid_or : List ℤ → Result (List ℤ) Errno → List ℤ
+laid_or own (Ok row) = row
+laid_or own (Err errno) = own
+
+-- The row of a cluster once pairs were laid over the values: where a member is among them, and it isn't refused, the one that is laid;
+-- else its own.
+abbrev pub row_laid : Verdicts → PlanData → Values → Grabs → List Pair → ℕ → List ℤ
+row_laid verdicts plan values grabs pairs k =
+    if is_touched pairs (members plan k) then laid_or (row_of values (members plan k)) (laid verdicts plan values grabs pairs k)
+    else row_of values (members plan k)

@@ -1,6 +1,6 @@
 -- The present values (Linux userspace API, "Extended Controls API").
 pub use Rattle.ctrl_clusters.specs.Rows.{Values, value_at, last_value, row_of}
-use Rattle.std.specs.Prelude.{List, [], ◌∷◌, map}
+use Rattle.std.specs.Prelude.{[], ◌∷◌, map}
 use Rattle.device_state.specs.declared.ask.Step.{Step}
 use Rattle.device_state.specs.declared.ask.Step.TheVariants.{Set}
 use Rattle.ctrl_handlers.specs.Plan.{PlanData}

@@ -1,7 +1,7 @@
-use crate::control_list::ControlList;
 use crate::info::CtrlInfo;
 use crate::pair_list::PairList;
 use ctrl_handlers::MenuItem;
+use ctrl_lists::ControlList;
 use ctrl_types::{CtrlId, FhId, RequestId};
 
 /// What a caller asks of a device.
@@ -21,7 +21,7 @@ pub enum Ask {
     GetCtrls {
         /// The file handle.
         fh: FhId,
-        /// Which values, as `Which::read` reads it; as yet 0 alone.
+        /// Which values, as `Which::read` reads it.
         which: u32,
         /// The request, where `which` speaks of one; else ignored.
         request: Option<RequestId>,
@@ -32,7 +32,18 @@ pub enum Ask {
     SetCtrls {
         /// The file handle.
         fh: FhId,
-        /// Which values, as `Which::read` reads it; as yet 0 alone.
+        /// Which values, as `Which::read` reads it.
+        which: u32,
+        /// The request, where `which` speaks of one; else ignored.
+        request: Option<RequestId>,
+        /// The controls and their values.
+        list: ControlList,
+    },
+    /// Tries what controls would be set to, all or none, and sets none (`VIDIOC_TRY_EXT_CTRLS`).
+    TryCtrls {
+        /// The file handle.
+        fh: FhId,
+        /// Which values, as `Which::read` reads it.
         which: u32,
         /// The request, where `which` speaks of one; else ignored.
         request: Option<RequestId>,

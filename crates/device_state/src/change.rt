@@ -1,17 +1,20 @@
 //! Whom a device tells of rows.
 
-ghost use Rattle.std.specs.Prelude.{◌≡◌, ◌<◌, length, IfOk};
+ghost use Rattle.std.specs.Prelude.{◌≡◌, ◌<◌, ◌^◌, length, IfOk};
+ghost use Rattle.std.specs.List.{All};
 ghost use Rattle.ctrl_handlers.specs.Plan.{calls_of, members};
 ghost use Rattle.device_state.specs.Values.{row_of};
 ghost use Rattle.device_state.specs.Told.{AreTold, IsTold, MayBeTold, told_by, told_of};
+ghost use Rattle.device_state.specs.Setting.{AreRetold, cluster_changes, row_given, told_below};
 
-use crate::row::present_row;
+use crate::row::{present_row, row_changes};
 use ctrl_calls::{ClusterRow, Driver, Work};
 use ctrl_handlers::Plan;
+use ctrl_lists::Touched;
 use std::alloc::{AllocError, Global};
 
-/// Tells a cluster its new row, where the row changed a member, and keeps the word.
-pub(crate) fn tell_change<D: Driver>(
+// Tells a cluster its new row, where the row changed a member, and keeps the word.
+fn tell_change<D: Driver>(
     plan: &Plan<D>,
     words: &mut Vec<u64>,
     cluster: u32,
@@ -26,6 +29,49 @@ pub(crate) fn tell_change<D: Driver>(
 {
     if changed {
         words[cluster as usize] = tell(plan, cluster, row, work);
+    }
+}
+
+/// Tells each cluster that a list touches its new row, where it changes a member, in rising number, and keeps the words.
+pub(crate) fn tell_changes<D: Driver>(
+    plan: &Plan<D>,
+    values: &[i64],
+    touch: &Touched,
+    words: &mut Vec<u64>,
+    work: &mut Work,
+)
+    requires values { length values.now ≡ length plan.now.controls }
+    requires each { length words.old.items ≡ length plan.now.clusters }
+    requires long { All (λ r. length r.row ≡ length (members plan.now r.cluster)) touch.now.rows }
+    ensures few { length plan.now.clusters < 2 ^ 32 }
+    ensures words { AreRetold D.told plan.now (cluster_changes plan.now values.now touch.now.pairs (row_given touch.now.rows)) (row_given touch.now.rows) (length plan.now.clusters) words.old.items words.new.items }
+    ensures work { work.new ≡ record work.old { told = told_below plan.now (cluster_changes plan.now values.now touch.now.pairs (row_given touch.now.rows)) (length plan.now.clusters) work.old.told } }
+{
+    for cluster in 0..plan.cluster_count() {
+        tell_touched(plan, values, touch, cluster, words, work);
+    }
+}
+
+// Tells a cluster its new row, where it gets one that changes a member.
+fn tell_touched<D: Driver>(
+    plan: &Plan<D>,
+    values: &[i64],
+    touch: &Touched,
+    cluster: u32,
+    words: &mut Vec<u64>,
+    work: &mut Work,
+)
+    requires known { cluster < length plan.now.clusters }
+    requires values { length values.now ≡ length plan.now.controls }
+    requires each { length words.old.items ≡ length plan.now.clusters }
+    requires long { All (λ r. length r.row ≡ length (members plan.now r.cluster)) touch.now.rows }
+    ensures words { IsTold D.told plan.now cluster (cluster_changes plan.now values.now touch.now.pairs (row_given touch.now.rows) cluster) (row_given touch.now.rows cluster) words.old.items words.new.items }
+    ensures work { work.new ≡ record work.old { told = told_of plan.now cluster (cluster_changes plan.now values.now touch.now.pairs (row_given touch.now.rows) cluster) work.old.told } }
+{
+    if let Some(row) = touch.row_of(cluster) {
+        let members = plan.members(cluster);
+        let changed = row_changes(plan, values, touch.pairs(), members, &row);
+        tell_change(plan, words, cluster, changed, &row, work);
     }
 }
 

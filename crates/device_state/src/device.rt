@@ -1,35 +1,30 @@
-ghost use Rattle.std.specs.Prelude.{◌≡◌, ◌<◌, ◌≤◌, ◌+◌, ℕ, Bool, false, [], ◌∷◌, map, length, None, Some, Option, Ok, Err, IsOk, IfOk, IfErr, IfSome, OnOk, OnErr, IsSome};
+ghost use Rattle.std.specs.Prelude.{◌≡◌, ◌<◌, ◌≤◌, ℕ, [], length, Ok, Err, IsOk, IfOk, IfErr, IfSome, OnOk, OnErr};
 ghost use Rattle.history.specs.Past.{past};
 ghost use Rattle.ctrl_types.specs.declared.errno.Errno.TheVariants.{ENOMEM};
-ghost use Rattle.ctrl_types.specs.declared.ids.ExtControl.{ExtControl as ExtControlOf};
-ghost use Rattle.ctrl_types.specs.declared.ids.RequestId.{RequestId as RequestIdOf};
 ghost use Rattle.device_state.specs.declared.ask.Ask.TheVariants as asks;
 ghost use Rattle.device_state.specs.declared.ask.Reply.TheVariants as replies;
 ghost use Rattle.device_state.specs.declared.ask.Step.TheVariants as steps;
-ghost use Rattle.ctrl_handlers.specs.Plan.{IsPlan, cluster_of, members};
 ghost use Rattle.device_state.specs.Grabs.{is_grabbed, grabbed};
 ghost use Rattle.device_state.specs.Marks.{flags_now};
 ghost use Rattle.device_state.specs.Steps.{opened, handler_of, shown};
-ghost use Rattle.device_state.specs.Values.{defaults, value_at, now};
-ghost use Rattle.device_state.specs.Told.{AreTold, row_changes};
-ghost use Rattle.device_state.specs.Answers.{Answer, refused, refused_at, are_all_open, is_full, open_answer, close_answer, grab_answer, own_cluster, set_becomes, set_judged, value_in, query_answer, next_answer, list_answer, get_one, set_one, told_answer, answer_of, MayAnswer};
+ghost use Rattle.device_state.specs.Values.{defaults, now};
+ghost use Rattle.device_state.specs.Told.{AreTold};
+ghost use Rattle.device_state.specs.Answers.{refused, are_all_open, is_full, open_answer, close_answer, grab_answer, query_answer, next_answer, told_answer, MayAnswer};
 ghost use Rattle.device_state.specs.Legal.{IsLegal};
-ghost use Rattle.device_state.specs.Device.{Handles, SetsOne, with_step};
+ghost use Rattle.device_state.specs.Device.{Handles, with_step};
+
+mod lists;
 
 use crate::ask::{Ask, Reply, Step};
-use crate::change::{first_words, tell_change};
-use crate::control_list::ControlList;
+use crate::change::first_words;
 use crate::info::CtrlInfo;
 use crate::limits::{MAX_FILE_HANDLES, MAX_STEPS};
-use crate::pair_list::PairList;
-use crate::row::{row_changes, value_in, write_row};
 use crate::start::{first_values, no_grabs};
 use bitflags::Flags as FlagSet;
-use ctrl_calls::{ClusterRow, Driver, Work};
-use ctrl_clusters::{becomes, inactive};
+use ctrl_calls::{Driver, Work};
+use ctrl_clusters::inactive;
 use ctrl_handlers::Plan;
-use ctrl_settle::settle;
-use ctrl_types::{CtrlId, Errno, ExtControl, Fault, FhId, Flags, Pair, RequestId};
+use ctrl_types::{CtrlId, Errno, Fault, FhId, Flags};
 use history::Entry;
 use indexmap::IndexMap;
 use std::alloc::{AllocError, Global};
@@ -144,7 +139,7 @@ impl<D: Driver> Device<D> {
     /// or lets it go (Linux driver API, `v4l2_ctrl_grab`): as long as it is grabbed it has GRABBED and a set of it is refused; it
     /// is refused, without an index, with EINVAL where there is no such control, with ENOSPC where 1,000,000 steps are kept, and
     /// with ENOMEM where a growth was refused; a grab that holds already is accepted, and is a step. For the refusals of lists, each with its
-    /// index, see `get` and `set`; for those of `Query` and `Told` see `query` and `told`.
+    /// index, see `get`, `set` and `try_set`; for those of `Query` and `Told` see `query` and `told`.
     ///
     /// `NextId` tells the least id that is shown to `fh` and greater than `id`, DISABLED controls counted (Linux userspace API,
     /// "ioctls VIDIOC_QUERYCTRL, VIDIOC_QUERY_EXT_CTRL and VIDIOC_QUERYMENU"). It is refused, without an index, with EBADF
@@ -180,85 +175,17 @@ impl<D: Driver> Device<D> {
                 request,
                 list,
             } => self.set(seat, *fh, *which, *request, list),
+            Ask::TryCtrls {
+                fh,
+                which,
+                request,
+                list,
+            } => self.try_set(*fh, *which, *request, list),
             Ask::Grab { control, on } => self.grab(seat, *control, *on),
             Ask::Query { fh, id } => self.query(*fh, *id),
             Ask::NextId { fh, id } => self.next(*fh, *id),
             Ask::MenuItem { fh, id, index } => self.item(*fh, *id, *index),
             Ask::Told { cluster } => self.told(*cluster),
-        }
-    }
-
-    /// Gets controls, as `handle` on `Ask::GetCtrls` of these fields at any seat does (Linux userspace API, "ioctl
-    /// VIDIOC_G_EXT_CTRLS"; the order of the refusals and the index are of this project). It changes nothing but the counts of
-    /// `work`.
-    ///
-    /// Refused, in this order, with EBADF (9) where `fh` isn't open; EINVAL (22) where, as yet, `which` isn't 0 or `list`
-    /// hasn't one entry; EINVAL where the id isn't shown to `fh` or its control is DISABLED; EACCES (13) where it is
-    /// WRITE_ONLY. ENOMEM (12) may stand in place of any answer from the third on. The index is the number of entries.
-    /// `request` is ignored.
-    pub fn get(
-        &mut self,
-        fh: FhId,
-        which: u32,
-        request: Option<RequestId>,
-        list: &ControlList,
-    ) -> Result<Reply, Fault>
-        ensures { (seat : ℕ) → Handles D.verdict self.old self.new seat (asks.GetCtrls fh which request list.now) result }
-    {
-        self.work = Work::new();
-        self.get_list(fh, which, list)
-    }
-
-    /// Sets controls to what their values become, as `handle` on `Ask::SetCtrls` of these fields does (Linux userspace API,
-    /// "ioctl VIDIOC_S_EXT_CTRLS"; Linux driver API, "V4L2 Controls", "Control Clusters"; the order of the refusals and the
-    /// index are of this project). The values of a cluster's members, overwritten by those that are asked for, settle in member
-    /// order, and then the cluster's validator judges the row, asked at most once; it may change any member. The answer has the
-    /// values that the controls took; the step keeps them as they were given. Where a member changed, that is where its value
-    /// differs, or it acts on each write and was asked for, the cluster's notifier is told the new row, once, and its word is
-    /// kept.
-    ///
-    /// Refused, in this order, with EBADF (9) where `fh` isn't open; EINVAL (22) where, as yet, `which` isn't 0 or `list`
-    /// hasn't one entry; EINVAL where the id isn't shown to `fh` or its control is DISABLED; EACCES (13) where it is
-    /// READ_ONLY; EBUSY (16) where it is grabbed; the errno of `ctrl_settle::settle` where the value doesn't settle, and then of
-    /// the first member that doesn't; the validator's errno where it refuses
-    /// with EACCES, EBUSY, EINVAL or ERANGE (34), and EINVAL where it refuses with another, or answers a row of another
-    /// length or with a value that settling would change or refuse; ENOSPC (28) where 1,000,000 steps are kept. ENOMEM (12) may
-    /// stand in place of any answer from the third on. The index is the number of entries. Nothing is changed then but the
-    /// counts of `work`, and no notifier is told. `request` is ignored.
-    pub fn set(
-        &mut self,
-        seat: u32,
-        fh: FhId,
-        which: u32,
-        request: Option<RequestId>,
-        list: &ControlList,
-    ) -> Result<Reply, Fault>
-        ensures handles { Handles D.verdict self.old self.new seat (asks.SetCtrls fh which request list.now) result }
-        ensures told { AreTold D.told self.new.plan (now D.verdict self.new.plan (past self.new.steps)) self.new.words }
-    {
-        let answer = self.set_list(seat, fh, which, request, list);
-        // the words are such as were told, as the contract of `steps` says
-        let _kept = self.steps();
-        answer
-    }
-
-    // Sets the controls of a list.
-    fn set_list(
-        &mut self,
-        seat: u32,
-        fh: FhId,
-        which: u32,
-        request: Option<RequestId>,
-        list: &ControlList,
-    ) -> Result<Reply, Fault>
-        ensures { Handles D.verdict self.old self.new seat (asks.SetCtrls fh which request list.now) result }
-    {
-        match self.read_list(fh, which, list) {
-            Ok(entry) => self.set_one(seat, fh, entry),
-            Err(fault) => {
-                self.work = Work::new();
-                Err(fault)
-            }
         }
     }
 
@@ -385,199 +312,6 @@ impl<D: Driver> Device<D> {
         Ok(())
     }
 
-    // The refusals of a list before its entries are read; the one entry where there is none.
-    fn read_list(&self, fh: FhId, which: u32, list: &ControlList) -> Result<ExtControl, Fault>
-        ensures ok { IfOk result (λ entry. IsSome (handler_of (past self.now.steps) fh) × (which ≡ 0) × (list.now ≡ entry ∷ [])) }
-        ensures err { IfErr result (λ fault. (one : ExtControlOf → Answer) → list_answer (past self.now.steps) fh which list.now one ≡ Err fault) }
-    {
-        let count = list.len();
-        if self.handler_of(fh).is_none() {
-            return Err(at(Errno::EBADF, count));
-        }
-        match list.only() {
-            Some(entry) if which == 0 => Ok(entry),
-            _ => Err(at(Errno::EINVAL, count)),
-        }
-    }
-
-    fn get_list(&self, fh: FhId, which: u32, list: &ControlList) -> Result<Reply, Fault>
-        ensures { (request : Option RequestIdOf) → MayAnswer D.verdict self.now.plan (past self.now.steps) self.now.words (asks.GetCtrls fh which request list.now) result }
-    {
-        match self.read_list(fh, which, list) {
-            Ok(entry) => self.get_one(fh, entry),
-            Err(fault) => Err(fault),
-        }
-    }
-
-    // Gets one control by an open file handle.
-    fn get_one(&self, fh: FhId, entry: ExtControl) -> Result<Reply, Fault>
-        requires { IsSome (handler_of (past self.now.steps) fh) }
-        ensures { (request : Option RequestIdOf) → MayAnswer D.verdict self.now.plan (past self.now.steps) self.now.words (asks.GetCtrls fh 0 request (entry ∷ [])) result }
-    {
-        let Some(number) = self.shown(fh, entry.id) else {
-            return refused_at(Errno::EINVAL, 1);
-        };
-        let flags = self.plan.control(number).flags();
-        if flags.contains(Flags::DISABLED) {
-            return refused_at(Errno::EINVAL, 1);
-        }
-        if flags.contains(Flags::WRITE_ONLY) {
-            return refused_at(Errno::EACCES, 1);
-        }
-        match one_control(self.alloc, entry.id, self.value(number)) {
-            Ok(list) => Ok(Reply::Controls(list)),
-            Err(_) => refused_at(Errno::ENOMEM, 1),
-        }
-    }
-
-    // Sets one control by an open file handle.
-    fn set_one(&mut self, seat: u32, fh: FhId, entry: ExtControl) -> Result<Reply, Fault>
-        requires { IsSome (handler_of (past self.old.steps) fh) }
-        ensures { (request : Option RequestIdOf) → Handles D.verdict self.old self.new seat (asks.SetCtrls fh 0 request (entry ∷ [])) result }
-    {
-        let mut work = Work::new();
-        let judged = self.judge_one(fh, entry, &mut work);
-        self.work = work;
-        let (number, row) = match judged {
-            Ok(taken) => taken,
-            Err(errno) => return refused_at(errno, 1),
-        };
-        match self.accept_set(seat, fh, entry, number, &row) {
-            Ok(answers) => Ok(Reply::Controls(answers)),
-            Err(_) => refused_at(Errno::ENOMEM, 1),
-        }
-    }
-
-    // The refusals of an entry that is to be set; else the control that it is of, and what its cluster's row becomes.
-    fn judge_one(
-        &self,
-        fh: FhId,
-        entry: ExtControl,
-        work: &mut Work,
-    ) -> Result<(u32, ClusterRow), Errno>
-        ensures err { IfErr result (λ errno. set_one D.verdict self.now.plan (past self.now.steps) entry (shown self.now.plan (past self.now.steps) fh entry.id) ≡ refused_at errno 1) }
-        ensures ok { IfOk result (λ taken. set_one D.verdict self.now.plan (past self.now.steps) entry (shown self.now.plan (past self.now.steps) fh entry.id)
-            ≡ Ok (replies.Controls (record { id = entry.id; value = value_in (members self.now.plan (own_cluster self.now.plan taken.0)) taken.1 taken.0 } ∷ []))) }
-        ensures shown { IfOk result (λ taken. shown self.now.plan (past self.now.steps) fh entry.id ≡ Some taken.0) }
-        ensures known { IfOk result (λ taken. taken.0 < length self.now.plan.controls) }
-        ensures free { IfOk result (λ taken. is_grabbed (grabbed self.now.plan (past self.now.steps)) taken.0 ≡ false) }
-        ensures clustered { IfOk result (λ taken. cluster_of self.now.plan taken.0 ≡ Some (own_cluster self.now.plan taken.0)) }
-        ensures within { IfOk result (λ taken. own_cluster self.now.plan taken.0 < length self.now.plan.clusters) }
-        ensures becomes { IfOk result (λ taken. set_becomes D.verdict self.now.plan (past self.now.steps) taken.0 entry.value ≡ Ok taken.1) }
-        ensures long { IfOk result (λ taken. length taken.1 ≡ length (members self.now.plan (own_cluster self.now.plan taken.0))) }
-        ensures room { IfOk result (λ _. length self.now.steps < MAX_STEPS) }
-        ensures plan { IfOk result (λ _. IsPlan self.now.plan) }
-        ensures asked { work.new.asked ≤ work.old.asked + 1 }
-        ensures told { work.new.told ≡ work.old.told }
-    {
-        let number = self.may_set(fh, entry)?;
-        match self.becomes_one(number, entry.value, work) {
-            Err(errno) => Err(errno),
-            Ok(_) if self.is_full() => Err(Errno::ENOSPC),
-            Ok(row) => Ok((number, row)),
-        }
-    }
-
-    // The refusals of an entry that is to be set, before its cluster is judged; else the control that it is of.
-    fn may_set(&self, fh: FhId, entry: ExtControl) -> Result<u32, Errno>
-        ensures err { IfErr result (λ errno. set_one D.verdict self.now.plan (past self.now.steps) entry (shown self.now.plan (past self.now.steps) fh entry.id) ≡ refused_at errno 1) }
-        ensures ok { IfOk result (λ c. set_one D.verdict self.now.plan (past self.now.steps) entry (shown self.now.plan (past self.now.steps) fh entry.id)
-            ≡ set_judged self.now.plan (past self.now.steps) entry c (set_becomes D.verdict self.now.plan (past self.now.steps) c entry.value)) }
-        ensures shown { IfOk result (λ c. shown self.now.plan (past self.now.steps) fh entry.id ≡ Some c) }
-        ensures known { IfOk result (λ c. c < length self.now.plan.controls) }
-        ensures free { IfOk result (λ c. is_grabbed (grabbed self.now.plan (past self.now.steps)) c ≡ false) }
-        ensures plan { IfOk result (λ _. IsPlan self.now.plan) }
-    {
-        let Some(number) = self.shown(fh, entry.id) else {
-            return Err(Errno::EINVAL);
-        };
-        let ctrl = self.plan.control(number);
-        if ctrl.flags().contains(Flags::DISABLED) {
-            return Err(Errno::EINVAL);
-        }
-        if ctrl.flags().contains(Flags::READ_ONLY) {
-            return Err(Errno::EACCES);
-        }
-        if self.is_grabbed(number) {
-            return Err(Errno::EBUSY);
-        }
-        match settle(&ctrl, entry.value) {
-            Ok(_) => Ok(number),
-            Err(errno) => Err(errno),
-        }
-    }
-
-    // What the row of a control's cluster becomes where the control alone is set.
-    fn becomes_one(&self, number: u32, asked: i64, work: &mut Work) -> Result<ClusterRow, Errno>
-        requires { number < length self.now.plan.controls }
-        ensures row { result ≡ set_becomes D.verdict self.now.plan (past self.now.steps) number asked }
-        ensures clustered { cluster_of self.now.plan number ≡ Some (own_cluster self.now.plan number) }
-        ensures within { own_cluster self.now.plan number < length self.now.plan.clusters }
-        ensures long { IfOk result (λ row. length row ≡ length (members self.now.plan (own_cluster self.now.plan number))) }
-        ensures asked { work.new.asked ≤ work.old.asked + 1 }
-        ensures told { work.new.told ≡ work.old.told }
-    {
-        let pair = Pair {
-            control: number,
-            value: asked,
-        };
-        becomes(
-            &self.plan,
-            self.plan.cluster_of(number),
-            self.present(),
-            &[pair],
-            work,
-        )
-    }
-
-    // Gives the cluster of one control, as shown under an id, the row that it becomes where the control is set, after the
-    // refusals.
-    fn accept_set(
-        &mut self,
-        seat: u32,
-        fh: FhId,
-        entry: ExtControl,
-        number: u32,
-        row: &ClusterRow,
-    ) -> Result<ControlList, AllocError>
-        requires accepted { IsOk (answer_of D.verdict self.old.plan (past self.old.steps) [] (asks.SetCtrls fh 0 None (entry ∷ []))) }
-        requires room { length self.old.steps < MAX_STEPS }
-        requires shown { shown self.old.plan (past self.old.steps) fh entry.id ≡ Some number }
-        requires known { number < length self.old.plan.controls }
-        requires free { is_grabbed (grabbed self.old.plan (past self.old.steps)) number ≡ false }
-        requires becomes { set_becomes D.verdict self.old.plan (past self.old.steps) number entry.value ≡ Ok row.now }
-        requires long { length row.now ≡ length (members self.old.plan (own_cluster self.old.plan number)) }
-        requires plan { IsPlan self.old.plan }
-        ensures answers { IfOk result (λ answers. answers ≡ record { id = entry.id; value = value_in (members self.old.plan (own_cluster self.old.plan number)) row.now number } ∷ []) }
-        ensures ok { IfOk result (λ _. SetsOne D.verdict D.told self.old self.new seat fh number entry.value (own_cluster self.old.plan number) row.now) }
-        ensures err { OnErr result (self.new ≡ self.old) }
-    {
-        let cluster = self.plan.cluster_of(number);
-        let members = self.plan.members(cluster);
-        let pair = Pair {
-            control: number,
-            value: entry.value,
-        };
-        let changed = row_changes(&self.plan, self.values.as_slice(), &[pair], members, row);
-        self.steps.reserve(1)?;
-        let answers = one_control(self.alloc, entry.id, value_in(members, row, number))?;
-        let pairs = one_pair(self.alloc, pair)?;
-        write_row(&mut self.values, members, row);
-        self.steps.push_reserved(Entry {
-            seat,
-            step: Step::Set { fh, pairs },
-        });
-        tell_change(
-            &self.plan,
-            &mut self.words,
-            cluster,
-            changed,
-            row,
-            &mut self.work,
-        );
-        Ok(answers)
-    }
-
     fn grab(&mut self, seat: u32, control: u32, on: bool) -> Result<Reply, Fault>
         ensures { Handles D.verdict self.old self.new seat (asks.Grab control on) result }
     {
@@ -648,15 +382,6 @@ impl<D: Driver> Device<D> {
         self.plan.find(handler, id).ok()
     }
 
-    // The present value of a control.
-    #[tactic(auto, using(crate::proofs::PresentLemmas::length_now))]
-    fn value(&self, number: u32) -> i64
-        requires { number < length self.now.plan.controls }
-        ensures { result ≡ value_at (now D.verdict self.now.plan (past self.now.steps)) number }
-    {
-        self.values[number as usize]
-    }
-
     // The present values.
     #[tactic(auto, using(crate::proofs::PresentLemmas::length_now))]
     fn present(&self) -> &[i64]
@@ -664,6 +389,15 @@ impl<D: Driver> Device<D> {
         ensures long { length result.now ≡ length self.now.plan.controls }
     {
         self.values.as_slice()
+    }
+
+    // Whether each control is grabbed.
+    #[tactic(auto, using(crate::proofs::PresentLemmas::length_grabbed))]
+    fn grabs(&self) -> &[bool]
+        ensures grabs { result.now ≡ grabbed self.now.plan (past self.now.steps) }
+        ensures long { length result.now ≡ length self.now.plan.controls }
+    {
+        self.grabs.as_slice()
     }
 
     // Whether a control is grabbed.
@@ -756,42 +490,8 @@ fn plain(errno: Errno) -> Fault
     Fault { errno, index: None }
 }
 
-// A fault of a list, with its index.
-fn at(errno: Errno, index: u32) -> Fault
-    ensures { result ≡ record { errno = errno; index = Some index } }
-{
-    Fault {
-        errno,
-        index: Some(index),
-    }
-}
-
 fn refused(errno: Errno) -> Result<Reply, Fault>
     ensures { result ≡ refused errno }
 {
     Err(plain(errno))
-}
-
-fn refused_at(errno: Errno, index: u32) -> Result<Reply, Fault>
-    ensures { result ≡ refused_at errno index }
-{
-    Err(at(errno, index))
-}
-
-// A list of one control.
-fn one_control(alloc: Global, id: CtrlId, value: i64) -> Result<ControlList, AllocError>
-    ensures { IfOk result (λ list. list ≡ record { id = id; value = value } ∷ []) }
-{
-    let mut items = Vec::with_capacity(alloc, 1)?;
-    items.push_reserved(ExtControl { id, value });
-    Ok(ControlList::from_vec(items))
-}
-
-// A list of one pair.
-fn one_pair(alloc: Global, pair: Pair) -> Result<PairList, AllocError>
-    ensures { IfOk result (λ list. list ≡ pair ∷ []) }
-{
-    let mut items = Vec::with_capacity(alloc, 1)?;
-    items.push_reserved(pair);
-    Ok(PairList::from_vec(items))
 }

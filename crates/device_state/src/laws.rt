@@ -8,14 +8,16 @@ ghost use Rattle.history.specs.Past.{past};
 ghost use Rattle.ctrl_calls.specs.Meanings.{Verdicts};
 ghost use Rattle.ctrl_types.specs.declared.errno.Fault.{Fault};
 ghost use Rattle.ctrl_types.specs.declared.ids.FhId.{FhId};
+ghost use Rattle.ctrl_types.specs.declared.ids.Pair.{Pair};
 ghost use Rattle.device_state.specs.declared.ask.Ask.{Ask};
 ghost use Rattle.device_state.specs.declared.ask.Step.{Step};
 ghost use Rattle.device_state.specs.declared.ask.Step.TheVariants.{CloseFh};
-ghost use Rattle.ctrl_handlers.specs.Plan.{PlanData, members};
-ghost use Rattle.device_state.specs.Grabs.{grabbed, grabbed_after};
+ghost use Rattle.ctrl_handlers.specs.Plan.{PlanData, IsPlan, members};
+ghost use Rattle.device_state.specs.Grabs.{Grabs, grabbed, grabbed_after};
+ghost use Rattle.device_state.specs.Overlay.{overlay, row_laid};
 ghost use Rattle.device_state.specs.Marks.{flags_under, flags_now};
 ghost use Rattle.device_state.specs.Steps.{History, Past, opened, opened_after, handler_of};
-ghost use Rattle.device_state.specs.Values.{defaults, now, now_after};
+ghost use Rattle.device_state.specs.Values.{Values, defaults, row_of, now, now_after};
 ghost use Rattle.device_state.specs.Answers.{MayAnswer, is_list};
 ghost use Rattle.device_state.specs.Legal.{IsLegal, MayFollow};
 ghost use Rattle.device_state.specs.Told.{AreTold, changes};
@@ -42,6 +44,14 @@ pub fn closed_handles()
 pub fn present_values()
     ensures start { (verdicts : Verdicts) (plan : PlanData) → now verdicts plan (past []) ≡ defaults plan }
     ensures one_more { (verdicts : Verdicts) (plan : PlanData) (steps : History) (e : Entry Step) → now verdicts plan (past (steps ++ e ∷ [])) ≡ now_after verdicts plan (grabbed plan (past steps)) e.step (now verdicts plan (past steps)) }
+{}
+
+/// Pairs laid over values give each cluster that has a member among them, and isn't refused, the row that is laid; every other keeps
+/// its row.
+#[tactic(auto, using(crate::proofs::OverlayLemmas::overlaid_row))]
+pub fn overlaid_rows()
+    ensures { (verdicts : Verdicts) (plan : PlanData) (values : Values) (grabs : Grabs) (pairs : List Pair) (k : ℕ) → IsPlan plan → length values ≡ length plan.controls → k < length plan.clusters
+        → row_of (overlay verdicts plan values grabs pairs) (members plan k) ≡ row_laid verdicts plan values grabs pairs k }
 {}
 
 /// At first no control is grabbed; one more entry makes of the grabs what its step makes of them.

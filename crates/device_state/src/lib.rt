@@ -3,7 +3,6 @@
 
 mod ask;
 mod change;
-mod control_list;
 mod device;
 mod info;
 pub mod laws;
@@ -14,10 +13,10 @@ mod serve;
 mod start;
 
 pub use ask::{Ask, Reply, Step};
-pub use control_list::ControlList;
 pub use ctrl_handlers::{
     MAX_CONTROLS, MAX_HANDLERS, MAX_MENU_NAME, MenuItem, MenuName, Plan, PlanBuilder, PlanFault,
 };
+pub use ctrl_lists::{ControlList, MAX_ENTRIES};
 pub use device::Device;
 pub use history::Entry;
 pub use info::CtrlInfo;

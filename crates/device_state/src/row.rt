@@ -1,16 +1,18 @@
 //! The row of a cluster among a device's values.
 
-ghost use Rattle.std.specs.Prelude.{◌≡◌, ◌<◌, ◌≤◌, nat_eq, position, length, slice_set};
+ghost use Rattle.std.specs.Prelude.{◌≡◌, ◌<◌, ◌≤◌, length, slice_set};
 ghost use Rattle.std.specs.List.{All};
 ghost use Rattle.ctrl_calls.specs.declared.row.TheConstants.{MAX_MEMBERS};
+ghost use Rattle.ctrl_handlers.specs.Plan.{members};
 ghost use Rattle.device_state.specs.Overlay.{is_asked, with_row};
 ghost use Rattle.device_state.specs.Values.{value_at, row_of};
 ghost use Rattle.device_state.specs.Told.{is_changed, row_changes};
-ghost use Rattle.device_state.specs.Answers.{value_in};
+ghost use Rattle.device_state.specs.Setting.{row_given, written};
 
 use bitflags::Flags as FlagSet;
 use ctrl_calls::{ClusterRow, Driver, MAX_MEMBERS};
 use ctrl_handlers::Plan;
+use ctrl_lists::Touched;
 use ctrl_types::{Flags, Pair};
 
 /// The values of a cluster's members, in member order.
@@ -45,6 +47,30 @@ fn write_at(values: &mut Vec<i64>, member: u32, row: &ClusterRow, place: usize)
     ensures { values.new.items ≡ slice_set values.old.items member (value_at row.now place) }
 {
     values[member as usize] = row.value(place);
+}
+
+/// Gives the clusters that a list touches the rows that they get.
+#[tactic(auto, using(crate::proofs::OverlayLemmas::written_next, crate::proofs::OverlayLemmas::written_start, crate::proofs::PresentLemmas::length_with_row))]
+pub(crate) fn write_rows<D: Driver>(plan: &Plan<D>, values: &mut Vec<i64>, touch: &Touched)
+    requires many { length values.old.items ≡ length plan.now.controls }
+    requires long { All (λ r. length r.row ≡ length (members plan.now r.cluster)) touch.now.rows }
+    ensures { values.new.items ≡ written plan.now values.old.items (row_given touch.now.rows) (length plan.now.clusters) }
+{
+    for cluster in 0..plan.cluster_count() {
+        write_touched(plan, values, touch, cluster);
+    }
+}
+
+// Gives a cluster the row that it gets, where it gets one.
+fn write_touched<D: Driver>(plan: &Plan<D>, values: &mut Vec<i64>, touch: &Touched, cluster: u32)
+    requires known { cluster < length plan.now.clusters }
+    requires many { length values.old.items ≡ length plan.now.controls }
+    requires long { All (λ r. length r.row ≡ length (members plan.now r.cluster)) touch.now.rows }
+    ensures { values.new.items ≡ with_row values.old.items (members plan.now cluster) (row_given touch.now.rows cluster) }
+{
+    if let Some(row) = touch.row_of(cluster) {
+        write_row(values, plan.members(cluster), &row);
+    }
 }
 
 /// Whether a row that a cluster's members get where pairs are written changes one of them.
@@ -93,20 +119,4 @@ fn is_asked(pairs: &[Pair], control: u32) -> bool
     ensures { result ≡ is_asked pairs.now control }
 {
     pairs.iter().any(|pair| pair.control == control)
-}
-
-/// The value that a row gives one of its members.
-pub(crate) fn value_in(members: &[u32], row: &ClusterRow, control: u32) -> i64
-    requires some { 0 < length members.now }
-    requires long { length row.now ≡ length members.now }
-    ensures { result ≡ value_in members.now row.now control }
-{
-    row.value(place_of(members, control).unwrap_or(0))
-}
-
-// The place of a number in a list.
-fn place_of(numbers: &[u32], number: u32) -> Option<usize>
-    ensures { result ≡ position (nat_eq number) numbers.now }
-{
-    numbers.iter().position(|other| number == *other)
 }

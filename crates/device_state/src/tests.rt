@@ -4,6 +4,7 @@ ghost use Rattle.ctrl_calls.specs.declared.verdict.Verdict.TheVariants.{Accept, 
 ghost use Rattle.ctrl_types.specs.declared.errno.Errno.TheVariants.{ERANGE};
 
 mod handles;
+mod lists;
 mod menus;
 
 use super::*;

@@ -14,3 +14,6 @@ returns-in-NextId g c = rw c.in-NextId.is (c.next.ensures c.args.seat)
 
 pub returns-in-MenuItem : goal.returns-in-MenuItem
 returns-in-MenuItem g c = rw c.in-MenuItem.is (c.item.ensures c.args.seat)
+
+pub returns-in-TryCtrls : goal.returns-in-TryCtrls
+returns-in-TryCtrls g c = rw c.in-TryCtrls.is (c.try_set.ensures c.args.seat)

@@ -1,15 +1,28 @@
-use Rattle.std.proofs.Common.{◌≡◌, [], ◌∷◌, inl, sym, ap}
+use Rattle.std.proofs.Common.{refl, ap, ◌∙◌}
+use Rattle.history.specs.Past.{past}
 use Rattle.device_state.specs.Device.{DeviceData}
-use Rattle.device_state.proofs.HandleLemmas.{handles_refused}
+use Rattle.device_state.proofs.HandleLemmas.{handles_asked, handles_set}
+use Rattle.device_state.proofs.ListLemmas.{set_lacks}
 use Rattle.device_state.proofs.device.Device.set_list.Goals as goal
 
--- a list of one about the present values is answered as that one
-pub returns-in-Ok : goal.returns-in-Ok
-returns-in-Ok g c =
-    let list : c.args.list.now ≡ c.in-Ok.entry ∷ [] = c.in-Ok.ensures.ok.2 in
-    rw (list, c.in-Ok.ensures.ok.1) (c.set_one.ensures c.args.request)
-
 pub returns-in-Err : goal.returns-in-Err
-returns-in-Err g c =
-    handles_refused g.D.Validates.verdict _ _ c.new-self-inside.result c.args.seat _ _
-    (ap (λ (d : DeviceData). record d { work = c.new-self-inside.result }) c.self.view_is) c.new-self-inside.ensures (inl (sym (c.in-Err.ensures.err _)))
+returns-in-Err g c = λ request.
+    let planned = c.plan_list-planned in
+    handles_asked g.D.Validates.verdict c.args.self.now _ c.new-work.result planned.new.work c.args.seat _ _
+    (ap (λ (d : DeviceData). record d { work = planned.new.work }) c.self.view_is) c.new-work.ensures planned.ensures.told planned.ensures.asked refl (c.in-Err.ensures.err request)
+
+pub returns-in-Ok-accept_list : goal.returns-in-Ok-accept_list
+returns-in-Ok-accept_list g c = λ request.
+    let planned = c.plan_list-planned in
+    rw (← c.self.view_is)
+    (handles_set g.D.Validates.verdict g.D.Notifies.told _ _ _ c.new-work.result planned.new.work c.args.seat c.args.fh c.args.which request c.args.list.now c.in-Ok.touch c.in-Ok-accept_list.controls
+    refl c.new-work.ensures planned.ensures.told (rw (← c.self.view_is) at planned.ensures.asked) (rw (← c.self.view_is) at c.in-Ok.ensures.ok)
+    c.in-Ok-accept_list.ensures.answers c.in-Ok-accept_list.ensures.ok)
+
+pub returns-in-Err-accept_list : goal.returns-in-Err-accept_list
+returns-in-Err-accept_list g c = λ request.
+    let planned = c.plan_list-planned in
+    rw (c.at.ensures, c.len.ensures)
+    (handles_asked g.D.Validates.verdict c.args.self.now _ c.new-work.result planned.new.work c.args.seat _ _
+    (c.in-Err-accept_list.ensures.err ∙ ap (λ (d : DeviceData). record d { work = planned.new.work }) c.self.view_is) c.new-work.ensures planned.ensures.told planned.ensures.asked refl
+    (set_lacks g.D.Validates.verdict c.args.self.now.plan (past c.args.self.now.steps) c.args.self.now.words c.args.fh c.args.which request c.args.list.now c.in-Ok.touch c.in-Ok.ensures.ok))

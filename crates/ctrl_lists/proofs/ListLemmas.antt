@@ -1,0 +1,116 @@
+-- The loops over a list.
+use Rattle.std.proofs.Common.{◌≡◌, ℕ, ◌<◌, ◌≤◌, ◌+◌, Bool, true, false, cond, nat_eq, eq-eqb, ◌||◌, map, List, [], ◌∷◌, ◌++◌, length, take, drop, get_or, Option, None, Some, arith, refl, sym, ap, ◌∙◌}
+use Rattle.std.specs.Option.{option_map}
+use Rattle.std.specs.List.{filter_map, fold, list_any}
+use Rattle.std.proofs.lemmas.List.{length_push, take-append-drop, map-append}
+use Rattle.std.proofs.lemmas.List.Folds.{list_any-append}
+use Rattle.std.proofs.lemmas.List.Sums.{fold-append}
+use Rattle.std.proofs.lemmas.List.{drop_more, take_more}
+use Rattle.std.proofs.lemmas.List.Elements.{filter_map-append}
+use Rattle.ctrl_types.specs.declared.errno.Errno.{Errno}
+use Rattle.ctrl_types.specs.declared.ids.ExtControl.{ExtControl}
+use Rattle.ctrl_types.specs.declared.ids.Pair.{Pair}
+use Rattle.ctrl_handlers.specs.Plan.{PlanData, cluster_of}
+use Rattle.ctrl_lists.specs.View.{ViewData, named, pair_of}
+use Rattle.ctrl_lists.specs.Checks.{first_from, found_at, naming_refusal}
+use Rattle.ctrl_lists.specs.Touched.{with_cluster, touched}
+use Rattle.ctrl_lists.specs.declared.refusal.Refusal.{Refusal}
+
+-- the next item is refused, or one behind it
+pub first_next : {X : Type 0} (refused : X → Option Errno) (n : ℕ) (xs : List X) (i : ℕ) (d : X) → i < length xs
+    → first_from refused n (drop i xs) ≡ found_at n (refused (get_or xs i d)) (first_from refused (n + 1) (drop (i + 1) xs))
+first_next refused n xs i d within = rw (drop_more xs i d within) refl
+
+-- one more item that gives something
+pub gives_more : {X Y : Type 0} (h : X → Option Y) (xs : List X) (i : ℕ) (d : X) (y : Y) → i < length xs → h (get_or xs i d) ≡ Some y
+    → filter_map h (take (i + 1) xs) ≡ filter_map h (take i xs) ++ y ∷ []
+gives_more h xs i d y within gives =
+    ap (filter_map h) (take_more xs i d within) ∙ filter_map-append h (take i xs) (get_or xs i d ∷ []) ∙ rw gives refl
+
+-- an item that isn't refused is passed over
+pub passes : {X : Type 0} (refused : X → Option Errno) (all : Option Refusal) (xs : List X) (i : ℕ) (d : X) → i < length xs → refused (get_or xs i d) ≡ None
+    → first_from refused i (drop i xs) ≡ all → first_from refused (i + 1) (drop (i + 1) xs) ≡ all
+passes refused all xs i d within none left = sym (first_next refused i xs i d within ∙ rw none refl) ∙ left
+
+-- one that is refused is the first
+pub stops : {X : Type 0} (refused : X → Option Errno) (all : Option Refusal) (xs : List X) (i : ℕ) (d : X) (errno : Errno) → i < length xs → refused (get_or xs i d) ≡ Some errno
+    → first_from refused i (drop i xs) ≡ all → all ≡ Some (record { errno = errno; place = Some i })
+stops refused all xs i d errno within some left = sym left ∙ first_next refused i xs i d within ∙ rw some refl
+
+-- an entry that gives a pair names a control
+pub names_one : (plan : PlanData) (view : ViewData) (entry : ExtControl) (p : Pair) → pair_of plan view.handler view.which entry ≡ Some p → naming_refusal plan view entry ≡ None
+names_one plan view entry p gives = by (named plan view.handler view.which entry.id) refl gives
+  where
+    by : (o : Option ℕ) → named plan view.handler view.which entry.id ≡ o → option_map (λ c. record { control = c; value = entry.value }) o ≡ Some p → naming_refusal plan view entry ≡ None
+    by None is h = cc
+    by (Some c) is h = rw is refl
+
+-- one more cluster leaves no fewer
+with_more : (clusters : List ℕ) (o : Option ℕ) → length clusters ≤ length (with_cluster clusters o)
+with_more clusters None = omega arith
+with_more clusters (Some k) = by (list_any (nat_eq k) clusters)
+  where
+    by : (b : Bool) → length clusters ≤ length (cond b clusters (clusters ++ k ∷ []))
+    by true = omega arith
+    by false = omega (arith, length_push clusters k)
+
+fold_more : (plan : PlanData) (clusters : List ℕ) (pairs : List Pair) → length clusters ≤ length (fold (λ ks (p : Pair). with_cluster ks (cluster_of plan p.control)) clusters pairs)
+fold_more plan clusters [] = omega arith
+fold_more plan clusters (p ∷ pairs) =
+    omega (arith, with_more clusters (cluster_of plan p.control), fold_more plan (with_cluster clusters (cluster_of plan p.control)) pairs)
+
+-- the first of some pairs touch clusters, and then the others
+touched_all : (plan : PlanData) (pairs : List Pair) (n : ℕ) → touched plan pairs ≡ fold (λ ks (p : Pair). with_cluster ks (cluster_of plan p.control)) (touched plan (take n pairs)) (drop n pairs)
+touched_all plan pairs n =
+    ap (touched plan) (sym (take-append-drop n pairs)) ∙ fold-append (λ ks (p : Pair). with_cluster ks (cluster_of plan p.control)) [] (take n pairs) (drop n pairs)
+
+-- the first of some pairs touch no more clusters than all
+pub touched_more : (plan : PlanData) (pairs : List Pair) (n : ℕ) → length (touched plan (take n pairs)) ≤ length (touched plan pairs)
+touched_more plan pairs n = omega (arith, fold_more plan (touched plan (take n pairs)) (drop n pairs), ap length (touched_all plan pairs n))
+
+-- one more pair touches its control's cluster
+pub touched_next : (plan : PlanData) (pairs : List Pair) (i : ℕ) (d : Pair) → i < length pairs
+    → touched plan (take (i + 1) pairs) ≡ with_cluster (touched plan (take i pairs)) (cluster_of plan (get_or pairs i d).control)
+touched_next plan pairs i d within =
+    ap (touched plan) (take_more pairs i d within)
+    ∙ fold-append (λ ks (p : Pair). with_cluster ks (cluster_of plan p.control)) [] (take i pairs) (get_or pairs i d ∷ [])
+
+-- a cluster that is added is there
+with_own : (clusters : List ℕ) (k : ℕ) → list_any (nat_eq k) (with_cluster clusters (Some k)) ≡ true
+with_own clusters k = by (list_any (nat_eq k) clusters) refl
+  where
+    or_true : (b : Bool) → (b || true) ≡ true
+    or_true true = refl
+    or_true false = refl
+
+    by : (b : Bool) → list_any (nat_eq k) clusters ≡ b → list_any (nat_eq k) (cond b clusters (clusters ++ k ∷ [])) ≡ true
+    by true is = is
+    by false is = list_any-append (nat_eq k) clusters (k ∷ []) ∙ rw (eq-eqb k k refl) (or_true (list_any (nat_eq k) clusters))
+
+-- and one that is there stays
+with_kept : (clusters : List ℕ) (o : Option ℕ) (k : ℕ) → list_any (nat_eq k) clusters ≡ true → list_any (nat_eq k) (with_cluster clusters o) ≡ true
+with_kept clusters None k there = there
+with_kept clusters (Some j) k there = by (list_any (nat_eq j) clusters)
+  where
+    by : (b : Bool) → list_any (nat_eq k) (cond b clusters (clusters ++ j ∷ [])) ≡ true
+    by true = there
+    by false = list_any-append (nat_eq k) clusters (j ∷ []) ∙ rw there refl
+
+fold_kept : (plan : PlanData) (clusters : List ℕ) (pairs : List Pair) (k : ℕ) → list_any (nat_eq k) clusters ≡ true
+    → list_any (nat_eq k) (fold (λ ks (p : Pair). with_cluster ks (cluster_of plan p.control)) clusters pairs) ≡ true
+fold_kept plan clusters [] k there = there
+fold_kept plan clusters (p ∷ pairs) k there = fold_kept plan (with_cluster clusters (cluster_of plan p.control)) pairs k (with_kept clusters (cluster_of plan p.control) k there)
+
+-- the cluster of each pair's control is touched
+pub touched_has : (plan : PlanData) (pairs : List Pair) (i : ℕ) (d : Pair) (k : ℕ) → i < length pairs → cluster_of plan (get_or pairs i d).control ≡ Some k
+    → list_any (nat_eq k) (touched plan pairs) ≡ true
+touched_has plan pairs i d k within found =
+    let here : list_any (nat_eq k) (touched plan (take (i + 1) pairs)) ≡ true =
+    ap (list_any (nat_eq k)) (touched_next plan pairs i d within)
+    ∙ ap (λ (o : Option ℕ). list_any (nat_eq k) (with_cluster (touched plan (take i pairs)) o)) found
+    ∙ with_own (touched plan (take i pairs)) k in
+    ap (list_any (nat_eq k)) (touched_all plan pairs (i + 1)) ∙ fold_kept plan (touched plan (take (i + 1) pairs)) (drop (i + 1) pairs) k here
+
+-- what one more item is mapped to
+pub map_more : {X Y : Type 0} (f : X → Y) (xs : List X) (i : ℕ) (d : X) → i < length xs → map f (take (i + 1) xs) ≡ map f (take i xs) ++ f (get_or xs i d) ∷ []
+map_more f xs i d within = ap (map f) (take_more xs i d within) ∙ map-append f (take i xs) (get_or xs i d ∷ [])

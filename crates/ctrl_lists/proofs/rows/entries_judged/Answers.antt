@@ -1,0 +1,28 @@
+use Rattle.std.proofs.Common.{◌≡◌, pos, List, [], ◌∷◌, ◌++◌, get_or, map, take, ap, sym, ◌∙◌, rules}
+use Rattle.ctrl_types.specs.declared.ids.ExtControl.{ExtControl}
+use Rattle.ctrl_types.specs.declared.ids.Pair.{Pair}
+use Rattle.ctrl_lists.specs.View.{ViewData}
+use Rattle.ctrl_lists.specs.Touched.{entry_in}
+use Rattle.ctrl_lists.specs.Answers.{entry_judged}
+use Rattle.ctrl_lists.proofs.ListLemmas.{map_more}
+use Rattle.ctrl_lists.proofs.TouchLemmas.{entry_same}
+use Rattle.ctrl_lists.proofs.rows.entries_judged.Goals as goal
+
+-- one more entry
+pub loop-pair-preserved : goal.loop-pair-preserved
+loop-pair-preserved g c =
+    let old = c.loop-pair.invariant in
+    let d : Pair = record { control = 0; value = pos 0 } in
+    let pairs = c.args.pairs.now in
+    let i = c.loop-pair.pair-index in
+    let is : c.entry_judged.result ≡ entry_judged g.D.Validates.verdict c.args.plan.now c.args.view.now c.args.laid.now (get_or pairs i d) =
+    c.entry_judged.ensures
+    ∙ ap (λ (v : ViewData). entry_in c.args.plan.now v.values c.args.rows.now (get_or pairs i d).control) c.view.view_is
+    ∙ entry_same g.D.Validates.verdict c.args.plan.now c.args.view.now c.args.laid.now pairs c.args.rows.now i d c.requires.rows c.loop-pair-test.true in
+    record {
+      so_far = c.push_reserved.ensures.items
+          ∙ ap (λ (es : List ExtControl). es ++ c.entry_judged.result ∷ []) old.so_far
+          ∙ ap (λ (e : ExtControl). map (entry_judged g.D.Validates.verdict c.args.plan.now c.args.view.now c.args.laid.now) (take i pairs) ++ e ∷ []) is
+          ∙ sym (map_more (entry_judged g.D.Validates.verdict c.args.plan.now c.args.view.now c.args.laid.now) pairs i d c.loop-pair-test.true);
+      room = search rules;
+    }

@@ -1,0 +1,41 @@
+use Rattle.std.proofs.Common.{◌+◌, ℕ, pos, get_or, List, length, inl, ap, sym, ◌∙◌, arith}
+use Rattle.ctrl_types.specs.declared.ids.Pair.{Pair}
+use Rattle.ctrl_handlers.specs.Plan.{cluster_of}
+use Rattle.ctrl_lists.specs.Checks.{at_first, judging_refusal}
+use Rattle.ctrl_lists.specs.Touched.{with_cluster}
+use Rattle.ctrl_lists.proofs.ListLemmas.{passes, stops, touched_more, touched_next}
+use Rattle.ctrl_lists.proofs.rows.judge_all.Goals as goal
+
+-- the first pair whose cluster is refused
+pub returns-in-Err-clause-err : goal.returns-in-Err-clause-err
+returns-in-Err-clause-err g c =
+    let refused = judging_refusal g.D.Validates.verdict c.args.plan.now c.args.view.now c.args.laid.now in
+    inl (rw c.at.ensures (stops refused (at_first refused c.args.pairs.now) c.args.pairs.now c.loop-place.place _ c.in-Err.errno c.loop-place-test.true c.in-Err.ensures.err c.loop-place.invariant.none))
+
+pub returns-in-Err-clause-asked : goal.returns-in-Err-clause-asked
+returns-in-Err-clause-asked g c =
+    let old = c.loop-place.invariant in
+    let clusters = old.each in
+    let d : Pair = record { control = 0; value = pos 0 } in
+    let next = touched_next c.args.plan.now c.args.pairs.now c.loop-place.place d c.loop-place-test.true in
+    omega (arith, old.asked, rw clusters at c.judge_next.ensures.asked, ap length clusters, ap length next, touched_more c.args.plan.now c.args.pairs.now (c.loop-place.place + 1))
+
+-- one more pair, whose cluster has its row
+pub loop-place-preserved : goal.loop-place-preserved
+loop-place-preserved g c =
+    let old = c.loop-place.invariant in
+    let does = c.in_default-judge_next.ensures in
+    let refused = judging_refusal g.D.Validates.verdict c.args.plan.now c.args.view.now c.args.laid.now in
+    let d : Pair = record { control = 0; value = pos 0 } in
+    let next = touched_next c.args.plan.now c.args.pairs.now c.loop-place.place d c.loop-place-test.true in
+    record {
+      none = passes refused (at_first refused c.args.pairs.now) c.args.pairs.now c.loop-place.place _ c.loop-place-test.true does.ok old.none;
+      each = does.each ∙ ap (λ (ks : List ℕ). with_cluster ks (cluster_of c.args.plan.now (get_or c.args.pairs.now c.loop-place.place d).control)) old.each ∙ sym next;
+      become = does.rows;
+      within = does.within;
+      long = does.long;
+      few = omega (arith, old.few, c.judge_next.ensures.more);
+      room = rw c.judge_next.ensures.capacity old.room;
+      asked = omega (arith, old.asked, c.judge_next.ensures.asked, ap length does.each);
+      told = c.judge_next.ensures.told ∙ old.told;
+    }

@@ -1,0 +1,85 @@
+-- What a list of controls is answered (Linux userspace API, "ioctl VIDIOC_G_EXT_CTRLS, VIDIOC_S_EXT_CTRLS, VIDIOC_TRY_EXT_CTRLS";
+-- which index a refusal has is of this project).
+use Rattle.std.specs.Prelude.{ℕ, ℤ, Bool, true, false, not, List, [], ◌∷◌, map, length, Option, None, Some, unwrap_or, Result, Ok, Err}
+use Rattle.ctrl_types.specs.declared.errno.Errno.{Errno}
+use Rattle.ctrl_types.specs.declared.errno.Errno.TheVariants.{ENOMEM}
+use Rattle.ctrl_types.specs.declared.errno.Fault.{Fault}
+use Rattle.ctrl_types.specs.declared.ids.ExtControl.{ExtControl}
+use Rattle.ctrl_types.specs.declared.ids.Pair.{Pair}
+use Rattle.ctrl_types.specs.declared.which.Which.{Which}
+use Rattle.ctrl_types.specs.declared.which.Which.TheVariants.{Defaults}
+use Rattle.ctrl_calls.specs.Meanings.{Verdicts}
+use Rattle.ctrl_handlers.specs.Plan.{PlanData, control, cluster_of, members}
+use Rattle.ctrl_clusters.specs.Rows.{Values, value_at, value_in}
+use Rattle.ctrl_lists.specs.declared.refusal.Refusal.{Refusal}
+use Rattle.ctrl_lists.specs.View.{ViewData, pairs_of}
+use Rattle.ctrl_lists.specs.Checks.{first_refusal, is_long, laid_pairs, row_becomes, read_checks, write_checks}
+
+-- what a list is answered: its entries with their values, or a fault
+abbrev pub ListAnswer : Type 0
+ListAnswer = Result (List ExtControl) Fault
+
+-- A refusal of a get or a set has the number of entries as its index.
+abbrev pub fault_at_count : ℕ → Refusal → Fault
+fault_at_count count refusal = record { errno = refusal.errno; index = Some count }
+
+-- A refusal of a try has the place of the entry where it stands; the number of entries where it stands at none.
+abbrev pub fault_at_entry : ℕ → Refusal → Fault
+fault_at_entry count refusal = record { errno = refusal.errno; index = Some (unwrap_or refusal.place count) }
+
+-- the entries, unless something refuses the list
+abbrev pub answered : (Refusal → Fault) → Option Refusal → List ExtControl → ListAnswer
+answered fault (Some refusal) entries = Err (fault refusal)
+answered fault None entries = Ok entries
+
+-- the value that a control is read with: its default where the list speaks of the defaults, else the one that it has
+abbrev pub value_read : PlanData → Values → Which → ℕ → ℤ
+value_read plan values Defaults c = (control plan c).default_value
+value_read plan values _ c = value_at values c
+
+-- a control, as it is read
+abbrev pub entry_read : PlanData → ViewData → Pair → ExtControl
+entry_read plan view p = record { id = (control plan p.control).id; value = value_read plan view.values view.which p.control }
+
+-- What a get is answered, memory aside.
+unfoldable pub get_answer : PlanData → ViewData → List ExtControl → ListAnswer
+get_answer plan view list =
+    answered (fault_at_count (length list)) (first_refusal (read_checks plan view list)) (map (entry_read plan view) (pairs_of plan view.handler view.which list))
+
+-- the value that the row of a cluster gives a control
+abbrev pub value_of_row : PlanData → Option ℕ → Result (List ℤ) Errno → ℕ → Option ℤ
+value_of_row plan (Some k) (Ok row) c = value_in (members plan k) row c
+value_of_row plan _ _ c = None
+
+-- The value that a control has once its cluster was judged. Where no row gives it one, which no list that passes the checks meets, it
+-- is the one from before.
+abbrev pub value_judged : Verdicts → PlanData → ViewData → List Pair → ℕ → ℤ
+value_judged verdicts plan view pairs c =
+    unwrap_or (value_of_row plan (cluster_of plan c) (row_becomes verdicts plan view pairs (cluster_of plan c)) c) (value_at view.values c)
+
+-- a control, as it is written
+abbrev pub entry_judged : Verdicts → PlanData → ViewData → List Pair → Pair → ExtControl
+entry_judged verdicts plan view pairs p = record { id = (control plan p.control).id; value = value_judged verdicts plan view pairs p.control }
+
+-- the entries that a list that writes is answered
+abbrev pub entries_judged : Verdicts → PlanData → ViewData → List ExtControl → List ExtControl
+entries_judged verdicts plan view list = map (entry_judged verdicts plan view (laid_pairs plan view list)) (pairs_of plan view.handler view.which list)
+
+-- What a set is answered, memory and the limit of steps aside.
+unfoldable pub set_answer : Verdicts → PlanData → ViewData → List ExtControl → ListAnswer
+set_answer verdicts plan view list =
+    answered (fault_at_count (length list)) (first_refusal (write_checks verdicts plan view true list)) (entries_judged verdicts plan view list)
+
+-- What a try is answered, memory aside.
+unfoldable pub try_answer : Verdicts → PlanData → ViewData → List ExtControl → ListAnswer
+try_answer verdicts plan view list =
+    answered (fault_at_entry (length list)) (first_refusal (write_checks verdicts plan view false list)) (entries_judged verdicts plan view list)
+
+-- Want of memory may stand in place of the answer of every list that has entries, and not too many.
+abbrev pub may_lack : List ExtControl → Bool
+may_lack [] = false
+may_lack (entry ∷ rest) = not (is_long (entry ∷ rest))
+
+-- want of memory, for a list with this many entries
+abbrev pub no_memory : ℕ → Fault
+no_memory count = record { errno = ENOMEM; index = Some count }

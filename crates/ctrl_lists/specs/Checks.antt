@@ -1,0 +1,124 @@
+-- What refuses a list of controls: the checks, each with its sentence (Linux userspace API, "ioctl VIDIOC_G_EXT_CTRLS,
+-- VIDIOC_S_EXT_CTRLS, VIDIOC_TRY_EXT_CTRLS"; the order of the checks is of this project, a kernel may have another).
+use Rattle.std.specs.Prelude.{ℕ, ℤ, Bool, true, false, not, ◌&&◌, ◌+◌, if◌then◌else◌, nat_lt, List, [], ◌∷◌, ◌++◌, length, Option, None, Some, is_some, Result, Ok, Err}
+use Rattle.ctrl_types.specs.Flags.{contains}
+use Rattle.ctrl_types.specs.declared.errno.Errno.{Errno}
+use Rattle.ctrl_types.specs.declared.errno.Errno.TheVariants.{EACCES, EBUSY, EINVAL, ENOMEM}
+use Rattle.ctrl_types.specs.declared.flags.TheConstants.Flags.{READ_ONLY, WRITE_ONLY}
+use Rattle.ctrl_types.specs.declared.ids.ExtControl.{ExtControl}
+use Rattle.ctrl_types.specs.declared.ids.Pair.{Pair}
+use Rattle.ctrl_types.specs.declared.which.Which.{Which}
+use Rattle.ctrl_types.specs.declared.which.Which.TheVariants.{Class}
+use Rattle.ctrl_calls.specs.Meanings.{Verdicts}
+use Rattle.ctrl_settle.specs.Settle.{settle}
+use Rattle.ctrl_handlers.specs.Plan.{PlanData, control, cluster_of}
+use Rattle.ctrl_clusters.specs.Rows.{is_grabbed}
+use Rattle.ctrl_clusters.specs.Judging.{becomes}
+use Rattle.ctrl_lists.specs.declared.limits.TheConstants.{MAX_ENTRIES}
+use Rattle.ctrl_lists.specs.declared.refusal.Refusal.{Refusal}
+use Rattle.ctrl_lists.specs.View.{ViewData, named, pairs_of, shows_class}
+
+-- want of memory, which refuses the list as a whole
+abbrev pub memory_refusal : Refusal
+memory_refusal = record { errno = ENOMEM; place = None }
+
+-- the whole list is refused where this holds
+abbrev pub refused_if : Bool → Errno → Option Refusal
+refused_if true errno = Some (record { errno = errno; place = None })
+refused_if false errno = None
+
+-- what is found at a place stands before what is found behind it
+abbrev pub found_at : ℕ → Option Errno → Option Refusal → Option Refusal
+found_at n (Some errno) behind = Some (record { errno = errno; place = Some n })
+found_at n None behind = behind
+
+-- the first item that is refused, with its place, where the places begin at n
+abbrev pub first_from : {X : Type 0} → (X → Option Errno) → ℕ → List X → Option Refusal
+first_from refused n [] = None
+first_from refused n (x ∷ xs) = found_at n (refused x) (first_from refused (n + 1) xs)
+
+-- the same, where they begin at 0
+abbrev pub at_first : {X : Type 0} → (X → Option Errno) → List X → Option Refusal
+at_first refused xs = first_from refused 0 xs
+
+-- the first check that refuses
+abbrev pub first_refusal : List (Option Refusal) → Option Refusal
+first_refusal [] = None
+first_refusal (None ∷ checks) = first_refusal checks
+first_refusal (Some refusal ∷ checks) = Some refusal
+
+-- the errno of what failed
+abbrev pub errno_of : {X : Type 0} → Result X Errno → Option Errno
+errno_of (Ok x) = None
+errno_of (Err errno) = Some errno
+
+-- more entries than a list may have
+abbrev pub is_long : List ExtControl → Bool
+is_long list = nat_lt MAX_ENTRIES (length list)
+
+-- a class of which no control is shown
+abbrev pub shows_none_of : PlanData → ViewData → Which → Bool
+shows_none_of plan view (Class n) = not (shows_class plan view.handler n)
+shows_none_of plan view _ = false
+
+-- no entries, about a class of which no control is shown
+abbrev pub is_of_no_class : PlanData → ViewData → List ExtControl → Bool
+is_of_no_class plan view [] = shows_none_of plan view view.which
+is_of_no_class plan view (entry ∷ rest) = false
+
+-- an entry that names no control: its id isn't shown, isn't of the class that the list speaks of, or its control is DISABLED
+abbrev pub naming_refusal : PlanData → ViewData → ExtControl → Option Errno
+naming_refusal plan view entry = if is_some (named plan view.handler view.which entry.id) then None else Some EINVAL
+
+-- a control that can't be read
+abbrev pub reading_refusal : PlanData → Pair → Option Errno
+reading_refusal plan p = if contains (control plan p.control).flags WRITE_ONLY then Some EACCES else None
+
+-- a control that can't be written: it is READ_ONLY, or, where it is to be set, grabbed; or its value doesn't settle
+abbrev pub writing_refusal : PlanData → ViewData → Bool → Pair → Option Errno
+writing_refusal plan view is_set p =
+    if contains (control plan p.control).flags READ_ONLY then Some EACCES
+    else if is_set && is_grabbed view.grabs p.control then Some EBUSY
+    else errno_of (settle (control plan p.control) p.value)
+
+-- the pairs that are laid over the values: those from before, and then the list's
+abbrev pub laid_pairs : PlanData → ViewData → List ExtControl → List Pair
+laid_pairs plan view list = view.asked ++ pairs_of plan view.handler view.which list
+
+-- what the row of a cluster becomes; a control that is in none, as no control of a finished plan is, can't be judged
+abbrev pub row_becomes : Verdicts → PlanData → ViewData → List Pair → Option ℕ → Result (List ℤ) Errno
+row_becomes verdicts plan view pairs None = Err EINVAL
+row_becomes verdicts plan view pairs (Some k) = becomes verdicts plan view.values pairs k
+
+-- a control whose cluster is refused: a member doesn't settle, or judging refuses the row
+abbrev pub judging_refusal : Verdicts → PlanData → ViewData → List Pair → Pair → Option Errno
+judging_refusal verdicts plan view pairs p = errno_of (row_becomes verdicts plan view pairs (cluster_of plan p.control))
+
+-- The checks of a list that reads, the first refusal first. Once each entry names a control, the places of the pairs are those of the
+-- entries.
+abbrev pub read_checks : PlanData → ViewData → List ExtControl → List (Option Refusal)
+read_checks plan view list =
+    -- more than 64 entries: EINVAL
+    refused_if (is_long list) EINVAL
+    -- no entries, about a class of which no control is shown: EINVAL
+    ∷ refused_if (is_of_no_class plan view list) EINVAL
+    -- the first entry that names no control: EINVAL
+    ∷ at_first (naming_refusal plan view) list
+    -- the first control that is WRITE_ONLY: EACCES
+    ∷ at_first (reading_refusal plan) (pairs_of plan view.handler view.which list)
+    ∷ []
+
+-- The checks of a list that writes, to set or to try, the first refusal first; places as above.
+abbrev pub write_checks : Verdicts → PlanData → ViewData → Bool → List ExtControl → List (Option Refusal)
+write_checks verdicts plan view is_set list =
+    -- more than 64 entries: EINVAL
+    refused_if (is_long list) EINVAL
+    -- no entries, about a class of which no control is shown: EINVAL
+    ∷ refused_if (is_of_no_class plan view list) EINVAL
+    -- the first entry that names no control: EINVAL
+    ∷ at_first (naming_refusal plan view) list
+    -- the first control that is READ_ONLY: EACCES; that is to be set and is grabbed: EBUSY; whose value doesn't settle: its errno
+    ∷ at_first (writing_refusal plan view is_set) (pairs_of plan view.handler view.which list)
+    -- the first control whose cluster is refused: the errno of the first member that doesn't settle, or else that of judging
+    ∷ at_first (judging_refusal verdicts plan view (laid_pairs plan view list)) (pairs_of plan view.handler view.which list)
+    ∷ []

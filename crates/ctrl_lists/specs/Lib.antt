@@ -1,0 +1,16 @@
+pub use Rattle.ctrl_types.specs.Classes
+pub use Rattle.ctrl_types.specs.Flags
+pub use Rattle.ctrl_calls.specs.Counts
+pub use Rattle.ctrl_calls.specs.Meanings
+pub use Rattle.ctrl_settle.specs.Control
+pub use Rattle.ctrl_settle.specs.Settle
+pub use Rattle.ctrl_handlers.specs.HandlerData
+pub use Rattle.ctrl_handlers.specs.ClusterData
+pub use Rattle.ctrl_handlers.specs.Plan
+pub use Rattle.ctrl_handlers.specs.Visible
+pub use Rattle.ctrl_clusters.specs.Rows
+pub use Rattle.ctrl_clusters.specs.Judging
+pub mod View
+pub mod Checks
+pub mod Touched
+pub mod Answers

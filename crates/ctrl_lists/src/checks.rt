@@ -1,0 +1,119 @@
+//! The checks of a list, but for the judging of its clusters.
+
+ghost use Rattle.std.specs.Prelude.{◌≡◌, ◌<◌, ◌≤◌, [], ◌∷◌, None, Some, length, IfErr, OnOk};
+ghost use Rattle.std.specs.List.{All};
+ghost use Rattle.ctrl_types.specs.declared.errno.Errno.TheVariants.{EINVAL};
+ghost use Rattle.ctrl_lists.specs.Checks.{at_first, first_refusal, refused_if, is_long, is_of_no_class, shows_none_of, reading_refusal, writing_refusal};
+ghost use Rattle.ctrl_lists.specs.declared.limits.TheConstants.{MAX_ENTRIES};
+
+use crate::control_list::ControlList;
+use crate::limits::MAX_ENTRIES;
+use crate::naming::shows_class;
+use crate::refusal::Refusal;
+use crate::view::View;
+use bitflags::Flags as FlagSet;
+use ctrl_calls::Driver;
+use ctrl_handlers::Plan;
+use ctrl_settle::settle;
+use ctrl_types::{Errno, Flags, Pair, Which};
+
+/// The checks of a list as a whole: that it hasn't too many entries, and that it isn't one without entries about a class of which
+/// no control is shown.
+pub(crate) fn check_whole<D: Driver>(
+    plan: &Plan<D>,
+    view: &View<'_>,
+    list: &ControlList,
+) -> Result<(), Refusal>
+    ensures ok { OnOk result ((refused_if (is_long list.now) EINVAL ≡ None) × (refused_if (is_of_no_class plan.now view.now list.now) EINVAL ≡ None)) }
+    ensures few { OnOk result (length list.now ≤ MAX_ENTRIES) }
+    ensures err { IfErr result (λ refusal. first_refusal (refused_if (is_long list.now) EINVAL ∷ refused_if (is_of_no_class plan.now view.now list.now) EINVAL ∷ []) ≡ Some refusal) }
+{
+    if list.len() > MAX_ENTRIES {
+        return Err(Refusal::whole(Errno::EINVAL));
+    }
+    if list.is_empty() && shows_none_of(plan, view, view.which) {
+        return Err(Refusal::whole(Errno::EINVAL));
+    }
+    Ok(())
+}
+
+// Whether a list speaks of a class of which no control is shown.
+fn shows_none_of<D: Driver>(plan: &Plan<D>, view: &View<'_>, which: Which) -> bool
+    ensures { result ≡ shows_none_of plan.now view.now which }
+{
+    match which {
+        Which::Class(class) => !shows_class(plan, view.handler, class),
+        Which::Current | Which::Defaults | Which::Request => false,
+    }
+}
+
+/// The first control that can't be read.
+pub(crate) fn first_unreadable<D: Driver>(plan: &Plan<D>, pairs: &[Pair]) -> Option<Refusal>
+    requires few { length pairs.now ≤ MAX_ENTRIES }
+    requires known { All (λ p. p.control < length plan.now.controls) pairs.now }
+    ensures { result ≡ at_first (reading_refusal plan.now) pairs.now }
+{
+    for (place, pair) in pairs.iter().enumerate() {
+        if let Some(errno) = reading_refusal(plan, *pair) {
+            return Some(Refusal::at(errno, place as u32));
+        }
+    }
+    None
+}
+
+// What keeps a control from being read.
+fn reading_refusal<D: Driver>(plan: &Plan<D>, pair: Pair) -> Option<Errno>
+    requires { pair.control < length plan.now.controls }
+    ensures { result ≡ reading_refusal plan.now pair }
+{
+    if plan
+        .control(pair.control)
+        .flags()
+        .contains(Flags::WRITE_ONLY)
+    {
+        Some(Errno::EACCES)
+    } else {
+        None
+    }
+}
+
+/// The first control that can't be written: to be set, or to be tried.
+pub(crate) fn first_unwritable<D: Driver>(
+    plan: &Plan<D>,
+    view: &View<'_>,
+    is_set: bool,
+    pairs: &[Pair],
+) -> Option<Refusal>
+    requires few { length pairs.now ≤ MAX_ENTRIES }
+    requires grabs { length view.now.grabs ≡ length plan.now.controls }
+    requires known { All (λ p. p.control < length plan.now.controls) pairs.now }
+    ensures { result ≡ at_first (writing_refusal plan.now view.now is_set) pairs.now }
+{
+    for (place, pair) in pairs.iter().enumerate() {
+        if let Some(errno) = writing_refusal(plan, view, is_set, *pair) {
+            return Some(Refusal::at(errno, place as u32));
+        }
+    }
+    None
+}
+
+// What keeps a control from being written.
+fn writing_refusal<D: Driver>(
+    plan: &Plan<D>,
+    view: &View<'_>,
+    is_set: bool,
+    pair: Pair,
+) -> Option<Errno>
+    requires grabs { length view.now.grabs ≡ length plan.now.controls }
+    requires known { pair.control < length plan.now.controls }
+    ensures { result ≡ writing_refusal plan.now view.now is_set pair }
+{
+    let ctrl = plan.control(pair.control);
+    if ctrl.flags().contains(Flags::READ_ONLY) {
+        return Some(Errno::EACCES);
+    }
+    if is_set && view.grabs[pair.control as usize] {
+        return Some(Errno::EBUSY);
+    }
+    settle(&ctrl, pair.value).err()
+}

@@ -1,0 +1,23 @@
+//! Lists of controls, all or nothing: which entry refuses a list, what its entries are answered, and what it makes of the clusters that
+//! it touches. Nothing is changed here, and nobody is told.
+#![tactic(auto)]
+
+mod checks;
+mod control_list;
+mod limits;
+mod lists;
+mod naming;
+mod refusal;
+mod rows;
+mod touched;
+mod view;
+
+pub use control_list::ControlList;
+pub use limits::MAX_ENTRIES;
+pub use lists::{plan_set, read_list, try_list};
+pub use refusal::Refusal;
+pub use touched::{Touched, TouchedRow};
+pub use view::View;
+
+#[cfg(test)]
+mod tests;

@@ -1,0 +1,312 @@
+ghost use Rattle.std.specs.Prelude.{◌≡◌, ◌≢◌, ◌<◌, ◌≤◌, ◌+◌, ◌⊎◌, ◌++◌, None, Some, Ok, Err, length, map, IfOk, IfErr, IsTrue};
+ghost use Rattle.std.specs.List.{All};
+ghost use Rattle.ctrl_types.specs.declared.which.Which.TheVariants.{Defaults};
+ghost use Rattle.ctrl_lists.specs.View.{pairs_of};
+ghost use Rattle.ctrl_lists.specs.Checks.{at_first, first_refusal, judging_refusal, read_checks, write_checks, laid_pairs, memory_refusal};
+ghost use Rattle.ctrl_lists.specs.Touched.{touched, AreJudged, IsTouched};
+ghost use Rattle.ctrl_lists.specs.Answers.{entry_read, entry_judged, entries_judged, get_answer, set_answer, try_answer, may_lack, no_memory};
+ghost use Rattle.ctrl_lists.specs.declared.limits.TheConstants.{MAX_ENTRIES};
+
+use crate::checks::{check_whole, first_unreadable, first_unwritable};
+use crate::control_list::ControlList;
+use crate::naming::pairs_of;
+use crate::refusal::Refusal;
+use crate::rows::{entries_judged, judge_all};
+use crate::touched::{Touched, TouchedRow};
+use crate::view::View;
+use ctrl_calls::{Driver, Work};
+use ctrl_handlers::Plan;
+use ctrl_types::{ExtControl, Fault, Pair, Which};
+use std::alloc::{AllocError, Global};
+
+/// Reads controls (Linux userspace API, "ioctl VIDIOC_G_EXT_CTRLS, VIDIOC_S_EXT_CTRLS, VIDIOC_TRY_EXT_CTRLS"; the order of the
+/// refusals, the index, and that a default of a WRITE_ONLY control isn't told are of this project). It answers one entry for each of the
+/// list, in its order: its control with the default where `view` speaks of the defaults, and else with its value in `view`.
+///
+/// - `alloc`: where the answer lies.
+/// - `plan`: what the device is built of.
+/// - `view`: what the list is checked against; the caller owes a value for each control. Its grabs and pairs count for nothing.
+/// - `list`: the entries; their values are ignored. It is lent, and never changed.
+///
+/// Refused, in this order: EINVAL (22) where there are more than 64 entries; EINVAL where there are none and `view` speaks of a class
+/// of which the handler shows no control; EINVAL where an entry's id isn't shown, isn't of the class, or its control is DISABLED;
+/// EACCES (13) where a control is WRITE_ONLY, also for the defaults. ENOMEM (12) may stand in place of any answer from the third on,
+/// unless there are no entries. The index is the number of entries.
+#[tactic(auto, unfolding(crate::specs::Answers::get_answer))]
+pub fn read_list<D: Driver>(
+    alloc: Global,
+    plan: &Plan<D>,
+    view: &View<'_>,
+    list: &ControlList,
+) -> Result<ControlList, Fault>
+    requires { length view.now.values ≡ length plan.now.controls }
+    ensures ok { IfOk result (λ answers. get_answer plan.now view.now list.now ≡ Ok answers) }
+    ensures err { IfErr result (λ fault. (get_answer plan.now view.now list.now ≡ Err fault) ⊎ (IsTrue (may_lack list.now) × (fault ≡ no_memory (length list.now)))) }
+{
+    match read_all(alloc, plan, view, list) {
+        Ok(answers) => Ok(answers),
+        Err(unread) => Err(unread.at_count(list.len())),
+    }
+}
+
+/// Judges what a list that sets asks for (Linux userspace API, "ioctl VIDIOC_G_EXT_CTRLS, VIDIOC_S_EXT_CTRLS,
+/// VIDIOC_TRY_EXT_CTRLS"; Linux driver API, "V4L2 Controls", "Control Clusters"; the order of the refusals and the index are of this
+/// project). Each cluster with a control of the list gets a row: the members' values, overwritten by the pairs that `view` has from
+/// before and then by the list, of which the last of a control counts, settle in member order and are judged by the cluster's validator,
+/// which is asked at most once. Each entry is answered with its control's value of that row, so that an id that stands twice is answered
+/// one value. Nothing is changed here.
+///
+/// - `alloc`: where rows, answers and pairs lie.
+/// - `plan`: what the device is built of.
+/// - `view`: what the list is checked against; the caller owes a value and a grab for each control, and that it doesn't speak of the
+///   defaults, which can't be written.
+/// - `list`: the entries. It is lent, and never changed.
+/// - `work`: its count `asked` grows by one for each validator that is asked, by no more than the clusters that the list touches; `told`
+///   stays. After a refusal, too, `asked` may have grown.
+///
+/// Refused, in this order: EINVAL (22) where there are more than 64 entries; EINVAL where there are none and `view` speaks of a class
+/// of which the handler shows no control; EINVAL where an entry's id isn't shown, isn't of the class, or its control is DISABLED; for
+/// the first control that can't be written EACCES (13) where it is READ_ONLY, EBUSY (16) where it is grabbed, ERANGE (34) where its value
+/// is no item of its menu's range, and EINVAL where this item is skipped; for the first control whose cluster is refused ERANGE or EINVAL
+/// of the first member that doesn't settle, or else EACCES, EBUSY, EINVAL or ERANGE as the validator refuses, and EINVAL where it refuses
+/// with another errno or accepts a row that the members don't take. ENOMEM (12) may stand in place of any answer from the third on,
+/// unless there are no entries. The index is the number of entries.
+#[tactic(auto, unfolding(crate::specs::Answers::set_answer))]
+pub fn plan_set<D: Driver>(
+    alloc: Global,
+    plan: &Plan<D>,
+    view: &View<'_>,
+    list: &ControlList,
+    work: &mut Work,
+) -> Result<Touched, Fault>
+    requires which { view.now.which ≢ Defaults }
+    requires values { length view.now.values ≡ length plan.now.controls }
+    requires grabs { length view.now.grabs ≡ length plan.now.controls }
+    ensures ok { IfOk result (λ touch. set_answer D.verdict plan.now view.now list.now ≡ Ok touch.answers) }
+    ensures touched { IfOk result (λ touch. IsTouched D.verdict plan.now view.now list.now touch) }
+    ensures err { IfErr result (λ fault. (set_answer D.verdict plan.now view.now list.now ≡ Err fault) ⊎ (IsTrue (may_lack list.now) × (fault ≡ no_memory (length list.now)))) }
+    ensures asked { work.new.asked ≤ work.old.asked + length (touched plan.now (pairs_of plan.now view.now.handler view.now.which list.now)) }
+    ensures told { work.new.told ≡ work.old.told }
+{
+    match judge_list(alloc, plan, view, true, list, work) {
+        Ok(touched) => Ok(touched),
+        Err(refusal) => Err(refusal.at_count(list.len())),
+    }
+}
+
+/// Judges what a list that tries asks for, as `plan_set` does a list that sets, but that a grabbed control may be tried, and that the
+/// index of a refusal is the place of its entry, from 0, where it stands at one (Linux userspace API, "ioctl VIDIOC_G_EXT_CTRLS,
+/// VIDIOC_S_EXT_CTRLS, VIDIOC_TRY_EXT_CTRLS"; the order of the refusals and the index are of this project).
+///
+/// - `alloc`, `plan`, `view`, `list`, `work`: as of `plan_set`.
+///
+/// Refused as by `plan_set`, with EBUSY (16) only where a validator refuses with it. The index is the place of the first entry whose id
+/// isn't shown, isn't of the class, or whose control is DISABLED; of the first control that can't be written; and of the first entry of
+/// the first cluster that is refused. It is the number of entries where the list is refused as a whole, and with ENOMEM (12).
+#[tactic(auto, unfolding(crate::specs::Answers::try_answer))]
+pub fn try_list<D: Driver>(
+    alloc: Global,
+    plan: &Plan<D>,
+    view: &View<'_>,
+    list: &ControlList,
+    work: &mut Work,
+) -> Result<Touched, Fault>
+    requires which { view.now.which ≢ Defaults }
+    requires values { length view.now.values ≡ length plan.now.controls }
+    requires grabs { length view.now.grabs ≡ length plan.now.controls }
+    ensures ok { IfOk result (λ touch. try_answer D.verdict plan.now view.now list.now ≡ Ok touch.answers) }
+    ensures touched { IfOk result (λ touch. IsTouched D.verdict plan.now view.now list.now touch) }
+    ensures err { IfErr result (λ fault. (try_answer D.verdict plan.now view.now list.now ≡ Err fault) ⊎ (IsTrue (may_lack list.now) × (fault ≡ no_memory (length list.now)))) }
+    ensures asked { work.new.asked ≤ work.old.asked + length (touched plan.now (pairs_of plan.now view.now.handler view.now.which list.now)) }
+    ensures told { work.new.told ≡ work.old.told }
+{
+    match judge_list(alloc, plan, view, false, list, work) {
+        Ok(touched) => Ok(touched),
+        Err(refusal) => Err(refusal.at_entry(list.len())),
+    }
+}
+
+// Reads the controls of a list.
+fn read_all<D: Driver>(
+    alloc: Global,
+    plan: &Plan<D>,
+    view: &View<'_>,
+    list: &ControlList,
+) -> Result<ControlList, Refusal>
+    requires { length view.now.values ≡ length plan.now.controls }
+    ensures ok { IfOk result (λ answers. first_refusal (read_checks plan.now view.now list.now) ≡ None) }
+    ensures answers { IfOk result (λ answers. answers ≡ map (entry_read plan.now view.now) (pairs_of plan.now view.now.handler view.now.which list.now)) }
+    ensures err { IfErr result (λ refusal. (first_refusal (read_checks plan.now view.now list.now) ≡ Some refusal) ⊎ (IsTrue (may_lack list.now) × (refusal ≡ memory_refusal))) }
+{
+    check_whole(plan, view, list)?;
+    if list.is_empty() {
+        return Ok(ControlList::from_vec(Vec::new(alloc)));
+    }
+    let pairs = pairs_of(alloc, plan, view, list.as_slice())?;
+    if let Some(refusal) = first_unreadable(plan, pairs.as_slice()) {
+        return Err(refusal);
+    }
+    match entries_read(alloc, plan, view, pairs.as_slice()) {
+        Ok(answers) => Ok(answers),
+        Err(_) => Err(Refusal::of_memory()),
+    }
+}
+
+// The controls of these pairs, as they are read.
+fn entries_read<D: Driver>(
+    alloc: Global,
+    plan: &Plan<D>,
+    view: &View<'_>,
+    pairs: &[Pair],
+) -> Result<ControlList, AllocError>
+    requires values { length view.now.values ≡ length plan.now.controls }
+    requires few { length pairs.now ≤ MAX_ENTRIES }
+    requires known { All (λ p. p.control < length plan.now.controls) pairs.now }
+    ensures { IfOk result (λ answers. answers ≡ map (entry_read plan.now view.now) pairs.now) }
+{
+    let mut answers = Vec::with_capacity(alloc, pairs.len())?;
+    for pair in pairs {
+        answers.push_reserved(entry_read(plan, view, *pair));
+    }
+    Ok(ControlList::from_vec(answers))
+}
+
+// A control, as it is read.
+fn entry_read<D: Driver>(plan: &Plan<D>, view: &View<'_>, pair: Pair) -> ExtControl
+    requires values { length view.now.values ≡ length plan.now.controls }
+    requires known { pair.control < length plan.now.controls }
+    ensures { result ≡ entry_read plan.now view.now pair }
+{
+    let ctrl = plan.control(pair.control);
+    let value = match view.which {
+        Which::Defaults => ctrl.default_value(),
+        Which::Current | Which::Class(_) | Which::Request => view.values[pair.control as usize],
+    };
+    ExtControl {
+        id: ctrl.id(),
+        value,
+    }
+}
+
+// Judges what a list that writes asks for.
+fn judge_list<D: Driver>(
+    alloc: Global,
+    plan: &Plan<D>,
+    view: &View<'_>,
+    is_set: bool,
+    list: &ControlList,
+    work: &mut Work,
+) -> Result<Touched, Refusal>
+    requires values { length view.now.values ≡ length plan.now.controls }
+    requires grabs { length view.now.grabs ≡ length plan.now.controls }
+    ensures ok { IfOk result (λ touch. first_refusal (write_checks D.verdict plan.now view.now is_set list.now) ≡ None) }
+    ensures answers { IfOk result (λ touch. touch.answers ≡ entries_judged D.verdict plan.now view.now list.now) }
+    ensures touched { IfOk result (λ touch. IsTouched D.verdict plan.now view.now list.now touch) }
+    ensures err { IfErr result (λ refusal. (first_refusal (write_checks D.verdict plan.now view.now is_set list.now) ≡ Some refusal) ⊎ (IsTrue (may_lack list.now) × (refusal ≡ memory_refusal))) }
+    ensures asked { work.new.asked ≤ work.old.asked + length (touched plan.now (pairs_of plan.now view.now.handler view.now.which list.now)) }
+    ensures told { work.new.told ≡ work.old.told }
+{
+    check_whole(plan, view, list)?;
+    if list.is_empty() {
+        return Ok(Touched::empty(alloc));
+    }
+    let pairs = pairs_of(alloc, plan, view, list.as_slice())?;
+    if let Some(refusal) = first_unwritable(plan, view, is_set, pairs.as_slice()) {
+        return Err(refusal);
+    }
+    judge_pairs(alloc, plan, view, pairs, work)
+}
+
+// Judges what the pairs of a list that writes ask for.
+fn judge_pairs<D: Driver>(
+    alloc: Global,
+    plan: &Plan<D>,
+    view: &View<'_>,
+    pairs: Vec<Pair>,
+    work: &mut Work,
+) -> Result<Touched, Refusal>
+    requires few { length pairs.items ≤ MAX_ENTRIES }
+    requires values { length view.now.values ≡ length plan.now.controls }
+    requires known { All (λ p. p.control < length plan.now.controls) pairs.items }
+    ensures ok { IfOk result (λ touch. at_first (judging_refusal D.verdict plan.now view.now (view.now.asked ++ pairs.items)) pairs.items ≡ None) }
+    ensures pairs { IfOk result (λ touch. touch.pairs ≡ pairs.items) }
+    ensures rows { IfOk result (λ touch. AreJudged D.verdict plan.now view.now.values (view.now.asked ++ pairs.items) pairs.items touch.rows) }
+    ensures answers { IfOk result (λ touch. touch.answers ≡ map (entry_judged D.verdict plan.now view.now (view.now.asked ++ pairs.items)) pairs.items) }
+    ensures err { IfErr result (λ refusal. (at_first (judging_refusal D.verdict plan.now view.now (view.now.asked ++ pairs.items)) pairs.items ≡ Some refusal) ⊎ (refusal ≡ memory_refusal)) }
+    ensures asked { work.new.asked ≤ work.old.asked + length (touched plan.now pairs.items) }
+    ensures told { work.new.told ≡ work.old.told }
+{
+    let judged = if view.asked.is_empty() {
+        judge_under(alloc, plan, view, pairs.as_slice(), pairs.as_slice(), work)
+    } else {
+        judge_joined(alloc, plan, view, pairs.as_slice(), work)
+    };
+    match judged {
+        Ok((rows, answers)) => Ok(Touched {
+            rows,
+            answers,
+            pairs,
+        }),
+        Err(refusal) => Err(refusal),
+    }
+}
+
+// The same, where there are pairs from before.
+fn judge_joined<D: Driver>(
+    alloc: Global,
+    plan: &Plan<D>,
+    view: &View<'_>,
+    pairs: &[Pair],
+    work: &mut Work,
+) -> Result<(Vec<TouchedRow>, ControlList), Refusal>
+    requires few { length pairs.now ≤ MAX_ENTRIES }
+    requires values { length view.now.values ≡ length plan.now.controls }
+    requires known { All (λ p. p.control < length plan.now.controls) pairs.now }
+    ensures ok { IfOk result (λ judged. at_first (judging_refusal D.verdict plan.now view.now (view.now.asked ++ pairs.now)) pairs.now ≡ None) }
+    ensures rows { IfOk result (λ judged. AreJudged D.verdict plan.now view.now.values (view.now.asked ++ pairs.now) pairs.now judged.0.items) }
+    ensures answers { IfOk result (λ judged. judged.1 ≡ map (entry_judged D.verdict plan.now view.now (view.now.asked ++ pairs.now)) pairs.now) }
+    ensures err { IfErr result (λ refusal. (at_first (judging_refusal D.verdict plan.now view.now (view.now.asked ++ pairs.now)) pairs.now ≡ Some refusal) ⊎ (refusal ≡ memory_refusal)) }
+    ensures asked { work.new.asked ≤ work.old.asked + length (touched plan.now pairs.now) }
+    ensures told { work.new.told ≡ work.old.told }
+{
+    match joined(alloc, view.asked, pairs) {
+        Ok(laid) => judge_under(alloc, plan, view, laid.as_slice(), pairs, work),
+        Err(_) => Err(Refusal::of_memory()),
+    }
+}
+
+// The rows that the clusters get where `laid` is laid over the values, and what the entries are answered.
+fn judge_under<D: Driver>(
+    alloc: Global,
+    plan: &Plan<D>,
+    view: &View<'_>,
+    laid: &[Pair],
+    pairs: &[Pair],
+    work: &mut Work,
+) -> Result<(Vec<TouchedRow>, ControlList), Refusal>
+    requires few { length pairs.now ≤ MAX_ENTRIES }
+    requires values { length view.now.values ≡ length plan.now.controls }
+    requires known { All (λ p. p.control < length plan.now.controls) pairs.now }
+    ensures ok { IfOk result (λ judged. at_first (judging_refusal D.verdict plan.now view.now laid.now) pairs.now ≡ None) }
+    ensures rows { IfOk result (λ judged. AreJudged D.verdict plan.now view.now.values laid.now pairs.now judged.0.items) }
+    ensures answers { IfOk result (λ judged. judged.1 ≡ map (entry_judged D.verdict plan.now view.now laid.now) pairs.now) }
+    ensures err { IfErr result (λ refusal. (at_first (judging_refusal D.verdict plan.now view.now laid.now) pairs.now ≡ Some refusal) ⊎ (refusal ≡ memory_refusal)) }
+    ensures asked { work.new.asked ≤ work.old.asked + length (touched plan.now pairs.now) }
+    ensures told { work.new.told ≡ work.old.told }
+{
+    let rows = judge_all(alloc, plan, view, laid, pairs, work)?;
+    match entries_judged(alloc, plan, view, laid, pairs, rows.as_slice()) {
+        Ok(answers) => Ok((rows, answers)),
+        Err(_) => Err(Refusal::of_memory()),
+    }
+}
+
+// Pairs, and others behind them.
+fn joined(alloc: Global, first: &[Pair], others: &[Pair]) -> Result<Vec<Pair>, AllocError>
+    ensures { IfOk result (λ pairs. pairs.items ≡ first.now ++ others.now) }
+{
+    let mut pairs = Vec::new(alloc);
+    pairs.extend_from_slice(first)?;
+    pairs.extend_from_slice(others)?;
+    Ok(pairs)
+}

@@ -1,0 +1,98 @@
+//! Which controls the entries of a list name.
+
+ghost use Rattle.std.specs.Prelude.{◌≡◌, ◌==◌, ◌<◌, ◌≤◌, ◌⊎◌, None, Some, length, IfOk, IfErr, IfSome};
+ghost use Rattle.std.specs.List.{All, list_any};
+ghost use Rattle.ctrl_types.specs.Classes.{class_of};
+ghost use Rattle.ctrl_handlers.specs.Plan.{control_in};
+ghost use Rattle.ctrl_lists.specs.View.{is_meant, named, pair_of, pairs_of, shows_class};
+ghost use Rattle.ctrl_lists.specs.Checks.{at_first, naming_refusal, memory_refusal};
+ghost use Rattle.ctrl_lists.specs.declared.limits.TheConstants.{MAX_ENTRIES};
+
+use crate::refusal::Refusal;
+use crate::view::View;
+use bitflags::Flags as FlagSet;
+use ctrl_calls::Driver;
+use ctrl_handlers::Plan;
+use ctrl_settle::Ctrl;
+use ctrl_types::{CtrlId, Errno, ExtControl, Flags, Pair, Which};
+use std::alloc::Global;
+
+/// The pairs of a list: each entry's control with the value as it was given; or the first entry that names no control.
+pub(crate) fn pairs_of<D: Driver>(
+    alloc: Global,
+    plan: &Plan<D>,
+    view: &View<'_>,
+    list: &[ExtControl],
+) -> Result<Vec<Pair>, Refusal>
+    requires { length list.now ≤ MAX_ENTRIES }
+    ensures ok { IfOk result (λ pairs. (pairs.items ≡ pairs_of plan.now view.now.handler view.now.which list.now) × (at_first (naming_refusal plan.now view.now) list.now ≡ None)) }
+    ensures few { IfOk result (λ pairs. length pairs.items ≡ length list.now) }
+    ensures known { IfOk result (λ pairs. All (λ p. p.control < length plan.now.controls) pairs.items) }
+    ensures err { IfErr result (λ refusal. (at_first (naming_refusal plan.now view.now) list.now ≡ Some refusal) ⊎ (refusal ≡ memory_refusal)) }
+{
+    let Ok(mut pairs) = Vec::with_capacity(alloc, list.len()) else {
+        return Err(Refusal::of_memory());
+    };
+    for (place, entry) in list.iter().enumerate() {
+        match pair_of(plan, view, *entry) {
+            Some(pair) => pairs.push_reserved(pair),
+            None => return Err(Refusal::at(Errno::EINVAL, place as u32)),
+        }
+    }
+    Ok(pairs)
+}
+
+// An entry's control with the value as it was given.
+fn pair_of<D: Driver>(plan: &Plan<D>, view: &View<'_>, entry: ExtControl) -> Option<Pair>
+    ensures pair { result ≡ pair_of plan.now view.now.handler view.now.which entry }
+    ensures known { IfSome result (λ p. p.control < length plan.now.controls) }
+{
+    let control = named(plan, view, entry.id)?;
+    Some(Pair {
+        control,
+        value: entry.value,
+    })
+}
+
+// The control that an id names.
+fn named<D: Driver>(plan: &Plan<D>, view: &View<'_>, id: CtrlId) -> Option<u32>
+    ensures named { result ≡ named plan.now view.now.handler view.now.which id }
+    ensures known { IfSome result (λ c. c < length plan.now.controls) }
+{
+    let control = plan.find(view.handler, id).ok()?;
+    if is_meant(view.which, id) && !plan.control(control).flags().contains(Flags::DISABLED) {
+        Some(control)
+    } else {
+        None
+    }
+}
+
+// Whether a list speaks of an id.
+fn is_meant(which: Which, id: CtrlId) -> bool
+    ensures { result ≡ is_meant which id }
+{
+    match which {
+        Which::Class(class) => id.class() == class,
+        Which::Current | Which::Defaults | Which::Request => true,
+    }
+}
+
+/// Whether a handler shows a control of a class.
+pub(crate) fn shows_class<D: Driver>(plan: &Plan<D>, handler: u32, class: u32) -> bool
+    ensures { result ≡ shows_class plan.now handler class }
+{
+    is_any_of(plan.controls(), plan.shown(handler), class)
+}
+
+// Whether some of these controls is of a class.
+fn is_any_of(controls: &[Ctrl], numbers: &[u32], class: u32) -> bool
+    requires { All (λ c. c < length controls.now) numbers.now }
+    ensures { result ≡ list_any (λ c. class_of (control_in controls.now c).id.0 == class) numbers.now }
+{
+    for &number in numbers {
+        if controls[number as usize].id().class() == class {
+            return true;
+        }
+    }
+    false
+}

@@ -1,0 +1,99 @@
+ghost use Rattle.std.specs.Prelude.{◌≡◌, []};
+ghost use Rattle.ctrl_lists.specs.Touched.{row_among};
+
+use crate::control_list::ControlList;
+use ctrl_calls::ClusterRow;
+use ctrl_types::{ExtControl, Pair};
+use std::alloc::Global;
+use std::marker::Model;
+
+/// The row that a cluster gets.
+#[derive(Clone, Copy, Debug, PartialEq, Eq)]
+pub struct TouchedRow {
+    /// The cluster's number.
+    pub cluster: u32,
+    /// A value for each of its members, in member order.
+    pub row: ClusterRow,
+}
+
+/// What a list that writes makes of the clusters that it touches. Contracts see it as these three parts.
+#[derive(Drop)]
+pub struct Touched {
+    pub(crate) rows: Vec<TouchedRow>,
+    pub(crate) answers: ControlList,
+    pub(crate) pairs: Vec<Pair>,
+}
+
+impl Model for Touched {
+    ghost use Rattle.ctrl_lists.specs.Touched.{TouchedData};
+
+    ghost Value = { TouchedData };
+
+    ghost view = { λ t. record { rows = t.rows.items; answers = t.answers; pairs = t.pairs.items } };
+}
+
+impl Touched {
+    // What a list without entries touches. It takes no memory.
+    pub(crate) fn empty(alloc: Global) -> Touched
+        ensures { result ≡ record { rows = []; answers = []; pairs = [] } }
+    {
+        Touched {
+            rows: Vec::new(alloc),
+            answers: ControlList::from_vec(Vec::new(alloc)),
+            pairs: Vec::new(alloc),
+        }
+    }
+
+    /// The rows that the clusters get, each cluster once, in the order of their first entries.
+    pub fn rows(&self) -> &[TouchedRow]
+        ensures { result.now ≡ self.now.rows }
+    {
+        self.rows.as_slice()
+    }
+
+    /// What each entry is answered: its control's id, and the value that the control has in its cluster's row.
+    pub fn answers(&self) -> &[ExtControl]
+        ensures { result.now ≡ self.now.answers }
+    {
+        self.answers.as_slice()
+    }
+
+    /// The pairs of the list: each entry's control, with the value as it was given.
+    pub fn pairs(&self) -> &[Pair]
+        ensures { result.now ≡ self.now.pairs }
+    {
+        self.pairs.as_slice()
+    }
+
+    /// The row that a cluster gets, where the list touches it.
+    pub fn row_of(&self, cluster: u32) -> Option<ClusterRow>
+        ensures { result ≡ row_among self.now.rows cluster }
+    {
+        row_of(self.rows.as_slice(), cluster)
+    }
+
+    /// What the entries are answered, and the pairs, with the memory that they lie in; the rows are dropped.
+    pub fn into_parts(self) -> (ControlList, Vec<Pair>)
+        ensures answers { result.0 ≡ self.answers }
+        ensures pairs { result.1.items ≡ self.pairs }
+    {
+        let Touched {
+            rows: _,
+            answers,
+            pairs,
+        } = self;
+        (answers, pairs)
+    }
+}
+
+/// The row of a cluster among others.
+pub(crate) fn row_of(rows: &[TouchedRow], cluster: u32) -> Option<ClusterRow>
+    ensures { result ≡ row_among rows.now cluster }
+{
+    for touched in rows {
+        if touched.cluster == cluster {
+            return Some(touched.row);
+        }
+    }
+    None
+}

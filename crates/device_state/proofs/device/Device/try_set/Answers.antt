@@ -1,0 +1,13 @@
+use Rattle.std.proofs.Common.{ap}
+use Rattle.history.specs.Past.{past}
+use Rattle.device_state.specs.Device.{DeviceData}
+use Rattle.device_state.proofs.HandleLemmas.{handles_asked, taken_try}
+use Rattle.device_state.proofs.device.Device.try_set.Goals as goal
+
+-- a try adds no step
+pub returns : goal.returns
+returns g c = λ seat.
+    let tried = c.try_list-answer in
+    handles_asked g.D.Validates.verdict c.args.self.now _ c.new-work.result tried.new.work seat _ _
+    (ap (λ (d : DeviceData). record d { work = tried.new.work }) c.self.view_is) c.new-work.ensures tried.ensures.told tried.ensures.asked
+    (taken_try c.args.self.now.plan (past c.args.self.now.steps) c.args.fh c.args.which c.args.request c.args.list.now _) (tried.ensures.answers c.args.request)
