@@ -22,6 +22,3 @@ pub use history::Entry;
 pub use info::CtrlInfo;
 pub use limits::{MAX_FILE_HANDLES, MAX_STEPS};
 pub use pair_list::PairList;
-
-#[cfg(test)]
-mod tests;

@@ -3,17 +3,13 @@ ghost use Rattle.ctrl_calls.specs.Meanings.{JudgesBy, TellsBy};
 ghost use Rattle.ctrl_calls.specs.declared.verdict.Verdict.TheVariants.{Accept, Refuse};
 ghost use Rattle.ctrl_types.specs.declared.errno.Errno.TheVariants.{ERANGE};
 
-mod handles;
-mod lists;
-mod menus;
-
-use super::*;
 use bitflags::Flags as FlagSet;
 use ctrl_calls::{
     Calls, ClusterRow, Driver, Notifier, Notifies, Relation, Validates, Validator, Verdict, Work,
 };
 use ctrl_settle::Ctrl;
 use ctrl_types::{CtrlId, Errno, ExtControl, Fault, FhId, Flags, Kind};
+use device_state::{Ask, ControlList, Device, Plan, PlanBuilder, Reply};
 use std::alloc::Global;
 use std::process::Abort;
 use std::sync::Arc;
@@ -21,7 +17,7 @@ use std::sync::atomic::{AtomicU64, Ordering};
 use std::test::Fail;
 
 // Relation 0 takes every row as it is, relation 1 takes 300 in its place, and every other refuses. Any word may be told.
-enum Counting {}
+pub enum Counting {}
 
 impl Validates for Counting {
     type Judge = Box<dyn Fn(ClusterRow) -> Verdict + Send>;
@@ -51,11 +47,11 @@ const REFUSES: Relation = Relation {
 };
 
 // A number of 0 to 255, a button, and a number in no cluster.
-const GAIN: CtrlId = CtrlId(0x0098_0901);
+pub const GAIN: CtrlId = CtrlId(0x0098_0901);
 
-const BUTTON: CtrlId = CtrlId(0x0098_0902);
+pub const BUTTON: CtrlId = CtrlId(0x0098_0902);
 
-const ALONE: CtrlId = CtrlId(0x0098_0903);
+pub const ALONE: CtrlId = CtrlId(0x0098_0903);
 
 // What the closures of a test counted, and what it was at the last look.
 #[derive(Drop)]
@@ -83,7 +79,7 @@ fn word_of(row: &ClusterRow) -> u64 {
     }
 }
 
-fn number(id: CtrlId) -> Result<Ctrl, Fail> {
+pub fn number(id: CtrlId) -> Result<Ctrl, Fail> {
     let flags = Flags::empty();
     Ok(Ctrl::new(id, Kind::Integer, 0, 255, 1, 7, 0, flags, false)?)
 }
@@ -130,7 +126,7 @@ fn plan<D: Driver>(
     }
 }
 
-fn list(alloc: Global, id: CtrlId, value: i64) -> Result<ControlList, Fail> {
+pub fn list(alloc: Global, id: CtrlId, value: i64) -> Result<ControlList, Fail> {
     let items = vec![in alloc; ExtControl { id, value }]?;
     Ok(ControlList::from_vec(items))
 }

@@ -1,11 +1,11 @@
 //! The ids that a handler shows in turn, and the items of its menus.
 
-use super::{Counting, GAIN, number};
-use crate::{Ask, Device, MenuItem, PlanBuilder, Reply};
+use crate::counting::{Counting, GAIN, number};
 use bitflags::Flags as FlagSet;
 use ctrl_calls::{Driver, Work};
 use ctrl_settle::Ctrl;
 use ctrl_types::{CtrlId, Errno, Fault, FhId, Flags, Kind};
+use device_state::{Ask, Device, MenuItem, PlanBuilder, Reply};
 use std::alloc::Global;
 use std::process::Abort;
 use std::test::Fail;

@@ -1,11 +1,11 @@
 //! Lists of several entries: gets, sets and tries, all or none.
 
-use super::{ALONE, BUTTON, Counting, GAIN, number};
-use crate::{Ask, ControlList, Device, MAX_ENTRIES, PlanBuilder, Reply};
+use crate::counting::{ALONE, BUTTON, Counting, GAIN, number};
 use bitflags::Flags as FlagSet;
 use ctrl_calls::{Driver, Work};
 use ctrl_settle::Ctrl;
 use ctrl_types::{CtrlId, Errno, ExtControl, Fault, FhId, Flags, Kind, RequestId};
+use device_state::{Ask, ControlList, Device, MAX_ENTRIES, PlanBuilder, Reply};
 use std::alloc::Global;
 use std::process::Abort;
 use std::test::Fail;

@@ -1,11 +1,11 @@
 //! File handles that are closed, and what a query through an open one tells.
 
-use super::{BUTTON, Counting, GAIN, list, number};
-use crate::{Ask, CtrlInfo, Device, MAX_FILE_HANDLES, PlanBuilder, Reply, Step};
+use crate::counting::{BUTTON, Counting, GAIN, list, number};
 use bitflags::Flags as FlagSet;
 use ctrl_calls::{Driver, Work};
 use ctrl_settle::Ctrl;
 use ctrl_types::{CtrlId, Errno, Fault, FhId, Flags, Kind};
+use device_state::{Ask, CtrlInfo, Device, MAX_FILE_HANDLES, PlanBuilder, Reply, Step};
 use std::alloc::Global;
 use std::process::Abort;
 use std::test::Fail;
