@@ -79,6 +79,7 @@ fn word_of(row: &ClusterRow) -> u64 {
     }
 }
 
+/// A control of 0 to 255 whose default is 7.
 pub fn number(id: CtrlId) -> Result<Ctrl, Fail> {
     let flags = Flags::empty();
     Ok(Ctrl::new(id, Kind::Integer, 0, 255, 1, 7, 0, flags, false)?)
@@ -126,6 +127,7 @@ fn plan<D: Driver>(
     }
 }
 
+/// The list of this one control.
 pub fn list(alloc: Global, id: CtrlId, value: i64) -> Result<ControlList, Fail> {
     let items = vec![in alloc; ExtControl { id, value }]?;
     Ok(ControlList::from_vec(items))
