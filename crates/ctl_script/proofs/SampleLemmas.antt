@@ -7,7 +7,7 @@ use Rattle.ctrl_types.specs.declared.kind.Kind.{Kind}
 use Rattle.ctrl_settle.specs.Control.{Control, described}
 use Rattle.ctrl_settle.specs.Faults.{IsWellFormed}
 use Rattle.ctrl_settle.specs.declared.fault.CtrlFault.{CtrlFault}
-use Rattle.ctrl_handlers.specs.Plan.{each_clustered, finished}
+use Rattle.ctrl_handlers.specs.Plan.{finished}
 use Rattle.ctl_script.specs.Sample.{no_flags, sample, whole_sample}
 
 -- a set without a bit is the set without flags
@@ -32,5 +32,4 @@ plain_made id kind minimum maximum step default_value skip is_private f r e fits
 -- hflip, vflip, hue and power are in no named cluster
 pub finished_sample : (of_gain of_balance of_button of_brightness : Relations)
     → finished (sample of_gain of_balance of_button of_brightness) ≡ whole_sample of_gain of_balance of_button of_brightness
-unfolding each_clustered
 finished_sample of_gain of_balance of_button of_brightness = refl

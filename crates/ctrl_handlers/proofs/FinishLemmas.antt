@@ -1,16 +1,80 @@
 -- What a plan is once it is finished: each control is in a cluster, and the closures and what is shown stay.
-use Rattle.std.proofs.Common.{◌≡◌, ℕ, zero, suc, ◌+◌, ◌<◌, ◌≤◌, ◌||◌, Bool, true, false, cond, ltb, nat_eq, List, [], ◌∷◌, ◌++◌, length, None, Some, is_some, position, refl, sym, ap, ◌∙◌, arith, get_or, inl, inr, ◌⊎◌}
-use Rattle.std.specs.List.{list_any, position_or_len}
+use Rattle.std.proofs.Common.{◌≡◌, ℕ, zero, suc, ◌+◌, ◌<◌, ◌≤◌, ◌||◌, Bool, true, false, not, cond, ltb, nat_eq, List, [], ◌∷◌, ◌++◌, length, map, None, Some, is_some, position, refl, sym, ap, subst, ◌∙◌, arith, get_or, inl, inr, ◌⊎◌}
+use Rattle.std.specs.List.{All, list_any, position_or_len, filter, range_with_len}
 use Rattle.std.proofs.lemmas.Bool.{cases_lt}
 use Rattle.std.proofs.lemmas.Bool.Decides.{nat_tests}
-use Rattle.std.proofs.lemmas.List.{get_or-map, get_or_past, length-map}
-use Rattle.std.proofs.lemmas.List.Elements.{All-nil, All-push}
+use Rattle.std.proofs.lemmas.List.{append-nil, append_assoc, get_or-map, get_or_past, length-map, map-append, map-id}
+use Rattle.std.proofs.lemmas.List.Elements.{All-nil, All-push, All-head, All-tail, All-filter}
+use Rattle.std.proofs.lemmas.List.FromFn.{length-range_with_len, get_or-range_with_len, filter_of_map_range_with_len_more}
 use Rattle.std.proofs.lemmas.List.Folds.{list_any-append}
 use Rattle.ctrl_calls.specs.declared.relation.Relations.{Relations}
 use Rattle.ctrl_handlers.specs.ClusterData.{ClusterData}
-use Rattle.ctrl_handlers.specs.Plan.{PlanData, IsPlan, IsFinished, HasCalls, with_alone, each_clustered, finished, alone, no_calls, all_calls, has_member, cluster_of, no_cluster}
+use Rattle.ctrl_handlers.specs.Plan.{PlanData, IsPlan, IsFinished, HasCalls, in_none, finished, alone, no_calls, all_calls, has_member, cluster_of, no_cluster}
 use Rattle.ctrl_handlers.specs.Visible.{shown_below}
 use Rattle.ctrl_handlers.proofs.ClusterLemmas.{MayCluster, is_plan_add, any_first, Before, Last, Past, cluster_more}
+
+-- these clusters, where a control is in one: in a cluster of its own, the last, where it is in none of them
+abbrev pub with_alone : List ClusterData → ℕ → List ClusterData
+with_alone clusters c = cond (list_any (has_member c) clusters) clusters (clusters ++ alone c ∷ [])
+
+-- these clusters, and then each other control below a number in a cluster of its own
+abbrev pub with_each : List ClusterData → ℕ → List ClusterData
+with_each clusters n = clusters ++ map alone (in_none clusters n)
+
+-- no control so far
+pub each_none : (clusters : List ClusterData) → with_each clusters 0 ≡ clusters
+each_none clusters = append-nil clusters
+
+-- one more number to look at
+in_none_more : (clusters : List ClusterData) (n : ℕ) → in_none clusters (n + 1) ≡ in_none clusters n ++ cond (not (list_any (has_member n) clusters)) (n ∷ []) []
+in_none_more clusters n =
+    let p : ℕ → Bool = λ c. not (list_any (has_member c) clusters) in
+    ap (filter p) (sym (map-id (range_with_len 0 (n + 1))))
+    ∙ filter_of_map_range_with_len_more p (λ (c : ℕ). c) 0 n n (omega arith)
+    ∙ ap (λ (cs : List ℕ). filter p cs ++ cond (p n) (n ∷ []) []) (map-id (range_with_len 0 n))
+
+-- a number is none of those below it
+not_alone_below : (n : ℕ) (cs : List ℕ) → All (λ c. c < n) cs → list_any (has_member n) (map alone cs) ≡ false
+not_alone_below n [] below = refl
+not_alone_below n (c ∷ cs) below =
+    let before : c < n = All-head (λ c. c < n) c cs below in
+    let other : nat_eq n c ≡ false = grind (arith, nat_tests) in
+    rw (other, not_alone_below n cs (All-tail (λ c. c < n) c cs below)) refl
+
+in_none_below : (clusters : List ClusterData) (n : ℕ) → All (λ c. c < n) (in_none clusters n)
+in_none_below clusters n =
+    All-filter (λ c. not (list_any (has_member c) clusters)) (λ c. c < n) (range_with_len 0 n)
+    (λ k d lt. let within : k < n = omega (arith, lt, length-range_with_len 0 n) in omega (arith, get_or-range_with_len 0 n k d within, within))
+
+or_none : (b : Bool) → (b || false) ≡ b
+or_none true = refl
+or_none false = refl
+
+-- so it is in one of them exactly where it is in one of the named ones
+any_each : (clusters : List ClusterData) (n : ℕ) → list_any (has_member n) (with_each clusters n) ≡ list_any (has_member n) clusters
+any_each clusters n =
+    list_any-append (has_member n) clusters (map alone (in_none clusters n))
+    ∙ ap (λ (b : Bool). list_any (has_member n) clusters || b) (not_alone_below n (in_none clusters n) (in_none_below clusters n))
+    ∙ or_none (list_any (has_member n) clusters)
+
+-- one more control
+pub each_more : (clusters : List ClusterData) (n : ℕ) → with_each clusters (n + 1) ≡ with_alone (with_each clusters n) n
+each_more clusters n =
+    ap (λ (cs : List ℕ). clusters ++ map alone cs) (in_none_more clusters n)
+    ∙ by (list_any (has_member n) clusters)
+    ∙ ap (λ (b : Bool). cond b (with_each clusters n) (with_each clusters n ++ alone n ∷ [])) (sym (any_each clusters n))
+  where
+    by : (b : Bool) → clusters ++ map alone (in_none clusters n ++ cond (not b) (n ∷ []) []) ≡ cond b (with_each clusters n) (with_each clusters n ++ alone n ∷ [])
+    by true = ap (λ (cs : List ℕ). clusters ++ map alone cs) (append-nil (in_none clusters n))
+    by false =
+        ap (λ (ks : List ClusterData). clusters ++ ks) (map-append alone (in_none clusters n) (n ∷ []))
+        ∙ sym (append_assoc clusters (map alone (in_none clusters n)) (alone n ∷ []))
+
+each_suc : (clusters : List ClusterData) (n : ℕ) → with_each clusters (suc n) ≡ with_alone (with_each clusters n) n
+each_suc clusters n = ap (with_each clusters) (plus_one n) ∙ each_more clusters n
+  where
+    plus_one : (n : ℕ) → suc n ≡ n + 1
+    plus_one n = omega arith
 
 -- there is a first that passes exactly where one passes
 some_by : (b : Bool) (n : ℕ) → is_some (cond b (Some n) None) ≡ b
@@ -75,11 +139,11 @@ reaches_more plan clusters n within so_far = by (list_any (has_member n) cluster
       each = all (clusters ++ alone n ∷ []) kept (list_any-append (has_member n) clusters (alone n ∷ []) ∙ ap (λ (b : Bool). list_any (has_member n) clusters || b) (own_member n) ∙ or_true (list_any (has_member n) clusters));
     }
 
-reaches_each : (plan : PlanData) (n : ℕ) → n ≤ length plan.controls → IsPlan plan → Reaches plan (each_clustered plan.clusters n) n
-unfolding each_clustered
-reaches_each plan zero within is = record { is = is; each = λ c lt. absurd (omega (arith, lt)) }
+reaches_each : (plan : PlanData) (n : ℕ) → n ≤ length plan.controls → IsPlan plan → Reaches plan (with_each plan.clusters n) n
+reaches_each plan zero within is = subst (λ (clusters : List ClusterData). Reaches plan clusters 0) (sym (each_none plan.clusters)) (record { is = is; each = λ c lt. absurd (omega (arith, lt)) })
 reaches_each plan (suc n) within is =
-    reaches_more plan (each_clustered plan.clusters n) n (omega (arith, within)) (reaches_each plan n (omega (arith, within)) is)
+    subst (λ (clusters : List ClusterData). Reaches plan clusters (suc n)) (sym (each_suc plan.clusters n))
+    (reaches_more plan (with_each plan.clusters n) n (omega (arith, within)) (reaches_each plan n (omega (arith, within)) is))
 
 -- a finished plan has each control in a cluster
 pub finished_is : (plan : PlanData) → IsPlan plan → IsFinished (finished plan)
@@ -87,7 +151,7 @@ finished_is plan is =
     let all = reaches_each plan (length plan.controls) (omega arith) is in
     record {
       is_plan = all.is;
-      clustered = λ c within. is_some_any (has_member c) (each_clustered plan.clusters (length plan.controls)) ∙ all.each c within;
+      clustered = λ c within. is_some_any (has_member c) (with_each plan.clusters (length plan.controls)) ∙ all.each c within;
     }
 
 -- closures that answer by the relations of some clusters
@@ -108,10 +172,11 @@ answered_more clusters calls c are = λ k. by k (list_any (has_member c) cluster
     by k true = are k
     by k false = at k (cluster_more clusters (alone c) k)
 
-answered_each : (clusters : List ClusterData) (calls : List Relations) (n : ℕ) → Answered clusters calls → Answered (each_clustered clusters n) calls
-unfolding each_clustered
-answered_each clusters calls zero are = are
-answered_each clusters calls (suc n) are = answered_more (each_clustered clusters n) calls n (answered_each clusters calls n are)
+answered_each : (clusters : List ClusterData) (calls : List Relations) (n : ℕ) → Answered clusters calls → Answered (with_each clusters n) calls
+answered_each clusters calls zero are = subst (λ (all : List ClusterData). Answered all calls) (sym (each_none clusters)) are
+answered_each clusters calls (suc n) are =
+    subst (λ (all : List ClusterData). Answered all calls) (sym (each_suc clusters n))
+    (answered_more (with_each clusters n) calls n (answered_each clusters calls n are))
 
 -- the closures of the clusters that were named are those of a finished plan
 pub finished_calls : (plan : PlanData) → HasCalls (finished plan) (all_calls plan)
@@ -128,16 +193,3 @@ pub finished_shown : (plan : PlanData) (n : ℕ) → shown_below (finished plan)
 unfolding shown_below
 finished_shown plan zero = refl
 finished_shown plan (suc n) = rw (finished_shown plan n) refl
-
--- no control so far
-pub each_none : (clusters : List ClusterData) → each_clustered clusters 0 ≡ clusters
-unfolding each_clustered
-each_none clusters = refl
-
--- one more control
-pub each_more : (clusters : List ClusterData) (n : ℕ) → each_clustered clusters (n + 1) ≡ with_alone (each_clustered clusters n) n
-unfolding each_clustered
-each_more clusters n = rw (plus_one n) refl
-  where
-    plus_one : (n : ℕ) → n + 1 ≡ suc n
-    plus_one n = omega arith

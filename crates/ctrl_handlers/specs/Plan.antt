@@ -1,7 +1,7 @@
 -- What a plan holds, as plain data, and what each call of a builder adds to it (Linux driver API, "V4L2 Controls", "Control
 -- Clusters").
-use Rattle.std.specs.Prelude.{◌≡◌, ℕ, zero, suc, ℤ, pos, Bool, false, true, ◌==◌, ◌&&◌, ◌||◌, ◌<◌, ◌≤◌, List, [], ◌∷◌, ◌++◌, length, Option, None, Some, is_some, map, nat_eq, position, if◌then◌else◌, slice_index, slice_index_or, slice_set}
-use Rattle.std.specs.List.{All, list_any}
+use Rattle.std.specs.Prelude.{◌≡◌, ℕ, ℤ, pos, Bool, false, true, not, ◌==◌, ◌&&◌, ◌||◌, ◌<◌, ◌≤◌, List, [], ◌∷◌, ◌++◌, length, Option, None, Some, is_some, map, nat_eq, position, if◌then◌else◌, slice_index, slice_index_or, slice_set}
+use Rattle.std.specs.List.{All, list_any, filter, range_with_len}
 use Rattle.std.specs.Map.{lookup}
 use Rattle.indexmap.specs.IndexMap.{insert_entry}
 use Rattle.ctrl_types.specs.declared.kind.Kind.TheVariants.{Integer}
@@ -173,16 +173,11 @@ with_cluster plan members manual calls = record plan { clusters = plan.clusters 
 abbrev pub alone : ℕ → ClusterData
 alone c = record { members = c ∷ []; manual = None; calls = no_calls }
 
--- these clusters, where a control is in one: in a cluster of its own, the last, where it is in none of them
-abbrev pub with_alone : List ClusterData → ℕ → List ClusterData
-with_alone clusters c = if list_any (has_member c) clusters then clusters else clusters ++ alone c ∷ []
-
--- the same for each control below a number, in rising order
-unfoldable pub each_clustered : List ClusterData → ℕ → List ClusterData
-each_clustered clusters zero = clusters
-each_clustered clusters (suc n) = with_alone (each_clustered clusters n) n
+-- the controls below a number that are in none of these clusters, in rising order
+abbrev pub in_none : List ClusterData → ℕ → List ℕ
+in_none clusters n = filter (λ c. not (list_any (has_member c) clusters)) (range_with_len 0 n)
 
 -- The plan once it is finished: each control that no cluster call named is a cluster of its own, without closures. These come after
 -- the others, in the order of the controls.
 abbrev pub finished : PlanData → PlanData
-finished plan = record plan { clusters = each_clustered plan.clusters (length plan.controls) }
+finished plan = record plan { clusters = plan.clusters ++ map alone (in_none plan.clusters (length plan.controls)) }

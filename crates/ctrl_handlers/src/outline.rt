@@ -1,5 +1,5 @@
-ghost use Rattle.std.specs.Prelude.{◌≡◌, ◌==◌, ◌<◌, ◌≤◌, ◌+◌, ℕ, false, length, vec_capacity, None, Some, is_some, nat_lt, OnOk, OnErr, MatchOption, position, IfOk, IfSome, IsTrue, ◌↔◌};
-ghost use Rattle.ctrl_handlers.specs.Plan.{IsPlan, IsFinished, no_plan, with_handler, with_control, with_added, with_item, with_cluster, finished, each_clustered, with_alone, control as control_of, own, added, menu_item, cluster_of, cluster_at, members, has_member, leads, plan_flags, names_twice};
+ghost use Rattle.std.specs.Prelude.{◌≡◌, ◌==◌, ◌<◌, ◌≤◌, ◌+◌, ℕ, false, if◌then◌else◌, [], ◌∷◌, ◌++◌, map, length, vec_capacity, None, Some, is_some, nat_lt, OnOk, OnErr, MatchOption, position, IfOk, IfSome, IsTrue, ◌↔◌};
+ghost use Rattle.ctrl_handlers.specs.Plan.{IsPlan, IsFinished, no_plan, with_handler, with_control, with_added, with_item, with_cluster, finished, in_none, alone, control as control_of, own, added, menu_item, cluster_of, cluster_at, members, has_member, leads, plan_flags, names_twice};
 ghost use Rattle.ctrl_handlers.specs.Builder.{cluster_refusal, misfits};
 ghost use Rattle.ctrl_calls.specs.declared.row.TheConstants.{MAX_MEMBERS};
 ghost use Rattle.std.specs.List.{All, list_all, list_any};
@@ -323,7 +323,7 @@ fn place_of(clusters: &[Cluster], control: u32) -> Option<usize>
 // Gives each control below a number that is in no cluster one of its own, the last.
 fn cluster_each(clusters: &mut Vec<Cluster>, count: u32)
     requires { length clusters.old.items + count ≤ vec_capacity clusters.old }
-    ensures { clusters.new.items ≡ each_clustered clusters.old.items count }
+    ensures { clusters.new.items ≡ clusters.old.items ++ map alone (in_none clusters.old.items count) }
 {
     for control in 0..count {
         cluster_alone(clusters, control);
@@ -333,7 +333,7 @@ fn cluster_each(clusters: &mut Vec<Cluster>, count: u32)
 // Gives a control that is in no cluster one of its own, the last.
 fn cluster_alone(clusters: &mut Vec<Cluster>, control: u32)
     requires { length clusters.old.items < vec_capacity clusters.old }
-    ensures clusters { clusters.new.items ≡ with_alone clusters.old.items control }
+    ensures clusters { clusters.new.items ≡ (if list_any (has_member control) clusters.old.items then clusters.old.items else clusters.old.items ++ alone control ∷ []) }
     ensures room { vec_capacity clusters.new ≡ vec_capacity clusters.old }
     ensures few { length clusters.new.items ≤ length clusters.old.items + 1 }
 {

@@ -1,7 +1,6 @@
 use Rattle.std.proofs.Common.{List, ap, sym, ◌∙◌, arith}
 use Rattle.ctrl_handlers.specs.ClusterData.{ClusterData}
-use Rattle.ctrl_handlers.specs.Plan.{with_alone}
-use Rattle.ctrl_handlers.proofs.FinishLemmas.{each_none, each_more}
+use Rattle.ctrl_handlers.proofs.FinishLemmas.{with_alone, each_none, each_more}
 use Rattle.ctrl_handlers.proofs.outline.cluster_each.Goals as goal
 
 pub loop-control-init : goal.loop-control-init
