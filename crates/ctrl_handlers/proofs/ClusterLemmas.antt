@@ -241,6 +241,7 @@ is_plan_add plan named manual calls is may = record {
   members_differ = λ k. members_more (λ cs. names_twice cs ≡ false) plan named manual calls k is.members_differ refl may.differ (cluster_more plan.clusters (named_as named manual calls) k);
   members_apart = λ k c within among. apart_more plan named manual calls k c is may within among (cluster_more plan.clusters (named_as named manual calls) k);
   own_known = is.own_known;
+  own_differ = is.own_differ;
   added_before = is.added_before;
 }
 

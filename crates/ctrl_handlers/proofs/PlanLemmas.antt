@@ -1,5 +1,5 @@
 -- Each call of a builder keeps what holds of every plan.
-use Rattle.std.proofs.Common.{◌≡◌, ◌≢◌, ℕ, ◌<◌, List, [], ◌∷◌, ◌++◌, length, sym, ap, ◌∙◌, subst, arith, get_or, slice_set, refl, inl, inr, ◌⊎◌}
+use Rattle.std.proofs.Common.{◌≡◌, ◌≢◌, ℕ, ◌<◌, false, is_some, List, [], ◌∷◌, ◌++◌, length, sym, ap, ◌∙◌, subst, arith, get_or, slice_set, refl, inl, inr, ◌⊎◌}
 use Rattle.std.specs.List.{All}
 use Rattle.std.proofs.lemmas.Bool.{cases_eq}
 use Rattle.std.proofs.lemmas.List.{get_or-set_same, get_or-set_other, length_push, length-set}
@@ -7,7 +7,9 @@ use Rattle.std.proofs.lemmas.List.Elements.{All-push, All-weaker}
 use Rattle.ctrl_settle.specs.Control.{Control}
 use Rattle.ctrl_handlers.specs.HandlerData.{HandlerData}
 use Rattle.ctrl_handlers.specs.declared.limits.TheConstants.{MAX_CONTROLS}
-use Rattle.ctrl_handlers.specs.Plan.{PlanData, IsPlan, no_plan, no_handler, handler_at, own, added, members, owning, with_control}
+use Rattle.ctrl_handlers.specs.Plan.{PlanData, IsPlan, no_plan, no_handler, handler_at, own, added, members, names_twice, ids_of, owning, with_control}
+use Rattle.ctrl_handlers.specs.Visible.{first_with_id}
+use Rattle.ctrl_handlers.proofs.IdLemmas.{ids_stay, ids_more}
 
 -- a plan of nothing
 pub is_plan_start : IsPlan no_plan
@@ -20,6 +22,7 @@ is_plan_start = record {
   few_members = λ k. omega arith;
   members_differ = λ k. refl;
   own_known = λ h k d lt. absurd (omega (arith, lt));
+  own_differ = λ h. refl;
   added_before = λ h k d lt. absurd (omega (arith, lt));
 }
 
@@ -34,9 +37,10 @@ set_handler handlers h g x within = by (cases_eq g h)
     by (inr other) = inr (other, get_or-set_other handlers h g x no_handler other)
 
 -- one more control
-pub is_plan_control : (plan : PlanData) (h : ℕ) (ctrl : Control) → IsPlan plan → h < length plan.handlers → length plan.controls < MAX_CONTROLS → IsPlan (with_control plan h ctrl)
+pub is_plan_control : (plan : PlanData) (h : ℕ) (ctrl : Control) → IsPlan plan → h < length plan.handlers → length plan.controls < MAX_CONTROLS
+    → is_some (first_with_id plan.controls (own plan h) ctrl.id) ≡ false → IsPlan (with_control plan h ctrl)
 unfolding owning
-is_plan_control plan h ctrl is within room = record {
+is_plan_control plan h ctrl is within room new = record {
   few_controls = omega (arith, length_push plan.controls ctrl, room);
   few_handlers = omega (arith, is.few_handlers, length-set plan.handlers h (owning (handler_at plan h) (length plan.controls)));
   members_known = λ k.
@@ -47,6 +51,7 @@ is_plan_control plan h ctrl is within room = record {
   few_members = is.few_members;
   members_differ = is.members_differ;
   own_known = λ g. known g (set_handler plan.handlers h g (owning (handler_at plan h) (length plan.controls)) within);
+  own_differ = λ g. differ g (set_handler plan.handlers h g (owning (handler_at plan h) (length plan.controls)) within);
   added_before = λ g. before g (set_handler plan.handlers h g (owning (handler_at plan h) (length plan.controls)) within);
 }
   where
@@ -64,6 +69,17 @@ is_plan_control plan h ctrl is within room = record {
         (All-push (λ c. c < length (plan.controls ++ ctrl ∷ [])) (own plan h) (length plan.controls) (still h) (omega (arith, length_push plan.controls ctrl)))
     known g (inr other) = subst (λ (x : HandlerData). All (λ c. c < length (plan.controls ++ ctrl ∷ [])) x.own) (sym other.1) (still g)
 
+    differ : (g : ℕ)
+        → ((g ≡ h) × (get_or (slice_set plan.handlers h (owning (handler_at plan h) (length plan.controls))) g no_handler ≡ owning (handler_at plan h) (length plan.controls)))
+        ⊎ ((g ≢ h) × (get_or (slice_set plan.handlers h (owning (handler_at plan h) (length plan.controls))) g no_handler ≡ get_or plan.handlers g no_handler))
+        → names_twice (ids_of (plan.controls ++ ctrl ∷ []) (own (with_control plan h ctrl) g)) ≡ false
+    differ g (inl same) =
+        subst (λ (x : HandlerData). names_twice (ids_of (plan.controls ++ ctrl ∷ []) x.own) ≡ false) (sym same.1)
+        (ids_more plan.controls ctrl (own plan h) (is.own_known h) (is.own_differ h) new)
+    differ g (inr other) =
+        subst (λ (x : HandlerData). names_twice (ids_of (plan.controls ++ ctrl ∷ []) x.own) ≡ false) (sym other.1)
+        (ap names_twice (ids_stay plan.controls ctrl (own plan g) (is.own_known g)) ∙ is.own_differ g)
+
     before : (g : ℕ)
         → ((g ≡ h) × (get_or (slice_set plan.handlers h (owning (handler_at plan h) (length plan.controls))) g no_handler ≡ owning (handler_at plan h) (length plan.controls)))
         ⊎ ((g ≢ h) × (get_or (slice_set plan.handlers h (owning (handler_at plan h) (length plan.controls))) g no_handler ≡ get_or plan.handlers g no_handler))
@@ -75,9 +91,9 @@ is_plan_control plan h ctrl is within room = record {
 
 -- the same for parts that are equal to those
 pub is_plan_control_as : (plan : PlanData) (h : ℕ) (ctrl : Control) (controls : List Control) (handler : HandlerData) → IsPlan plan → h < length plan.handlers → length plan.controls < MAX_CONTROLS
-    → controls ≡ plan.controls ++ ctrl ∷ [] → handler ≡ owning (handler_at plan h) (length plan.controls)
+    → is_some (first_with_id plan.controls (own plan h) ctrl.id) ≡ false → controls ≡ plan.controls ++ ctrl ∷ [] → handler ≡ owning (handler_at plan h) (length plan.controls)
     → IsPlan (record plan { controls = controls; handlers = slice_set plan.handlers h handler })
-is_plan_control_as plan h ctrl controls handler is within room more owns = rw (more, owns) (is_plan_control plan h ctrl is within room)
+is_plan_control_as plan h ctrl controls handler is within room new more owns = rw (more, owns) (is_plan_control plan h ctrl is within room new)
 
 -- a handler that keeps its own controls and adds only handlers with smaller numbers
 pub is_plan_handler : (plan : PlanData) (h : ℕ) (handler : HandlerData) → IsPlan plan → h < length plan.handlers → handler.own ≡ own plan h → All (λ a. a < h) handler.added
@@ -91,6 +107,7 @@ is_plan_handler plan h handler is within same before = record {
   few_members = is.few_members;
   members_differ = is.members_differ;
   own_known = λ g. owns g (set_handler plan.handlers h g handler within);
+  own_differ = λ g. differ g (set_handler plan.handlers h g handler within);
   added_before = λ g. adds g (set_handler plan.handlers h g handler within);
 }
   where
@@ -101,6 +118,14 @@ is_plan_handler plan h handler is within same before = record {
         subst (λ (x : HandlerData). All (λ c. c < length plan.controls) x.own) (sym there.1)
         (subst (λ (cs : List ℕ). All (λ c. c < length plan.controls) cs) (sym same) (is.own_known h))
     owns g (inr other) = subst (λ (x : HandlerData). All (λ c. c < length plan.controls) x.own) (sym other.1) (is.own_known g)
+
+    differ : (g : ℕ)
+        → ((g ≡ h) × (get_or (slice_set plan.handlers h handler) g no_handler ≡ handler)) ⊎ ((g ≢ h) × (get_or (slice_set plan.handlers h handler) g no_handler ≡ get_or plan.handlers g no_handler))
+        → names_twice (ids_of plan.controls (get_or (slice_set plan.handlers h handler) g no_handler).own) ≡ false
+    differ g (inl there) =
+        subst (λ (x : HandlerData). names_twice (ids_of plan.controls x.own) ≡ false) (sym there.1)
+        (subst (λ (cs : List ℕ). names_twice (ids_of plan.controls cs) ≡ false) (sym same) (is.own_differ h))
+    differ g (inr other) = subst (λ (x : HandlerData). names_twice (ids_of plan.controls x.own) ≡ false) (sym other.1) (is.own_differ g)
 
     adds : (g : ℕ)
         → ((g ≡ h) × (get_or (slice_set plan.handlers h handler) g no_handler ≡ handler)) ⊎ ((g ≢ h) × (get_or (slice_set plan.handlers h handler) g no_handler ≡ get_or plan.handlers g no_handler))

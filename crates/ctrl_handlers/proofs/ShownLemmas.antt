@@ -1,13 +1,16 @@
 -- What a handler shows.
-use Rattle.std.proofs.Common.{◌≡◌, ℕ, zero, suc, ◌<◌, ◌≤◌, ◌+◌, Bool, true, false, cond, List, [], ◌∷◌, ◌++◌, length, get_or, refl, ap, ◌∙◌, arith, inl, inr, ◌⊎◌}
-use Rattle.std.specs.List.{All, fold}
+use Rattle.std.proofs.Common.{◌≡◌, ℕ, zero, suc, ◌<◌, ◌≤◌, ◌+◌, Bool, true, false, cond, nat_eq, Some, is_some, List, [], ◌∷◌, ◌++◌, length, get_or, refl, ap, ◌∙◌, arith, inl, inr, ◌⊎◌}
+use Rattle.std.specs.List.{All, fold, list_any}
 use Rattle.std.proofs.lemmas.Bool.{cases_lt}
 use Rattle.std.proofs.lemmas.List.{get_or_append_left, get_or_at, get_or_past, length_push}
 use Rattle.std.proofs.lemmas.List.Elements.{All-push, All-nil, All-head, All-tail, All-get_or}
+use Rattle.ctrl_types.specs.declared.ids.CtrlId.{CtrlId}
 use Rattle.ctrl_settle.specs.Control.{Control}
 use Rattle.ctrl_handlers.specs.HandlerData.{HandlerData}
-use Rattle.ctrl_handlers.specs.Plan.{PlanData, IsPlan, own, added, no_handler}
-use Rattle.ctrl_handlers.specs.Visible.{is_left_out, brought, all_brought, shown_over, shown_below, visible}
+use Rattle.ctrl_handlers.specs.Plan.{PlanData, IsPlan, control, control_in, own, added, no_handler, ids_of, names_twice}
+use Rattle.ctrl_handlers.specs.Visible.{first_with_id, is_left_out, brought, all_brought, shown_over, shown_below, visible, find}
+use Rattle.ctrl_handlers.proofs.ClusterLemmas.{or_false_right}
+use Rattle.ctrl_handlers.proofs.IdLemmas.{ids_push, only_with_id}
 
 -- the number of a control that is there
 abbrev pub Known : List Control → ℕ → Type 0
@@ -108,3 +111,30 @@ pub visible_is : (plan : PlanData) (h : ℕ) → IsPlan plan → visible plan h 
 visible_is plan h is =
     fold_same (λ shown a. all_brought plan.controls shown (get_or (shown_below plan h) a [])) (λ shown a. all_brought plan.controls shown (visible plan a)) (λ a. a < h)
     (λ shown a before. ap (all_brought plan.controls shown) (shown_at plan h a before)) (own plan h) (added plan h) (is.added_before h)
+
+-- one more control that isn't left out has an id that isn't shown yet
+brought_differ : (controls : List Control) (shown : List ℕ) (c : ℕ) → names_twice (ids_of controls shown) ≡ false → names_twice (ids_of controls (brought controls shown c)) ≡ false
+brought_differ controls shown c differ = by (is_left_out controls shown c) refl
+  where
+    by : (b : Bool) → is_left_out controls shown c ≡ b → names_twice (ids_of controls (cond b shown (shown ++ c ∷ []))) ≡ false
+    by true e = differ
+    by false e = ids_push controls shown c differ (or_false_right (control_in controls c).is_private (is_some (first_with_id controls shown (control_in controls c).id)) e)
+
+all_brought_differ : (controls : List Control) (shown numbers : List ℕ) → names_twice (ids_of controls shown) ≡ false → names_twice (ids_of controls (all_brought controls shown numbers)) ≡ false
+all_brought_differ controls shown [] differ = differ
+all_brought_differ controls shown (c ∷ cs) differ = all_brought_differ controls (brought controls shown c) cs (brought_differ controls shown c differ)
+
+added_differ : (controls : List Control) (below : List (List ℕ)) (shown numbers : List ℕ) → names_twice (ids_of controls shown) ≡ false
+    → names_twice (ids_of controls (fold (λ so_far a. all_brought controls so_far (get_or below a [])) shown numbers)) ≡ false
+added_differ controls below shown [] differ = differ
+added_differ controls below shown (a ∷ more) differ =
+    added_differ controls below (all_brought controls shown (get_or below a [])) more (all_brought_differ controls shown (get_or below a []) differ)
+
+-- the ids of what a handler shows differ
+pub visible_differ : (plan : PlanData) (h : ℕ) → IsPlan plan → names_twice (ids_of plan.controls (visible plan h)) ≡ false
+visible_differ plan h is = added_differ plan.controls (shown_below plan h) (own plan h) (added plan h) (is.own_differ h)
+
+-- so what is found is the only one of its id
+pub found_only : (plan : PlanData) (h c d : ℕ) (id : CtrlId) → IsPlan plan → find plan h id ≡ Some c → list_any (nat_eq d) (visible plan h) ≡ true → (control plan d).id ≡ id → d ≡ c
+found_only plan h c d id is found among has =
+    only_with_id plan.controls (visible plan h) id c d (visible_differ plan h is) found among (ap (λ (i : CtrlId). i.0) has)

@@ -116,8 +116,13 @@ abbrev pub names_twice : List ℕ → Bool
 names_twice [] = false
 names_twice (c ∷ cs) = list_any (nat_eq c) cs || names_twice cs
 
+-- the ids of some controls
+abbrev pub ids_of : List Control → List ℕ → List ℕ
+ids_of controls numbers = map (λ c. (control_in controls c).id.0) numbers
+
 -- What holds of every plan: the limits, that a cluster has members, not too many, that they are there and differ, that a control is
--- in one cluster at most, that each handler's own controls are there, and that it adds only handlers with smaller numbers.
+-- in one cluster at most, that each handler's own controls are there and their ids differ, and that it adds only handlers with
+-- smaller numbers.
 pub record IsPlan (plan : PlanData) : Type 0 where
   pub few_controls : length plan.controls ≤ MAX_CONTROLS
   pub few_handlers : length plan.handlers ≤ MAX_HANDLERS
@@ -127,6 +132,7 @@ pub record IsPlan (plan : PlanData) : Type 0 where
   pub members_differ : (k : ℕ) → names_twice (members plan k) ≡ false
   pub members_apart : (k c : ℕ) → k < length plan.clusters → list_any (nat_eq c) (members plan k) ≡ true → cluster_of plan c ≡ Some k
   pub own_known : (h : ℕ) → All (λ c. c < length plan.controls) (own plan h)
+  pub own_differ : (h : ℕ) → names_twice (ids_of plan.controls (own plan h)) ≡ false
   pub added_before : (h : ℕ) → All (λ a. a < h) (added plan h)
 
 -- What holds of a plan that is finished, besides: each control is in a cluster.

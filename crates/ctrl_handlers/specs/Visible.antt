@@ -1,11 +1,11 @@
 -- The controls that a handler shows, and how they are found (Linux driver API, "V4L2 Controls", "Inheriting Controls" and
 -- "Preventing Controls inheritance").
-use Rattle.std.specs.Prelude.{ℕ, zero, suc, min, Bool, ◌==◌, ◌||◌, if◌then◌else◌, nat_lt, List, [], ◌∷◌, ◌++◌, map, Option, is_some, slice_index_or}
+use Rattle.std.specs.Prelude.{ℕ, zero, suc, min, Bool, ◌==◌, ◌||◌, if◌then◌else◌, nat_lt, List, [], ◌∷◌, ◌++◌, Option, is_some, slice_index_or}
 use Rattle.std.specs.List.{find as first_that, fold, filter, reduce}
 use Rattle.std.specs.Option.{option_map}
 use Rattle.ctrl_types.specs.declared.ids.CtrlId.{CtrlId}
 use Rattle.ctrl_settle.specs.Control.{Control}
-use Rattle.ctrl_handlers.specs.Plan.{PlanData, control_in, own, added}
+use Rattle.ctrl_handlers.specs.Plan.{PlanData, control_in, ids_of, own, added}
 
 -- the first of some controls that has an id
 abbrev pub first_with_id : List Control → List ℕ → CtrlId → Option ℕ
@@ -40,10 +40,6 @@ visible plan h = shown_over plan (shown_below plan h) h
 -- the control that a handler shows under an id
 abbrev pub find : PlanData → ℕ → CtrlId → Option ℕ
 find plan h id = first_with_id plan.controls (visible plan h) id
-
--- the ids of some controls
-abbrev pub ids_of : List Control → List ℕ → List ℕ
-ids_of controls numbers = map (λ c. (control_in controls c).id.0) numbers
 
 -- the least of some numbers that is greater than another
 abbrev pub least_above : ℕ → List ℕ → Option ℕ

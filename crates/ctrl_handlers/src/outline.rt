@@ -68,6 +68,7 @@ impl Outline {
     pub(crate) fn add_control(&mut self, handler: u32, ctrl: Ctrl) -> Result<u32, AllocError>
         requires known { handler < length self.old.handlers }
         requires room { length self.old.controls < MAX_CONTROLS }
+        requires differs { is_some (first_with_id self.old.controls (own self.old handler) ctrl.id) ≡ false }
         ensures ok { IfOk result (λ n. (n ≡ length self.old.controls) × (self.new ≡ with_control self.old handler ctrl)) }
         ensures err { OnErr result (self.new ≡ self.old) }
     {

@@ -2,7 +2,8 @@
 
 ghost use Rattle.std.specs.Prelude.{◌≡◌, ◌<◌, ℕ, length, OnOk, IfSome, [], slice_index_or};
 ghost use Rattle.std.specs.List.{All, fold};
-ghost use Rattle.ctrl_handlers.specs.Visible.{first_with_id, is_left_out, brought, all_brought, ids_of, least_above};
+ghost use Rattle.ctrl_handlers.specs.Plan.{ids_of};
+ghost use Rattle.ctrl_handlers.specs.Visible.{first_with_id, is_left_out, brought, all_brought, least_above};
 
 use crate::numbers::NumberList;
 use ctrl_settle::Ctrl;

@@ -1,5 +1,6 @@
 use Rattle.std.proofs.Common.{◌≡◌, drop}
-use Rattle.ctrl_handlers.specs.Visible.{ids_of, least_above}
+use Rattle.ctrl_handlers.specs.Plan.{ids_of}
+use Rattle.ctrl_handlers.specs.Visible.{least_above}
 use Rattle.ctrl_handlers.proofs.LeastLemmas.{least_from}
 use Rattle.ctrl_handlers.proofs.showing.least_above.Given as goal
 
