@@ -353,14 +353,31 @@ fn masters_keep_their_flags(rt: HostRuntime) {
 #[test]
 fn refused_memory(rt: HostRuntime) {
     let mut builder = PlanBuilder::<Silent>::new(rt.alloc());
-    if builder.handler() == Err(PlanFault::Memory) {
-        assert_eq!(rt; builder.handler(), Ok(0));
+    for handler in 0..2 {
+        if builder.handler() == Err(PlanFault::Memory) {
+            assert_eq!(rt; builder.handler(), Ok(handler));
+        }
     }
     for id in 0..6 {
         let ctrl = number(&rt, id, false);
         if builder.control(0, ctrl) == Err(PlanFault::Memory) {
             assert_eq!(rt; builder.control(0, ctrl), Ok(id));
         }
+    }
+    for &(id, kind) in &[(6, Kind::Menu), (7, Kind::IntegerMenu)] {
+        let ctrl = menu(&rt, id, kind);
+        if builder.control(1, ctrl) == Err(PlanFault::Memory) {
+            assert_eq!(rt; builder.control(1, ctrl), Ok(id));
+        }
+    }
+    if builder.add_handler(1, 0) == Err(PlanFault::Memory) {
+        assert_eq!(rt; builder.add_handler(1, 0), Ok(()));
+    }
+    if builder.menu_name(6, 1, "50 Hz") == Err(PlanFault::Memory) {
+        assert_eq!(rt; builder.menu_name(6, 1, "50 Hz"), Ok(()));
+    }
+    if builder.menu_number(7, 1, -7) == Err(PlanFault::Memory) {
+        assert_eq!(rt; builder.menu_number(7, 1, -7), Ok(()));
     }
     if named(&rt, &mut builder, &[5, 4]) == Err(PlanFault::Memory) {
         assert_eq!(rt; named(&rt, &mut builder, &[5, 4]), Ok(0));
@@ -379,8 +396,13 @@ fn refused_memory(rt: HostRuntime) {
     has_members(&rt, &plan, 1, &[2, 3], Some(1));
     has_members(&rt, &plan, 2, &[0], None);
     has_members(&rt, &plan, 3, &[1], None);
-    assert_eq!(rt; plan.cluster_count(), 4);
+    has_members(&rt, &plan, 4, &[6], None);
+    has_members(&rt, &plan, 5, &[7], None);
+    assert_eq!(rt; plan.cluster_count(), 6);
     assert_eq!(rt; plan.shown(0), [0, 1, 2, 3, 4, 5].as_slice());
+    assert_eq!(rt; plan.shown(1), [6, 7, 0, 1, 2, 3, 4, 5].as_slice());
+    assert_eq!(rt; name_of(&plan, 6, 1), Some("50 Hz"));
+    assert!(rt; matches!(plan.menu_item(7, 1), Ok(MenuItem::Number(-7))));
 }
 
 // Handler 3 adds 1 and 2, and each of them adds 0. Id 40 is declared in 1 and in 2. Id 60 is declared in 0, and 1 and 2 have
