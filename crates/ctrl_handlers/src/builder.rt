@@ -74,9 +74,14 @@ impl<D: Driver> PlanBuilder<D> {
         }
     }
 
-    /// Adds a control to a handler's own and answers its number, from 0. `UnknownNumber` (5) where there is no such handler;
-    /// `Limit` (6) where there are 256 controls; `DuplicateId` (1) where the handler has a control of this id; `Memory` (7)
-    /// where a growth was refused. A refusal leaves the plan as it was.
+    /// Adds a control to a handler's own, the last, and answers its number, from 0 in the order of these calls.
+    ///
+    /// - `handler`: the number of a handler, 0 to 15.
+    /// - `ctrl`: the control, of an id that the handler's own don't have yet.
+    ///
+    /// Refused, in this order: `UnknownNumber` (5) where there is no such handler; `Limit` (6) where there are 256 controls;
+    /// `DuplicateId` (1) where the handler has a control of this id; `Memory` (7) where a growth was refused. A refusal leaves
+    /// the plan as it was.
     pub fn control(&mut self, handler: u32, ctrl: Ctrl) -> Result<u32, PlanFault>
         ensures ok { IfOk result (λ n. (control_refusal self.old handler ctrl ≡ None) × (n ≡ length self.old.controls) × (self.new ≡ with_control self.old handler ctrl)) }
         ensures err { IfErr result (λ fault. IsRefusedBy (control_refusal self.old handler ctrl) fault × (self.new ≡ self.old)) }
@@ -120,8 +125,14 @@ impl<D: Driver> PlanBuilder<D> {
     }
 
     /// Names the item of a `Menu` at an index; a second name takes the place of the first (Linux driver API, "V4L2 Controls",
-    /// "Menu Controls"). `UnknownNumber` (5) where there is no such control, it isn't a `Menu`, or the index lies outside its
-    /// range or is skipped; `Limit` (6) where the name has more than 32 bytes; `Memory` (7) where a growth was refused. A
+    /// "Menu Controls").
+    ///
+    /// - `control`: the number of a control, 0 to 255.
+    /// - `index`: the place of an item, from the control's minimum to its maximum, and not skipped.
+    /// - `name`: 0 to 32 bytes; it is copied.
+    ///
+    /// Refused, in this order: `UnknownNumber` (5) where there is no such control, it isn't a `Menu`, or the index lies outside
+    /// its range or is skipped; `Limit` (6) where the name has more than 32 bytes; `Memory` (7) where a growth was refused. A
     /// refusal leaves the plan as it was.
     pub fn menu_name(&mut self, control: u32, index: u32, name: &str) -> Result<(), PlanFault>
         ensures ok { IfOk result (λ _. (name_refusal self.old control index name.now ≡ None) × (self.new ≡ with_item self.old control index (items.Name name.now))) }
@@ -144,9 +155,13 @@ impl<D: Driver> PlanBuilder<D> {
     }
 
     /// Gives an `IntegerMenu` the number that stands at an index; a second number takes the place of the first (Linux driver
-    /// API, "V4L2 Controls", "Menu Controls"). `UnknownNumber` (5) where there is no such control, it isn't an `IntegerMenu`,
-    /// or the index lies outside its range or is skipped; `Memory` (7) where a growth was refused. A refusal leaves the plan
-    /// as it was.
+    /// API, "V4L2 Controls", "Menu Controls").
+    ///
+    /// - `control`, `index`: as of `menu_name`.
+    /// - `number`: any number.
+    ///
+    /// Refused, in this order: `UnknownNumber` (5) where there is no such control, it isn't an `IntegerMenu`, or the index lies
+    /// outside its range or is skipped; `Memory` (7) where a growth was refused. A refusal leaves the plan as it was.
     pub fn menu_number(&mut self, control: u32, index: u32, number: i64) -> Result<(), PlanFault>
         ensures ok { IfOk result (λ _. (number_refusal self.old control index ≡ None) × (self.new ≡ with_item self.old control index (items.Number number))) }
         ensures err { IfErr result (λ fault. IsRefusedBy (number_refusal self.old control index) fault × (self.new ≡ self.old)) }
@@ -171,13 +186,15 @@ impl<D: Driver> PlanBuilder<D> {
         Ok(())
     }
 
-    /// Makes a cluster of the controls with these numbers, the first of which is its master, with the closures of a driver, and
-    /// answers its number, from 0 in the order of the cluster calls (Linux driver API, "V4L2 Controls", "Control Clusters"). A
-    /// control that no call names is a cluster of its own without closures, once the plan is finished.
+    /// Makes a cluster, and answers its number, from 0 in the order of the cluster calls (Linux driver API, "V4L2 Controls",
+    /// "Control Clusters"). A control that no call names is a cluster of its own without closures, once the plan is finished.
     ///
-    /// `ClusterSize` (3) where `members` is empty or has more than 8; `UnknownNumber` (5) where one isn't there; `InCluster` (2)
-    /// where one is in a cluster already or is named twice; `Memory` (7) where a growth was refused. A refusal hands the closures
-    /// back and leaves the plan as it was.
+    /// - `members`: the numbers of 1 to 8 controls, each 0 to 255; the first is the master.
+    /// - `calls`: the driver's closures for the cluster, each where it has one.
+    ///
+    /// Refused, in this order: `ClusterSize` (3) where `members` is empty or has more than 8; `UnknownNumber` (5) where one isn't
+    /// there; `InCluster` (2) where one is in a cluster already or is named twice; `Memory` (7) where a growth was refused. A
+    /// refusal hands the closures back and leaves the plan as it was.
     pub fn cluster(
         &mut self,
         members: &[u32],
@@ -190,9 +207,12 @@ impl<D: Driver> PlanBuilder<D> {
     }
 
     /// Makes an auto cluster: as `cluster`, and while the value of its master isn't `manual`, its other members are INACTIVE; the
-    /// master has UPDATE (Linux driver API, "V4L2 Controls", "Handling autogain/gain-type Controls with Auto Clusters"). `manual`
-    /// is any value, also one that the master can't take; then the others are always INACTIVE (of this project). It is refused
-    /// as `cluster` is.
+    /// master has UPDATE (Linux driver API, "V4L2 Controls", "Handling autogain/gain-type Controls with Auto Clusters").
+    ///
+    /// - `members`, `calls`: as of `cluster`.
+    /// - `manual`: any value, also one that the master can't take; then the others are always INACTIVE (of this project).
+    ///
+    /// Refused as by `cluster`: the closures are handed back and the plan is as it was.
     pub fn auto_cluster(
         &mut self,
         members: &[u32],

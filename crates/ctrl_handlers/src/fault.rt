@@ -8,11 +8,11 @@ pub enum PlanFault {
     /// 1: the handler has a control of this id.
     #[error("the handler has a control of this id")]
     DuplicateId,
-    /// 2: the control is in a cluster already.
-    #[error("the control is in a cluster already")]
+    /// 2: the control is in a cluster already, or named twice.
+    #[error("the control is in a cluster already, or named twice")]
     InCluster,
-    /// 3: a cluster can't have so many members.
-    #[error("a cluster can't have so many members")]
+    /// 3: a cluster has 1 to 8 members, and these are none or more than 8.
+    #[error("a cluster has 1 to 8 members")]
     ClusterSize,
     /// 4: a handler adds only handlers with smaller numbers.
     #[error("a handler adds only handlers with smaller numbers")]

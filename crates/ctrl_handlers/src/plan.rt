@@ -71,7 +71,12 @@ impl<D: Driver> Plan<D> {
     }
 
     /// The control that a handler shows under an id, by its number (Linux driver API, `v4l2_ctrl_find`). DISABLED controls are
-    /// found too. EINVAL (22) where it shows none, and where there is no such handler.
+    /// found too. No other control that it shows has this id (`laws::shown_ids_differ`).
+    ///
+    /// - `handler`: the number of a handler, 0 to 15.
+    /// - `id`: any id.
+    ///
+    /// Refused with EINVAL (22) where the handler shows none of this id, and where there is no such handler.
     pub fn find(&self, handler: u32, id: CtrlId) -> Result<u32, Errno>
         ensures found { MatchResult result (λ c. find_in self.now handler id ≡ Some c) (λ e. (find_in self.now handler id ≡ None) × (e ≡ EINVAL)) }
         ensures known { MatchResult result (λ c. c < length self.now.controls) (λ _. Unit {0}) }
@@ -83,8 +88,12 @@ impl<D: Driver> Plan<D> {
     }
 
     /// The least id that a handler shows and that is greater than `id` (Linux userspace API, "ioctls VIDIOC_QUERYCTRL,
-    /// VIDIOC_QUERY_EXT_CTRL and VIDIOC_QUERYMENU", `V4L2_CTRL_FLAG_NEXT_CTRL`). DISABLED controls count too. EINVAL (22) where
-    /// there is none, and where there is no such handler.
+    /// VIDIOC_QUERY_EXT_CTRL and VIDIOC_QUERYMENU", `V4L2_CTRL_FLAG_NEXT_CTRL`). DISABLED controls count too.
+    ///
+    /// - `handler`: the number of a handler, 0 to 15.
+    /// - `id`: any id, shown or not.
+    ///
+    /// Refused with EINVAL (22) where the handler shows no greater id, and where there is no such handler.
     pub fn next_id(&self, handler: u32, id: CtrlId) -> Result<CtrlId, Errno>
         ensures { MatchResult result (λ next. next_id self.now handler id ≡ Some next) (λ e. (next_id self.now handler id ≡ None) × (e ≡ EINVAL)) }
     {
@@ -94,8 +103,13 @@ impl<D: Driver> Plan<D> {
         }
     }
 
-    /// The item of a menu at an index (Linux userspace API, `VIDIOC_QUERYMENU`). EINVAL (22) where no item was given there: the
-    /// control isn't there or isn't a menu, the index lies outside its range or is skipped, or nobody named it.
+    /// The item of a menu at an index (Linux userspace API, `VIDIOC_QUERYMENU`): a name of 0 to 32 bytes, or a number.
+    ///
+    /// - `control`: the number of a control, 0 to 255.
+    /// - `index`: the place of an item.
+    ///
+    /// Refused with EINVAL (22) where no item was given there: the control isn't there or isn't a menu, the index lies outside its
+    /// range or is skipped, or nobody named it.
     pub fn menu_item(&self, control: u32, index: u32) -> Result<&MenuItem, Errno>
         ensures { MatchResult result (λ item. menu_item self.now control index ≡ Some item.now) (λ e. (menu_item self.now control index ≡ None) × (e ≡ EINVAL)) }
     {
