@@ -373,11 +373,12 @@ fn refused_memory(rt: HostRuntime) {
     if builder.add_handler(1, 0) == Err(PlanFault::Memory) {
         assert_eq!(rt; builder.add_handler(1, 0), Ok(()));
     }
-    if builder.menu_name(6, 1, "50 Hz") == Err(PlanFault::Memory) {
-        assert_eq!(rt; builder.menu_name(6, 1, "50 Hz"), Ok(()));
-    }
+    // the first item makes room for others, and a name needs memory of its own
     if builder.menu_number(7, 1, -7) == Err(PlanFault::Memory) {
         assert_eq!(rt; builder.menu_number(7, 1, -7), Ok(()));
+    }
+    if builder.menu_name(6, 1, "50 Hz") == Err(PlanFault::Memory) {
+        assert_eq!(rt; builder.menu_name(6, 1, "50 Hz"), Ok(()));
     }
     if named(&rt, &mut builder, &[5, 4]) == Err(PlanFault::Memory) {
         assert_eq!(rt; named(&rt, &mut builder, &[5, 4]), Ok(0));
