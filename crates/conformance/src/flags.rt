@@ -61,13 +61,36 @@ fn device(alloc: Global) -> Result<Device<Plain>, Fail> {
     }
 }
 
-// A device with a file handle on each handler, which have the ids 0 and 1.
-fn opened<R: AllocGlobal + Abort>(rt: &R) -> Result<Device<Plain>, Fail> {
-    let mut device = device(rt.alloc())?;
+// Handler 0 has one control, which is private and the one of its class; handler 1 adds handler 0.
+fn private_device(alloc: Global) -> Result<Device<Plain>, Fail> {
+    let mut builder = PlanBuilder::new(alloc);
+    let handler = builder.handler()?;
+    let other = builder.handler()?;
+    let flags = Flags::empty();
+    let ctrl = Ctrl::new(CtrlId(LONE), Kind::Integer, -10, 10, 5, 5, 0, flags, true)?;
+    builder.control(handler, ctrl)?;
+    builder.add_handler(other, handler)?;
+    let Ok(plan) = builder.finish() else {
+        return Err(Fail::new("no plan"));
+    };
+    match Device::new(alloc, plan) {
+        Ok(device) => Ok(device),
+        Err((_, errno)) => Err(Fail::from(errno)),
+    }
+}
+
+// Opens a file handle on each handler; they have the ids 0 and 1.
+fn open_both(rt: &impl Abort, device: &mut Device<Plain>) {
     for handler in [0, 1] {
         let answer = device.handle(0, &Ask::OpenFh { handler });
         assert!(rt; matches!(answer, Ok(Reply::Fh(FhId(fh))) if fh == handler));
     }
+}
+
+// A device with a file handle on each handler, which have the ids 0 and 1.
+fn opened<R: AllocGlobal + Abort>(rt: &R) -> Result<Device<Plain>, Fail> {
+    let mut device = device(rt.alloc())?;
+    open_both(rt, &mut device);
     Ok(device)
 }
 
@@ -190,6 +213,24 @@ fn a_class_with_a_disabled_control(rt: HostRuntime) -> Result<(), Fail> {
             expect_answer(&rt, &mut device, form, (FhId(1), which, None), &[], none)?;
         }
         expect_answer(&rt, &mut device, form, (FhId(1), 0, None), &[], Ok(&[]))?;
+    }
+    Ok(())
+}
+
+// A class is shown where a control of it is, though it be the handler's own private one; a handler that adds this one doesn't show it.
+#[test]
+fn a_class_with_a_private_control(rt: HostRuntime) -> Result<(), Fail> {
+    let mut device = private_device(rt.alloc())?;
+    open_both(&rt, &mut device);
+    for form in FORMS {
+        let refusal = refused(Errno::EINVAL, index_of(form, 0, 1));
+        let none = refused(Errno::EINVAL, 0);
+        expect_list(&rt, &mut device, form, CAMERA, &[], Ok(&[]))?;
+        expect_list(&rt, &mut device, form, CAMERA, &[(LONE, 5)], Ok(&[5]))?;
+        expect_list(&rt, &mut device, form, USER, &[], none)?;
+        let field = (FhId(1), CAMERA, None);
+        expect_answer(&rt, &mut device, form, field, &[], none)?;
+        expect_answer(&rt, &mut device, form, field, &[(LONE, 5)], refusal)?;
     }
     Ok(())
 }
