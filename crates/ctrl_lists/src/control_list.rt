@@ -3,7 +3,8 @@ ghost use Rattle.std.specs.Prelude.{◌≡◌, ◌==◌, ◌<◌, ◌^◌, lengt
 use ctrl_types::ExtControl;
 use std::marker::Model;
 
-/// A list of controls with values, as callers hand in and are answered. Contracts see it as a list.
+/// A list of controls with values, as callers hand in and are answered (Linux userspace API, "struct v4l2_ext_controls"). Contracts
+/// see it as a list.
 #[derive(Debug, Drop)]
 pub struct ControlList {
     items: Vec<ExtControl>,

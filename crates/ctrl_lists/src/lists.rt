@@ -21,7 +21,8 @@ use std::alloc::{AllocError, Global};
 
 /// Reads controls (Linux userspace API, "ioctl VIDIOC_G_EXT_CTRLS, VIDIOC_S_EXT_CTRLS, VIDIOC_TRY_EXT_CTRLS"; the order of the
 /// refusals, the index, and that a default of a WRITE_ONLY control isn't told are of this project). It answers one entry for each of the
-/// list, in its order: its control with the default where `view` speaks of the defaults, and else with its value in `view`.
+/// list, in its order: its control with the default where `view` speaks of the defaults, and else with its value in `view`. Nothing is
+/// changed.
 ///
 /// - `alloc`: where the answer lies.
 /// - `plan`: what the device is built of.

@@ -4,7 +4,8 @@ ghost use Rattle.ctrl_lists.specs.Answers.{fault_at_count, fault_at_entry};
 
 use ctrl_types::{Errno, Fault};
 
-/// What refuses a list of controls. The definitions of the answers speak of it; calls answer a `Fault`.
+/// What refuses a list of controls (Linux userspace API, "struct v4l2_ext_controls", `error_idx`). The definitions of the answers speak
+/// of it; calls answer a `Fault`.
 #[derive(Clone, Copy, Debug, PartialEq, Eq)]
 pub struct Refusal {
     /// The errno.

@@ -7,7 +7,7 @@ use ctrl_types::{ExtControl, Pair};
 use std::alloc::Global;
 use std::marker::Model;
 
-/// The row that a cluster gets.
+/// The row that a cluster gets (Linux driver API, "V4L2 Controls", "Control Clusters").
 #[derive(Clone, Copy, Debug, PartialEq, Eq)]
 pub struct TouchedRow {
     /// The cluster's number.
@@ -16,7 +16,8 @@ pub struct TouchedRow {
     pub row: ClusterRow,
 }
 
-/// What a list that writes makes of the clusters that it touches. Contracts see it as these three parts.
+/// What a list that writes makes of the clusters that it touches (Linux driver API, "V4L2 Controls", "Control Clusters"). Contracts
+/// see it as these three parts.
 #[derive(Drop)]
 pub struct Touched {
     pub(crate) rows: Vec<TouchedRow>,
@@ -65,7 +66,9 @@ impl Touched {
         self.pairs.as_slice()
     }
 
-    /// The row that a cluster gets, where the list touches it.
+    /// The row that a cluster gets; none where the list doesn't touch it.
+    ///
+    /// - `cluster`: the cluster's number, any `u32`; one that isn't there isn't touched.
     pub fn row_of(&self, cluster: u32) -> Option<ClusterRow>
         ensures { result ≡ row_among self.now.rows cluster }
     {

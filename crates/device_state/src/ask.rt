@@ -7,12 +7,12 @@ use ctrl_types::{CtrlId, FhId, RequestId};
 /// What a caller asks of a device.
 #[derive(Debug, Drop)]
 pub enum Ask {
-    /// Opens a file handle on a handler.
+    /// Opens a file handle on a handler (of this project).
     OpenFh {
         /// The handler's number.
         handler: u32,
     },
-    /// Closes a file handle.
+    /// Closes a file handle (of this project).
     CloseFh {
         /// The file handle.
         fh: FhId,
@@ -80,7 +80,7 @@ pub enum Ask {
         /// The item's index.
         index: u32,
     },
-    /// Reads the word that a cluster was told last.
+    /// Reads the word that a cluster was told last (of this project).
     Told {
         /// The cluster's number.
         cluster: u32,
@@ -109,12 +109,12 @@ pub enum Reply {
 /// What an accepted ask adds to the history.
 #[derive(Debug, Drop)]
 pub enum Step {
-    /// A file handle was opened; its id is the number of this step.
+    /// A file handle was opened; its id is the number of this step (of this project).
     OpenFh {
         /// The handler's number.
         handler: u32,
     },
-    /// A file handle was closed.
+    /// A file handle was closed (of this project).
     CloseFh {
         /// The file handle.
         fh: FhId,

@@ -76,8 +76,13 @@ impl<D: Driver> Drop for Device<D> {
 }
 
 impl<D: Driver> Device<D> {
-    /// A device of this plan, with its defaults, without steps and grabs. Each notifier is told the defaults of its cluster, in
-    /// rising number of the clusters (of this project). ENOMEM (12) where a growth was refused, with the plan; then nobody was told.
+    /// A device of this plan, with its defaults, without steps and grabs; the counts of `work` are 0. Each notifier is told the
+    /// defaults of its cluster, in rising number of the clusters (of this project).
+    ///
+    /// - `alloc`: where the device lies, and later its steps and answers.
+    /// - `plan`: what the device is built of.
+    ///
+    /// Refused with ENOMEM (12) where a growth was refused. The plan is handed back as it was then, and nobody was told.
     pub fn new(alloc: Global, plan: Plan<D>) -> Result<Device<D>, (Plan<D>, Errno)>
         ensures ok { IfOk result (λ d. (d.plan ≡ plan) × (d.steps ≡ []) × AreTold D.told plan (defaults plan) d.words × (d.work ≡ record { asked = 0; told = 0 })) }
         ensures err { IfErr result (λ e. (e.0 ≡ plan) × (e.1 ≡ ENOMEM)) }
@@ -128,18 +133,22 @@ impl<D: Driver> Device<D> {
         self.work
     }
 
-    /// Answers an ask of the seat with this number, which is any `u32`. An accepted ask adds its step to the history, if it
-    /// has one; a refusal leaves the device as it was, but for the counts of `work`. Each cluster with a changed member is told
-    /// its new row once, and its word is kept; the word of every other stays.
+    /// Answers an ask. An accepted ask adds its step to the history, if it has one. Each cluster with a changed member is told
+    /// its new row once, and its word is kept; the word of every other stays. A refusal leaves the device as it was, but for the
+    /// counts of `work`.
     ///
-    /// `OpenFh` is refused, without an index, with EINVAL (22) where there is no such handler, with ENOSPC (28) where 64 file
-    /// handles are open or 1,000,000 steps are kept, and with ENOMEM (12) where a growth was refused. `CloseFh` is refused,
-    /// without an index, with EBADF (9) where `fh` isn't open, with ENOSPC where 1,000,000 steps are kept, and with ENOMEM
-    /// where a growth was refused; a file handle that was closed isn't opened again. `Grab` grabs a control, whatever its flags,
-    /// or lets it go (Linux driver API, `v4l2_ctrl_grab`): as long as it is grabbed it has GRABBED and a set of it is refused; it
-    /// is refused, without an index, with EINVAL where there is no such control, with ENOSPC where 1,000,000 steps are kept, and
-    /// with ENOMEM where a growth was refused; a grab that holds already is accepted, and is a step. For the refusals of lists, each with its
-    /// index, see `get`, `set` and `try_set`; for those of `Query` and `Told` see `query` and `told`.
+    /// - `seat`: the number of the seat that asks, any `u32`; the step is entered for it.
+    /// - `ask`: what is asked. It is lent, and never changed.
+    ///
+    /// `OpenFh` (of this project) is refused, without an index, with EINVAL (22) where there is no such handler, with ENOSPC (28)
+    /// where 64 file handles are open or 1,000,000 steps are kept, and with ENOMEM (12) where a growth was refused. `CloseFh` (of
+    /// this project) is refused, without an index, with EBADF (9) where `fh` isn't open, with ENOSPC where 1,000,000 steps are
+    /// kept, and with ENOMEM where a growth was refused; a file handle that was closed isn't opened again. `Grab` grabs a control,
+    /// whatever its flags, or lets it go (Linux driver API, `v4l2_ctrl_grab`): as long as it is grabbed it has GRABBED and a set of
+    /// it is refused; it is refused, without an index, with EINVAL where there is no such control, with ENOSPC where 1,000,000
+    /// steps are kept, and with ENOMEM where a growth was refused; a grab that holds already is accepted, and is a step. For the
+    /// refusals of lists, each with its index, see `get`, `set` and `try_set`; for those of `Query` and `Told` see `query` and
+    /// `told`.
     ///
     /// `NextId` tells the least id that is shown to `fh` and greater than `id`, DISABLED controls counted (Linux userspace API,
     /// "ioctls VIDIOC_QUERYCTRL, VIDIOC_QUERY_EXT_CTRL and VIDIOC_QUERYMENU"). It is refused, without an index, with EBADF
@@ -190,10 +199,15 @@ impl<D: Driver> Device<D> {
     }
 
     /// What a control is like, as `handle` on `Ask::Query` of these fields at any seat does (Linux userspace API, "ioctls
-    /// VIDIOC_QUERYCTRL, VIDIOC_QUERY_EXT_CTRL and VIDIOC_QUERYMENU"), with its present flags: those of the plan, GRABBED where
-    /// it is grabbed, and INACTIVE where its auto cluster makes it so. A control that is DISABLED is found. Refused, in this
-    /// order, without an index, with EBADF (9) where `fh` isn't open, and EINVAL (22) where the id isn't shown to it. It takes
-    /// no memory, and changes nothing but the counts of `work`.
+    /// VIDIOC_QUERYCTRL, VIDIOC_QUERY_EXT_CTRL and VIDIOC_QUERYMENU"): its id, kind, bounds, step and default, and its present
+    /// flags, which are those of the plan, GRABBED where it is grabbed, and INACTIVE where its auto cluster makes it so. A control
+    /// that is DISABLED is found. It takes no memory.
+    ///
+    /// - `fh`: the file handle; the controls that are shown to it can be queried.
+    /// - `id`: the control's id.
+    ///
+    /// Refused, in this order, without an index, with EBADF (9) where `fh` isn't open, and EINVAL (22) where the id isn't shown to
+    /// it. Answered or refused, nothing is changed but the counts of `work`.
     pub fn query(&mut self, fh: FhId, id: CtrlId) -> Result<Reply, Fault>
         ensures { (seat : ℕ) → Handles D.verdict self.old self.new seat (asks.Query fh id) result }
     {
@@ -202,8 +216,12 @@ impl<D: Driver> Device<D> {
     }
 
     /// The word that a cluster was told last, as `handle` on `Ask::Told` of it at any seat does (of this project): 0 where the
-    /// cluster has no notifier. EINVAL (22), without an index, where there is no such cluster. It takes no memory, and changes
-    /// nothing but the counts of `work`.
+    /// cluster has no notifier. It takes no memory.
+    ///
+    /// - `cluster`: the cluster's number, from 0 in the order of the plan's clusters.
+    ///
+    /// Refused, without an index, with EINVAL (22) where there is no such cluster. Answered or refused, nothing is changed but the
+    /// counts of `work`.
     pub fn told(&mut self, cluster: u32) -> Result<Reply, Fault>
         ensures { (seat : ℕ) → Handles D.verdict self.old self.new seat (asks.Told cluster) result }
     {

@@ -25,9 +25,10 @@ use std::alloc::AllocError;
 
 impl<D: Driver> Device<D> {
     /// Gets controls, as `handle` on `Ask::GetCtrls` of these fields at any seat does (Linux userspace API, "ioctl
-    /// VIDIOC_G_EXT_CTRLS, VIDIOC_S_EXT_CTRLS, VIDIOC_TRY_EXT_CTRLS"; the order of the refusals and the index are of this
-    /// project). It changes nothing but the counts of `work`. The answer has the entries of `list` with the present values of
-    /// their controls, or the defaults where `which` speaks of them.
+    /// VIDIOC_G_EXT_CTRLS, VIDIOC_S_EXT_CTRLS, VIDIOC_TRY_EXT_CTRLS"; the order of the refusals, the index, and that neither a
+    /// DISABLED control nor the default of a WRITE_ONLY one can be read are of this project). It changes nothing but the counts
+    /// of `work`. The answer has the entries of `list` with the present values of their controls, or the defaults where `which`
+    /// speaks of them.
     ///
     /// - `fh`: the file handle; the controls that are shown to it can be named.
     /// - `which`: the values, as `Which::read` reads it: the present ones, those of a class, or the defaults.
@@ -71,12 +72,12 @@ impl<D: Driver> Device<D> {
     /// defaults, or of a request, since there is none; EINVAL where there are more than 64 entries; EINVAL where there are none
     /// and `which` speaks of a class of which no control is shown; EINVAL where an entry's id isn't shown, isn't of the class,
     /// or its control is DISABLED; for the first control that can't be set EACCES (13) where it is READ_ONLY, EBUSY (16) where it
-    /// is grabbed, and the errno of `ctrl_settle::settle` where its value doesn't settle; for the first control whose cluster is
-    /// refused the errno of the first member that doesn't settle, or else the validator's where it refuses with EACCES, EBUSY,
-    /// EINVAL or ERANGE (34), and EINVAL where it refuses with another, or answers a row of another length or with a value that
-    /// settling would change or refuse; ENOSPC (28) where 1,000,000 steps are kept. ENOMEM (12) may stand in place of any answer
-    /// from the fifth on, and of success. The index is the number of entries. Nothing is changed then but the counts of `work`,
-    /// and no notifier is told.
+    /// is grabbed, and where its value doesn't settle ERANGE (34) or EINVAL; for the first control whose cluster is refused the
+    /// errno of the first member that doesn't settle, or else the validator's where it refuses with EACCES, EBUSY, EINVAL or
+    /// ERANGE, and EINVAL where it refuses with another, or answers a row of another length or with a value that settling would
+    /// change or refuse; ENOSPC (28) where 1,000,000 steps are kept. ENOMEM (12) may stand in place of any answer from the fifth
+    /// on of a list with entries, and of success. The index is the number of entries. Nothing is changed then but the counts of
+    /// `work`, and no notifier is told.
     pub fn set(
         &mut self,
         seat: u32,
