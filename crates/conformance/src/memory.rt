@@ -1,5 +1,5 @@
 //! Allocations that are refused. With ample memory each script answers as ever; where one allocation is refused (`rt try
-//! --test --fail-alloc 1..`), a refused command changes nothing and the same command again is answered as ever.
+//! --test --fail-alloc N`, one N a run), a refused command changes nothing and the same command again is answered as ever.
 
 use crate::asking::{FORMS, Form, ask_of, is_answered, list_of};
 use crate::driver::{Plain, of_balance, of_brightness, of_button, of_gain};

@@ -53,6 +53,7 @@ abbrev pub asked_by : Option Relation → ℕ → ℕ
 asked_by None count = count
 asked_by (Some relation) count = one_more count
 
+-- what a cluster makes of a row where its members settle; else the errno of settling stands
 abbrev pub judge_settled : Verdicts → PlanData → ℕ → Result (List ℤ) Errno → Result (List ℤ) Errno
 judge_settled verdicts plan k (Err errno) = Err errno
 judge_settled verdicts plan k (Ok row) = judge verdicts plan k row

@@ -117,7 +117,8 @@ write_checks verdicts plan view is_set list =
     ∷ refused_if (is_of_no_class plan view list) EINVAL
     -- the first entry that names no control: EINVAL
     ∷ at_first (naming_refusal plan view) list
-    -- the first control that is READ_ONLY: EACCES; that is to be set and is grabbed: EBUSY; whose value doesn't settle: its errno
+    -- the first control that can't be written, looked at in this order: READ_ONLY: EACCES; to be set and grabbed: EBUSY; a value that
+    -- doesn't settle: its errno
     ∷ at_first (writing_refusal plan view is_set) (pairs_of plan view.handler view.which list)
     -- the first control whose cluster is refused: the errno of the first member that doesn't settle, or else that of judging
     ∷ at_first (judging_refusal verdicts plan view (laid_pairs plan view list)) (pairs_of plan view.handler view.which list)

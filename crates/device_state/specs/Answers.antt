@@ -147,6 +147,7 @@ abbrev pub next_of : PlanData → CtrlId → Option ℕ → Answer
 next_of plan id None = refused EBADF
 next_of plan id (Some handler) = next_one (next_id plan handler id)
 
+-- the answer to an ask for the next id
 abbrev pub next_answer : PlanData → Past → FhId → CtrlId → Answer
 next_answer plan past fh id = next_of plan id (handler_of past fh)
 
@@ -234,6 +235,7 @@ abbrev pub pairs_on : PlanData → List ExtControl → ℕ → Result Which Errn
 pairs_on plan list handler (Ok which) = pairs_of plan handler which list
 pairs_on plan list handler (Err errno) = []
 
+-- the same, of the handler that a file handle is open on; none where it isn't open
 abbrev pub pairs_by : PlanData → List ExtControl → Option ℕ → Result Which Errno → List Pair
 pairs_by plan list (Some handler) which = pairs_on plan list handler which
 pairs_by plan list None which = []
