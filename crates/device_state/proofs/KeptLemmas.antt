@@ -18,7 +18,7 @@ use Rattle.device_state.specs.declared.ask.Step.{Step}
 use Rattle.device_state.specs.declared.ask.Step.TheVariants.{OpenFh, CloseFh, Set, Grab}
 use Rattle.ctrl_handlers.specs.Plan.{PlanData}
 use Rattle.ctrl_lists.specs.Touched.{TouchedData, AreJudged}
-use Rattle.device_state.specs.Steps.{History, opened}
+use Rattle.device_state.specs.Steps.{History, opened, ever_opened}
 use Rattle.device_state.specs.Grabs.{Grabs, grabbed}
 use Rattle.device_state.specs.Values.{Values, now, defaults}
 use Rattle.device_state.specs.Told.{AreTold}
@@ -33,7 +33,7 @@ use Rattle.device_state.proofs.TellLemmas.{told_after}
 
 -- a device without steps
 pub kept_start : (verdicts : Verdicts) (told : Words) (plan : PlanData) (words : List ℕ) → AreTold told plan (defaults plan) words → IsKept verdicts told plan [] [] (map (λ _. false) plan.controls) (defaults plan) words
-unfolding IsLegal opened now grabbed
+unfolding IsLegal opened ever_opened now grabbed
 kept_start verdicts told plan words are = record { legal = tt; few = omega arith; are_open = refl; are_grabbed = refl; are_present = refl; have_flags = λ c. refl; are_told = are }
 
 -- parts that are equal to kept ones are kept

@@ -6,4 +6,5 @@ pub mod TellLemmas
 pub mod KeptLemmas
 pub mod HandleLemmas
 pub mod ListLemmas
+pub mod WholeLemmas
 pub mod IndexLemmas

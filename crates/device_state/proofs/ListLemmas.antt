@@ -41,13 +41,13 @@ set_lacks verdicts plan older words fh which request list touch sets = inr ((by 
     by (Err errno) h = cc
 
 -- What a list is read against has the values and grabs, and no pairs from before; the pairs of the list are those that it reads.
-record Reads (plan : PlanData) (values : Values) (grabs : Grabs) (list : List ExtControl) (handler : Option ℕ) (which : Result Which Errno) (view : ViewData) : Type 0 where
-  same_values : view.values ≡ values
-  same_grabs : view.grabs ≡ grabs
-  none_asked : view.asked ≡ []
-  same_pairs : pairs_by plan list handler which ≡ pairs_of plan view.handler view.which list
+pub record Reads (plan : PlanData) (values : Values) (grabs : Grabs) (list : List ExtControl) (handler : Option ℕ) (which : Result Which Errno) (view : ViewData) : Type 0 where
+  pub same_values : view.values ≡ values
+  pub same_grabs : view.grabs ≡ grabs
+  pub none_asked : view.asked ≡ []
+  pub same_pairs : pairs_by plan list handler which ≡ pairs_of plan view.handler view.which list
 
-reads : (plan : PlanData) (values : Values) (grabs : Grabs) (writes : Bool) (list : List ExtControl) (handler : Option ℕ) (which : Result Which Errno) (view : ViewData)
+pub reads : (plan : PlanData) (values : Values) (grabs : Grabs) (writes : Bool) (list : List ExtControl) (handler : Option ℕ) (which : Result Which Errno) (view : ViewData)
     → view_by values grabs writes handler which ≡ Ok view → Reads plan values grabs list handler which view
 reads plan values grabs writes list None which view is = absurd (differ is)
   where
@@ -76,7 +76,7 @@ reads plan values grabs writes list (Some h) (Ok which) view is = by (is_refused
     by false e = subst (λ (v : ViewData). Reads plan values grabs list (Some h) (Ok which) v) (same e) (record { same_values = refl; same_grabs = refl; none_asked = refl; same_pairs = refl })
 
 -- what passes each check passes the first
-passes : (check : Option Refusal) (checks : List (Option Refusal)) → first_refusal (check ∷ checks) ≡ None → (check ≡ None) × (first_refusal checks ≡ None)
+pub passes : (check : Option Refusal) (checks : List (Option Refusal)) → first_refusal (check ∷ checks) ≡ None → (check ≡ None) × (first_refusal checks ≡ None)
 passes None checks h = (refl, h)
 passes (Some refusal) checks h = cc
 
@@ -89,11 +89,11 @@ fourth a b c d e h =
     let last = passes d (e ∷ []) third.1 in
     last.0
 
-not_refused : (fault : Refusal → Fault) (refusal : Option Refusal) (entries answers : List ExtControl) → answered fault refusal entries ≡ Ok answers → refusal ≡ None
+pub not_refused : (fault : Refusal → Fault) (refusal : Option Refusal) (entries answers : List ExtControl) → answered fault refusal entries ≡ Ok answers → refusal ≡ None
 not_refused fault None entries answers h = refl
 not_refused fault (Some refusal) entries answers h = cc
 
-none_found : (n : ℕ) (o : Option Errno) (behind : Option Refusal) → found_at n o behind ≡ None → (o ≡ None) × (behind ≡ None)
+pub none_found : (n : ℕ) (o : Option Errno) (behind : Option Refusal) → found_at n o behind ≡ None → (o ≡ None) × (behind ≡ None)
 none_found n None behind h = (refl, h)
 none_found n (Some errno) behind h = cc
 
@@ -111,7 +111,7 @@ free_from plan view n (p ∷ pairs) h =
     rw own (free_from plan view (n + 1) pairs parts.1)
 
 -- no control of a set that is accepted is grabbed
-accepted_free : (verdicts : Verdicts) (plan : PlanData) (view : ViewData) (list answers : List ExtControl) → set_answer verdicts plan view list ≡ Ok answers
+pub accepted_free : (verdicts : Verdicts) (plan : PlanData) (view : ViewData) (list answers : List ExtControl) → set_answer verdicts plan view list ≡ Ok answers
     → list_any (λ p. is_grabbed view.grabs p.control) (pairs_of plan view.handler view.which list) ≡ false
 unfolding set_answer
 accepted_free verdicts plan view list answers is =

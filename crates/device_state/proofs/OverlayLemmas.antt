@@ -29,10 +29,10 @@ use Rattle.device_state.specs.Values.{Values, value_at, row_of}
 use Rattle.device_state.specs.Setting.{row_given, written}
 use Rattle.device_state.proofs.PresentLemmas.{length_with_row}
 
-or_true : (a b : Bool) → a ≡ true → (a || b) ≡ true
+pub or_true : (a b : Bool) → a ≡ true → (a || b) ≡ true
 or_true a b h = rw h refl
 
-or_true_right : (a b : Bool) → b ≡ true → (a || b) ≡ true
+pub or_true_right : (a b : Bool) → b ≡ true → (a || b) ≡ true
 or_true_right true b h = refl
 or_true_right false b h = h
 
@@ -84,7 +84,7 @@ member_apart plan c j k is within found other = by (list_any (nat_eq c) (members
     by true e = absurd (other (same j (sym (is.members_apart j c within e) ∙ found)))
 
 -- a control is in cluster k, where it is in this one
-abbrev is_at : Option ℕ → ℕ → Bool
+abbrev pub is_at : Option ℕ → ℕ → Bool
 is_at None k = false
 is_at (Some j) k = nat_eq k j
 
@@ -158,7 +158,7 @@ asked_none : (cs : List ℕ) → is_touched [] cs ≡ false
 asked_none [] = refl
 asked_none (c ∷ cs) = asked_none cs
 
-touched_members : (plan : PlanData) (pairs : List Pair) (k : ℕ) → IsPlan plan → k < length plan.clusters → is_touched pairs (members plan k) ≡ list_any (λ p. is_at (cluster_of plan p.control) k) pairs
+pub touched_members : (plan : PlanData) (pairs : List Pair) (k : ℕ) → IsPlan plan → k < length plan.clusters → is_touched pairs (members plan k) ≡ list_any (λ p. is_at (cluster_of plan p.control) k) pairs
 touched_members plan [] k is within = asked_none (members plan k)
 touched_members plan (p ∷ pairs) k is within =
     let own : list_any (nat_eq p.control) (members plan k) ≡ is_at (cluster_of plan p.control) k = in_own plan p.control k is within in
@@ -186,7 +186,7 @@ asked_free grabs (p ∷ pairs) c free = by (asked_free grabs pairs c (or_false_r
     by others (inl h) = and_right (is_asked (p ∷ pairs) c) (is_grabbed grabs c) (ap (is_grabbed grabs) (sym h.1) ∙ first)
     by others (inr h) = rw h.0 others
 
-held_none : (grabs : Grabs) (pairs : List Pair) (cs : List ℕ) → list_any (λ p. is_grabbed grabs p.control) pairs ≡ false → is_held grabs pairs cs ≡ false
+pub held_none : (grabs : Grabs) (pairs : List Pair) (cs : List ℕ) → list_any (λ p. is_grabbed grabs p.control) pairs ≡ false → is_held grabs pairs cs ≡ false
 held_none grabs pairs cs free = none_any (λ c. is_asked pairs c && is_grabbed grabs c) cs (λ c among. asked_free grabs pairs c free)
 
 nothing_written : (values : Values) (cs : List ℕ) → with_row values cs [] ≡ values

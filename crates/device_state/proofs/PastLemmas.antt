@@ -1,7 +1,9 @@
 -- What one more entry makes of the definitions, and the file handles that a history opened.
-use Rattle.std.proofs.Common.{◌≡◌, ℕ, suc, ◌<◌, ◌≤◌, Bool, true, false, not, cond, List, [], ◌∷◌, ◌++◌, length, filter, map, None, Some, nat_eq, refl, ap, sym, subst, arith, length-append}
+use Rattle.std.proofs.Common.{◌≡◌, ℕ, suc, ◌-◌, ◌<◌, ◌≤◌, Bool, true, false, not, ◌||◌, cond, List, [], ◌∷◌, ◌++◌, length, take, filter, map, None, Some, nat_eq, refl, ap, sym, subst, arith, length-append, append-nil, ◌∙◌}
 use Rattle.std.proofs.lemmas.Bool.Decides.{nat_tests}
 use Rattle.std.proofs.lemmas.List.{reverse-append}
+use Rattle.std.proofs.lemmas.List.Elements.{filter-append}
+use Rattle.std.specs.List.{list_any}
 use Rattle.std.specs.Map.{lookup, remove_entry}
 use Rattle.history.specs.declared.entry.Entry.{Entry}
 use Rattle.history.specs.Past.{past}
@@ -11,7 +13,7 @@ use Rattle.ctrl_types.specs.declared.ids.FhId.{FhId}
 use Rattle.device_state.specs.declared.ask.Step.{Step}
 use Rattle.device_state.specs.declared.ask.Step.TheVariants.{OpenFh, CloseFh, Set, Grab}
 use Rattle.ctrl_handlers.specs.Plan.{PlanData}
-use Rattle.device_state.specs.Steps.{History, Past, opened, opened_after, handler_of}
+use Rattle.device_state.specs.Steps.{History, Past, opening, ever_opened, closes, is_closed, opened, opened_after, handler_of}
 use Rattle.device_state.specs.Grabs.{grabbed, grabbed_after}
 use Rattle.device_state.specs.Marks.{flags_under, flags_now}
 use Rattle.device_state.specs.Values.{defaults, now, now_after}
@@ -19,7 +21,7 @@ use Rattle.device_state.specs.Legal.{IsLegal, MayFollow}
 
 -- before the first entry
 pub opened_start : opened (past []) ≡ []
-unfolding opened
+unfolding opened ever_opened
 opened_start = refl
 
 pub now_start : (verdicts : Verdicts) (plan : PlanData) → now verdicts plan (past []) ≡ defaults plan
@@ -29,11 +31,6 @@ now_start verdicts plan = refl
 pub legal_start : (verdicts : Verdicts) (plan : PlanData) → IsLegal verdicts plan (past [])
 unfolding IsLegal
 legal_start verdicts plan = tt
-
--- the file handles after one more entry
-pub opened_add : (steps : History) (e : Entry Step) → opened (past (steps ++ e ∷ [])) ≡ opened_after (length steps) e.step (opened (past steps))
-unfolding opened
-opened_add steps e = rw (past_add steps e, length_past steps) refl
 
 -- the present values after one more entry
 pub now_add : (verdicts : Verdicts) (plan : PlanData) (steps : History) (e : Entry Step) → now verdicts plan (past (steps ++ e ∷ [])) ≡ now_after verdicts plan (grabbed plan (past steps)) e.step (now verdicts plan (past steps))
@@ -101,18 +98,77 @@ below_filter n test (o ∷ os) h = by (test o) (below_filter n test os h.1)
     by true k = (h.0, k)
     by false k = k
 
-after_below : (n : ℕ) (step : Step) (os : List (ℕ × ℕ)) → AreBelow n os → AreBelow (suc n) (opened_after n step os)
+opening_below : (n : ℕ) (step : Step) → AreBelow (suc n) (opening n step)
 unfolding AreBelow
-after_below n (OpenFh handler) os h = below_append (suc n) os ((n, handler) ∷ []) (below_more n (suc n) os (omega arith) h) (omega arith, tt)
-after_below n (CloseFh fh) os h = below_more n (suc n) _ (omega arith) (below_filter n _ os h)
-after_below n (Set fh pairs) os h = below_more n (suc n) os (omega arith) h
-after_below n (Grab c on) os h = below_more n (suc n) os (omega arith) h
+opening_below n (OpenFh handler) = (omega arith, tt)
+opening_below n (CloseFh fh) = tt
+opening_below n (Set fh pairs) = tt
+opening_below n (Grab c on) = tt
 
 -- a file handle's id is the number of a step that was made
+ever_below : (past : Past) → AreBelow (length past) (ever_opened past)
+unfolding ever_opened AreBelow
+ever_below [] = tt
+ever_below (e ∷ older) =
+    below_append (suc (length older)) (ever_opened older) (opening (length older) e.step)
+    (below_more (length older) (suc (length older)) (ever_opened older) (omega arith) (ever_below older)) (opening_below (length older) e.step)
+
+-- one more entry closes what it names, and what was closed stays so
+closed_more : (e : Entry Step) (older : Past) (n : ℕ) → n < length older → is_closed (e ∷ older) n ≡ (closes n e.step || is_closed older n)
+closed_more e older n lt =
+    let count : length (e ∷ older) - suc n ≡ suc (length older - suc n) = omega (arith, lt) in
+    ap (λ (k : ℕ). list_any (λ (x : Entry Step). closes n x.step) (take k (e ∷ older))) count
+
+-- nothing is behind the last entry
+closed_last : (e : Entry Step) (older : Past) → is_closed (e ∷ older) (length older) ≡ false
+closed_last e older =
+    let count : length (e ∷ older) - suc (length older) ≡ 0 = omega arith in
+    ap (λ (k : ℕ). list_any (λ (x : Entry Step). closes (length older) x.step) (take k (e ∷ older))) count
+
+-- tests that agree on keys below n keep the same
+filter_alike : (n : ℕ) (p q : ℕ × ℕ → Bool) (os : List (ℕ × ℕ)) → ((o : ℕ × ℕ) → o.0 < n → p o ≡ q o) → AreBelow n os → filter p os ≡ filter q os
+unfolding AreBelow
+filter_alike n p q [] alike h = refl
+filter_alike n p q (o ∷ os) alike h = rw (alike o h.0, filter_alike n p q os alike h.1) refl
+
+-- what neither of two tests finds is what the one leaves of what the other does
+filter_both : (p q : ℕ × ℕ → Bool) (os : List (ℕ × ℕ)) → filter (λ o. not (p o || q o)) os ≡ filter (λ o. not (p o)) (filter (λ o. not (q o)) os)
+filter_both p q [] = refl
+filter_both p q (o ∷ os) = by (p o) (q o) refl refl (filter_both p q os)
+  where
+    by : (a b : Bool) → p o ≡ a → q o ≡ b → filter (λ o. not (p o || q o)) os ≡ filter (λ o. not (p o)) (filter (λ o. not (q o)) os)
+        → filter (λ o. not (p o || q o)) (o ∷ os) ≡ filter (λ o. not (p o)) (filter (λ o. not (q o)) (o ∷ os))
+    by true true f g rest = rw (f, g) rest
+    by true false f g rest = rw (g, f) rest
+    by false true f g rest = rw (f, g) rest
+    by false false f g rest = rw (g, f, rest) refl
+
+-- what one more entry leaves of those that were opened before it
+older_kept : (e : Entry Step) (older : Past) (step : Step) → e.step ≡ step
+    → filter (λ h. not (is_closed (e ∷ older) h.0)) (ever_opened older) ≡ filter (λ h. not (closes h.0 step || is_closed older h.0)) (ever_opened older)
+older_kept e older step is =
+    filter_alike (length older) _ _ (ever_opened older)
+    (λ o lt. ap not (closed_more e older o.0 lt ∙ ap (λ (s : Step). closes o.0 s || is_closed older o.0) is)) (ever_below older)
+
+-- the file handles after one more entry
+opened_more : (e : Entry Step) (older : Past) → opened (e ∷ older) ≡ opened_after (length older) e.step (opened older)
+unfolding opened ever_opened
+opened_more e older = by e.step refl
+  where
+    by : (step : Step) → e.step ≡ step → filter (λ h. not (is_closed (e ∷ older) h.0)) (ever_opened older ++ opening (length older) step) ≡ opened_after (length older) step (filter (λ h. not (is_closed older h.0)) (ever_opened older))
+    by (OpenFh handler) is = filter-append _ (ever_opened older) ((length older, handler) ∷ []) ∙ rw (closed_last e older, older_kept e older _ is) refl
+    by (CloseFh fh) is = filter-append _ (ever_opened older) [] ∙ append-nil _ ∙ older_kept e older _ is ∙ filter_both (λ h. nat_eq fh.0 h.0) (λ h. is_closed older h.0) (ever_opened older)
+    by (Set fh pairs) is = filter-append _ (ever_opened older) [] ∙ append-nil _ ∙ older_kept e older _ is
+    by (Grab c on) is = filter-append _ (ever_opened older) [] ∙ append-nil _ ∙ older_kept e older _ is
+
+pub opened_add : (steps : History) (e : Entry Step) → opened (past (steps ++ e ∷ [])) ≡ opened_after (length steps) e.step (opened (past steps))
+opened_add steps e = rw (past_add steps e)
+    (subst (λ (n : ℕ). opened (e ∷ past steps) ≡ opened_after n e.step (opened (past steps))) (length_past steps) (opened_more e (past steps)))
+
+-- the same of those that are open
 opened_below : (past : Past) → AreBelow (length past) (opened past)
-unfolding opened AreBelow
-opened_below [] = tt
-opened_below (e ∷ older) = after_below (length older) e.step (opened older) (opened_below older)
+unfolding opened
+opened_below past = below_filter (length past) _ (ever_opened past) (ever_below past)
 
 absent : (n m : ℕ) (os : List (ℕ × ℕ)) → n ≤ m → AreBelow n os → lookup (nat_eq m) os ≡ None
 unfolding AreBelow
@@ -170,9 +226,10 @@ after_rising n (Grab c on) os h b = h
 
 -- the ids of the open file handles rise in the order of their opening
 pub opened_rising : (past : Past) → AreRising (opened past)
-unfolding opened AreRising
+unfolding opened AreRising ever_opened
 opened_rising [] = tt
-opened_rising (e ∷ older) = after_rising (length older) e.step (opened older) (opened_rising older) (opened_below older)
+opened_rising (e ∷ older) =
+    subst AreRising (sym (opened_more e older)) (after_rising (length older) e.step (opened older) (opened_rising older) (opened_below older))
 
 -- no entry has a key below all of them
 all_stay : (k : ℕ) (os : List (ℕ × ℕ)) → AreAbove k os → filter (λ h. not (nat_eq k h.0)) os ≡ os
@@ -236,10 +293,9 @@ after_absent n (Set fh pairs) k os lt h = h
 after_absent n (Grab c on) k os lt h = h
 
 older_gone : (newer older : Past) (fh : FhId) → fh.0 < length older → handler_of older fh ≡ None → handler_of (newer ++ older) fh ≡ None
-unfolding opened
 older_gone [] older fh lt h = h
-older_gone (e ∷ newer) older fh lt h =
-    after_absent (length (newer ++ older)) e.step fh.0 (opened (newer ++ older)) (omega (arith, lt, length-append newer older)) (older_gone newer older fh lt h)
+older_gone (e ∷ newer) older fh lt h = rw (opened_more e (newer ++ older))
+    (after_absent (length (newer ++ older)) e.step fh.0 (opened (newer ++ older)) (omega (arith, lt, length-append newer older)) (older_gone newer older fh lt h))
 
 -- what isn't open by the step that its id numbers isn't opened later
 pub gone_for_good : (steps more : History) (fh : FhId) → fh.0 < length steps → handler_of (past steps) fh ≡ None → handler_of (past (steps ++ more)) fh ≡ None

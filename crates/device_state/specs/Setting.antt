@@ -14,7 +14,7 @@ use Rattle.device_state.specs.declared.ask.Step.TheVariants.{Set}
 use Rattle.device_state.specs.Grabs.{is_grabbed, grabbed}
 use Rattle.device_state.specs.Overlay.{with_row}
 use Rattle.device_state.specs.Steps.{Past}
-use Rattle.device_state.specs.Values.{Values, now}
+use Rattle.device_state.specs.Values.{Values, now, now_after}
 use Rattle.device_state.specs.Told.{MayBeTold, row_changes, told_of}
 use Rattle.device_state.specs.Answers.{is_full, list_pairs, set_list}
 use Rattle.device_state.specs.Device.{DeviceData}
@@ -53,6 +53,10 @@ pub record IsSettable (verdicts : Verdicts) (plan : PlanData) (older : Past) (fh
   pub free : list_any (λ p. is_grabbed (grabbed plan older) p.control) touch.pairs ≡ false
   pub room : is_full older ≡ false
   pub accepted : set_list verdicts plan older fh which list ≡ Ok (Controls touch.answers)
+
+-- the present values once a list is set
+abbrev pub values_set : Verdicts → PlanData → Past → FhId → ℕ → List ExtControl → Values
+values_set verdicts plan older fh which list = now_after verdicts plan (grabbed plan older) (Set fh (list_pairs plan older fh which list)) (now verdicts plan older)
 
 -- What setting it does: it adds its step, and each cluster is told its row where the row changes a member.
 pub record SetsAll (verdicts : Verdicts) (told : Words) (old new : DeviceData) (seat : ℕ) (fh : FhId) (touch : TouchedData) : Type 0 where

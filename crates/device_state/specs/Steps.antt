@@ -1,5 +1,6 @@
 -- The file handles that are open after a history, and what is shown to them (of this project).
-use Rattle.std.specs.Prelude.{ℕ, nat_eq, not, List, [], ◌∷◌, ◌++◌, length, filter, Option}
+use Rattle.std.specs.Prelude.{ℕ, suc, ◌-◌, nat_eq, Bool, false, not, List, [], ◌∷◌, ◌++◌, length, take, filter, Option}
+use Rattle.std.specs.List.{list_any}
 use Rattle.std.specs.Option.{option_and_then}
 use Rattle.std.specs.Map.{lookup}
 use Rattle.history.specs.declared.entry.Entry.{Entry}
@@ -18,17 +19,39 @@ History = List (Entry Step)
 abbrev pub Past : Type 0
 Past = List (Entry Step)
 
--- What the step with a number makes of the open file handles: an opening adds one, which has this number as its id, with its
--- handler; a close drops the one that it names.
+-- the file handle that the step with a number opens: this number is its id; with its handler
+abbrev pub opening : ℕ → Step → List (ℕ × ℕ)
+opening n (OpenFh handler) = (n, handler) ∷ []
+opening n _ = []
+
+-- the file handles that were ever opened, in the order of their opening
+unfoldable pub ever_opened : Past → List (ℕ × ℕ)
+ever_opened [] = []
+ever_opened (e ∷ older) = ever_opened older ++ opening (length older) e.step
+
+-- a step closes the file handle with an id
+abbrev pub closes : ℕ → Step → Bool
+closes n (CloseFh fh) = nat_eq fh.0 n
+closes n _ = false
+
+-- the entries behind the one with a number, which are newer
+abbrev pub behind : ℕ → Past → Past
+behind n past = take (length past - suc n) past
+
+-- a step behind the one that opened a file handle closes it
+abbrev pub is_closed : Past → ℕ → Bool
+is_closed past n = list_any (λ e. closes n e.step) (behind n past)
+
+-- The open file handles, in the order of their opening, each with its handler: those that were opened and that no later step closes.
+unfoldable pub opened : Past → List (ℕ × ℕ)
+opened past = filter (λ h. not (is_closed past h.0)) (ever_opened past)
+
+-- What the step with a number makes of the open file handles, as the law `open_handles` says: an opening adds one, a close drops the
+-- one that it names.
 abbrev pub opened_after : ℕ → Step → List (ℕ × ℕ) → List (ℕ × ℕ)
 opened_after n (OpenFh handler) handles = handles ++ (n, handler) ∷ []
 opened_after n (CloseFh fh) handles = filter (λ h. not (nat_eq fh.0 h.0)) handles
 opened_after n _ handles = handles
-
--- the open file handles, in the order of their opening, each with its handler
-unfoldable pub opened : Past → List (ℕ × ℕ)
-opened [] = []
-opened (e ∷ older) = opened_after (length older) e.step (opened older)
 
 -- the handler that a file handle was opened on, if it is open
 abbrev pub handler_of : Past → FhId → Option ℕ

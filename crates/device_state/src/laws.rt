@@ -1,24 +1,28 @@
 //! What the definitions over the history say of one more entry. Each function is a law that its contract states; none has
 //! anything to do.
 
-ghost use Rattle.std.specs.Prelude.{◌≡◌, ◌<◌, ℕ, false, [], ◌∷◌, ◌++◌, List, length, map, is_some, None, Err};
+ghost use Rattle.std.specs.Prelude.{◌≡◌, ◌<◌, ℕ, true, false, [], ◌∷◌, ◌++◌, List, length, map, is_some, None, Ok, Err};
 ghost use Rattle.std.specs.List.{list_any};
 ghost use Rattle.history.specs.declared.entry.Entry.{Entry};
 ghost use Rattle.history.specs.Past.{past};
 ghost use Rattle.ctrl_calls.specs.Meanings.{Verdicts};
 ghost use Rattle.ctrl_types.specs.declared.errno.Fault.{Fault};
+ghost use Rattle.ctrl_types.specs.declared.ids.ExtControl.{ExtControl};
 ghost use Rattle.ctrl_types.specs.declared.ids.FhId.{FhId};
 ghost use Rattle.ctrl_types.specs.declared.ids.Pair.{Pair};
 ghost use Rattle.device_state.specs.declared.ask.Ask.{Ask};
+ghost use Rattle.device_state.specs.declared.ask.Reply.TheVariants.{Controls};
 ghost use Rattle.device_state.specs.declared.ask.Step.{Step};
 ghost use Rattle.device_state.specs.declared.ask.Step.TheVariants.{CloseFh};
-ghost use Rattle.ctrl_handlers.specs.Plan.{PlanData, IsPlan, members};
+ghost use Rattle.ctrl_handlers.specs.Plan.{PlanData, IsPlan, control, members};
+ghost use Rattle.ctrl_clusters.specs.Judging.{becomes};
 ghost use Rattle.device_state.specs.Grabs.{Grabs, grabbed, grabbed_after};
-ghost use Rattle.device_state.specs.Overlay.{overlay, row_laid};
+ghost use Rattle.device_state.specs.Overlay.{is_touched, overlay, row_laid};
 ghost use Rattle.device_state.specs.Marks.{flags_under, flags_now};
 ghost use Rattle.device_state.specs.Steps.{History, Past, opened, opened_after, handler_of};
-ghost use Rattle.device_state.specs.Values.{Values, defaults, row_of, now, now_after};
-ghost use Rattle.device_state.specs.Answers.{MayAnswer, is_list};
+ghost use Rattle.device_state.specs.Values.{Values, defaults, value_at, row_of, now, now_after};
+ghost use Rattle.device_state.specs.Answers.{MayAnswer, is_list, list_pairs, set_list};
+ghost use Rattle.device_state.specs.Setting.{values_set};
 ghost use Rattle.device_state.specs.Legal.{IsLegal, MayFollow};
 ghost use Rattle.device_state.specs.Told.{AreTold, changes};
 
@@ -52,6 +56,17 @@ pub fn present_values()
 pub fn overlaid_rows()
     ensures { (verdicts : Verdicts) (plan : PlanData) (values : Values) (grabs : Grabs) (pairs : List Pair) (k : ℕ) → IsPlan plan → length values ≡ length plan.controls → k < length plan.clusters
         → row_of (overlay verdicts plan values grabs pairs) (members plan k) ≡ row_laid verdicts plan values grabs pairs k }
+{}
+
+/// A set that is accepted is made whole: no cluster with a member among its pairs is refused, so that each has the row that it becomes;
+/// and each entry is answered the value that its control has then.
+#[tactic(auto, using(crate::proofs::WholeLemmas::all_rows, crate::proofs::WholeLemmas::all_answers))]
+pub fn whole_sets()
+    ensures rows { (verdicts : Verdicts) (plan : PlanData) (older : Past) (fh : FhId) (which k : ℕ) (list answers : List ExtControl) → IsPlan plan → set_list verdicts plan older fh which list ≡ Ok (Controls answers)
+        → k < length plan.clusters → is_touched (list_pairs plan older fh which list) (members plan k) ≡ true
+        → becomes verdicts plan (now verdicts plan older) (list_pairs plan older fh which list) k ≡ Ok (row_of (values_set verdicts plan older fh which list) (members plan k)) }
+    ensures answers { (verdicts : Verdicts) (plan : PlanData) (older : Past) (fh : FhId) (which : ℕ) (list answers : List ExtControl) → IsPlan plan → set_list verdicts plan older fh which list ≡ Ok (Controls answers)
+        → answers ≡ map (λ p. record { id = (control plan p.control).id; value = value_at (values_set verdicts plan older fh which list) p.control }) (list_pairs plan older fh which list) }
 {}
 
 /// At first no control is grabbed; one more entry makes of the grabs what its step makes of them.
