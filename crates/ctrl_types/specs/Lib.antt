@@ -1,3 +1,4 @@
 pub mod Numbers
 pub mod Classes
 pub mod Flags
+pub mod Values

@@ -24,13 +24,16 @@ pub struct FhId(pub u32);
 #[derive(Clone, Copy, Debug, PartialEq, Eq, PartialOrd, Ord, Hash)]
 pub struct RequestId(pub u32);
 
+/// What a control has as its value (Linux userspace API, "struct v4l2_ext_control", field `value64`).
+pub type CtrlValue = i64;
+
 /// An entry of a control list (Linux userspace API, "struct v4l2_ext_control").
 #[derive(Clone, Copy, Debug, PartialEq, Eq)]
 pub struct ExtControl {
     /// The control.
     pub id: CtrlId,
     /// Its value; a get ignores the one that is handed in.
-    pub value: i64,
+    pub value: CtrlValue,
 }
 
 /// A value for the control with this number (of this project).
@@ -39,5 +42,5 @@ pub struct Pair {
     /// The control's number in its device.
     pub control: u32,
     /// The value, as it was given.
-    pub value: i64,
+    pub value: CtrlValue,
 }

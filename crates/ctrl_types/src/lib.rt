@@ -11,6 +11,6 @@ mod which;
 
 pub use errno::{Errno, Fault};
 pub use flags::Flags;
-pub use ids::{CtrlId, ExtControl, FhId, Pair, RequestId};
+pub use ids::{CtrlId, CtrlValue, ExtControl, FhId, Pair, RequestId};
 pub use kind::Kind;
 pub use which::Which;
