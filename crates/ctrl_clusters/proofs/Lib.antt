@@ -1,1 +1,4 @@
 pub mod RowLemmas
+pub mod NewRowLemmas
+pub mod OverlayLemmas
+pub mod NotifyLemmas

@@ -1,5 +1,5 @@
 -- The loops over a row.
-use Rattle.std.proofs.Common.{◌≡◌, ◌≢◌, ℕ, ℤ, suc, eq-eqb, slice_get, ◌∙◌, ◌<◌, ◌+◌, ◌==◌, ◌&&◌, Bool, true, false, pos, List, [], ◌∷◌, ◌++◌, length, take, drop, get_or, set, if◌then◌else◌, Option, None, Some, Result, Ok, Err, refl, sym, ap}
+use Rattle.std.proofs.Common.{◌≡◌, ◌≢◌, ℕ, ℤ, suc, eq-eqb, slice_get, ◌∙◌, ◌<◌, ◌+◌, ◌==◌, ◌&&◌, ◌||◌, Bool, true, false, pos, List, [], ◌∷◌, ◌++◌, length, take, drop, get_or, set, if◌then◌else◌, Option, None, Some, Result, Ok, Err, refl, sym, ap}
 use Rattle.std.specs.Option.{option_or}
 use Rattle.std.proofs.lemmas.Option.{get_or_from_slice_get}
 use Rattle.std.proofs.lemmas.List.{append-nil, append_assoc, take_more_set, drop_more}
@@ -7,8 +7,9 @@ use Rattle.ctrl_types.specs.declared.errno.Errno.{Errno}
 use Rattle.ctrl_types.specs.declared.ids.Pair.{Pair}
 use Rattle.ctrl_settle.specs.Control.{Control}
 use Rattle.ctrl_settle.specs.Settle.{settle}
-use Rattle.ctrl_handlers.specs.Plan.{control_in}
-use Rattle.ctrl_clusters.specs.Rows.{value_at, last_value, settle_row, settled_before, value_in}
+use Rattle.ctrl_handlers.specs.Plan.{PlanData, control_in}
+use Rattle.ctrl_clusters.specs.Changes.{is_changed, row_changes}
+use Rattle.ctrl_clusters.specs.Rows.{Values, value_at, last_value, settle_row, settled_before, value_in}
 use Rattle.ctrl_clusters.specs.Judging.{is_value, takes_row}
 
 -- what was found so far counts where the pairs that are left give nothing
@@ -89,3 +90,9 @@ given_here members row c i v within there is has left =
     let found : value_in (drop i members) (drop i row) c ≡ Some v =
     given_next members row c i within there ∙ rw (eq-eqb (get_or members i 0) c is) (ap Some (get_or_from_slice_get row i v (pos 0) has)) in
     sym found ∙ left
+
+-- the row changes the next member, or one of the others
+pub changes_next : (plan : PlanData) (values : Values) (pairs : List Pair) (members : List ℕ) (row : List ℤ) (i : ℕ) → i < length members → i < length row
+    → row_changes plan values pairs (drop i members) (drop i row)
+    ≡ (is_changed plan values pairs (get_or members i 0) (value_at row i) || row_changes plan values pairs (drop (i + 1) members) (drop (i + 1) row))
+changes_next plan values pairs members row i within there = rw (drop_more members i 0 within, drop_more row i (pos 0) there) refl

@@ -1,7 +1,8 @@
 -- What a cluster makes of a row: its validator judges it (Linux driver API, "V4L2 Controls", "Control Clusters": `try_ctrl`;
 -- which refusals pass, and that an accepted row is settled, is of this project).
-use Rattle.std.specs.Prelude.{ℕ, ℤ, Bool, true, false, ◌&&◌, if◌then◌else◌, List, [], ◌∷◌, Option, None, Some, Result, Ok, Err}
+use Rattle.std.specs.Prelude.{ℕ, Bool, true, false, ◌&&◌, if◌then◌else◌, List, [], ◌∷◌, Option, None, Some, Result, Ok, Err}
 use Rattle.std.specs.Ordering.{int_eq}
+use Rattle.ctrl_types.specs.Values.{CtrlValue}
 use Rattle.ctrl_types.specs.declared.errno.Errno.{Errno}
 use Rattle.ctrl_types.specs.declared.errno.Errno.TheVariants.{EACCES, EBUSY, EINVAL, ERANGE}
 use Rattle.ctrl_types.specs.declared.ids.Pair.{Pair}
@@ -23,43 +24,43 @@ refusal_of ERANGE = ERANGE
 refusal_of _ = EINVAL
 
 -- whether this is the value itself
-abbrev pub is_value : Result ℤ Errno → ℤ → Bool
+abbrev pub is_value : Result CtrlValue Errno → CtrlValue → Bool
 is_value (Ok settled) v = int_eq settled v
 is_value (Err errno) v = false
 
 -- whether the members take the values of a row as they are; a row of another length they don't take
-abbrev pub takes_row : List Control → List ℕ → List ℤ → Bool
+abbrev pub takes_row : List Control → List ℕ → List CtrlValue → Bool
 takes_row controls [] [] = true
 takes_row controls [] (v ∷ vs) = false
 takes_row controls (c ∷ cs) [] = false
 takes_row controls (c ∷ cs) (v ∷ vs) = is_value (settle (control_in controls c) v) v && takes_row controls cs vs
 
 -- What a verdict makes of a row: a refusal stands; an accepted row has to be one that the members take as it is.
-abbrev pub judged : List Control → List ℕ → Verdict → Result (List ℤ) Errno
+abbrev pub judged : List Control → List ℕ → Verdict → Result (List CtrlValue) Errno
 judged controls members (Refuse errno) = Err (refusal_of errno)
 judged controls members (Accept row) = if takes_row controls members row then Ok row else Err EINVAL
 
 -- A cluster with these members judges a row: by its validator, where it has one; else each row is accepted as it is.
-abbrev pub judge_by : Verdicts → List Control → List ℕ → Option Relation → List ℤ → Result (List ℤ) Errno
+abbrev pub judge_by : Verdicts → List Control → List ℕ → Option Relation → List CtrlValue → Result (List CtrlValue) Errno
 judge_by verdicts controls members None row = Ok row
 judge_by verdicts controls members (Some relation) row = judged controls members (verdicts relation row)
 
--- what a cluster makes of a row
-unfoldable pub judge : Verdicts → PlanData → ℕ → List ℤ → Result (List ℤ) Errno
-judge verdicts plan k row = judge_by verdicts plan.controls (members plan k) (calls_of plan k).validator row
+-- what a cluster makes of a row, where the controls are these
+unfoldable pub judge : Verdicts → PlanData → List Control → ℕ → List CtrlValue → Result (List CtrlValue) Errno
+judge verdicts plan controls k row = judge_by verdicts controls (members plan k) (calls_of plan k).validator row
 
--- how many were asked after a cluster judged a row, where it has a validator
-abbrev pub asked_by : Option Relation → ℕ → ℕ
-asked_by None count = count
-asked_by (Some relation) count = one_more count
+-- how many validators were asked once a cluster judged a row: one more where it has one
+abbrev pub after_judging : Option Relation → ℕ → ℕ
+after_judging None count = count
+after_judging (Some relation) count = one_more count
 
 -- what a cluster makes of a row where its members settle; else the errno of settling stands
-abbrev pub judge_settled : Verdicts → PlanData → ℕ → Result (List ℤ) Errno → Result (List ℤ) Errno
-judge_settled verdicts plan k (Err errno) = Err errno
-judge_settled verdicts plan k (Ok row) = judge verdicts plan k row
+abbrev pub judge_settled : Verdicts → PlanData → List Control → ℕ → Result (List CtrlValue) Errno → Result (List CtrlValue) Errno
+judge_settled verdicts plan controls k (Err errno) = Err errno
+judge_settled verdicts plan controls k (Ok row) = judge verdicts plan controls k row
 
--- What the row of a cluster becomes where these pairs are asked for over these values: it is overwritten by the pairs, settles in
--- member order, and is judged.
-unfoldable pub becomes : Verdicts → PlanData → Values → List Pair → ℕ → Result (List ℤ) Errno
-becomes verdicts plan values pairs k =
-    judge_settled verdicts plan k (settle_row plan.controls (members plan k) (overwritten values pairs (members plan k)))
+-- What the row of a cluster becomes where these pairs are laid over these values: it is overwritten by the pairs, settles in member order,
+-- and is judged.
+unfoldable pub becomes : Verdicts → PlanData → List Control → Values → List Pair → ℕ → Result (List CtrlValue) Errno
+becomes verdicts plan controls values pairs k =
+    judge_settled verdicts plan controls k (settle_row controls (members plan k) (overwritten values pairs (members plan k)))

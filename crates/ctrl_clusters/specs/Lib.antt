@@ -1,3 +1,5 @@
+pub use Rattle.ctrl_types.specs.Values
+pub use Rattle.ctrl_types.specs.Flags
 pub use Rattle.ctrl_calls.specs.Meanings
 pub use Rattle.ctrl_calls.specs.Counts
 pub use Rattle.ctrl_settle.specs.Control
@@ -8,3 +10,8 @@ pub use Rattle.ctrl_handlers.specs.Plan
 pub mod Rows
 pub mod Judging
 pub mod AutoClusters
+pub mod Overlay
+pub mod NewRows
+pub mod Changes
+pub mod Notified
+pub mod PresentFlags

@@ -5,6 +5,7 @@ ghost use Rattle.ctrl_clusters.specs.AutoClusters.{inactive, is_automatic};
 
 use ctrl_calls::Driver;
 use ctrl_handlers::Plan;
+use ctrl_types::CtrlValue;
 
 /// Whether a control is inactive: it is a member, but not the master, of an auto cluster, and the value of the master isn't the
 /// manual value (Linux driver API, "V4L2 Controls", "Handling autogain/gain-type Controls with Auto Clusters"). A control of any
@@ -16,7 +17,7 @@ use ctrl_handlers::Plan;
 ///
 /// It takes no memory and refuses nothing.
 #[tactic(auto, unfolding(crate::specs::AutoClusters::inactive))]
-pub fn inactive<D: Driver>(plan: &Plan<D>, values: &[i64], control: u32) -> bool
+pub fn inactive<D: Driver>(plan: &Plan<D>, values: &[CtrlValue], control: u32) -> bool
     requires known { control < length plan.now.controls }
     requires values { length values.now ≡ length plan.now.controls }
     ensures { result ≡ inactive plan.now values.now control }
@@ -27,7 +28,7 @@ pub fn inactive<D: Driver>(plan: &Plan<D>, values: &[i64], control: u32) -> bool
 }
 
 // Whether there is a manual value, and a value is another.
-fn is_automatic(manual: Option<i64>, value: i64) -> bool
+fn is_automatic(manual: Option<CtrlValue>, value: CtrlValue) -> bool
     ensures { result ≡ is_automatic manual value }
 {
     match manual {

@@ -1,18 +1,20 @@
-ghost use Rattle.std.specs.Prelude.{◌≡◌, ◌<◌, ◌≤◌, ◌+◌, length, IfOk};
+ghost use Rattle.std.specs.Prelude.{◌≡◌, ◌<◌, ◌≤◌, ◌+◌, length, IfOk, OnOk};
 ghost use Rattle.std.specs.List.{All};
 ghost use Rattle.ctrl_handlers.specs.Plan.{members, calls_of};
-ghost use Rattle.ctrl_clusters.specs.Judging.{refusal_of, judged, judge, becomes, asked_by};
+ghost use Rattle.ctrl_clusters.specs.Rows.{AreControlsOf};
+ghost use Rattle.ctrl_clusters.specs.Judging.{refusal_of, judged, judge, becomes, after_judging};
 
 use crate::rows::{overwritten, settle_row, takes_row};
 use ctrl_calls::{ClusterRow, Driver, Verdict, Work, ask};
 use ctrl_handlers::Plan;
 use ctrl_settle::Ctrl;
-use ctrl_types::{Errno, Pair};
+use ctrl_types::{CtrlValue, Errno, Pair};
 
 /// What a cluster makes of a row of its members' values, in member order (Linux driver API, "V4L2 Controls", "Control
 /// Clusters"): its validator is asked, once, where it has one; else the row is accepted as it is. Nobody is told.
 ///
 /// - `plan`: what the device is built of.
+/// - `controls`: its controls as they are now; the caller owes as many as the plan's, with their ids, kinds, flags and skipped items.
 /// - `cluster`: the number of a cluster; the caller owes one below `Plan::cluster_count`.
 /// - `row`: a value for each of its members; the caller owes exactly as many.
 /// - `work`: its count `asked` grows by one where the validator is asked.
@@ -23,24 +25,22 @@ use ctrl_types::{Errno, Pair};
 #[tactic(auto, unfolding(crate::specs::Judging::judge))]
 pub fn judge<D: Driver>(
     plan: &Plan<D>,
+    controls: &[Ctrl],
     cluster: u32,
     row: &ClusterRow,
     work: &mut Work,
 ) -> Result<ClusterRow, Errno>
+    requires controls { AreControlsOf plan.now controls.now }
     requires cluster { cluster < length plan.now.clusters }
     requires row { length row.now ≡ length (members plan.now cluster) }
-    ensures judged { result ≡ judge D.verdict plan.now cluster row.now }
+    ensures judged { result ≡ judge D.verdict plan.now controls.now cluster row.now }
     ensures long { IfOk result (λ taken. length taken ≡ length (members plan.now cluster)) }
-    ensures asked { work.new.asked ≤ work.old.asked + 1 }
+    ensures at_most_once { work.new.asked ≤ work.old.asked + 1 }
     ensures told { work.new.told ≡ work.old.told }
-    ensures counted { work.new ≡ record work.old { asked = asked_by (calls_of plan.now cluster).validator work.old.asked } }
+    ensures counted { work.new ≡ record work.old { asked = after_judging (calls_of plan.now cluster).validator work.old.asked } }
 {
     match plan.validator(cluster) {
-        Some(validator) => judged(
-            plan.controls(),
-            plan.members(cluster),
-            ask(validator, row, work),
-        ),
+        Some(validator) => judged(controls, plan.members(cluster), ask(validator, row, work)),
         None => Ok(*row),
     }
 }
@@ -50,6 +50,7 @@ pub fn judge<D: Driver>(
 /// are judged.
 ///
 /// - `plan`: what the device is built of.
+/// - `controls`: its controls as they are now; the caller owes as many as the plan's, with their ids, kinds, flags and skipped items.
 /// - `cluster`: the number of a cluster; the caller owes one below `Plan::cluster_count`.
 /// - `values`: a value for each control, in the order of their numbers; the caller owes exactly as many.
 /// - `pairs`: what is asked for; pairs of other clusters' controls count for nothing.
@@ -60,22 +61,25 @@ pub fn judge<D: Driver>(
 #[tactic(auto, unfolding(crate::specs::Judging::becomes))]
 pub fn becomes<D: Driver>(
     plan: &Plan<D>,
+    controls: &[Ctrl],
     cluster: u32,
-    values: &[i64],
+    values: &[CtrlValue],
     pairs: &[Pair],
     work: &mut Work,
 ) -> Result<ClusterRow, Errno>
+    requires controls { AreControlsOf plan.now controls.now }
     requires cluster { cluster < length plan.now.clusters }
     requires values { length values.now ≡ length plan.now.controls }
-    ensures row { result ≡ becomes D.verdict plan.now values.now pairs.now cluster }
+    ensures row { result ≡ becomes D.verdict plan.now controls.now values.now pairs.now cluster }
     ensures long { IfOk result (λ taken. length taken ≡ length (members plan.now cluster)) }
-    ensures asked { work.new.asked ≤ work.old.asked + 1 }
+    ensures at_most_once { work.new.asked ≤ work.old.asked + 1 }
+    ensures asked { OnOk result (work.new.asked ≡ after_judging (calls_of plan.now cluster).validator work.old.asked) }
     ensures told { work.new.told ≡ work.old.told }
 {
     let members = plan.members(cluster);
     let row = overwritten(values, pairs, members);
-    match settle_row(plan.controls(), members, &row) {
-        Ok(row) => judge(plan, cluster, &row, work),
+    match settle_row(controls, members, &row) {
+        Ok(row) => judge(plan, controls, cluster, &row, work),
         Err(errno) => Err(errno),
     }
 }

@@ -1,14 +1,25 @@
-//! What a cluster makes of values that are asked of its members: its row is overwritten, settles in member order, and is judged
-//! by the driver's validator; and which members of an auto cluster are inactive. Nothing here takes memory.
+//! What clusters make of values that are asked of their members: a row is overwritten, settles in member order, and is judged by the driver's
+//! validator; how pairs are laid over values, rows written, and changed clusters notified; and which flags a control has under values and grabs.
+//! Only `first_words` takes memory.
 #![tactic(auto)]
 
 mod auto_clusters;
+mod changes;
 mod judging;
+pub mod laws;
+mod new_row;
+mod notifying;
+mod present_flags;
 mod rows;
+mod writing;
 
 pub use auto_clusters::inactive;
 pub use judging::{becomes, judge};
+pub use new_row::NewRow;
+pub use notifying::{first_words, notify_changed};
+pub use present_flags::flags_under;
 pub use rows::value_in;
+pub use writing::{present_row, write_rows};
 
 #[cfg(test)]
 mod tests;

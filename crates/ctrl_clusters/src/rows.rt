@@ -10,10 +10,10 @@ ghost use Rattle.ctrl_clusters.specs.Judging.{is_value, takes_row};
 
 use ctrl_calls::{ClusterRow, MAX_MEMBERS};
 use ctrl_settle::{Ctrl, settle};
-use ctrl_types::{Errno, Pair};
+use ctrl_types::{CtrlValue, Errno, Pair};
 
 /// The values of a cluster's members, in member order, overwritten by pairs: the last pair of a control counts.
-pub(crate) fn overwritten(values: &[i64], pairs: &[Pair], members: &[u32]) -> ClusterRow
+pub(crate) fn overwritten(values: &[CtrlValue], pairs: &[Pair], members: &[u32]) -> ClusterRow
     requires few { length members.now ≤ MAX_MEMBERS }
     requires known { All (λ c. c < length values.now) members.now }
     ensures { result ≡ overwritten values.now pairs.now members.now }
@@ -26,7 +26,7 @@ pub(crate) fn overwritten(values: &[i64], pairs: &[Pair], members: &[u32]) -> Cl
 }
 
 // The value that is asked of a control: its last pair's, or else its present one.
-fn asked_of(values: &[i64], pairs: &[Pair], control: u32) -> i64
+fn asked_of(values: &[CtrlValue], pairs: &[Pair], control: u32) -> CtrlValue
     requires { control < length values.now }
     ensures { result ≡ unwrap_or (last_value pairs.now control) (value_at values.now control) }
 {
@@ -34,7 +34,7 @@ fn asked_of(values: &[i64], pairs: &[Pair], control: u32) -> i64
 }
 
 // The last value that pairs give a control.
-fn last_value(pairs: &[Pair], control: u32) -> Option<i64>
+fn last_value(pairs: &[Pair], control: u32) -> Option<CtrlValue>
     ensures { result ≡ last_value pairs.now control }
 {
     let mut last = None;
@@ -68,7 +68,12 @@ pub(crate) fn settle_row(
 }
 
 // What a member takes for its value of a row.
-fn settle_at(controls: &[Ctrl], member: u32, row: &ClusterRow, place: usize) -> Result<i64, Errno>
+fn settle_at(
+    controls: &[Ctrl],
+    member: u32,
+    row: &ClusterRow,
+    place: usize,
+) -> Result<CtrlValue, Errno>
     requires known { member < length controls.now }
     requires within { place < length row.now }
     ensures { result ≡ settle (control_in controls.now member) (value_at row.now place) }
@@ -111,7 +116,7 @@ fn takes_at(controls: &[Ctrl], member: u32, row: &ClusterRow, place: usize) -> b
 ///
 /// It takes no memory and refuses nothing.
 #[tactic(auto, using(crate::proofs::RowLemmas::given_next))]
-pub fn value_in(members: &[u32], row: &ClusterRow, control: u32) -> Option<i64>
+pub fn value_in(members: &[u32], row: &ClusterRow, control: u32) -> Option<CtrlValue>
     requires { length row.now ≡ length members.now }
     ensures { result ≡ value_in members.now row.now control }
 {

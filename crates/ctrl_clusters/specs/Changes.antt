@@ -1,0 +1,29 @@
+-- What a row that a cluster gets changes (Linux driver API, "V4L2 Controls", "Control Clusters", and Linux userspace API, "Control Flags",
+-- V4L2_CTRL_FLAG_EXECUTE_ON_WRITE).
+use Rattle.std.specs.Prelude.{ℕ, Bool, false, not, ◌&&◌, ◌||◌, List, [], ◌∷◌}
+use Rattle.std.specs.Ordering.{int_eq}
+use Rattle.ctrl_types.specs.Flags.{contains}
+use Rattle.ctrl_types.specs.Values.{CtrlValue}
+use Rattle.ctrl_types.specs.declared.flags.TheConstants.Flags.{EXECUTE_ON_WRITE}
+use Rattle.ctrl_types.specs.declared.ids.Pair.{Pair}
+use Rattle.ctrl_handlers.specs.Plan.{PlanData, control, members}
+use Rattle.ctrl_clusters.specs.Rows.{Values, value_at}
+use Rattle.ctrl_clusters.specs.Overlay.{is_among}
+use Rattle.ctrl_clusters.specs.NewRows.{row_given}
+use Rattle.ctrl_clusters.specs.declared.new_row.NewRow.{NewRow}
+
+-- A control that gets a value where pairs are laid over values is changed where the value differs, or where the control acts on each write
+-- and is among the pairs.
+abbrev pub is_changed : PlanData → Values → List Pair → ℕ → CtrlValue → Bool
+is_changed plan values pairs c value =
+    not (int_eq (value_at values c) value) || (contains (control plan c).flags EXECUTE_ON_WRITE && is_among pairs c)
+
+-- a row that members get changes one of them
+abbrev pub row_changes : PlanData → Values → List Pair → List ℕ → List CtrlValue → Bool
+row_changes plan values pairs [] row = false
+row_changes plan values pairs (c ∷ cs) [] = false
+row_changes plan values pairs (c ∷ cs) (v ∷ vs) = is_changed plan values pairs c v || row_changes plan values pairs cs vs
+
+-- whether the row that a cluster gets, where it gets one, changes a member
+abbrev pub cluster_changes : PlanData → Values → List Pair → List NewRow → ℕ → Bool
+cluster_changes plan values pairs rows k = row_changes plan values pairs (members plan k) (row_given rows k)

@@ -1,0 +1,60 @@
+//! What the row that a cluster gets changes.
+
+ghost use Rattle.std.specs.Prelude.{◌≡◌, ◌<◌, length};
+ghost use Rattle.std.specs.List.{All};
+ghost use Rattle.ctrl_clusters.specs.Rows.{value_at};
+ghost use Rattle.ctrl_clusters.specs.Overlay.{is_among};
+ghost use Rattle.ctrl_clusters.specs.Changes.{is_changed, row_changes};
+
+use bitflags::Flags as FlagSet;
+use ctrl_calls::{ClusterRow, Driver};
+use ctrl_handlers::Plan;
+use ctrl_types::{CtrlValue, Flags, Pair};
+
+/// Whether a row that a cluster's members get where pairs are laid over values changes one of them.
+#[tactic(auto, using(crate::proofs::RowLemmas::changes_next))]
+pub(crate) fn row_changes<D: Driver>(
+    plan: &Plan<D>,
+    values: &[CtrlValue],
+    pairs: &[Pair],
+    members: &[u32],
+    row: &ClusterRow,
+) -> bool
+    requires values { length values.now ≡ length plan.now.controls }
+    requires known { All (λ c. c < length plan.now.controls) members.now }
+    requires long { length row.now ≡ length members.now }
+    ensures { result ≡ row_changes plan.now values.now pairs.now members.now row.now }
+{
+    for (place, &member) in members.iter().enumerate() {
+        if changes_at(plan, values, pairs, member, row, place) {
+            return true;
+        }
+    }
+    false
+}
+
+// Whether its value of the row changes a member.
+fn changes_at<D: Driver>(
+    plan: &Plan<D>,
+    values: &[CtrlValue],
+    pairs: &[Pair],
+    member: u32,
+    row: &ClusterRow,
+    place: usize,
+) -> bool
+    requires values { length values.now ≡ length plan.now.controls }
+    requires known { member < length plan.now.controls }
+    requires within { place < length row.now }
+    ensures { result ≡ is_changed plan.now values.now pairs.now member (value_at row.now place) }
+{
+    let flags = plan.control(member).flags();
+    values[member as usize] != row.value(place)
+        || (flags.contains(Flags::EXECUTE_ON_WRITE) && is_among(pairs, member))
+}
+
+// Whether a control is among pairs.
+fn is_among(pairs: &[Pair], control: u32) -> bool
+    ensures { result ≡ is_among pairs.now control }
+{
+    pairs.iter().any(|pair| pair.control == control)
+}

@@ -1,0 +1,141 @@
+//! Whom a device notifies of rows, and the words that they say.
+
+ghost use Rattle.std.specs.Prelude.{◌≡◌, ◌<◌, length, IfOk};
+ghost use Rattle.ctrl_handlers.specs.Plan.{calls_of, members};
+ghost use Rattle.ctrl_clusters.specs.Rows.{row_of};
+ghost use Rattle.ctrl_clusters.specs.NewRows.{AreNewRows, row_given};
+ghost use Rattle.ctrl_clusters.specs.Changes.{cluster_changes};
+ghost use Rattle.ctrl_clusters.specs.Notified.{MaySay, HaveWords, AreRenewed, IsRenewed, notified_count, after_notifying, after_change};
+
+use crate::changes::row_changes;
+use crate::new_row::NewRow;
+use crate::writing::present_row;
+use ctrl_calls::{ClusterRow, Driver, Work};
+use ctrl_handlers::Plan;
+use ctrl_types::{CtrlValue, Pair};
+use std::alloc::{AllocError, Global};
+
+/// Notifies each cluster that gets a row which changes a member of its new row, in rising number of the clusters, and keeps the words
+/// (Linux driver API, "V4L2 Controls", "Adding Notify Callbacks"; words are of this project).
+///
+/// - `plan`: what the device is built of.
+/// - `values`: the values before; the caller owes one for each control.
+/// - `pairs`: what was laid over them.
+/// - `rows`: the rows that the clusters get; the caller owes that each is of another cluster of the plan, and has a value for each member.
+/// - `words`: the words; the caller owes one for each cluster.
+/// - `work`: its count `told`, which the caller owes to be 0, is then the number of notifiers that were called.
+///
+/// It takes no memory and refuses nothing.
+pub fn notify_changed<D: Driver>(
+    plan: &Plan<D>,
+    values: &[CtrlValue],
+    pairs: &[Pair],
+    rows: &[NewRow],
+    words: &mut Vec<u64>,
+    work: &mut Work,
+)
+    requires values { length values.now ≡ length plan.now.controls }
+    requires words { length words.old.items ≡ length plan.now.clusters }
+    requires rows { AreNewRows plan.now rows.now }
+    requires fresh { work.old.told ≡ 0 }
+    ensures words { AreRenewed D.told plan.now (cluster_changes plan.now values.now pairs.now rows.now) (row_given rows.now) words.old.items words.new.items }
+    ensures work { work.new ≡ record work.old { told = notified_count plan.now (cluster_changes plan.now values.now pairs.now rows.now) } }
+{
+    for cluster in 0..plan.cluster_count() {
+        notify_touched(plan, values, pairs, rows, cluster, words, work);
+    }
+}
+
+// Notifies a cluster of its new row, where it gets one that changes a member.
+fn notify_touched<D: Driver>(
+    plan: &Plan<D>,
+    values: &[CtrlValue],
+    pairs: &[Pair],
+    rows: &[NewRow],
+    cluster: u32,
+    words: &mut Vec<u64>,
+    work: &mut Work,
+)
+    requires known { cluster < length plan.now.clusters }
+    requires values { length values.now ≡ length plan.now.controls }
+    requires words { length words.old.items ≡ length plan.now.clusters }
+    requires rows { AreNewRows plan.now rows.now }
+    ensures words { IsRenewed D.told plan.now cluster (cluster_changes plan.now values.now pairs.now rows.now cluster) (row_given rows.now cluster) words.old.items words.new.items }
+    ensures work { work.new ≡ record work.old { told = after_change plan.now cluster (cluster_changes plan.now values.now pairs.now rows.now cluster) work.old.told } }
+{
+    if let Some(row) = NewRow::among(rows, cluster) {
+        let members = plan.members(cluster);
+        let changed = row_changes(plan, values, pairs, members, &row);
+        notify_where(plan, words, cluster, changed, &row, work);
+    }
+}
+
+// Notifies a cluster of its new row, where the row changes a member, and keeps the word.
+fn notify_where<D: Driver>(
+    plan: &Plan<D>,
+    words: &mut Vec<u64>,
+    cluster: u32,
+    changed: bool,
+    row: &ClusterRow,
+    work: &mut Work,
+)
+    requires known { cluster < length plan.now.clusters }
+    requires each { length words.old.items ≡ length plan.now.clusters }
+    ensures words { IsRenewed D.told plan.now cluster changed row.now words.old.items words.new.items }
+    ensures work { work.new ≡ record work.old { told = after_change plan.now cluster changed work.old.told } }
+{
+    if changed {
+        words[cluster as usize] = notify(plan, cluster, row, work);
+    }
+}
+
+/// Notifies each cluster of its row of a device's first values, in rising number, and answers the words (Linux driver API, "V4L2 Controls",
+/// "Adding Notify Callbacks"; that buttons and READ_ONLY controls are among them is of this project).
+///
+/// - `alloc`: where the words lie.
+/// - `plan`: what the device is built of.
+/// - `values`: the values; the caller owes one for each control.
+///
+/// Refused with want of memory; nobody is notified then.
+pub fn first_words<D: Driver>(
+    alloc: Global,
+    plan: &Plan<D>,
+    values: &[CtrlValue],
+) -> Result<Vec<u64>, AllocError>
+    requires { length values.now ≡ length plan.now.controls }
+    ensures { IfOk result (λ words. HaveWords D.told plan.now values.now words.items) }
+{
+    let count = plan.cluster_count();
+    let mut words = Vec::with_capacity(alloc, count as usize)?;
+    let mut work = Work::new();
+    for cluster in 0..count {
+        words.push_reserved(notify_present(plan, values, cluster, &mut work));
+    }
+    Ok(words)
+}
+
+// Notifies a cluster of its row of these values, and answers the word.
+fn notify_present<D: Driver>(
+    plan: &Plan<D>,
+    values: &[CtrlValue],
+    cluster: u32,
+    work: &mut Work,
+) -> u64
+    requires known { cluster < length plan.now.clusters }
+    requires there { length values.now ≡ length plan.now.controls }
+    ensures { MaySay D.told (calls_of plan.now cluster).notifier (row_of values.now (members plan.now cluster)) result }
+{
+    let row = present_row(values, plan.members(cluster));
+    notify(plan, cluster, &row, work)
+}
+
+// Notifies a cluster of a row, and answers the word; 0 where it has no notifier.
+fn notify<D: Driver>(plan: &Plan<D>, cluster: u32, row: &ClusterRow, work: &mut Work) -> u64
+    ensures word { MaySay D.told (calls_of plan.now cluster).notifier row.now result }
+    ensures work { work.new ≡ record work.old { told = after_notifying (calls_of plan.now cluster).notifier work.old.told } }
+{
+    match plan.notifier(cluster) {
+        Some(notifier) => ctrl_calls::tell(notifier, row, work),
+        None => 0,
+    }
+}
