@@ -310,3 +310,25 @@ overlay_written verdicts plan controls values grabs pairs rows free touched beco
         → unwrap_or (given_in plan (row_after verdicts plan controls values grabs pairs) o i) (value_at values i) ≡ unwrap_or (value_among plan rows o i) (value_at values i)
     by i None is = refl
     by i (Some k) is = at i k (row_among rows k) is refl
+
+-- one of some numbers passes
+pub any_of : (f : ℕ → Bool) (cs : List ℕ) (c : ℕ) → list_any (nat_eq c) cs ≡ true → f c ≡ true → list_any f cs ≡ true
+any_of f [] c among passes = cc
+any_of f (d ∷ cs) c among passes = by (λ h. any_of f cs c h passes) (eqb_tells c d)
+  where
+    by : (list_any (nat_eq c) cs ≡ true → list_any f cs ≡ true) → ((c == d) ≡ true × (c ≡ d)) ⊎ ((c == d) ≡ false × (c ≢ d)) → list_any f (d ∷ cs) ≡ true
+    by rest (inl h) = or_true (f d) (list_any f cs) (ap f (sym h.1) ∙ passes)
+    by rest (inr h) = or_true_right (f d) (list_any f cs) (rest (rw h.0 at among))
+
+-- a cluster with a member among the pairs that isn't held has the row that it becomes
+pub row_after_free : (verdicts : Verdicts) (plan : PlanData) (controls : List Control) (values : Values) (grabs : Grabs) (pairs : List Pair) (k : ℕ) → is_touched pairs (members plan k) ≡ true
+    → is_held grabs pairs (members plan k) ≡ false → row_after verdicts plan controls values grabs pairs k ≡ becomes verdicts plan controls values pairs k
+row_after_free verdicts plan controls values grabs pairs k touched free = rw (touched, free) refl
+
+-- where nothing is grabbed no cluster is held
+pub held_not : (pairs : List Pair) (cs : List ℕ) → is_held [] pairs cs ≡ false
+held_not pairs cs = none_any (λ c. is_among pairs c && is_grabbed [] c) cs (λ c among. and_false (is_among pairs c))
+  where
+    and_false : (a : Bool) → (a && false) ≡ false
+    and_false true = refl
+    and_false false = refl

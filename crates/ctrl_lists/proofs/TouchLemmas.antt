@@ -1,106 +1,149 @@
--- The rows that clusters have.
-use Rattle.std.proofs.Common.{◌≡◌, ◌≢◌, ℕ, ℤ, eq-eqb, ◌<◌, ◌+◌, ◌==◌, true, false, nat_eq, get_or, List, [], ◌∷◌, ◌++◌, length, Option, None, Some, is_some, unwrap_or, Ok, inl, inr, ◌⊎◌, subst, refl, ap, sym, ◌∙◌}
-use Rattle.std.specs.List.{All, list_any}
+-- The rows that clusters get, and how many validators were asked for them.
+use Rattle.std.proofs.Common.{◌≡◌, ◌≢◌, ℕ, ◌<◌, ◌≤◌, ◌+◌, ◌-◌, ◌^◌, ◌==◌, ◌||◌, Bool, true, false, cond, nat_eq, eq-eqb, min, pos, get_or, List, [], ◌∷◌, ◌++◌, length, Option, None, Some, is_some, unwrap_or, Ok, Err, Result, IsTrue, inl, inr, ◌⊎◌, subst, refl, ap, sym, ◌∙◌, arith, count_by}
+use Rattle.std.specs.List.{All, list_any, sum_by}
+use Rattle.std.specs.Option.{option_and_then}
 use Rattle.std.proofs.lemmas.Bool.Decides.{eqb_tells}
 use Rattle.std.proofs.lemmas.List.{length_push, map-append}
-use Rattle.std.proofs.lemmas.List.Elements.{All-head, All-tail}
+use Rattle.std.proofs.lemmas.List.Folds.{list_any-append, list_any_at}
+use Rattle.std.proofs.lemmas.List.Elements.{All-weaker, All-from_get_or}
+use Rattle.std.proofs.lemmas.List.Sums.{sum_by-append, sum_by-cons}
+use Rattle.ctrl_types.specs.Values.{CtrlValue}
+use Rattle.ctrl_types.specs.declared.errno.Errno.{Errno}
 use Rattle.ctrl_types.specs.declared.ids.ExtControl.{ExtControl}
 use Rattle.ctrl_types.specs.declared.ids.Pair.{Pair}
 use Rattle.ctrl_calls.specs.Meanings.{Verdicts}
-use Rattle.ctrl_handlers.specs.Plan.{PlanData, control, cluster_of}
-use Rattle.ctrl_clusters.specs.Rows.{Values, value_at}
-use Rattle.ctrl_clusters.specs.Judging.{becomes}
+use Rattle.ctrl_calls.specs.declared.relation.Relation.{Relation}
+use Rattle.ctrl_handlers.specs.Plan.{PlanData, control, cluster_of, calls_of, members}
+use Rattle.ctrl_handlers.proofs.ClusterLemmas.{cluster_of_member}
+use Rattle.ctrl_clusters.specs.Rows.{Values, value_at, value_in}
+use Rattle.ctrl_clusters.specs.Judging.{becomes, after_judging}
+use Rattle.ctrl_clusters.specs.Overlay.{is_among, is_touched, row_after, given_by, given_in, value_after, no_grabs}
+use Rattle.ctrl_clusters.specs.NewRows.{clusters_of, row_among, value_among, value_written}
+use Rattle.ctrl_clusters.specs.declared.new_row.NewRow.{NewRow}
+use Rattle.ctrl_clusters.proofs.NewRowLemmas.{row_met, has_row}
+use Rattle.ctrl_clusters.proofs.OverlayLemmas.{any_of, row_after_free, held_not, or_true, or_true_right}
 use Rattle.ctrl_lists.specs.View.{ViewData}
-use Rattle.ctrl_lists.specs.Checks.{errno_of, row_becomes}
-use Rattle.ctrl_lists.specs.Touched.{with_cluster, clusters_of, row_among, value_among, entry_in, AreRows, AreJudged}
-use Rattle.ctrl_lists.specs.Answers.{value_of_row, entry_judged}
+use Rattle.ctrl_lists.specs.Checks.{errno_of, row_laid}
+use Rattle.ctrl_lists.specs.Touched.{with_cluster, entry_in, AreRows, AreJudged, judged_count, with_calls}
+use Rattle.ctrl_lists.specs.Answers.{entry_judged}
 use Rattle.ctrl_lists.proofs.ListLemmas.{touched_has}
-use Rattle.ctrl_lists.specs.declared.touched.TouchedRow.{TouchedRow}
 
-same_row : (a b : List ℤ) → Some a ≡ Some b → a ≡ b
-same_row a b e = cc
-
--- what holds of each row holds of the one that a cluster has
-pub row_met : (P : ℕ → List ℤ → Type 0) (rows : List TouchedRow) (k : ℕ) (row : List ℤ) → All (λ r. P r.cluster r.row) rows → row_among rows k ≡ Some row → P k row
-row_met P [] k row all found = absurd (none found)
+-- the cluster of a control among the pairs has the row that it becomes
+pub laid_becomes : (verdicts : Verdicts) (plan : PlanData) (view : ViewData) (laid : List Pair) (c k : ℕ) → IsTrue (is_among laid c) → cluster_of plan c ≡ Some k
+    → row_laid verdicts plan view laid (Some k) ≡ becomes verdicts plan view.controls view.values laid k
+laid_becomes verdicts plan view laid c k among found =
+    row_after_free verdicts plan view.controls view.values no_grabs laid k (any_of (is_among laid) (members plan k) c (cluster_of_member plan c k found) (is_true among)) (held_not laid (members plan k))
   where
-    none : None ≡ Some row → ⊥
-    none e = cc
-row_met P (r ∷ rows) k row all found = by (λ left. row_met P rows k row (All-tail (λ (t : TouchedRow). P t.cluster t.row) r rows all) left) (eqb_tells r.cluster k)
-  where
-    by : (row_among rows k ≡ Some row → P k row) → ((r.cluster == k) ≡ true × (r.cluster ≡ k)) ⊎ ((r.cluster == k) ≡ false × (r.cluster ≢ k)) → P k row
-    by later (inl h) =
-        let here : Some r.row ≡ Some row = rw h.0 at found in
-        let own : P k r.row = subst (λ (j : ℕ). P j r.row) h.1 (All-head (λ (t : TouchedRow). P t.cluster t.row) r rows all) in
-        subst (λ (x : List ℤ). P k x) (same_row r.row row here) own
-    by later (inr h) = later (rw h.0 at found)
-
--- a cluster is among those that have rows where it has one
-pub has_row : (rows : List TouchedRow) (k : ℕ) → list_any (nat_eq k) (clusters_of rows) ≡ is_some (row_among rows k)
-has_row [] k = refl
-has_row (r ∷ rows) k = by (has_row rows k) (eqb_tells r.cluster k)
-  where
-    other : (a b : ℕ) → a ≢ b → nat_eq b a ≡ false
-    other a b differ = tell (eqb_tells b a)
-      where
-        tell : ((b == a) ≡ true × (b ≡ a)) ⊎ ((b == a) ≡ false × (b ≢ a)) → nat_eq b a ≡ false
-        tell (inl h) = absurd (differ (sym h.1))
-        tell (inr h) = h.0
-
-    by : list_any (nat_eq k) (clusters_of rows) ≡ is_some (row_among rows k) → ((r.cluster == k) ≡ true × (r.cluster ≡ k)) ⊎ ((r.cluster == k) ≡ false × (r.cluster ≢ k))
-        → list_any (nat_eq k) (clusters_of (r ∷ rows)) ≡ is_some (row_among (r ∷ rows) k)
-    by same (inl h) = rw (h.0, eq-eqb k r.cluster (sym h.1)) refl
-    by same (inr h) = rw (h.0, other r.cluster k h.1) same
+    is_true : {b : Bool} → IsTrue b → b ≡ true
+    is_true h = h
 
 -- a cluster that has a row was accepted
-pub accepted : (verdicts : Verdicts) (plan : PlanData) (view : ViewData) (laid : List Pair) (rows : List TouchedRow) (k : ℕ) → AreRows verdicts plan view.values laid rows → is_some (row_among rows k) ≡ true
-    → errno_of (row_becomes verdicts plan view laid (Some k)) ≡ None
-accepted verdicts plan view laid rows k are there = by (row_among rows k) refl there
+pub accepted : (verdicts : Verdicts) (plan : PlanData) (view : ViewData) (laid : List Pair) (rows : List NewRow) (c k : ℕ) → AreRows verdicts plan view.controls view.values laid rows → IsTrue (is_among laid c) → cluster_of plan c ≡ Some k
+    → is_some (row_among rows k) ≡ true → errno_of (row_laid verdicts plan view laid (Some k)) ≡ None
+accepted verdicts plan view laid rows c k are among found there = by (row_among rows k) refl there
   where
-    by : (o : Option (List ℤ)) → row_among rows k ≡ o → is_some o ≡ true → errno_of (row_becomes verdicts plan view laid (Some k)) ≡ None
-    by None found is = cc
-    by (Some row) found is = rw (row_met (λ (j : ℕ) (x : List ℤ). becomes verdicts plan view.values laid j ≡ Ok x) rows k row are found) refl
+    by : (o : Option (List CtrlValue)) → row_among rows k ≡ o → is_some o ≡ true → errno_of (row_laid verdicts plan view laid (Some k)) ≡ None
+    by None at is = cc
+    by (Some row) at is =
+        ap errno_of (laid_becomes verdicts plan view laid c k among found ∙ row_met (λ (j : ℕ) (x : List CtrlValue). becomes verdicts plan view.controls view.values laid j ≡ Ok x) rows k row are at)
+
+-- what a cluster's row becomes is what is laid
+pub accepted_now : (verdicts : Verdicts) (plan : PlanData) (view : ViewData) (laid : List Pair) (c k : ℕ) (row : List CtrlValue) → IsTrue (is_among laid c) → cluster_of plan c ≡ Some k
+    → Ok row ≡ becomes verdicts plan view.controls view.values laid k → errno_of (row_laid verdicts plan view laid (cluster_of plan c)) ≡ None
+accepted_now verdicts plan view laid c k row among found is =
+    ap (λ (o : Option ℕ). errno_of (row_laid verdicts plan view laid o)) found ∙ ap errno_of (laid_becomes verdicts plan view laid c k among found ∙ sym is)
+
+pub refused_now : (verdicts : Verdicts) (plan : PlanData) (view : ViewData) (laid : List Pair) (c k : ℕ) (errno : Errno) → IsTrue (is_among laid c) → cluster_of plan c ≡ Some k
+    → Err errno ≡ becomes verdicts plan view.controls view.values laid k → errno_of (row_laid verdicts plan view laid (cluster_of plan c)) ≡ Some errno
+refused_now verdicts plan view laid c k errno among found is =
+    ap (λ (o : Option ℕ). errno_of (row_laid verdicts plan view laid o)) found ∙ ap errno_of (laid_becomes verdicts plan view laid c k among found ∙ sym is)
 
 -- a cluster that has a row isn't added again
-pub added_not : (rows : List TouchedRow) (k : ℕ) → is_some (row_among rows k) ≡ true → clusters_of rows ≡ with_cluster (clusters_of rows) (Some k)
+pub added_not : (rows : List NewRow) (k : ℕ) → is_some (row_among rows k) ≡ true → clusters_of rows ≡ with_cluster (clusters_of rows) (Some k)
 added_not rows k there = rw (has_row rows k, there) refl
 
 -- one that has none is added
-pub added : (rows : List TouchedRow) (k : ℕ) → is_some (row_among rows k) ≡ false → with_cluster (clusters_of rows) (Some k) ≡ clusters_of rows ++ k ∷ []
+pub added : (rows : List NewRow) (k : ℕ) → is_some (row_among rows k) ≡ false → with_cluster (clusters_of rows) (Some k) ≡ clusters_of rows ++ k ∷ []
 added rows k none = rw (has_row rows k, none) refl
 
-pub added_length : (rows : List TouchedRow) (k : ℕ) → is_some (row_among rows k) ≡ false → length (with_cluster (clusters_of rows) (Some k)) ≡ length (clusters_of rows) + 1
+pub added_length : (rows : List NewRow) (k : ℕ) → is_some (row_among rows k) ≡ false → length (with_cluster (clusters_of rows) (Some k)) ≡ length (clusters_of rows) + 1
 added_length rows k none = ap length (added rows k none) ∙ length_push (clusters_of rows) k
 
 -- its row comes last
-pub added_row : (rows new : List TouchedRow) (r : TouchedRow) → is_some (row_among rows r.cluster) ≡ false → new ≡ rows ++ r ∷ [] → clusters_of new ≡ with_cluster (clusters_of rows) (Some r.cluster)
-added_row rows new r none is = ap clusters_of is ∙ map-append (λ (t : TouchedRow). t.cluster) rows (r ∷ []) ∙ sym (added rows r.cluster none)
+pub added_row : (rows new : List NewRow) (r : NewRow) → is_some (row_among rows r.cluster) ≡ false → new ≡ rows ++ r ∷ [] → clusters_of new ≡ with_cluster (clusters_of rows) (Some r.cluster)
+added_row rows new r none is = ap clusters_of is ∙ map-append (λ (t : NewRow). t.cluster) rows (r ∷ []) ∙ sym (added rows r.cluster none)
 
--- the value that the rows give a control of the list is the one that its cluster's row gives it
-pub value_same : (verdicts : Verdicts) (plan : PlanData) (view : ViewData) (laid pairs : List Pair) (rows : List TouchedRow) (i : ℕ) (d : Pair)
-    → AreJudged verdicts plan view.values laid pairs rows → i < length pairs
-    → value_among plan rows (cluster_of plan (get_or pairs i d).control) (get_or pairs i d).control
-    ≡ value_of_row plan (cluster_of plan (get_or pairs i d).control) (row_becomes verdicts plan view laid (cluster_of plan (get_or pairs i d).control)) (get_or pairs i d).control
-value_same verdicts plan view laid pairs rows i d judged within = by (cluster_of plan c) refl
+-- one more cluster is counted where it has a validator
+pub counted_next : (plan : PlanData) (rows new : List NewRow) (r : NewRow) (n before after : ℕ) → new ≡ rows ++ r ∷ [] → after ≡ after_judging (calls_of plan r.cluster).validator before
+    → before ≡ with_calls (judged_count plan (clusters_of rows)) n → after ≡ with_calls (judged_count plan (clusters_of new)) n
+counted_next plan rows new r n before after is asked old =
+    asked ∙ ap (after_judging (calls_of plan r.cluster).validator) old ∙ by (calls_of plan r.cluster).validator refl ∙ ap (λ (m : ℕ). with_calls m n) (sym more)
+  where
+    one : ℕ → ℕ
+    one k = cond (is_some (calls_of plan k).validator) 1 0
+
+    judged : ℕ
+    judged = judged_count plan (clusters_of rows)
+
+    more : judged_count plan (clusters_of new) ≡ judged + cond (is_some (calls_of plan r.cluster).validator) 1 0
+    more =
+        ap (λ (rs : List NewRow). judged_count plan (clusters_of rs)) is
+        ∙ ap (judged_count plan) (map-append (λ (t : NewRow). t.cluster) rows (r ∷ []))
+        ∙ sum_by-append (λ (k : ℕ). cond (is_some (calls_of plan k).validator) 1 0) (clusters_of rows) (r.cluster ∷ [])
+        ∙ ap (λ (m : ℕ). judged + m) (sum_by-cons (λ (k : ℕ). cond (is_some (calls_of plan k).validator) 1 0) r.cluster [] ∙ omega arith)
+
+    by : (o : Option Relation) → (calls_of plan r.cluster).validator ≡ o → after_judging o (with_calls judged n) ≡ with_calls (judged + cond (is_some o) 1 0) n
+    by None e = omega arith
+    by (Some relation) e = omega arith
+
+-- no cluster, no call
+pub counted_none : (plan : PlanData) (n : ℕ) → n < 2 ^ 64 → n ≡ with_calls (judged_count plan []) n
+counted_none plan n fits = omega (arith, fits)
+
+-- each control of some pairs is among them, and among more of them
+each_among : (pairs ps : List Pair) → ((c : ℕ) → is_among ps c ≡ true → is_among pairs c ≡ true) → All (λ p. IsTrue (is_among pairs p.control)) ps
+each_among pairs ps there =
+    All-from_get_or (λ p. IsTrue (is_among pairs p.control)) ps (record { control = 0; value = pos 0 })
+    (λ i lt. there (get_or ps i (record { control = 0; value = pos 0 })).control
+    (list_any_at (λ q. q.control == (get_or ps i (record { control = 0; value = pos 0 })).control) ps i (record { control = 0; value = pos 0 }) lt (eq-eqb _ _ refl)))
+
+pub own_among : (pairs : List Pair) → All (λ p. IsTrue (is_among pairs p.control)) pairs
+own_among pairs = each_among pairs pairs (λ c h. h)
+
+pub more_among : (first pairs : List Pair) → All (λ p. IsTrue (is_among (first ++ pairs) p.control)) pairs
+more_among first pairs =
+    All-weaker (λ p. IsTrue (is_among pairs p.control)) (λ p. IsTrue (is_among (first ++ pairs) p.control))
+    (λ p among. list_any-append (λ q. q.control == p.control) first pairs ∙ or_true_right (is_among first p.control) (is_among pairs p.control) among) pairs (own_among pairs)
+
+-- the value that the rows give a control of the list is the one that it has once its cluster was judged
+pub value_same : (verdicts : Verdicts) (plan : PlanData) (view : ViewData) (laid pairs : List Pair) (rows : List NewRow) (i : ℕ) (d : Pair)
+    → AreJudged verdicts plan view.controls view.values laid pairs rows → i < length pairs → IsTrue (is_among laid (get_or pairs i d).control)
+    → value_written plan view.values rows (get_or pairs i d).control ≡ value_after verdicts plan view.controls view.values no_grabs laid (get_or pairs i d).control
+value_same verdicts plan view laid pairs rows i d judged within among = by (cluster_of plan c) refl
   where
     c : ℕ
     c = (get_or pairs i d).control
 
-    at : (k : ℕ) (o : Option (List ℤ)) → row_among rows k ≡ o → is_some o ≡ true → value_among plan rows (Some k) c ≡ value_of_row plan (Some k) (becomes verdicts plan view.values laid k) c
-    at k None found there = cc
-    at k (Some row) found there = rw (found, row_met (λ (j : ℕ) (x : List ℤ). becomes verdicts plan view.values laid j ≡ Ok x) rows k row judged.become found) refl
+    own : CtrlValue
+    own = value_at view.values c
 
-    by : (o : Option ℕ) → cluster_of plan c ≡ o → value_among plan rows o c ≡ value_of_row plan o (row_becomes verdicts plan view laid o) c
+    at : (k : ℕ) (o : Option (List CtrlValue)) → cluster_of plan c ≡ Some k → row_among rows k ≡ o → is_some o ≡ true
+        → unwrap_or (option_and_then (λ row. value_in (members plan k) row c) o) own ≡ unwrap_or (given_by (members plan k) (row_laid verdicts plan view laid (Some k)) c) own
+    at k None is found there = cc
+    at k (Some row) is found there =
+        rw (laid_becomes verdicts plan view laid c k among is, row_met (λ (j : ℕ) (x : List CtrlValue). becomes verdicts plan view.controls view.values laid j ≡ Ok x) rows k row judged.become found) refl
+
+    by : (o : Option ℕ) → cluster_of plan c ≡ o → unwrap_or (value_among plan rows o c) own ≡ unwrap_or (given_in plan (row_after verdicts plan view.controls view.values no_grabs laid) o c) own
     by None is = refl
     by (Some k) is =
-        at k (row_among rows k) refl (sym (has_row rows k) ∙ ap (list_any (nat_eq k)) judged.each_once ∙ touched_has plan pairs i d k within is)
+        at k (row_among rows k) is refl (sym (has_row rows k) ∙ ap (list_any (nat_eq k)) judged.each_once ∙ touched_has plan pairs i d k within is)
 
 -- the rows give a pair of the list its entry
-pub entry_same : (verdicts : Verdicts) (plan : PlanData) (view : ViewData) (laid pairs : List Pair) (rows : List TouchedRow) (i : ℕ) (d : Pair)
-    → AreJudged verdicts plan view.values laid pairs rows → i < length pairs
+pub entry_same : (verdicts : Verdicts) (plan : PlanData) (view : ViewData) (laid pairs : List Pair) (rows : List NewRow) (i : ℕ) (d : Pair)
+    → AreJudged verdicts plan view.controls view.values laid pairs rows → i < length pairs → IsTrue (is_among laid (get_or pairs i d).control)
     → entry_in plan view.values rows (get_or pairs i d).control ≡ entry_judged verdicts plan view laid (get_or pairs i d)
-entry_same verdicts plan view laid pairs rows i d judged within =
-    ap (entry_with plan view.values (get_or pairs i d).control) (value_same verdicts plan view laid pairs rows i d judged within)
+entry_same verdicts plan view laid pairs rows i d judged within among =
+    ap (entry_with plan (get_or pairs i d).control) (value_same verdicts plan view laid pairs rows i d judged within among)
   where
-    entry_with : PlanData → Values → ℕ → Option ℤ → ExtControl
-    entry_with plan values c v = record { id = (control plan c).id; value = unwrap_or v (value_at values c) }
+    entry_with : PlanData → ℕ → CtrlValue → ExtControl
+    entry_with plan c v = record { id = (control plan c).id; value = v }

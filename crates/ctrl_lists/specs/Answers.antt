@@ -1,6 +1,7 @@
 -- What a list of controls is answered (Linux userspace API, "ioctl VIDIOC_G_EXT_CTRLS, VIDIOC_S_EXT_CTRLS, VIDIOC_TRY_EXT_CTRLS";
 -- which index a refusal has is of this project).
-use Rattle.std.specs.Prelude.{ℕ, ℤ, Bool, true, false, not, List, [], ◌∷◌, map, length, Option, None, Some, unwrap_or, Result, Ok, Err}
+use Rattle.std.specs.Prelude.{ℕ, Bool, true, false, not, List, [], ◌∷◌, map, length, Option, None, Some, unwrap_or, Result, Ok, Err}
+use Rattle.ctrl_types.specs.Values.{CtrlValue}
 use Rattle.ctrl_types.specs.declared.errno.Errno.{Errno}
 use Rattle.ctrl_types.specs.declared.errno.Errno.TheVariants.{ENOMEM}
 use Rattle.ctrl_types.specs.declared.errno.Fault.{Fault}
@@ -9,11 +10,13 @@ use Rattle.ctrl_types.specs.declared.ids.Pair.{Pair}
 use Rattle.ctrl_types.specs.declared.which.Which.{Which}
 use Rattle.ctrl_types.specs.declared.which.Which.TheVariants.{Defaults}
 use Rattle.ctrl_calls.specs.Meanings.{Verdicts}
-use Rattle.ctrl_handlers.specs.Plan.{PlanData, control, cluster_of, members}
-use Rattle.ctrl_clusters.specs.Rows.{Values, value_at, value_in}
+use Rattle.ctrl_settle.specs.Control.{Control}
+use Rattle.ctrl_handlers.specs.Plan.{PlanData, control, control_in}
+use Rattle.ctrl_clusters.specs.Rows.{Values, value_at}
+use Rattle.ctrl_clusters.specs.Overlay.{value_after, no_grabs}
 use Rattle.ctrl_lists.specs.declared.refusal.Refusal.{Refusal}
 use Rattle.ctrl_lists.specs.View.{ViewData, pairs_of}
-use Rattle.ctrl_lists.specs.Checks.{first_refusal, is_long, laid_pairs, row_becomes, read_checks, write_checks}
+use Rattle.ctrl_lists.specs.Checks.{first_refusal, is_long, laid_pairs, read_checks, write_checks}
 
 -- what a list is answered: its entries with their values, or a fault
 abbrev pub ListAnswer : Type 0
@@ -33,29 +36,22 @@ answered fault (Some refusal) entries = Err (fault refusal)
 answered fault None entries = Ok entries
 
 -- the value that a control is read with: its default where the list speaks of the defaults, else the one that it has
-abbrev pub value_read : PlanData → Values → Which → ℕ → ℤ
-value_read plan values Defaults c = (control plan c).default_value
-value_read plan values _ c = value_at values c
+abbrev pub value_read : List Control → Values → Which → ℕ → CtrlValue
+value_read controls values Defaults c = (control_in controls c).default_value
+value_read controls values _ c = value_at values c
 
 -- a control, as it is read
 abbrev pub entry_read : PlanData → ViewData → Pair → ExtControl
-entry_read plan view p = record { id = (control plan p.control).id; value = value_read plan view.values view.which p.control }
+entry_read plan view p = record { id = (control plan p.control).id; value = value_read view.controls view.values view.which p.control }
 
 -- What a get is answered, memory aside.
 unfoldable pub get_answer : PlanData → ViewData → List ExtControl → ListAnswer
 get_answer plan view list =
     answered (fault_at_count (length list)) (first_refusal (read_checks plan view list)) (map (entry_read plan view) (pairs_of plan view.handler view.which list))
 
--- the value that the row of a cluster gives a control
-abbrev pub value_of_row : PlanData → Option ℕ → Result (List ℤ) Errno → ℕ → Option ℤ
-value_of_row plan (Some k) (Ok row) c = value_in (members plan k) row c
-value_of_row plan _ _ c = None
-
--- The value that a control has once its cluster was judged. Where no row gives it one, which no list that passes the checks meets, it
--- is the one from before.
-abbrev pub value_judged : Verdicts → PlanData → ViewData → List Pair → ℕ → ℤ
-value_judged verdicts plan view pairs c =
-    unwrap_or (value_of_row plan (cluster_of plan c) (row_becomes verdicts plan view pairs (cluster_of plan c)) c) (value_at view.values c)
+-- The value that a control has once its cluster was judged.
+abbrev pub value_judged : Verdicts → PlanData → ViewData → List Pair → ℕ → CtrlValue
+value_judged verdicts plan view pairs c = value_after verdicts plan view.controls view.values no_grabs pairs c
 
 -- a control, as it is written
 abbrev pub entry_judged : Verdicts → PlanData → ViewData → List Pair → Pair → ExtControl

@@ -1,7 +1,8 @@
 -- What refuses a list of controls: the checks, each with its sentence (Linux userspace API, "ioctl VIDIOC_G_EXT_CTRLS,
 -- VIDIOC_S_EXT_CTRLS, VIDIOC_TRY_EXT_CTRLS"; the order of the checks is of this project, a kernel may have another).
-use Rattle.std.specs.Prelude.{ℕ, ℤ, Bool, true, false, not, ◌&&◌, ◌+◌, if◌then◌else◌, nat_lt, List, [], ◌∷◌, ◌++◌, length, Option, None, Some, is_some, Result, Ok, Err}
+use Rattle.std.specs.Prelude.{ℕ, Bool, true, false, not, ◌&&◌, ◌+◌, if◌then◌else◌, nat_lt, List, [], ◌∷◌, ◌++◌, length, Option, None, Some, is_some, Result, Ok, Err}
 use Rattle.ctrl_types.specs.Flags.{contains}
+use Rattle.ctrl_types.specs.Values.{CtrlValue}
 use Rattle.ctrl_types.specs.declared.errno.Errno.{Errno}
 use Rattle.ctrl_types.specs.declared.errno.Errno.TheVariants.{EACCES, EBUSY, EINVAL, ENOMEM}
 use Rattle.ctrl_types.specs.declared.flags.TheConstants.Flags.{READ_ONLY, WRITE_ONLY}
@@ -11,9 +12,9 @@ use Rattle.ctrl_types.specs.declared.which.Which.{Which}
 use Rattle.ctrl_types.specs.declared.which.Which.TheVariants.{Class}
 use Rattle.ctrl_calls.specs.Meanings.{Verdicts}
 use Rattle.ctrl_settle.specs.Settle.{settle}
-use Rattle.ctrl_handlers.specs.Plan.{PlanData, control, cluster_of}
+use Rattle.ctrl_handlers.specs.Plan.{PlanData, control, control_in, cluster_of}
 use Rattle.ctrl_clusters.specs.Rows.{is_grabbed}
-use Rattle.ctrl_clusters.specs.Judging.{becomes}
+use Rattle.ctrl_clusters.specs.Overlay.{row_after, no_grabs}
 use Rattle.ctrl_lists.specs.declared.limits.TheConstants.{MAX_ENTRIES}
 use Rattle.ctrl_lists.specs.declared.refusal.Refusal.{Refusal}
 use Rattle.ctrl_lists.specs.View.{ViewData, named, pairs_of, shows_class}
@@ -79,20 +80,21 @@ abbrev pub writing_refusal : PlanData → ViewData → Bool → Pair → Option 
 writing_refusal plan view is_set p =
     if contains (control plan p.control).flags READ_ONLY then Some EACCES
     else if is_set && is_grabbed view.grabs p.control then Some EBUSY
-    else errno_of (settle (control plan p.control) p.value)
+    else errno_of (settle (control_in view.controls p.control) p.value)
 
 -- the pairs that are laid over the values: those from before, and then the list's
 abbrev pub laid_pairs : PlanData → ViewData → List ExtControl → List Pair
 laid_pairs plan view list = view.asked ++ pairs_of plan view.handler view.which list
 
--- what the row of a cluster becomes; a control that is in none, as no control of a finished plan is, can't be judged
-abbrev pub row_becomes : Verdicts → PlanData → ViewData → List Pair → Option ℕ → Result (List ℤ) Errno
-row_becomes verdicts plan view pairs None = Err EINVAL
-row_becomes verdicts plan view pairs (Some k) = becomes verdicts plan view.values pairs k
+-- The row of a cluster once pairs are laid over the values. Grabs refuse entries before, one by one, and pairs from before are laid whatever
+-- is grabbed. A control that is in no cluster, as none of a finished plan is, can't be judged.
+abbrev pub row_laid : Verdicts → PlanData → ViewData → List Pair → Option ℕ → Result (List CtrlValue) Errno
+row_laid verdicts plan view pairs None = Err EINVAL
+row_laid verdicts plan view pairs (Some k) = row_after verdicts plan view.controls view.values no_grabs pairs k
 
 -- a control whose cluster is refused: a member doesn't settle, or judging refuses the row
 abbrev pub judging_refusal : Verdicts → PlanData → ViewData → List Pair → Pair → Option Errno
-judging_refusal verdicts plan view pairs p = errno_of (row_becomes verdicts plan view pairs (cluster_of plan p.control))
+judging_refusal verdicts plan view pairs p = errno_of (row_laid verdicts plan view pairs (cluster_of plan p.control))
 
 -- The checks of a list that reads, the first refusal first. Once each entry names a control, the places of the pairs are those of the
 -- entries.

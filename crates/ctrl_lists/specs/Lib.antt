@@ -1,4 +1,5 @@
 pub use Rattle.ctrl_types.specs.Classes
+pub use Rattle.ctrl_types.specs.Values
 pub use Rattle.ctrl_types.specs.Flags
 pub use Rattle.ctrl_calls.specs.Counts
 pub use Rattle.ctrl_calls.specs.Meanings
@@ -10,6 +11,8 @@ pub use Rattle.ctrl_handlers.specs.Plan
 pub use Rattle.ctrl_handlers.specs.Visible
 pub use Rattle.ctrl_clusters.specs.Rows
 pub use Rattle.ctrl_clusters.specs.Judging
+pub use Rattle.ctrl_clusters.specs.Overlay
+pub use Rattle.ctrl_clusters.specs.NewRows
 pub mod View
 pub mod Checks
 pub mod Touched

@@ -11,15 +11,17 @@ use Rattle.ctrl_types.specs.declared.ids.ExtControl.{ExtControl}
 use Rattle.ctrl_types.specs.declared.ids.Pair.{Pair}
 use Rattle.ctrl_types.specs.declared.which.Which.{Which}
 use Rattle.ctrl_types.specs.declared.which.Which.TheVariants.{Class}
+use Rattle.ctrl_settle.specs.Control.{Control}
 use Rattle.ctrl_handlers.specs.Plan.{PlanData, control}
 use Rattle.ctrl_handlers.specs.Visible.{visible, find}
 use Rattle.ctrl_clusters.specs.Rows.{Values, Grabs}
 
--- The handler that shows the controls; which values the list speaks of; a value for each control, and whether it is grabbed; and the
--- pairs that are laid over the values before the list's own, the oldest first.
+-- The handler that shows the controls; which values the list speaks of; the controls as they are now, a value for each, and whether it is
+-- grabbed; and the pairs that are laid over the values before the list's own, the oldest first.
 pub record ViewData : Type 0 where
   pub handler : ℕ
   pub which : Which
+  pub controls : List Control
   pub values : Values
   pub grabs : Grabs
   pub asked : List Pair

@@ -3,6 +3,7 @@
 ghost use Rattle.std.specs.Prelude.{◌≡◌, ◌<◌, ◌≤◌, [], ◌∷◌, None, Some, length, IfErr, OnOk};
 ghost use Rattle.std.specs.List.{All};
 ghost use Rattle.ctrl_types.specs.declared.errno.Errno.TheVariants.{EINVAL};
+ghost use Rattle.ctrl_clusters.specs.Rows.{AreControlsOf};
 ghost use Rattle.ctrl_lists.specs.Checks.{at_first, first_refusal, refused_if, is_long, is_of_no_class, shows_none_of, reading_refusal, writing_refusal};
 ghost use Rattle.ctrl_lists.specs.declared.limits.TheConstants.{MAX_ENTRIES};
 
@@ -85,6 +86,7 @@ pub(crate) fn first_unwritable<D: Driver>(
     pairs: &[Pair],
 ) -> Option<Refusal>
     requires few { length pairs.now ≤ MAX_ENTRIES }
+    requires controls { AreControlsOf plan.now view.now.controls }
     requires grabs { length view.now.grabs ≡ length plan.now.controls }
     requires known { All (λ p. p.control < length plan.now.controls) pairs.now }
     ensures { result ≡ at_first (writing_refusal plan.now view.now is_set) pairs.now }
@@ -104,16 +106,17 @@ fn writing_refusal<D: Driver>(
     is_set: bool,
     pair: Pair,
 ) -> Option<Errno>
+    requires controls { AreControlsOf plan.now view.now.controls }
     requires grabs { length view.now.grabs ≡ length plan.now.controls }
     requires known { pair.control < length plan.now.controls }
     ensures { result ≡ writing_refusal plan.now view.now is_set pair }
 {
-    let ctrl = plan.control(pair.control);
-    if ctrl.flags().contains(Flags::READ_ONLY) {
+    let flags = plan.control(pair.control).flags();
+    if flags.contains(Flags::READ_ONLY) {
         return Some(Errno::EACCES);
     }
     if is_set && view.grabs[pair.control as usize] {
         return Some(Errno::EBUSY);
     }
-    settle(&ctrl, pair.value).err()
+    settle(&view.controls[pair.control as usize], pair.value).err()
 }

@@ -13,10 +13,11 @@ mod touched;
 mod view;
 
 pub use control_list::ControlList;
+pub use ctrl_clusters::NewRow;
 pub use limits::MAX_ENTRIES;
 pub use lists::{plan_set, read_list, try_list};
 pub use refusal::Refusal;
-pub use touched::{Touched, TouchedRow};
+pub use touched::Touched;
 pub use view::View;
 
 #[cfg(test)]

@@ -1,10 +1,12 @@
-ghost use Rattle.std.specs.Prelude.{◌≡◌, ◌≢◌, ◌<◌, ◌≤◌, ◌+◌, ◌⊎◌, ◌++◌, None, Some, Ok, Err, length, map, IfOk, IfErr, IsTrue};
+ghost use Rattle.std.specs.Prelude.{◌≡◌, ◌≢◌, ◌<◌, ◌≤◌, ◌+◌, ◌⊎◌, ◌++◌, None, Some, Ok, Err, length, map, IfOk, IfErr, OnOk, IsTrue};
 ghost use Rattle.std.specs.List.{All};
 ghost use Rattle.ctrl_types.specs.declared.which.Which.TheVariants.{Defaults};
+ghost use Rattle.ctrl_clusters.specs.Rows.{AreControlsOf};
+ghost use Rattle.ctrl_clusters.specs.Overlay.{is_among};
 ghost use Rattle.ctrl_lists.specs.View.{pairs_of};
 ghost use Rattle.ctrl_lists.specs.Checks.{at_first, first_refusal, judging_refusal, read_checks, write_checks, laid_pairs, memory_refusal};
-ghost use Rattle.ctrl_lists.specs.Touched.{touched, AreJudged, IsTouched};
-ghost use Rattle.ctrl_lists.specs.Answers.{entry_read, entry_judged, entries_judged, get_answer, set_answer, try_answer, may_lack, no_memory};
+ghost use Rattle.ctrl_lists.specs.Touched.{touched, AreJudged, IsTouched, judged_count, with_calls};
+ghost use Rattle.ctrl_lists.specs.Answers.{value_read, entry_read, entry_judged, entries_judged, get_answer, set_answer, try_answer, may_lack, no_memory};
 ghost use Rattle.ctrl_lists.specs.declared.limits.TheConstants.{MAX_ENTRIES};
 
 use crate::checks::{check_whole, first_unreadable, first_unwritable};
@@ -12,11 +14,13 @@ use crate::control_list::ControlList;
 use crate::naming::pairs_of;
 use crate::refusal::Refusal;
 use crate::rows::{entries_judged, judge_all};
-use crate::touched::{Touched, TouchedRow};
+use crate::touched::Touched;
 use crate::view::View;
 use ctrl_calls::{Driver, Work};
+use ctrl_clusters::NewRow;
 use ctrl_handlers::Plan;
-use ctrl_types::{ExtControl, Fault, Pair, Which};
+use ctrl_settle::Ctrl;
+use ctrl_types::{CtrlValue, ExtControl, Fault, Pair, Which};
 use std::alloc::{AllocError, Global};
 
 /// Reads controls (Linux userspace API, "ioctl VIDIOC_G_EXT_CTRLS, VIDIOC_S_EXT_CTRLS, VIDIOC_TRY_EXT_CTRLS"; the order of the
@@ -26,7 +30,8 @@ use std::alloc::{AllocError, Global};
 ///
 /// - `alloc`: where the answer lies.
 /// - `plan`: what the device is built of.
-/// - `view`: what the list is checked against; the caller owes a value for each control. Its grabs and pairs count for nothing.
+/// - `view`: what the list is checked against; the caller owes the plan's controls as they are now, with their ids,
+///   kinds, flags and skipped items, and a value for each. Its grabs and pairs count for nothing.
 /// - `list`: the entries; their values are ignored. It is lent, and never changed.
 ///
 /// Refused, in this order: EINVAL (22) where there are more than 64 entries; EINVAL where there are none and `view` speaks of a class
@@ -40,7 +45,8 @@ pub fn read_list<D: Driver>(
     view: &View<'_>,
     list: &ControlList,
 ) -> Result<ControlList, Fault>
-    requires { length view.now.values ≡ length plan.now.controls }
+    requires controls { AreControlsOf plan.now view.now.controls }
+    requires values { length view.now.values ≡ length plan.now.controls }
     ensures ok { IfOk result (λ answers. get_answer plan.now view.now list.now ≡ Ok answers) }
     ensures err { IfErr result (λ fault. (get_answer plan.now view.now list.now ≡ Err fault) ⊎ (IsTrue (may_lack list.now) × (fault ≡ no_memory (length list.now)))) }
 {
@@ -59,8 +65,8 @@ pub fn read_list<D: Driver>(
 ///
 /// - `alloc`: where rows, answers and pairs lie.
 /// - `plan`: what the device is built of.
-/// - `view`: what the list is checked against; the caller owes a value and a grab for each control, and that it doesn't speak of the
-///   defaults, which can't be written.
+/// - `view`: what the list is checked against; the caller owes the plan's controls as they are now, with their ids, kinds,
+///   flags and skipped items, a value and a grab for each, and that it doesn't speak of the defaults, which can't be written.
 /// - `list`: the entries. It is lent, and never changed.
 /// - `work`: its count `asked` grows by one for each validator that is asked, by no more than the clusters that the list touches; `told`
 ///   stays. After a refusal, too, `asked` may have grown.
@@ -81,12 +87,14 @@ pub fn plan_set<D: Driver>(
     work: &mut Work,
 ) -> Result<Touched, Fault>
     requires which { view.now.which ≢ Defaults }
+    requires controls { AreControlsOf plan.now view.now.controls }
     requires values { length view.now.values ≡ length plan.now.controls }
     requires grabs { length view.now.grabs ≡ length plan.now.controls }
     ensures ok { IfOk result (λ touch. set_answer D.verdict plan.now view.now list.now ≡ Ok touch.answers) }
     ensures touched { IfOk result (λ touch. IsTouched D.verdict plan.now view.now list.now touch) }
     ensures err { IfErr result (λ fault. (set_answer D.verdict plan.now view.now list.now ≡ Err fault) ⊎ (IsTrue (may_lack list.now) × (fault ≡ no_memory (length list.now)))) }
-    ensures asked { work.new.asked ≤ work.old.asked + length (touched plan.now (pairs_of plan.now view.now.handler view.now.which list.now)) }
+    ensures at_most { work.new.asked ≤ work.old.asked + length (touched plan.now (pairs_of plan.now view.now.handler view.now.which list.now)) }
+    ensures asked { OnOk result (work.new.asked ≡ with_calls (judged_count plan.now (touched plan.now (pairs_of plan.now view.now.handler view.now.which list.now))) work.old.asked) }
     ensures told { work.new.told ≡ work.old.told }
 {
     match judge_list(alloc, plan, view, true, list, work) {
@@ -113,12 +121,14 @@ pub fn try_list<D: Driver>(
     work: &mut Work,
 ) -> Result<Touched, Fault>
     requires which { view.now.which ≢ Defaults }
+    requires controls { AreControlsOf plan.now view.now.controls }
     requires values { length view.now.values ≡ length plan.now.controls }
     requires grabs { length view.now.grabs ≡ length plan.now.controls }
     ensures ok { IfOk result (λ touch. try_answer D.verdict plan.now view.now list.now ≡ Ok touch.answers) }
     ensures touched { IfOk result (λ touch. IsTouched D.verdict plan.now view.now list.now touch) }
     ensures err { IfErr result (λ fault. (try_answer D.verdict plan.now view.now list.now ≡ Err fault) ⊎ (IsTrue (may_lack list.now) × (fault ≡ no_memory (length list.now)))) }
-    ensures asked { work.new.asked ≤ work.old.asked + length (touched plan.now (pairs_of plan.now view.now.handler view.now.which list.now)) }
+    ensures at_most { work.new.asked ≤ work.old.asked + length (touched plan.now (pairs_of plan.now view.now.handler view.now.which list.now)) }
+    ensures asked { OnOk result (work.new.asked ≡ with_calls (judged_count plan.now (touched plan.now (pairs_of plan.now view.now.handler view.now.which list.now))) work.old.asked) }
     ensures told { work.new.told ≡ work.old.told }
 {
     match judge_list(alloc, plan, view, false, list, work) {
@@ -134,7 +144,8 @@ fn read_all<D: Driver>(
     view: &View<'_>,
     list: &ControlList,
 ) -> Result<ControlList, Refusal>
-    requires { length view.now.values ≡ length plan.now.controls }
+    requires controls { AreControlsOf plan.now view.now.controls }
+    requires values { length view.now.values ≡ length plan.now.controls }
     ensures ok { IfOk result (λ answers. first_refusal (read_checks plan.now view.now list.now) ≡ None) }
     ensures answers { IfOk result (λ answers. answers ≡ map (entry_read plan.now view.now) (pairs_of plan.now view.now.handler view.now.which list.now)) }
     ensures err { IfErr result (λ refusal. (first_refusal (read_checks plan.now view.now list.now) ≡ Some refusal) ⊎ (IsTrue (may_lack list.now) × (refusal ≡ memory_refusal))) }
@@ -160,6 +171,7 @@ fn entries_read<D: Driver>(
     view: &View<'_>,
     pairs: &[Pair],
 ) -> Result<ControlList, AllocError>
+    requires controls { AreControlsOf plan.now view.now.controls }
     requires values { length view.now.values ≡ length plan.now.controls }
     requires few { length pairs.now ≤ MAX_ENTRIES }
     requires known { All (λ p. p.control < length plan.now.controls) pairs.now }
@@ -174,18 +186,27 @@ fn entries_read<D: Driver>(
 
 // A control, as it is read.
 fn entry_read<D: Driver>(plan: &Plan<D>, view: &View<'_>, pair: Pair) -> ExtControl
+    requires controls { AreControlsOf plan.now view.now.controls }
     requires values { length view.now.values ≡ length plan.now.controls }
     requires known { pair.control < length plan.now.controls }
     ensures { result ≡ entry_read plan.now view.now pair }
 {
-    let ctrl = plan.control(pair.control);
-    let value = match view.which {
-        Which::Defaults => ctrl.default_value(),
-        Which::Current | Which::Class(_) | Which::Request => view.values[pair.control as usize],
-    };
+    let value = value_read(view.controls, view.values, view.which, pair.control);
     ExtControl {
-        id: ctrl.id(),
+        id: plan.control(pair.control).id(),
         value,
+    }
+}
+
+// The value that a control is read with.
+fn value_read(controls: &[Ctrl], values: &[CtrlValue], which: Which, control: u32) -> CtrlValue
+    requires controls { control < length controls.now }
+    requires values { control < length values.now }
+    ensures { result ≡ value_read controls.now values.now which control }
+{
+    match which {
+        Which::Defaults => controls[control as usize].default_value(),
+        Which::Current | Which::Class(_) | Which::Request => values[control as usize],
     }
 }
 
@@ -198,16 +219,20 @@ fn judge_list<D: Driver>(
     list: &ControlList,
     work: &mut Work,
 ) -> Result<Touched, Refusal>
+    requires controls { AreControlsOf plan.now view.now.controls }
     requires values { length view.now.values ≡ length plan.now.controls }
     requires grabs { length view.now.grabs ≡ length plan.now.controls }
     ensures ok { IfOk result (λ touch. first_refusal (write_checks D.verdict plan.now view.now is_set list.now) ≡ None) }
     ensures answers { IfOk result (λ touch. touch.answers ≡ entries_judged D.verdict plan.now view.now list.now) }
     ensures touched { IfOk result (λ touch. IsTouched D.verdict plan.now view.now list.now touch) }
     ensures err { IfErr result (λ refusal. (first_refusal (write_checks D.verdict plan.now view.now is_set list.now) ≡ Some refusal) ⊎ (IsTrue (may_lack list.now) × (refusal ≡ memory_refusal))) }
-    ensures asked { work.new.asked ≤ work.old.asked + length (touched plan.now (pairs_of plan.now view.now.handler view.now.which list.now)) }
+    ensures at_most { work.new.asked ≤ work.old.asked + length (touched plan.now (pairs_of plan.now view.now.handler view.now.which list.now)) }
+    ensures asked { OnOk result (work.new.asked ≡ with_calls (judged_count plan.now (touched plan.now (pairs_of plan.now view.now.handler view.now.which list.now))) work.old.asked) }
     ensures told { work.new.told ≡ work.old.told }
 {
     check_whole(plan, view, list)?;
+    // a count fits its type once it is read
+    let _before = work.asked;
     if list.is_empty() {
         return Ok(Touched::empty(alloc));
     }
@@ -219,6 +244,7 @@ fn judge_list<D: Driver>(
 }
 
 // Judges what the pairs of a list that writes ask for.
+#[tactic(auto, using(crate::proofs::TouchLemmas::own_among))]
 fn judge_pairs<D: Driver>(
     alloc: Global,
     plan: &Plan<D>,
@@ -227,14 +253,16 @@ fn judge_pairs<D: Driver>(
     work: &mut Work,
 ) -> Result<Touched, Refusal>
     requires few { length pairs.items ≤ MAX_ENTRIES }
+    requires controls { AreControlsOf plan.now view.now.controls }
     requires values { length view.now.values ≡ length plan.now.controls }
     requires known { All (λ p. p.control < length plan.now.controls) pairs.items }
     ensures ok { IfOk result (λ touch. at_first (judging_refusal D.verdict plan.now view.now (view.now.asked ++ pairs.items)) pairs.items ≡ None) }
     ensures pairs { IfOk result (λ touch. touch.pairs ≡ pairs.items) }
-    ensures rows { IfOk result (λ touch. AreJudged D.verdict plan.now view.now.values (view.now.asked ++ pairs.items) pairs.items touch.rows) }
+    ensures rows { IfOk result (λ touch. AreJudged D.verdict plan.now view.now.controls view.now.values (view.now.asked ++ pairs.items) pairs.items touch.rows) }
     ensures answers { IfOk result (λ touch. touch.answers ≡ map (entry_judged D.verdict plan.now view.now (view.now.asked ++ pairs.items)) pairs.items) }
     ensures err { IfErr result (λ refusal. (at_first (judging_refusal D.verdict plan.now view.now (view.now.asked ++ pairs.items)) pairs.items ≡ Some refusal) ⊎ (refusal ≡ memory_refusal)) }
-    ensures asked { work.new.asked ≤ work.old.asked + length (touched plan.now pairs.items) }
+    ensures at_most { work.new.asked ≤ work.old.asked + length (touched plan.now pairs.items) }
+    ensures asked { OnOk result (work.new.asked ≡ with_calls (judged_count plan.now (touched plan.now pairs.items)) work.old.asked) }
     ensures told { work.new.told ≡ work.old.told }
 {
     let judged = if view.asked.is_empty() {
@@ -253,21 +281,24 @@ fn judge_pairs<D: Driver>(
 }
 
 // The same, where there are pairs from before.
+#[tactic(auto, using(crate::proofs::TouchLemmas::more_among))]
 fn judge_joined<D: Driver>(
     alloc: Global,
     plan: &Plan<D>,
     view: &View<'_>,
     pairs: &[Pair],
     work: &mut Work,
-) -> Result<(Vec<TouchedRow>, ControlList), Refusal>
+) -> Result<(Vec<NewRow>, ControlList), Refusal>
     requires few { length pairs.now ≤ MAX_ENTRIES }
+    requires controls { AreControlsOf plan.now view.now.controls }
     requires values { length view.now.values ≡ length plan.now.controls }
     requires known { All (λ p. p.control < length plan.now.controls) pairs.now }
     ensures ok { IfOk result (λ judged. at_first (judging_refusal D.verdict plan.now view.now (view.now.asked ++ pairs.now)) pairs.now ≡ None) }
-    ensures rows { IfOk result (λ judged. AreJudged D.verdict plan.now view.now.values (view.now.asked ++ pairs.now) pairs.now judged.0.items) }
+    ensures rows { IfOk result (λ judged. AreJudged D.verdict plan.now view.now.controls view.now.values (view.now.asked ++ pairs.now) pairs.now judged.0.items) }
     ensures answers { IfOk result (λ judged. judged.1 ≡ map (entry_judged D.verdict plan.now view.now (view.now.asked ++ pairs.now)) pairs.now) }
     ensures err { IfErr result (λ refusal. (at_first (judging_refusal D.verdict plan.now view.now (view.now.asked ++ pairs.now)) pairs.now ≡ Some refusal) ⊎ (refusal ≡ memory_refusal)) }
-    ensures asked { work.new.asked ≤ work.old.asked + length (touched plan.now pairs.now) }
+    ensures at_most { work.new.asked ≤ work.old.asked + length (touched plan.now pairs.now) }
+    ensures asked { OnOk result (work.new.asked ≡ with_calls (judged_count plan.now (touched plan.now pairs.now)) work.old.asked) }
     ensures told { work.new.told ≡ work.old.told }
 {
     match joined(alloc, view.asked, pairs) {
@@ -284,15 +315,18 @@ fn judge_under<D: Driver>(
     laid: &[Pair],
     pairs: &[Pair],
     work: &mut Work,
-) -> Result<(Vec<TouchedRow>, ControlList), Refusal>
+) -> Result<(Vec<NewRow>, ControlList), Refusal>
     requires few { length pairs.now ≤ MAX_ENTRIES }
+    requires controls { AreControlsOf plan.now view.now.controls }
     requires values { length view.now.values ≡ length plan.now.controls }
     requires known { All (λ p. p.control < length plan.now.controls) pairs.now }
+    requires among { All (λ p. IsTrue (is_among laid.now p.control)) pairs.now }
     ensures ok { IfOk result (λ judged. at_first (judging_refusal D.verdict plan.now view.now laid.now) pairs.now ≡ None) }
-    ensures rows { IfOk result (λ judged. AreJudged D.verdict plan.now view.now.values laid.now pairs.now judged.0.items) }
+    ensures rows { IfOk result (λ judged. AreJudged D.verdict plan.now view.now.controls view.now.values laid.now pairs.now judged.0.items) }
     ensures answers { IfOk result (λ judged. judged.1 ≡ map (entry_judged D.verdict plan.now view.now laid.now) pairs.now) }
     ensures err { IfErr result (λ refusal. (at_first (judging_refusal D.verdict plan.now view.now laid.now) pairs.now ≡ Some refusal) ⊎ (refusal ≡ memory_refusal)) }
-    ensures asked { work.new.asked ≤ work.old.asked + length (touched plan.now pairs.now) }
+    ensures at_most { work.new.asked ≤ work.old.asked + length (touched plan.now pairs.now) }
+    ensures asked { OnOk result (work.new.asked ≡ with_calls (judged_count plan.now (touched plan.now pairs.now)) work.old.asked) }
     ensures told { work.new.told ≡ work.old.told }
 {
     let rows = judge_all(alloc, plan, view, laid, pairs, work)?;

@@ -1,22 +1,23 @@
 //! The rows that the clusters of a list get.
 
-ghost use Rattle.std.specs.Prelude.{◌≡◌, ◌<◌, ◌≤◌, ◌+◌, ◌⊎◌, None, Some, length, map, vec_len, vec_capacity, IfOk, IfErr, OnOk};
+ghost use Rattle.std.specs.Prelude.{◌≡◌, ◌<◌, ◌≤◌, ◌+◌, ◌⊎◌, None, Some, length, map, vec_len, vec_capacity, IfOk, IfErr, OnOk, IsTrue, ℕ};
 ghost use Rattle.std.specs.List.{All};
 ghost use Rattle.ctrl_handlers.specs.Plan.{cluster_of, members};
-ghost use Rattle.ctrl_clusters.specs.Judging.{becomes};
-ghost use Rattle.ctrl_lists.specs.Checks.{at_first, errno_of, row_becomes, judging_refusal, memory_refusal};
-ghost use Rattle.ctrl_lists.specs.Touched.{with_cluster, touched, clusters_of, entry_in, AreRows, AreJudged};
+ghost use Rattle.ctrl_clusters.specs.Rows.{AreControlsOf};
+ghost use Rattle.ctrl_clusters.specs.Overlay.{is_among, is_touched};
+ghost use Rattle.ctrl_clusters.specs.NewRows.{clusters_of};
+ghost use Rattle.ctrl_lists.specs.Checks.{at_first, errno_of, row_laid, judging_refusal, memory_refusal};
+ghost use Rattle.ctrl_lists.specs.Touched.{with_cluster, touched, entry_in, AreRows, AreJudged, judged_count, with_calls};
 ghost use Rattle.ctrl_lists.specs.Answers.{entry_judged};
 ghost use Rattle.ctrl_lists.specs.declared.limits.TheConstants.{MAX_ENTRIES};
 
 use crate::control_list::ControlList;
 use crate::refusal::Refusal;
-use crate::touched::{TouchedRow, row_of};
 use crate::view::View;
 use ctrl_calls::{Driver, Work};
-use ctrl_clusters::{becomes, value_in};
+use ctrl_clusters::{NewRow, becomes, value_in};
 use ctrl_handlers::Plan;
-use ctrl_types::{Errno, ExtControl, Pair};
+use ctrl_types::{CtrlValue, Errno, ExtControl, Pair};
 use std::alloc::{AllocError, Global};
 
 /// The rows of the clusters that pairs touch, in the order of their first pairs, where `laid` is laid over the values; or the first
@@ -28,19 +29,24 @@ pub(crate) fn judge_all<D: Driver>(
     laid: &[Pair],
     pairs: &[Pair],
     work: &mut Work,
-) -> Result<Vec<TouchedRow>, Refusal>
+) -> Result<Vec<NewRow>, Refusal>
     requires few { length pairs.now ≤ MAX_ENTRIES }
+    requires controls { AreControlsOf plan.now view.now.controls }
     requires values { length view.now.values ≡ length plan.now.controls }
     requires known { All (λ p. p.control < length plan.now.controls) pairs.now }
+    requires among { All (λ p. IsTrue (is_among laid.now p.control)) pairs.now }
     ensures ok { IfOk result (λ rows. at_first (judging_refusal D.verdict plan.now view.now laid.now) pairs.now ≡ None) }
-    ensures rows { IfOk result (λ rows. AreJudged D.verdict plan.now view.now.values laid.now pairs.now rows.items) }
+    ensures rows { IfOk result (λ rows. AreJudged D.verdict plan.now view.now.controls view.now.values laid.now pairs.now rows.items) }
     ensures err { IfErr result (λ refusal. (at_first (judging_refusal D.verdict plan.now view.now laid.now) pairs.now ≡ Some refusal) ⊎ (refusal ≡ memory_refusal)) }
-    ensures asked { work.new.asked ≤ work.old.asked + length (touched plan.now pairs.now) }
+    ensures at_most { work.new.asked ≤ work.old.asked + length (touched plan.now pairs.now) }
+    ensures asked { OnOk result (work.new.asked ≡ with_calls (judged_count plan.now (touched plan.now pairs.now)) work.old.asked) }
     ensures told { work.new.told ≡ work.old.told }
 {
     let Ok(mut rows) = Vec::with_capacity(alloc, pairs.len()) else {
         return Err(Refusal::of_memory());
     };
+    // a count fits its type once it is read
+    let _before = work.asked;
     for (place, pair) in pairs.iter().enumerate() {
         if let Err(errno) = judge_next(plan, view, laid, pair.control, &mut rows, work) {
             return Err(Refusal::at(errno, place as u32));
@@ -55,33 +61,40 @@ fn judge_next<D: Driver>(
     view: &View<'_>,
     laid: &[Pair],
     control: u32,
-    rows: &mut Vec<TouchedRow>,
+    rows: &mut Vec<NewRow>,
     work: &mut Work,
 ) -> Result<(), Errno>
+    requires controls { AreControlsOf plan.now view.now.controls }
     requires values { length view.now.values ≡ length plan.now.controls }
     requires known { control < length plan.now.controls }
+    requires among { IsTrue (is_among laid.now control) }
     requires room { length rows.old.items < vec_capacity rows.old }
-    requires rows { AreRows D.verdict plan.now view.now.values laid.now rows.old.items }
+    requires rows { AreRows D.verdict plan.now view.now.controls view.now.values laid.now rows.old.items }
     requires within { All (λ r. r.cluster < length plan.now.clusters) rows.old.items }
     requires long { All (λ r. length r.row ≡ length (members plan.now r.cluster)) rows.old.items }
-    ensures ok { OnOk result (errno_of (row_becomes D.verdict plan.now view.now laid.now (cluster_of plan.now control)) ≡ None) }
-    ensures err { IfErr result (λ errno. errno_of (row_becomes D.verdict plan.now view.now laid.now (cluster_of plan.now control)) ≡ Some errno) }
+    ensures ok { OnOk result (errno_of (row_laid D.verdict plan.now view.now laid.now (cluster_of plan.now control)) ≡ None) }
+    ensures err { IfErr result (λ errno. errno_of (row_laid D.verdict plan.now view.now laid.now (cluster_of plan.now control)) ≡ Some errno) }
     ensures each { OnOk result (clusters_of rows.new.items ≡ with_cluster (clusters_of rows.old.items) (cluster_of plan.now control)) }
-    ensures rows { OnOk result (AreRows D.verdict plan.now view.now.values laid.now rows.new.items) }
+    ensures rows { OnOk result (AreRows D.verdict plan.now view.now.controls view.now.values laid.now rows.new.items) }
     ensures within { OnOk result (All (λ r. r.cluster < length plan.now.clusters) rows.new.items) }
     ensures long { OnOk result (All (λ r. length r.row ≡ length (members plan.now r.cluster)) rows.new.items) }
     ensures more { length rows.new.items ≤ length rows.old.items + 1 }
     ensures capacity { vec_capacity rows.new ≡ vec_capacity rows.old }
-    ensures asked { work.new.asked + length (clusters_of rows.old.items) ≤ work.old.asked + length (with_cluster (clusters_of rows.old.items) (cluster_of plan.now control)) }
+    ensures at_most { work.new.asked + length (clusters_of rows.old.items) ≤ work.old.asked + length (with_cluster (clusters_of rows.old.items) (cluster_of plan.now control)) }
+    ensures asked { OnOk result ((n : ℕ) → work.old.asked ≡ with_calls (judged_count plan.now (clusters_of rows.old.items)) n → work.new.asked ≡ with_calls (judged_count plan.now (clusters_of rows.new.items)) n) }
     ensures told { work.new.told ≡ work.old.told }
 {
     let cluster = plan.cluster_of(control);
-    if row_of(rows.as_slice(), cluster).is_some() {
+    if NewRow::among(rows.as_slice(), cluster).is_some() {
         return Ok(());
     }
-    let row = becomes(plan, cluster, view.values, laid, work)?;
-    rows.push_reserved(TouchedRow { cluster, row });
-    Ok(())
+    match becomes(plan, view.controls, cluster, view.values, laid, work) {
+        Ok(row) => {
+            rows.push_reserved(NewRow { cluster, row });
+            Ok(())
+        }
+        Err(errno) => Err(errno),
+    }
 }
 
 /// What the entries of a list that writes are answered: each control's id, and the value that its cluster's row gives it.
@@ -91,12 +104,14 @@ pub(crate) fn entries_judged<D: Driver>(
     view: &View<'_>,
     laid: &[Pair],
     pairs: &[Pair],
-    rows: &[TouchedRow],
+    rows: &[NewRow],
 ) -> Result<ControlList, AllocError>
     requires few { length pairs.now ≤ MAX_ENTRIES }
+    requires controls { AreControlsOf plan.now view.now.controls }
     requires values { length view.now.values ≡ length plan.now.controls }
     requires known { All (λ p. p.control < length plan.now.controls) pairs.now }
-    requires rows { AreJudged D.verdict plan.now view.now.values laid.now pairs.now rows.now }
+    requires among { All (λ p. IsTrue (is_among laid.now p.control)) pairs.now }
+    requires rows { AreJudged D.verdict plan.now view.now.controls view.now.values laid.now pairs.now rows.now }
     ensures { IfOk result (λ answers. answers ≡ map (entry_judged D.verdict plan.now view.now laid.now) pairs.now) }
 {
     let mut answers = Vec::with_capacity(alloc, pairs.len())?;
@@ -109,8 +124,8 @@ pub(crate) fn entries_judged<D: Driver>(
 // What an entry of a list that writes is answered.
 fn entry_judged<D: Driver>(
     plan: &Plan<D>,
-    values: &[i64],
-    rows: &[TouchedRow],
+    values: &[CtrlValue],
+    rows: &[NewRow],
     control: u32,
 ) -> ExtControl
     requires values { length values.now ≡ length plan.now.controls }
@@ -122,7 +137,7 @@ fn entry_judged<D: Driver>(
     let id = plan.control(control).id();
     let cluster = plan.cluster_of(control);
     let before = values[control as usize];
-    let value = match row_of(rows, cluster) {
+    let value = match NewRow::among(rows, cluster) {
         Some(row) => value_in(plan.members(cluster), &row, control).unwrap_or(before),
         None => before,
     };

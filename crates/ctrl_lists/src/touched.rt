@@ -1,26 +1,18 @@
 ghost use Rattle.std.specs.Prelude.{◌≡◌, []};
-ghost use Rattle.ctrl_lists.specs.Touched.{row_among};
+ghost use Rattle.ctrl_clusters.specs.NewRows.{row_among};
 
 use crate::control_list::ControlList;
 use ctrl_calls::ClusterRow;
+use ctrl_clusters::NewRow;
 use ctrl_types::{ExtControl, Pair};
 use std::alloc::Global;
 use std::marker::Model;
-
-/// The row that a cluster gets (Linux driver API, "V4L2 Controls", "Control Clusters").
-#[derive(Clone, Copy, Debug, PartialEq, Eq)]
-pub struct TouchedRow {
-    /// The cluster's number.
-    pub cluster: u32,
-    /// A value for each of its members, in member order.
-    pub row: ClusterRow,
-}
 
 /// What a list that writes makes of the clusters that it touches (Linux driver API, "V4L2 Controls", "Control Clusters"). Contracts
 /// see it as these three parts.
 #[derive(Drop)]
 pub struct Touched {
-    pub(crate) rows: Vec<TouchedRow>,
+    pub(crate) rows: Vec<NewRow>,
     pub(crate) answers: ControlList,
     pub(crate) pairs: Vec<Pair>,
 }
@@ -46,7 +38,7 @@ impl Touched {
     }
 
     /// The rows that the clusters get, each cluster once, in the order of their first entries.
-    pub fn rows(&self) -> &[TouchedRow]
+    pub fn rows(&self) -> &[NewRow]
         ensures { result.now ≡ self.now.rows }
     {
         self.rows.as_slice()
@@ -72,7 +64,7 @@ impl Touched {
     pub fn row_of(&self, cluster: u32) -> Option<ClusterRow>
         ensures { result ≡ row_among self.now.rows cluster }
     {
-        row_of(self.rows.as_slice(), cluster)
+        NewRow::among(self.rows.as_slice(), cluster)
     }
 
     /// What the entries are answered, and the pairs, with the memory that they lie in; the rows are dropped.
@@ -87,16 +79,4 @@ impl Touched {
         } = self;
         (answers, pairs)
     }
-}
-
-/// The row of a cluster among others.
-pub(crate) fn row_of(rows: &[TouchedRow], cluster: u32) -> Option<ClusterRow>
-    ensures { result ≡ row_among rows.now cluster }
-{
-    for touched in rows {
-        if touched.cluster == cluster {
-            return Some(touched.row);
-        }
-    }
-    None
 }

@@ -1,14 +1,16 @@
 ghost use Rattle.std.specs.Prelude.{◌≡◌};
 
-use ctrl_types::{Pair, Which};
+use ctrl_settle::Ctrl;
+use ctrl_types::{CtrlValue, Pair, Which};
 use std::marker::Model;
 
-/// What a list of controls is checked against. Contracts see it as these five parts.
+/// What a list of controls is checked against. Contracts see it as these six parts.
 #[derive(Drop)]
 pub struct View<'a> {
     pub(crate) handler: u32,
     pub(crate) which: Which,
-    pub(crate) values: &'a [i64],
+    pub(crate) controls: &'a [Ctrl],
+    pub(crate) values: &'a [CtrlValue],
     pub(crate) grabs: &'a [bool],
     pub(crate) asked: &'a [Pair],
 }
@@ -18,7 +20,7 @@ impl<'a> Model for View<'a> {
 
     ghost Value = { ViewData };
 
-    ghost view = { λ v. record { handler = v.handler; which = v.which; values = v.values.now; grabs = v.grabs.now; asked = v.asked.now } };
+    ghost view = { λ v. record { handler = v.handler; which = v.which; controls = v.controls.now; values = v.values.now; grabs = v.grabs.now; asked = v.asked.now } };
 }
 
 impl<'a> View<'a> {
@@ -26,6 +28,7 @@ impl<'a> View<'a> {
     ///
     /// - `handler`: the number of the handler that shows the controls; one that isn't there shows none.
     /// - `which`: which values the list speaks of (Linux userspace API, "struct v4l2_ext_controls").
+    /// - `controls`: the controls as they are now, in the order of their numbers.
     /// - `values`: a value for each control, in the order of their numbers: the present ones, or what a request that is read from keeps.
     /// - `grabs`: whether each control is grabbed, in the order of their numbers.
     /// - `asked`: the pairs that are laid over the values before those of a list that writes, the oldest first: what a request was asked
@@ -33,15 +36,17 @@ impl<'a> View<'a> {
     pub fn new(
         handler: u32,
         which: Which,
-        values: &'a [i64],
+        controls: &'a [Ctrl],
+        values: &'a [CtrlValue],
         grabs: &'a [bool],
         asked: &'a [Pair],
     ) -> View<'a>
-        ensures { result ≡ record { handler = handler; which = which; values = values.now; grabs = grabs.now; asked = asked.now } }
+        ensures { result ≡ record { handler = handler; which = which; controls = controls.now; values = values.now; grabs = grabs.now; asked = asked.now } }
     {
         View {
             handler,
             which,
+            controls,
             values,
             grabs,
             asked,

@@ -1,4 +1,6 @@
-use Rattle.std.proofs.Common.{◌≡◌, pos, List, [], ◌∷◌, ◌++◌, get_or, map, take, ap, sym, ◌∙◌, rules}
+use Rattle.std.proofs.Common.{◌≡◌, pos, List, [], ◌∷◌, ◌++◌, get_or, map, take, ap, sym, ◌∙◌, rules, IsTrue}
+use Rattle.std.proofs.lemmas.List.Elements.{All-get_or}
+use Rattle.ctrl_clusters.specs.Overlay.{is_among}
 use Rattle.ctrl_types.specs.declared.ids.ExtControl.{ExtControl}
 use Rattle.ctrl_types.specs.declared.ids.Pair.{Pair}
 use Rattle.ctrl_lists.specs.View.{ViewData}
@@ -18,7 +20,7 @@ loop-pair-preserved g c =
     let is : c.entry_judged.result ≡ entry_judged g.D.Validates.verdict c.args.plan.now c.args.view.now c.args.laid.now (get_or pairs i d) =
     c.entry_judged.ensures
     ∙ ap (λ (v : ViewData). entry_in c.args.plan.now v.values c.args.rows.now (get_or pairs i d).control) c.view.view_is
-    ∙ entry_same g.D.Validates.verdict c.args.plan.now c.args.view.now c.args.laid.now pairs c.args.rows.now i d c.requires.rows c.loop-pair-test.true in
+    ∙ entry_same g.D.Validates.verdict c.args.plan.now c.args.view.now c.args.laid.now pairs c.args.rows.now i d c.requires.rows c.loop-pair-test.true (All-get_or (λ (p : Pair). IsTrue (is_among c.args.laid.now p.control)) pairs i d c.loop-pair-test.true c.requires.among) in
     record {
       so_far = c.push_reserved.ensures.items
           ∙ ap (λ (es : List ExtControl). es ++ c.entry_judged.result ∷ []) old.so_far

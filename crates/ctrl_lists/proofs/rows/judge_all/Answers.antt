@@ -12,13 +12,13 @@ returns-in-Err-clause-err g c =
     let refused = judging_refusal g.D.Validates.verdict c.args.plan.now c.args.view.now c.args.laid.now in
     inl (rw c.at.ensures (stops refused (at_first refused c.args.pairs.now) c.args.pairs.now c.loop-place.place _ c.in-Err.errno c.loop-place-test.true c.in-Err.ensures.err c.loop-place.invariant.none))
 
-pub returns-in-Err-clause-asked : goal.returns-in-Err-clause-asked
-returns-in-Err-clause-asked g c =
+pub returns-in-Err-clause-at_most : goal.returns-in-Err-clause-at_most
+returns-in-Err-clause-at_most g c =
     let old = c.loop-place.invariant in
     let clusters = old.each in
     let d : Pair = record { control = 0; value = pos 0 } in
     let next = touched_next c.args.plan.now c.args.pairs.now c.loop-place.place d c.loop-place-test.true in
-    omega (arith, old.asked, rw clusters at c.judge_next.ensures.asked, ap length clusters, ap length next, touched_more c.args.plan.now c.args.pairs.now (c.loop-place.place + 1))
+    omega (arith, old.asked, rw clusters at c.judge_next.ensures.at_most, ap length clusters, ap length next, touched_more c.args.plan.now c.args.pairs.now (c.loop-place.place + 1))
 
 -- one more pair, whose cluster has its row
 pub loop-place-preserved : goal.loop-place-preserved
@@ -36,6 +36,7 @@ loop-place-preserved g c =
       long = does.long;
       few = omega (arith, old.few, c.judge_next.ensures.more);
       room = rw c.judge_next.ensures.capacity old.room;
-      asked = omega (arith, old.asked, c.judge_next.ensures.asked, ap length does.each);
+      asked = omega (arith, old.asked, c.judge_next.ensures.at_most, ap length does.each);
+      counted = does.asked c.args.work.now.asked old.counted;
       told = c.judge_next.ensures.told ∙ old.told;
     }
