@@ -1,12 +1,13 @@
 -- What the cells of a row say of it.
-use Rattle.std.proofs.Common.{ℕ, ℤ, pos, ◌≡◌, ◌≤◌, ◌<◌, List, ◌++◌, length, take, drop, replicate, slice_set, ◌∙◌, ap, arith, length-append}
+use Rattle.std.proofs.Common.{ℕ, pos, ◌≡◌, ◌≤◌, ◌<◌, List, ◌++◌, length, take, drop, replicate, slice_set, ◌∙◌, ap, arith, length-append}
 use Rattle.std.proofs.lemmas.List.{drop-replicate, length-drop, length-replicate}
 use Rattle.std.proofs.Math.Seq.{drop-append_seam, take-set-lt}
+use Rattle.ctrl_types.specs.Values.{CtrlValue}
 use Rattle.ctrl_calls.specs.declared.row.ClusterRow.TheInside.{Inside}
 use Rattle.ctrl_calls.specs.Rows.{row_of, IsCleared, length-row_of}
 
 -- values laid over the front of eight zeros have zeros behind them
-pub IsCleared-append : (xs : List ℤ) (n : ℕ) → length xs ≡ n → n ≤ 8 → IsCleared (record { cells = xs ++ drop n (replicate 8 (pos 0)); len = n })
+pub IsCleared-append : (xs : List CtrlValue) (n : ℕ) → length xs ≡ n → n ≤ 8 → IsCleared (record { cells = xs ++ drop n (replicate 8 (pos 0)); len = n })
 IsCleared-append xs n e most = record {
   eight = length-append xs _ ∙ omega (arith, length-drop n (replicate 8 (pos 0)), length-replicate 8 (pos 0));
   within = most;
@@ -14,7 +15,7 @@ IsCleared-append xs n e most = record {
 }
 
 -- a cell in use is a place of the row
-pub take-slice_set : (a : Inside) (row : List ℤ) (i : ℕ) (v : ℤ) → IsCleared a → row_of a ≡ row → i < length row → take a.len (slice_set a.cells i v) ≡ slice_set row i v
+pub take-slice_set : (a : Inside) (row : List CtrlValue) (i : ℕ) (v : CtrlValue) → IsCleared a → row_of a ≡ row → i < length row → take a.len (slice_set a.cells i v) ≡ slice_set row i v
 take-slice_set a row i v h e below =
     let within : i < a.len = omega (arith, length-row_of a h, ap length e) in
     take-set-lt a.len a.cells i v within ∙ ap (λ r. slice_set r i v) e

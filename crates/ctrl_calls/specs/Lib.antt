@@ -1,3 +1,4 @@
+pub use Rattle.ctrl_types.specs.Values
 pub mod Counts
 pub mod Meanings
 pub mod Rows

@@ -1,11 +1,12 @@
 -- The row of a cluster: its members' values, in member order.
-use Rattle.std.specs.Prelude.{ℤ, pos, ◌-◌, ◌≤◌, ◌≡◌, List, ◌++◌, length, take, drop, replicate}
+use Rattle.std.specs.Prelude.{pos, ◌-◌, ◌≤◌, ◌≡◌, List, ◌++◌, length, take, drop, replicate}
 use Rattle.std.proofs.Common.{arith}
 use Rattle.std.proofs.lemmas.List.{take-append-drop, length-take-le}
+use Rattle.ctrl_types.specs.Values.{CtrlValue}
 use Rattle.ctrl_calls.specs.declared.row.ClusterRow.TheInside.{Inside}
 
 -- the values in use
-abbrev pub row_of : Inside → List ℤ
+abbrev pub row_of : Inside → List CtrlValue
 row_of a = take a.len a.cells
 
 -- there are eight cells, and those behind the row are zero
@@ -15,7 +16,7 @@ pub record IsCleared (a : Inside) : Type 0 where
   pub zeros : drop a.len a.cells ≡ replicate (8 - a.len) (pos 0)
 
 -- the cells that hold a row
-abbrev pub cells_of : List ℤ → Inside
+abbrev pub cells_of : List CtrlValue → Inside
 cells_of row = record { cells = row ++ replicate (8 - length row) (pos 0); len = length row }
 
 -- the row is as long as its count says

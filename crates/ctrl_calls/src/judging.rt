@@ -1,4 +1,5 @@
-ghost use Rattle.std.specs.Prelude.{ℤ, List};
+ghost use Rattle.std.specs.Prelude.{List};
+ghost use Rattle.ctrl_types.specs.Values.{CtrlValue};
 ghost use Rattle.ctrl_calls.specs.declared.verdict.Verdict.{Verdict as VerdictOf};
 
 use crate::row::ClusterRow;
@@ -10,7 +11,7 @@ pub trait Judging {
     ghost callable: { Self → Type 0 };
 
     /// This may be its answer to the row.
-    ghost answers: { Self → List ℤ → VerdictOf → Type 0 };
+    ghost answers: { Self → List CtrlValue → VerdictOf → Type 0 };
 
     /// Judges the row. The caller owes that it may be called.
     fn judge(&self, row: ClusterRow) -> Verdict

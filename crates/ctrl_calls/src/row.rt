@@ -1,5 +1,6 @@
 ghost use Rattle.std.specs.Prelude.{◌≡◌, ◌<◌, ◌≤◌, ◌↔◌, length, slice_get, slice_set, IsNone, IfSome};
 
+use ctrl_types::CtrlValue;
 use std::marker::Model;
 
 /// How many members a cluster has at most (of this project).
@@ -9,14 +10,15 @@ pub const MAX_MEMBERS: usize = 8;
 /// "Control Clusters"). At most eight. Contracts see it as the list of the values.
 #[derive(Clone, Copy, Debug, PartialEq, Eq)]
 pub struct ClusterRow {
-    cells: [i64; MAX_MEMBERS],
+    cells: [CtrlValue; MAX_MEMBERS],
     len: usize,
 }
 
 impl Model for ClusterRow {
-    ghost use Rattle.std.specs.Prelude.{List, ℤ};
+    ghost use Rattle.std.specs.Prelude.{List};
+    ghost use Rattle.ctrl_types.specs.Values.{CtrlValue};
 
-    ghost Value = { List ℤ };
+    ghost Value = { List CtrlValue };
 
     ghost use Rattle.ctrl_calls.specs.Rows.{row_of, IsCleared, cells_of, cells_of-row_of};
 
@@ -31,7 +33,7 @@ impl Model for ClusterRow {
 
 impl ClusterRow {
     /// The row of these values, in this order; `None` where there are more than eight. No value at all is a row too.
-    pub fn from_slice(values: &[i64]) -> Option<ClusterRow>
+    pub fn from_slice(values: &[CtrlValue]) -> Option<ClusterRow>
         ensures none { IsNone result ↔ (8 < length values.now) }
         ensures some { IfSome result (λ row. row ≡ values.now) }
     {
@@ -53,14 +55,14 @@ impl ClusterRow {
     }
 
     // The values in use.
-    fn values(&self) -> &[i64]
+    fn values(&self) -> &[CtrlValue]
         ensures { result.now ≡ self.now }
     {
         &self.cells[..self.len]
     }
 
     /// The value of the member at this index, from 0 for the master. The caller owes an index within the row.
-    pub fn value(&self, index: usize) -> i64
+    pub fn value(&self, index: usize) -> CtrlValue
         requires { index < length self.now }
         ensures { slice_get self.now index ≡ Some result }
     {
@@ -69,7 +71,7 @@ impl ClusterRow {
 
     /// The row with this value at the index, and every other value as it is here. The caller owes an index within the
     /// row.
-    pub fn with(&self, index: usize, value: i64) -> ClusterRow
+    pub fn with(&self, index: usize, value: CtrlValue) -> ClusterRow
         requires { index < length self.now }
         ensures { result ≡ slice_set self.now index value }
     {

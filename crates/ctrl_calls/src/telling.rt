@@ -1,4 +1,5 @@
-ghost use Rattle.std.specs.Prelude.{ℕ, ℤ, List};
+ghost use Rattle.std.specs.Prelude.{ℕ, List};
+ghost use Rattle.ctrl_types.specs.Values.{CtrlValue};
 
 use crate::row::ClusterRow;
 
@@ -8,7 +9,7 @@ pub trait Telling {
     ghost callable: { Self → Type 0 };
 
     /// This word may be its answer to the row.
-    ghost answers: { Self → List ℤ → ℕ → Type 0 };
+    ghost answers: { Self → List CtrlValue → ℕ → Type 0 };
 
     /// Takes the row, and answers a word of the driver's own. The caller owes that it may be called.
     fn tell(&self, row: ClusterRow) -> u64

@@ -4,8 +4,7 @@ ghost use Rattle.ctrl_calls.specs.Meanings.{JudgesBy, TellsBy};
 ghost use Rattle.ctrl_calls.specs.declared.verdict.Verdict.TheVariants.{Accept, Refuse};
 
 use super::*;
-use ctrl_types::Errno;
-use std::process::Abort;
+use ctrl_types::{CtrlValue, Errno};
 use std::sync::Arc;
 use std::sync::atomic::{AtomicU64, Ordering};
 use std::test::Fail;
@@ -35,65 +34,100 @@ const REFUSES: Relation = Relation {
     bounds: [0; 4],
 };
 
+// A list of values, and whether it is a row.
+const ROWS: &[(&[CtrlValue], bool)] = &[
+    (&[], true),
+    (&[i64::MIN], true),
+    (&[i64::MIN, -1], true),
+    (&[i64::MIN, -1, 0], true),
+    (&[i64::MIN, -1, 0, 1], true),
+    (&[i64::MIN, -1, 0, 1, i64::MAX], true),
+    (&[i64::MIN, -1, 0, 1, i64::MAX, 5], true),
+    (&[i64::MIN, -1, 0, 1, i64::MAX, 5, 6], true),
+    (&[i64::MIN, -1, 0, 1, i64::MAX, 5, 6, 7], true),
+    (&[i64::MIN, -1, 0, 1, i64::MAX, 5, 6, 7, 8], false),
+];
+
+// How often a row is asked and told, with what was counted before and what is counted then.
+const COUNTS: &[(u64, Work, Work)] = &[
+    (3, Work { asked: 0, told: 0 }, Work { asked: 3, told: 3 }),
+    (
+        2,
+        Work {
+            asked: u64::MAX - 1,
+            told: u64::MAX,
+        },
+        Work {
+            asked: u64::MAX,
+            told: u64::MAX,
+        },
+    ),
+];
+
 // The values of the row are these.
-fn holds(rt: &impl Abort, row: &ClusterRow, values: &[i64]) {
-    assert_eq!(rt; row.len(), values.len());
+fn shows(row: &ClusterRow, values: &[CtrlValue]) -> bool {
     for (i, value) in values.iter().enumerate() {
-        assert!(rt; i < row.len());
-        assert_eq!(rt; row.value(i), *value, "at {i}");
+        if i >= row.len() || row.value(i) != *value {
+            return false;
+        }
+    }
+    row.len() == values.len()
+}
+
+fn holds(values: &[CtrlValue], is_row: bool) -> bool {
+    match ClusterRow::from_slice(values) {
+        Some(row) => is_row && shows(&row, values),
+        None => !is_row,
     }
 }
 
 #[test]
-fn rows_hold_up_to_eight_values(rt: HostRuntime) -> Result<(), Fail> {
-    let values = [i64::MIN, -1, 0, 1, i64::MAX, 5, 6, 7, 8];
-    for len in 0..=8 {
-        let row = ClusterRow::from_slice(&values[..len]).ok_or("at most eight")?;
-        holds(&rt, &row, &values[..len]);
+fn rows_hold_up_to_eight_values(rt: HostRuntime) {
+    for (values, is_row) in ROWS {
+        assert!(rt; holds(values, *is_row), "{values:?}");
     }
-    assert!(rt; ClusterRow::from_slice(&values).is_none());
-    Ok(())
 }
 
 #[test]
 fn a_row_with_another_value(rt: HostRuntime) -> Result<(), Fail> {
     let row = ClusterRow::from_slice(&[1, 2, 3]).ok_or("three")?;
-    assert_eq!(rt; row.len(), 3);
-    holds(&rt, &row.with(1, -9), &[1, -9, 3]);
-    holds(&rt, &row, &[1, 2, 3]);
+    let is_written = row.len() == 3 && shows(&row.with(1, -9), &[1, -9, 3]);
+    assert!(rt; is_written && shows(&row, &[1, 2, 3]));
     Ok(())
 }
 
-// Asks and tells of the row this many times, and answers the work.
+// Asks and tells of the row this many times, and answers the work; none where an answer is another than these.
 fn call<D: Driver>(
-    rt: &impl Abort,
     calls: &Calls<D>,
     row: &ClusterRow,
     want: &Verdict,
     times: u64,
     start: Work,
-) -> Work {
+) -> Option<Work> {
     let mut work = start;
     for _ in 0..times {
         if let Some(validator) = &calls.validator {
-            assert_eq!(rt; ask(validator, row, &mut work), *want);
+            if ask(validator, row, &mut work) != *want {
+                return None;
+            }
         }
         if let Some(notifier) = &calls.notifier {
-            assert_eq!(rt; tell(notifier, row, &mut work), 2);
+            if tell(notifier, row, &mut work) != 2 {
+                return None;
+            }
         }
     }
-    work
+    Some(work)
 }
 
-// Keeps the two closures of a driver, and calls each five times on the row.
-fn drive<D: Driver>(
-    rt: &impl Abort,
+// Keeps the two closures of a driver, calls each five times on the row, and says whether they answer as they should.
+fn drives<D: Driver>(
     relation: Relation,
     judge: D::Judge,
     teller: D::Teller,
     row: &ClusterRow,
     want: &Verdict,
-)
+) -> bool
     requires judge_callable { D.Judge.callable judge }
     requires judges { JudgesBy (D.Judge.answers judge) (D.verdict relation) }
     requires teller_callable { D.Teller.callable teller }
@@ -101,8 +135,7 @@ fn drive<D: Driver>(
 {
     let validator = Validator::new(relation, judge);
     let notifier = Notifier::new(relation, teller);
-    assert_eq!(rt; validator.relation(), relation);
-    assert_eq!(rt; notifier.relation(), relation);
+    let are_kept = validator.relation() == relation && notifier.relation() == relation;
     let calls: Calls<D> = Calls {
         validator: Some(validator),
         notifier: Some(notifier),
@@ -111,20 +144,12 @@ fn drive<D: Driver>(
         validator: Some(relation),
         notifier: Some(relation),
     };
-    assert_eq!(rt; calls.relations(), relations);
-    assert_eq!(rt;
-        call(rt, &calls, row, want, 3, Work::new()),
-        Work { asked: 3, told: 3 }
-    );
-    let nearly = Work {
-        asked: u64::MAX - 1,
-        told: u64::MAX,
-    };
-    let full = Work {
-        asked: u64::MAX,
-        told: u64::MAX,
-    };
-    assert_eq!(rt; call(rt, &calls, row, want, 2, nearly), full);
+    for (times, start, end) in COUNTS {
+        if call(&calls, row, want, *times, *start) != Some(*end) {
+            return false;
+        }
+    }
+    are_kept && calls.relations() == relations
 }
 
 #[test]
@@ -148,9 +173,9 @@ fn boxes_are_called_as_often_as_counted(rt: HostRuntime) -> Result<(), Fail> {
             row.len() as u64
         },
     )?;
-    drive::<Boxed>(&rt, ACCEPTS, judge, teller, &row, &Verdict::Accept(row));
-    assert_eq!(rt; asked.load(Ordering::SeqCst), 5);
-    assert_eq!(rt; told.load(Ordering::SeqCst), 5);
+    let answers = drives::<Boxed>(ACCEPTS, judge, teller, &row, &Verdict::Accept(row));
+    let (asked, told) = (asked.load(Ordering::SeqCst), told.load(Ordering::SeqCst));
+    assert!(rt; answers && asked == 5 && told == 5, "{asked} {told}");
     Ok(())
 }
 
@@ -165,14 +190,8 @@ fn a_relation_that_refuses(rt: HostRuntime) -> Result<(), Fail> {
         rt.alloc(),
         |row: ClusterRow| row.len() as u64,
     )?;
-    drive::<Boxed>(
-        &rt,
-        REFUSES,
-        judge,
-        teller,
-        &row,
-        &Verdict::Refuse(Errno::ERANGE),
-    );
+    let want = Verdict::Refuse(Errno::ERANGE);
+    assert!(rt; drives::<Boxed>(REFUSES, judge, teller, &row, &want));
     Ok(())
 }
 
@@ -226,14 +245,11 @@ fn closures_as_structs(rt: HostRuntime) -> Result<(), Fail> {
         errno: Errno::ERANGE,
     };
     let want = Verdict::Refuse(Errno::ERANGE);
-    drive::<Structs>(&rt, REFUSES, judge, Word(2), &row, &want);
     let none: Calls<Structs> = Calls {
         validator: None,
         notifier: None,
     };
-    assert_eq!(rt;
-        call(&rt, &none, &row, &want, 3, Work::default()),
-        Work::new()
-    );
+    let uncalled = call(&none, &row, &want, 3, Work::default()) == Some(Work::new());
+    assert!(rt; uncalled && drives::<Structs>(REFUSES, judge, Word(2), &row, &want));
     Ok(())
 }

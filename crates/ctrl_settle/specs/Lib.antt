@@ -1,3 +1,4 @@
+pub use Rattle.ctrl_types.specs.Values
 pub mod Control
 pub mod Grid
 pub mod Settle

@@ -3,6 +3,7 @@
 use Rattle.std.specs.Prelude.{◌≡◌, ℕ, ◌^◌, ℤ, pos, ◌||◌, Result, Ok, Err, bit_and, unsigned_abs, int_lt, ◌==◌, if◌then◌else◌}
 use Rattle.std.specs.Int.{bit_at, int_rem_euclid}
 use Rattle.std.specs.Ordering.{int_eq}
+use Rattle.ctrl_types.specs.Values.{CtrlValue}
 use Rattle.ctrl_types.specs.declared.errno.Errno.{Errno}
 use Rattle.ctrl_types.specs.declared.errno.Errno.TheVariants.{ERANGE, EINVAL}
 use Rattle.ctrl_types.specs.declared.kind.Kind.{Kind}
@@ -19,13 +20,14 @@ abbrev pub masked : Control → ℤ → ℤ
 masked c v = pos (bit_and (low_bits v) (unsigned_abs c.maximum))
 
 -- the item v of a menu: ERANGE where it lies outside the range, EINVAL where the menu skips it
-abbrev pub item : Control → ℤ → Result ℤ Errno
+abbrev pub item : Control → CtrlValue → Result CtrlValue Errno
 item c v =
     if int_lt v c.minimum || int_lt c.maximum v then Err ERANGE
     else if bit_at c.skip (unsigned_abs v) == 1 then Err EINVAL
     else Ok v
 
-abbrev pub settle_as : Kind → Control → ℤ → Result ℤ Errno
+-- what a control of a kind takes for v, or why it takes none
+abbrev pub settle_as : Kind → Control → CtrlValue → Result CtrlValue Errno
 settle_as Integer c v = Ok (nearest c v)
 settle_as Integer64 c v = Ok (nearest c v)
 settle_as Boolean c v = Ok (if int_eq v (pos 0) then pos 0 else pos 1)
@@ -35,9 +37,9 @@ settle_as Menu c v = item c v
 settle_as IntegerMenu c v = item c v
 
 -- the value that the control takes for v, or why it takes none
-unfoldable pub settle : Control → ℤ → Result ℤ Errno
+unfoldable pub settle : Control → CtrlValue → Result CtrlValue Errno
 settle c v = settle_as c.kind c v
 
 -- the control takes v as it is
-abbrev pub IsSettled : Control → ℤ → Type 0
+abbrev pub IsSettled : Control → CtrlValue → Type 0
 IsSettled c v = settle c v ≡ Ok v

@@ -6,7 +6,7 @@ ghost use Rattle.ctrl_settle.specs.Settle.{settle};
 use crate::description::Description;
 use crate::fault::CtrlFault;
 use bitflags::Flags as FlagSet;
-use ctrl_types::{CtrlId, Errno, Flags, Kind};
+use ctrl_types::{CtrlId, CtrlValue, Errno, Flags, Kind};
 use std::marker::Model;
 
 /// A control with which nothing is wrong (Linux userspace API, "struct v4l2_query_ext_ctrl").
@@ -55,7 +55,7 @@ impl Ctrl {
         minimum: i64,
         maximum: i64,
         step: u64,
-        default_value: i64,
+        default_value: CtrlValue,
         skip: u64,
         flags: Flags,
         is_private: bool,
@@ -123,7 +123,7 @@ impl Ctrl {
     }
 
     /// The value at the start.
-    pub fn default_value(&self) -> i64
+    pub fn default_value(&self) -> CtrlValue
         ensures { result ≡ self.now.default_value }
     {
         self.description.default_value
@@ -160,7 +160,7 @@ impl Ctrl {
 /// its mask (two's complement), a `Button` 0, and a `Menu` and an `IntegerMenu` an index as it is.
 ///
 /// Refused with ERANGE (34) where the index lies outside a menu's bounds, and with EINVAL (22) where the menu skips it.
-pub fn settle(control: &Ctrl, value: i64) -> Result<i64, Errno>
+pub fn settle(control: &Ctrl, value: CtrlValue) -> Result<CtrlValue, Errno>
     ensures settled { result ≡ settle control.now value }
     ensures well_formed { IsWellFormed control.now }
 {

@@ -5,7 +5,7 @@ ghost use Rattle.ctrl_settle.specs.Settle.{item, settle};
 
 use crate::fault::CtrlFault;
 use bitflags::Flags as FlagSet;
-use ctrl_types::{CtrlId, Errno, Flags, Kind};
+use ctrl_types::{CtrlId, CtrlValue, Errno, Flags, Kind};
 use std::marker::Model;
 
 /// What a driver says of a control, not checked yet.
@@ -16,7 +16,7 @@ pub struct Description {
     pub minimum: i64,
     pub maximum: i64,
     pub step: u64,
-    pub default_value: i64,
+    pub default_value: CtrlValue,
     pub skip: u64,
     pub flags: Flags,
     pub is_private: bool,
@@ -85,7 +85,7 @@ impl Description {
 
     /// The value that the control takes for `value`, or why it takes none.
     #[tactic(auto, unfolding(crate::specs::Settle::settle))]
-    pub fn settle(&self, value: i64) -> Result<i64, Errno>
+    pub fn settle(&self, value: CtrlValue) -> Result<CtrlValue, Errno>
         requires in_order { self.now.minimum ≤ℤ self.now.maximum }
         requires stepped { IsTrue (has_grid self.now.kind) → 0 < self.now.step }
         requires bounds { HasBounds self.now.kind self.now }
@@ -100,7 +100,7 @@ impl Description {
         }
     }
 
-    fn item(&self, value: i64) -> Result<i64, Errno>
+    fn item(&self, value: CtrlValue) -> Result<CtrlValue, Errno>
         requires { HasItems self.now }
         ensures { result ≡ item self.now value }
     {

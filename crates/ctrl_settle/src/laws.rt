@@ -2,6 +2,7 @@
 
 ghost use Rattle.std.specs.Prelude.{◌≡◌, ◌⊎◌, ℤ, ◌≤ℤ◌, FitsSigned};
 ghost use Rattle.std.specs.Int.{w64};
+ghost use Rattle.ctrl_types.specs.Values.{CtrlValue};
 ghost use Rattle.ctrl_settle.specs.Control.{Control};
 ghost use Rattle.ctrl_settle.specs.Faults.{IsFirstFault, IsWellFormed};
 ghost use Rattle.ctrl_settle.specs.Grid.{IsNearest, nearest};
@@ -20,14 +21,14 @@ pub fn nearest_is_the_only_one()
 
 /// What a control took it takes again as it is.
 pub fn settled_values_stay()
-    ensures { (c : Control) (v w : ℤ) → IsWellFormed c → settle c v ≡ Ok w → IsSettled c w }
+    ensures { (c : Control) (v w : CtrlValue) → IsWellFormed c → settle c v ≡ Ok w → IsSettled c w }
 {}
 
 /// What a control takes lies within its bounds, and so fits 64 bits.
 pub fn settled_values_fit()
-    ensures within { (c : Control) (v w : ℤ) → IsWellFormed c → settle c v ≡ Ok w
+    ensures within { (c : Control) (v w : CtrlValue) → IsWellFormed c → settle c v ≡ Ok w
         → (c.minimum ≤ℤ w) × (w ≤ℤ c.maximum) }
-    ensures fits { (c : Control) (v w : ℤ) → IsWellFormed c → settle c v ≡ Ok w → FitsSigned w64 w }
+    ensures fits { (c : Control) (v w : CtrlValue) → IsWellFormed c → settle c v ≡ Ok w → FitsSigned w64 w }
 {}
 
 /// A control is well formed, or has a first fault: one of these alone, and one fault alone.

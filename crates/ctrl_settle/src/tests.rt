@@ -1,17 +1,178 @@
 use crate::{Ctrl, CtrlFault, settle};
 use bitflags::Flags as FlagSet;
-use ctrl_types::{CtrlId, Errno, Flags, Kind};
-use std::test::Fail;
+use ctrl_types::{CtrlId, CtrlValue, Errno, Flags, Kind};
+use std::process::Abort;
 
 const ID: CtrlId = CtrlId(0x0098_0900);
 
-fn made(
-    kind: Kind,
-    minimum: i64,
-    maximum: i64,
-    step: u64,
-    default_value: i64,
-) -> Result<Ctrl, CtrlFault> {
+// The bits of flags, as Linux numbers them.
+const GRABBED: u32 = 0x2;
+
+const READ_ONLY: u32 = 0x4;
+
+const INACTIVE: u32 = 0x10;
+
+// Kind, minimum, maximum, step, default, skipped items and flags.
+type Given = (Kind, i64, i64, u64, CtrlValue, u64, u32);
+
+const EVEN: Given = (Kind::Integer64, i64::MIN, i64::MAX, 2, 0, 0, READ_ONLY);
+
+const ENDS: Given = (
+    Kind::Integer64,
+    i64::MIN,
+    i64::MAX,
+    u64::MAX,
+    i64::MAX,
+    0,
+    READ_ONLY,
+);
+
+const THIRDS: Given = (Kind::Integer, 0, 10, 3, 0, 0, READ_ONLY);
+
+const BRIGHTNESS: Given = (Kind::Integer, -64, 64, 4, 0, 0, READ_ONLY);
+
+const FLIP: Given = (Kind::Boolean, 0, 1, 1, 0, 0, READ_ONLY);
+
+const BUTTON: Given = (Kind::Button, 0, 0, 0, 0, 0, READ_ONLY);
+
+const MASK: Given = (Kind::Bitmask, 0, 0xff, 0, 0x21, 0, READ_ONLY);
+
+const POWER: Given = (Kind::Menu, 0, 3, 1, 1, 0b1000, 0);
+
+const RATE: Given = (Kind::IntegerMenu, 0, 3, 1, 1, 0b1000, 0);
+
+// Not all of its flags have names.
+const TEST_PATTERN: Given = (Kind::Menu, 1, 5, 1, 2, 0x8, 0x8001);
+
+// A value is asked for, and settles so.
+type Settled = (Given, CtrlValue, Result<CtrlValue, Errno>);
+
+const EXTREMES: &[Settled] = &[
+    (EVEN, i64::MAX, Ok(i64::MAX - 1)),
+    (EVEN, i64::MIN, Ok(i64::MIN)),
+    (ENDS, -1, Ok(i64::MIN)),
+    (ENDS, 0, Ok(i64::MAX)),
+];
+
+const KINDS: &[Settled] = &[
+    (THIRDS, 10, Ok(9)),
+    (THIRDS, 4, Ok(3)),
+    (THIRDS, 5, Ok(6)),
+    (BRIGHTNESS, 2, Ok(4)),
+    (BRIGHTNESS, -2, Ok(0)),
+    (BRIGHTNESS, 1000, Ok(64)),
+    (BRIGHTNESS, -1000, Ok(-64)),
+    (FLIP, -3, Ok(1)),
+    (FLIP, 0, Ok(0)),
+    (BUTTON, 7, Ok(0)),
+    (MASK, 0x122, Ok(0x22)),
+    (MASK, -1, Ok(0xff)),
+    (POWER, 2, Ok(2)),
+    (POWER, 3, Err(Errno::EINVAL)),
+    (POWER, 4, Err(Errno::ERANGE)),
+    (POWER, -1, Err(Errno::ERANGE)),
+    (RATE, 2, Ok(2)),
+    (RATE, 3, Err(Errno::EINVAL)),
+    (RATE, 4, Err(Errno::ERANGE)),
+    (RATE, -1, Err(Errno::ERANGE)),
+];
+
+// What was given, whether it is private, and the bits of its flags in the end.
+const READ: &[(Given, bool, u32)] = &[(TEST_PATTERN, true, 0x8001), (BUTTON, false, 0x244)];
+
+// What is wrong with a control, and the number of that.
+const FAULTS: &[(Given, CtrlFault, u32)] = &[
+    (
+        (Kind::Integer, 1, 0, 1, 1, 0, READ_ONLY),
+        CtrlFault::BadRange,
+        1,
+    ),
+    (
+        (Kind::Integer, 0, 10, 0, 0, 0, READ_ONLY),
+        CtrlFault::ZeroStep,
+        2,
+    ),
+    (
+        (Kind::Integer, 0, 10, 3, 10, 0, READ_ONLY),
+        CtrlFault::BadDefault,
+        3,
+    ),
+    (
+        (Kind::Boolean, 0, 2, 1, 0, 0, READ_ONLY),
+        CtrlFault::KindBounds,
+        4,
+    ),
+    (
+        (Kind::Integer, 1, 0, 0, 1, 0, READ_ONLY),
+        CtrlFault::BadRange,
+        1,
+    ),
+    (
+        (Kind::Integer, 0, 0x8000_0000, 0, 0, 0, READ_ONLY),
+        CtrlFault::ZeroStep,
+        2,
+    ),
+    (
+        (Kind::Integer, 0, 0x8000_0000, 3, 1, 0, READ_ONLY),
+        CtrlFault::KindBounds,
+        4,
+    ),
+    (
+        (Kind::Integer, -0x8000_0001, 0, 1, 0, 0, READ_ONLY),
+        CtrlFault::KindBounds,
+        4,
+    ),
+    (
+        (Kind::Button, 0, 0, 1, 0, 0, READ_ONLY),
+        CtrlFault::KindBounds,
+        4,
+    ),
+    (
+        (Kind::Menu, 0, 64, 1, 0, 0, READ_ONLY),
+        CtrlFault::KindBounds,
+        4,
+    ),
+    (
+        (Kind::IntegerMenu, -1, 3, 1, 0, 0, READ_ONLY),
+        CtrlFault::KindBounds,
+        4,
+    ),
+    (
+        (Kind::Menu, 0, 3, 1, 4, 0, READ_ONLY),
+        CtrlFault::BadDefault,
+        3,
+    ),
+    (
+        (Kind::Bitmask, 0, 0x1_0000_0000, 0, 0, 0, READ_ONLY),
+        CtrlFault::KindBounds,
+        4,
+    ),
+    (
+        (Kind::Bitmask, 0, 0, 0, 0, 0, READ_ONLY),
+        CtrlFault::KindBounds,
+        4,
+    ),
+    (
+        (Kind::Bitmask, 0, 6, 0, 1, 0, READ_ONLY),
+        CtrlFault::BadDefault,
+        3,
+    ),
+    ((Kind::Integer, 0, 1, 1, 0, 1, 0), CtrlFault::KindBounds, 4),
+    (
+        (Kind::Integer, 0, 1, 1, 0, 0, GRABBED),
+        CtrlFault::KindBounds,
+        4,
+    ),
+    (
+        (Kind::Integer, 0, 1, 1, 0, 0, INACTIVE),
+        CtrlFault::KindBounds,
+        4,
+    ),
+];
+
+fn made(given: Given, is_private: bool) -> Result<Ctrl, CtrlFault> {
+    let (kind, minimum, maximum, step, default_value, skip, bits) = given;
+    let flags = Flags::from_bits_retain(bits);
     Ctrl::new(
         ID,
         kind,
@@ -19,110 +180,69 @@ fn made(
         maximum,
         step,
         default_value,
-        0,
-        Flags::READ_ONLY,
-        false,
+        skip,
+        flags,
+        is_private,
     )
 }
 
-#[test]
-fn settle_extremes(rt: HostRuntime) -> Result<(), Fail> {
-    let even = made(Kind::Integer64, i64::MIN, i64::MAX, 2, 0)?;
-    assert_eq!(rt; settle(&even, i64::MAX), Ok(i64::MAX - 1));
-    assert_eq!(rt; settle(&even, i64::MIN), Ok(i64::MIN));
-    let ends = made(Kind::Integer64, i64::MIN, i64::MAX, u64::MAX, i64::MAX)?;
-    assert_eq!(rt; settle(&ends, -1), Ok(i64::MIN));
-    assert_eq!(rt; settle(&ends, 0), Ok(i64::MAX));
-    Ok(())
-}
-
-#[test]
-fn settles_each_kind(rt: HostRuntime) -> Result<(), Fail> {
-    let thirds = made(Kind::Integer, 0, 10, 3, 0)?;
-    let brightness = made(Kind::Integer, -64, 64, 4, 0)?;
-    let flip = made(Kind::Boolean, 0, 1, 1, 0)?;
-    let button = made(Kind::Button, 0, 0, 0, 0)?;
-    let mask = made(Kind::Bitmask, 0, 0xff, 0, 0x21)?;
-    for (control, asked, taken) in [
-        (thirds, 10, 9),
-        (thirds, 4, 3),
-        (thirds, 5, 6),
-        (brightness, 2, 4),
-        (brightness, -2, 0),
-        (brightness, 1000, 64),
-        (brightness, -1000, -64),
-        (flip, -3, 1),
-        (flip, 0, 0),
-        (button, 7, 0),
-        (mask, 0x122, 0x22),
-        (mask, -1, 0xff),
-    ] {
-        assert_eq!(rt; settle(&control, asked), Ok(taken), "{asked}");
+fn settles(case: Settled) -> bool {
+    let (given, asked, want) = case;
+    match made(given, false) {
+        Ok(control) => settle(&control, asked) == want,
+        Err(_) => false,
     }
-    Ok(())
 }
 
-#[test]
-fn settles_a_menu(rt: HostRuntime) -> Result<(), Fail> {
-    for kind in [Kind::Menu, Kind::IntegerMenu] {
-        let power = Ctrl::new(ID, kind, 0, 3, 1, 1, 0b1000, Flags::empty(), false)?;
-        assert_eq!(rt; settle(&power, 2), Ok(2));
-        assert_eq!(rt; settle(&power, 3), Err(Errno::EINVAL));
-        assert_eq!(rt; settle(&power, 4), Err(Errno::ERANGE));
-        assert_eq!(rt; settle(&power, -1), Err(Errno::ERANGE));
+fn reads(given: Given, is_private: bool, bits: u32) -> bool {
+    let (kind, minimum, maximum, step, default_value, skip, _) = given;
+    let Ok(control) = made(given, is_private) else {
+        return false;
+    };
+    control.id() == ID
+        && control.kind() == kind
+        && control.minimum() == minimum
+        && control.maximum() == maximum
+        && control.step() == step
+        && control.default_value() == default_value
+        && control.skip() == skip
+        && control.flags().bits() == bits
+        && control.is_private() == is_private
+}
+
+fn has_fault(given: Given, want: CtrlFault, number: u32) -> bool {
+    match made(given, false) {
+        Ok(_) => false,
+        Err(fault) => fault == want && fault.number() == number,
     }
-    Ok(())
+}
+
+fn check(rt: &impl Abort, cases: &[Settled]) {
+    for case in cases {
+        assert!(rt; settles(*case), "{case:?}");
+    }
 }
 
 #[test]
-fn reads_what_was_given(rt: HostRuntime) -> Result<(), Fail> {
-    let flags = Flags::DISABLED.union(Flags::from_bits_retain(0x8000));
-    let menu = Ctrl::new(ID, Kind::Menu, 1, 5, 1, 2, 0x8, flags, true)?;
-    assert_eq!(rt; menu.id(), ID);
-    assert_eq!(rt; menu.kind(), Kind::Menu);
-    assert_eq!(rt; (menu.minimum(), menu.maximum()), (1, 5));
-    assert_eq!(rt; (menu.step(), menu.skip()), (1, 0x8));
-    assert_eq!(rt; menu.default_value(), 2);
-    assert_eq!(rt; menu.flags().bits(), 0x8001);
-    assert!(rt; menu.is_private());
-    let button = made(Kind::Button, 0, 0, 0, 0)?;
-    assert_eq!(rt; button.flags().bits(), 0x244);
-    assert!(rt; !button.is_private());
-    Ok(())
+fn settle_extremes(rt: HostRuntime) {
+    check(&rt, EXTREMES);
+}
+
+#[test]
+fn settles_each_kind(rt: HostRuntime) {
+    check(&rt, KINDS);
+}
+
+#[test]
+fn reads_what_was_given(rt: HostRuntime) {
+    for (given, is_private, bits) in READ {
+        assert!(rt; reads(*given, *is_private, *bits), "{given:?}");
+    }
 }
 
 #[test]
 fn builder_faults(rt: HostRuntime) {
-    for (kind, minimum, maximum, step, default_value, number) in [
-        (Kind::Integer, 1, 0, 1, 1, 1),
-        (Kind::Integer, 0, 10, 0, 0, 2),
-        (Kind::Integer, 0, 10, 3, 10, 3),
-        (Kind::Boolean, 0, 2, 1, 0, 4),
-        (Kind::Integer, 1, 0, 0, 1, 1),
-        (Kind::Integer, 0, 1 << 31, 0, 0, 2),
-        (Kind::Integer, 0, 1 << 31, 3, 1, 4),
-        (Kind::Integer, -(1 << 31) - 1, 0, 1, 0, 4),
-        (Kind::Button, 0, 0, 1, 0, 4),
-        (Kind::Menu, 0, 64, 1, 0, 4),
-        (Kind::IntegerMenu, -1, 3, 1, 0, 4),
-        (Kind::Menu, 0, 3, 1, 4, 3),
-        (Kind::Bitmask, 0, 1 << 32, 0, 0, 4),
-        (Kind::Bitmask, 0, 0, 0, 0, 4),
-        (Kind::Bitmask, 0, 6, 0, 1, 3),
-    ] {
-        let fault = made(kind, minimum, maximum, step, default_value).err();
-        assert_eq!(rt;
-            fault.map(CtrlFault::number),
-            Some(number),
-            "{kind:?} {minimum} {maximum}"
-        );
-    }
-    for (skip, flags) in [
-        (1, Flags::empty()),
-        (0, Flags::GRABBED),
-        (0, Flags::INACTIVE),
-    ] {
-        let given = Ctrl::new(ID, Kind::Integer, 0, 1, 1, 0, skip, flags, false);
-        assert_eq!(rt; given.err(), Some(CtrlFault::KindBounds));
+    for (given, fault, number) in FAULTS {
+        assert!(rt; has_fault(*given, *fault, *number), "{given:?}");
     }
 }

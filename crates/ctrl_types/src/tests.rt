@@ -1,55 +1,97 @@
 use crate::{CtrlId, Errno, Flags, Kind, Which};
 use bitflags::Flags as FlagSet;
+use std::process::Abort;
+
+#[derive(Clone, Copy, Debug)]
+enum Case {
+    // The error has this number.
+    Error(Errno, u32),
+    // The kind has this number.
+    Kind(Kind, u32),
+    // The number is read as this.
+    Which(u32, Result<Which, Errno>),
+    // The id lies in this class.
+    Class(u32, u32),
+    // The bits are kept, and have both flags or not, and any of the two or not.
+    Flags(u32, Flags, Flags, bool, bool),
+    // So many flags have names.
+    Named(usize),
+}
+
+const NUMBERS: &[Case] = &[
+    Case::Error(Errno::ENOENT, 2),
+    Case::Error(Errno::EBADF, 9),
+    Case::Error(Errno::ENOMEM, 12),
+    Case::Error(Errno::EACCES, 13),
+    Case::Error(Errno::EBUSY, 16),
+    Case::Error(Errno::EINVAL, 22),
+    Case::Error(Errno::ENOSPC, 28),
+    Case::Error(Errno::ERANGE, 34),
+    Case::Kind(Kind::Integer, 1),
+    Case::Kind(Kind::Boolean, 2),
+    Case::Kind(Kind::Menu, 3),
+    Case::Kind(Kind::Button, 4),
+    Case::Kind(Kind::Integer64, 5),
+    Case::Kind(Kind::Bitmask, 8),
+    Case::Kind(Kind::IntegerMenu, 9),
+];
+
+const CLASSES: &[Case] = &[
+    Case::Which(0, Ok(Which::Current)),
+    Case::Which(0x0f00_0000, Ok(Which::Defaults)),
+    Case::Which(0x0f01_0000, Ok(Which::Request)),
+    Case::Which(0x0098_0000, Ok(Which::Class(0x0098_0000))),
+    Case::Which(0x0f02_0000, Ok(Which::Class(0x0f02_0000))),
+    Case::Which(1, Err(Errno::EINVAL)),
+    Case::Which(0x0098_0900, Err(Errno::EINVAL)),
+    Case::Which(0x1098_0000, Err(Errno::EINVAL)),
+    Case::Class(0xf098_0900, 0x0098_0000),
+];
+
+const FLAGS: &[Case] = &[
+    Case::Flags(
+        0x8000_0240,
+        Flags::WRITE_ONLY,
+        Flags::EXECUTE_ON_WRITE,
+        true,
+        true,
+    ),
+    Case::Flags(0x8000_0240, Flags::GRABBED, Flags::INACTIVE, false, false),
+    Case::Named(7),
+];
+
+fn holds(case: Case) -> bool {
+    match case {
+        Case::Error(errno, number) => errno.number() == number,
+        Case::Kind(kind, number) => kind.number() == number,
+        Case::Which(number, which) => Which::read(number) == which,
+        Case::Class(id, class) => CtrlId(id).class() == class,
+        Case::Flags(bits, one, other, all, any) => {
+            let flags = Flags::from_bits_retain(bits);
+            let both = one.union(other);
+            flags.bits() == bits && flags.contains(both) == all && flags.intersects(both) == any
+        }
+        Case::Named(count) => Flags::flags().len() == count,
+    }
+}
+
+fn check(rt: &impl Abort, cases: &[Case]) {
+    for case in cases {
+        assert!(rt; holds(*case), "{case:?}");
+    }
+}
 
 #[test]
 fn numbers_are_those_of_linux(rt: HostRuntime) {
-    for (errno, number) in [
-        (Errno::ENOENT, 2),
-        (Errno::EBADF, 9),
-        (Errno::ENOMEM, 12),
-        (Errno::EACCES, 13),
-        (Errno::EBUSY, 16),
-        (Errno::EINVAL, 22),
-        (Errno::ENOSPC, 28),
-        (Errno::ERANGE, 34),
-    ] {
-        assert_eq!(rt; errno.number(), number, "{errno:?}");
-    }
-    for (kind, number) in [
-        (Kind::Integer, 1),
-        (Kind::Boolean, 2),
-        (Kind::Menu, 3),
-        (Kind::Button, 4),
-        (Kind::Integer64, 5),
-        (Kind::Bitmask, 8),
-        (Kind::IntegerMenu, 9),
-    ] {
-        assert_eq!(rt; kind.number(), number, "{kind:?}");
-    }
+    check(&rt, NUMBERS);
 }
 
 #[test]
 fn which_reads(rt: HostRuntime) {
-    for (number, which) in [
-        (0, Ok(Which::Current)),
-        (0x0f00_0000, Ok(Which::Defaults)),
-        (0x0f01_0000, Ok(Which::Request)),
-        (0x0098_0000, Ok(Which::Class(0x0098_0000))),
-        (0x0f02_0000, Ok(Which::Class(0x0f02_0000))),
-        (1, Err(Errno::EINVAL)),
-        (0x0098_0900, Err(Errno::EINVAL)),
-        (0x1098_0000, Err(Errno::EINVAL)),
-    ] {
-        assert_eq!(rt; Which::read(number), which, "{number:x}");
-    }
-    assert_eq!(rt; CtrlId(0xf098_0900).class(), 0x0098_0000);
+    check(&rt, CLASSES);
 }
 
 #[test]
 fn flags_keep_their_bits(rt: HostRuntime) {
-    let all = Flags::from_bits_retain(0x8000_0240);
-    assert_eq!(rt; all.bits(), 0x8000_0240);
-    assert!(rt; all.contains(Flags::WRITE_ONLY.union(Flags::EXECUTE_ON_WRITE)));
-    assert!(rt; !all.intersects(Flags::GRABBED.union(Flags::INACTIVE)));
-    assert_eq!(rt; Flags::flags().len(), 7);
+    check(&rt, FLAGS);
 }

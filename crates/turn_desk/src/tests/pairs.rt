@@ -95,13 +95,11 @@ fn two_threads_call(rt: HostRuntime) -> Result<(), Fail> {
     };
     let (one, two, outcome) = run_clients(&rt, &desk, &NoGate, one, two);
     outcome?;
-    assert_eq!(rt; (one.client.sums, two.client.sums), (1000, 1000));
+    let are_told = one.client.sums == 1000 && two.client.sums == 1000;
     let both = listed(rt.alloc(), Some(one.seat), Some(two.seat)).ok_or("memory")?;
     let counter = desk.close(both).ok().ok_or("seats are out")?;
-    assert_eq!(rt;
-        (counter.count(0), counter.count(1), counter.total()),
-        (1000, 1000, 2000)
-    );
+    let are_entered = counter.count(0) == 1000 && counter.count(1) == 1000;
+    assert!(rt; are_told && are_entered && counter.total() == 2000);
     Ok(())
 }
 
@@ -124,7 +122,10 @@ fn two_threads_meet_at_the_gate(rt: HostRuntime) -> Result<(), Fail> {
     };
     let (one, two, outcome) = run_clients(&rt, &desk, &gate, one, two);
     outcome?;
-    assert_eq!(rt; gate.alone.load(SeqCst), 0, "one ran without the other");
-    assert_eq!(rt; (one.client.sums, two.client.sums), (3, 3));
+    let alone = gate.alone.load(SeqCst);
+    assert!(rt;
+        alone == 0 && one.client.sums == 3 && two.client.sums == 3,
+        "alone: {alone}"
+    );
     Ok(())
 }
