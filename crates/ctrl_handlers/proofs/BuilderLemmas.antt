@@ -3,9 +3,10 @@ use Rattle.std.proofs.Common.{◌≡◌, ℕ, ◌<◌, true, length, None, Optio
 use Rattle.std.proofs.lemmas.Bool.Decides.{nat_tests}
 use Rattle.ctrl_handlers.specs.declared.fault.PlanFault.{PlanFault}
 use Rattle.ctrl_handlers.specs.declared.fault.PlanFault.TheVariants.{Memory}
-use Rattle.ctrl_handlers.specs.declared.menu.MenuItem.{MenuItem}
+use Rattle.menu_items.specs.declared.item.MenuItem.{MenuItem}
 use Rattle.ctrl_handlers.specs.Plan.{PlanData, control, with_item}
-use Rattle.ctrl_handlers.specs.Builder.{takes_number, number_refusal, IsRefusedBy}
+use Rattle.menu_items.specs.Places.{takes_number}
+use Rattle.ctrl_handlers.specs.Builder.{number_refusal, IsRefusedBy}
 
 -- where the menu takes the number, only memory can be wanting
 pub number_passes : (plan : PlanData) (c index : ℕ) → c < length plan.controls → takes_number (control plan c) index ≡ true → number_refusal plan c index ≡ None

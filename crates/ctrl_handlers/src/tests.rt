@@ -11,7 +11,6 @@ use ctrl_settle::Ctrl;
 use ctrl_types::{CtrlId, Errno, Flags, Kind};
 use std::alloc::Global;
 use std::process::Abort;
-use std::test::Fail;
 
 // A driver that accepts every row, and tells nothing.
 enum Silent {}
@@ -502,17 +501,4 @@ fn name_of<D: Driver>(plan: &Plan<D>, control: u32, index: u32) -> Option<&str> 
         Ok(MenuItem::Name(name)) => Some(name.as_str()),
         _ => None,
     }
-}
-
-#[test]
-fn a_copied_item(rt: HostRuntime) -> Result<(), Fail> {
-    let item = MenuItem::Name(MenuName::new(rt.alloc(), "50 Hz")?);
-    assert!(rt; matches!(item.copied(rt.alloc())?, MenuItem::Name(_)));
-    let number = MenuItem::Number(i64::MIN);
-    assert!(rt; matches!(number.copied(rt.alloc())?, MenuItem::Number(i64::MIN)));
-    assert_eq!(rt;
-        format!(in rt.alloc(); "{}", MenuName::new(rt.alloc(), "60 Hz")?)?.as_str(),
-        "60 Hz"
-    );
-    Ok(())
 }
