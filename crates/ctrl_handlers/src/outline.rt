@@ -359,7 +359,11 @@ fn cluster_alone(clusters: &mut Vec<Cluster>, control: u32)
     ensures few { length clusters.new.items ≤ length clusters.old.items + 1 }
 {
     if !is_clustered(clusters.as_slice(), control) {
-        clusters.push_reserved(Cluster::alone(control));
+        let calls = Relations {
+            validator: None,
+            notifier: None,
+        };
+        clusters.push_reserved(Cluster::new(&[control], None, calls));
     }
 }
 

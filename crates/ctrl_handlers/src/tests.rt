@@ -225,6 +225,25 @@ fn make(
     assert!(rt; got == want, "{call:?}");
 }
 
+// Declares so many controls, the first of the plan.
+fn declare(
+    rt: &impl Abort,
+    builder: &mut PlanBuilder<Alike>,
+    called: &Arc<AtomicU64>,
+    handler: u32,
+    count: u32,
+) {
+    for id in 0..count {
+        make(
+            rt,
+            builder,
+            called,
+            Call::Control(handler, id, false),
+            Ok(id),
+        );
+    }
+}
+
 // A builder after these calls; before them it has a handler of so many controls, where there are any.
 fn built(
     rt: &impl Abort,
@@ -236,15 +255,7 @@ fn built(
     let mut builder = PlanBuilder::new(alloc);
     if count > 0 {
         make(rt, &mut builder, called, Call::Handler, Ok(0));
-    }
-    for id in 0..count {
-        make(
-            rt,
-            &mut builder,
-            called,
-            Call::Control(0, id, false),
-            Ok(id),
-        );
+        declare(rt, &mut builder, called, 0, count);
     }
     for &(call, want) in calls {
         make(rt, &mut builder, called, call, want);
@@ -359,25 +370,22 @@ fn faults_have_their_numbers(rt: HostRuntime) {
     }
 }
 
+// A builder of so many handlers, one of which has so many controls, refuses further ones.
+fn fill(rt: &impl Abort, alloc: Global, handlers: u32, controls: u32) {
+    let called = calling(rt, alloc);
+    let mut builder = built(rt, alloc, &called, 0, NO_HANDLER);
+    for handler in 0..handlers {
+        make(rt, &mut builder, &called, Call::Handler, Ok(handler));
+    }
+    declare(rt, &mut builder, &called, 3, controls);
+    for &(call, want) in FULL {
+        make(rt, &mut builder, &called, call, want);
+    }
+}
+
 #[test]
 fn as_many_as_there_can_be(rt: HostRuntime) {
-    let called = calling(&rt, rt.alloc());
-    let mut builder = built(&rt, rt.alloc(), &called, 0, NO_HANDLER);
-    for handler in 0..16 {
-        make(&rt, &mut builder, &called, Call::Handler, Ok(handler));
-    }
-    for id in 0..256 {
-        make(
-            &rt,
-            &mut builder,
-            &called,
-            Call::Control(3, id, false),
-            Ok(id),
-        );
-    }
-    for &(call, want) in FULL {
-        make(&rt, &mut builder, &called, call, want);
-    }
+    fill(&rt, rt.alloc(), 16, 256);
 }
 
 const NO_HANDLER: &[(Call, Result<u32, PlanFault>)] = &[(
@@ -481,6 +489,8 @@ const REFUSED: &[(&[u32], PlanFault)] = &[
     (&[0, 1, 2, 3, 4, 5, 6, 6], PlanFault::InCluster),
 ];
 
+const FIRST: &[(Call, Result<u32, PlanFault>)] = &[(Call::Cluster(&[9, 8]), Ok(0))];
+
 // nothing is kept of them
 const ALLOWED: &[(Call, Result<u32, PlanFault>)] = &[
     (Call::Cluster(&[9, 8]), Ok(0)),
@@ -495,30 +505,34 @@ const KEPT: &[Look] = &[
     Look::Cluster(8, &[7], None),
 ];
 
-#[test]
-fn refused_clusters(rt: HostRuntime) {
-    let called = calling(&rt, rt.alloc());
-    let mut builder = built(&rt, rt.alloc(), &called, 10, &ALLOWED[..1]);
+fn refuses(rt: &impl Abort, alloc: Global) {
+    let called = calling(rt, alloc);
+    let mut builder = built(rt, alloc, &called, 10, FIRST);
     for &(members, fault) in REFUSED {
         make(
-            &rt,
+            rt,
             &mut builder,
             &called,
             Call::Cluster(members),
             Err(fault),
         );
         make(
-            &rt,
+            rt,
             &mut builder,
             &called,
             Call::Auto(members, 0),
             Err(fault),
         );
     }
-    make(&rt, &mut builder, &called, Call::Cluster(&[0]), Ok(1));
-    let plan = finished(&rt, builder);
-    let allowed = finished(&rt, built(&rt, rt.alloc(), &called, 10, ALLOWED));
-    assert!(rt; same(&plan, &allowed, &called));
+    make(rt, &mut builder, &called, Call::Cluster(&[0]), Ok(1));
+    let plan = finished(rt, builder);
+    let other = finished(rt, built(rt, alloc, &called, 10, ALLOWED));
+    assert!(rt; same(&plan, &other, &called));
+}
+
+#[test]
+fn refused_clusters(rt: HostRuntime) {
+    refuses(&rt, rt.alloc());
 }
 
 #[test]
@@ -733,14 +747,18 @@ fn accepted(
 }
 
 // A builder that was refused memory is as before: it finishes the plan of the calls that were accepted.
+fn keeps(rt: &impl Abort, alloc: Global, calls: &[(Call, Result<u32, PlanFault>)]) {
+    let called = calling(rt, alloc);
+    let mut builder = PlanBuilder::new(alloc);
+    let count = accepted(rt, &mut builder, &called, calls);
+    let plan = finished(rt, builder);
+    let other = finished(rt, built(rt, alloc, &called, 0, &calls[..count]));
+    assert!(rt; same(&plan, &other, &called), "{count}");
+}
+
 #[test]
 fn a_refusal_changes_nothing(rt: HostRuntime) {
-    let called = calling(&rt, rt.alloc());
-    let mut builder = PlanBuilder::new(rt.alloc());
-    let count = accepted(&rt, &mut builder, &called, ALL);
-    let plan = finished(&rt, builder);
-    let other = finished(&rt, built(&rt, rt.alloc(), &called, 0, &ALL[..count]));
-    assert!(rt; same(&plan, &other, &called), "{count}");
+    keeps(&rt, rt.alloc(), ALL);
 }
 
 // Whether two plans answer all that they can be asked alike.
