@@ -7,8 +7,8 @@ use Rattle.ctrl_types.specs.declared.errno.Fault.{Fault}
 use Rattle.ctrl_types.specs.declared.flags.Flags.{Flags}
 use Rattle.ctrl_types.specs.declared.ids.CtrlId.{CtrlId}
 use Rattle.ctrl_types.specs.declared.ids.ExtControl.{ExtControl}
-use Rattle.ctrl_handlers.specs.declared.menu.MenuItem.{MenuItem}
-use Rattle.ctrl_handlers.specs.declared.menu.MenuItem.TheVariants.{Name, Number}
+use Rattle.menu_items.specs.declared.item.MenuItem.{MenuItem}
+use Rattle.menu_items.specs.declared.item.MenuItem.TheVariants.{Name, Number}
 use Rattle.device_state.specs.declared.info.CtrlInfo.{CtrlInfo}
 use Rattle.device_state.specs.declared.ask.Reply.{Reply}
 use Rattle.device_state.specs.declared.ask.Reply.TheVariants.{Fh, Done, Controls, Info, Id, Item, Word}

@@ -10,7 +10,7 @@ use Rattle.ctrl_types.specs.declared.flags.Flags.{Flags}
 use Rattle.ctrl_settle.specs.Control.{Control, described}
 use Rattle.ctrl_handlers.specs.ClusterData.{ClusterData}
 use Rattle.ctrl_handlers.specs.Plan.{PlanData, no_handler, alone}
-use Rattle.ctrl_handlers.specs.declared.menu.MenuItem.TheVariants.{Name}
+use Rattle.menu_items.specs.declared.item.MenuItem.TheVariants.{Name}
 
 abbrev pub no_flags : Flags
 no_flags = record { 0 = 0 }

@@ -233,6 +233,9 @@ pub is_plan_add : (plan : PlanData) (named : List ℕ) (manual : Option ℤ) (ca
 is_plan_add plan named manual calls is may = record {
   few_controls = is.few_controls;
   few_handlers = is.few_handlers;
+  well_formed = is.well_formed;
+  items_known = is.items_known;
+  items_taken = is.items_taken;
   some_members = λ k within. some_more plan named manual calls k is may within (cluster_more plan.clusters (named_as named manual calls) k);
   few_members = λ k. members_more (λ cs. length cs ≤ MAX_MEMBERS) plan named manual calls k is.few_members (omega arith) may.few (cluster_more plan.clusters (named_as named manual calls) k);
   members_known = λ k.

@@ -3,6 +3,7 @@ pub mod ClusterLemmas
 pub mod FinishLemmas
 pub mod IdLemmas
 pub mod PlanLemmas
+pub mod ItemLemmas
 pub mod ShownLemmas
 pub mod LeastLemmas
 pub mod BuilderLemmas

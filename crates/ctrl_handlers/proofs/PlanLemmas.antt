@@ -1,14 +1,19 @@
 -- Each call of a builder keeps what holds of every plan.
-use Rattle.std.proofs.Common.{◌≡◌, ◌≢◌, ℕ, ◌<◌, false, is_some, List, [], ◌∷◌, ◌++◌, length, sym, ap, ◌∙◌, subst, arith, get_or, slice_set, refl, inl, inr, ◌⊎◌}
+use Rattle.std.proofs.Common.{◌≡◌, ◌≢◌, ℕ, ◌<◌, Bool, true, false, if◌then◌else◌, nat_le, None, Some, is_some, List, [], ◌∷◌, ◌++◌, length, sym, ap, ◌∙◌, subst, arith, get_or, slice_set, refl, inl, inr, ◌⊎◌}
 use Rattle.std.specs.List.{All}
 use Rattle.std.proofs.lemmas.Bool.{cases_eq}
-use Rattle.std.proofs.lemmas.List.{get_or-set_same, get_or-set_other, length_push, length-set}
+use Rattle.std.proofs.lemmas.Bool.Decides.{nat_tests}
+use Rattle.std.proofs.lemmas.List.{get_or-set_same, get_or-set_other, get_or_append_left, length_push, length-set}
 use Rattle.std.proofs.lemmas.List.Elements.{All-push, All-weaker}
 use Rattle.ctrl_settle.specs.Control.{Control}
+use Rattle.ctrl_settle.specs.Faults.{IsWellFormed}
 use Rattle.ctrl_handlers.specs.HandlerData.{HandlerData}
 use Rattle.ctrl_handlers.specs.declared.limits.TheConstants.{MAX_CONTROLS}
-use Rattle.ctrl_handlers.specs.Plan.{PlanData, IsPlan, no_plan, no_handler, handler_at, own, added, members, names_twice, ids_of, owning, with_control}
+use Rattle.ctrl_handlers.specs.Plan.{PlanData, IsPlan, no_plan, no_control, no_handler, handler_at, own, added, members, names_twice, ids_of, owning, with_control}
 use Rattle.ctrl_handlers.specs.Visible.{first_with_id}
+use Rattle.ctrl_handlers.specs.Builder.{adding_refusal}
+use Rattle.ctrl_handlers.specs.declared.fault.PlanFault.{PlanFault}
+use Rattle.ctrl_handlers.specs.declared.fault.PlanFault.TheVariants.{UnknownNumber, LaterHandler}
 use Rattle.ctrl_handlers.proofs.IdLemmas.{ids_stay, ids_more}
 
 -- a plan of nothing
@@ -16,6 +21,9 @@ pub is_plan_start : IsPlan no_plan
 is_plan_start = record {
   few_controls = omega arith;
   few_handlers = omega arith;
+  well_formed = λ k d lt. absurd (omega (arith, lt));
+  items_known = λ c index item is. cc;
+  items_taken = λ c index item is. cc;
   members_known = λ k i d lt. absurd (omega (arith, lt));
   members_apart = λ k c lt. absurd (omega (arith, lt));
   some_members = λ k lt. absurd (omega (arith, lt));
@@ -38,11 +46,15 @@ set_handler handlers h g x within = by (cases_eq g h)
 
 -- one more control
 pub is_plan_control : (plan : PlanData) (h : ℕ) (ctrl : Control) → IsPlan plan → h < length plan.handlers → length plan.controls < MAX_CONTROLS
-    → is_some (first_with_id plan.controls (own plan h) ctrl.id) ≡ false → IsPlan (with_control plan h ctrl)
+    → IsWellFormed ctrl → is_some (first_with_id plan.controls (own plan h) ctrl.id) ≡ false → IsPlan (with_control plan h ctrl)
 unfolding owning
-is_plan_control plan h ctrl is within room new = record {
+is_plan_control plan h ctrl is within room whole new = record {
   few_controls = omega (arith, length_push plan.controls ctrl, room);
   few_handlers = omega (arith, is.few_handlers, length-set plan.handlers h (owning (handler_at plan h) (length plan.controls)));
+  well_formed = All-push IsWellFormed plan.controls ctrl is.well_formed whole;
+  items_known = λ c index item there. omega (arith, is.items_known c index item there, length_push plan.controls ctrl);
+  items_taken = λ c index item there.
+      rw (get_or_append_left plan.controls (ctrl ∷ []) no_control c (is.items_known c index item there)) (is.items_taken c index item there);
   members_known = λ k.
       All-weaker (λ c. c < length plan.controls) (λ c. c < length (plan.controls ++ ctrl ∷ []))
       (λ c lt. omega (arith, lt, length_push plan.controls ctrl)) (members plan k) (is.members_known k);
@@ -91,15 +103,30 @@ is_plan_control plan h ctrl is within room new = record {
 
 -- the same for parts that are equal to those
 pub is_plan_control_as : (plan : PlanData) (h : ℕ) (ctrl : Control) (controls : List Control) (handler : HandlerData) → IsPlan plan → h < length plan.handlers → length plan.controls < MAX_CONTROLS
-    → is_some (first_with_id plan.controls (own plan h) ctrl.id) ≡ false → controls ≡ plan.controls ++ ctrl ∷ [] → handler ≡ owning (handler_at plan h) (length plan.controls)
+    → IsWellFormed ctrl → is_some (first_with_id plan.controls (own plan h) ctrl.id) ≡ false → controls ≡ plan.controls ++ ctrl ∷ [] → handler ≡ owning (handler_at plan h) (length plan.controls)
     → IsPlan (record plan { controls = controls; handlers = slice_set plan.handlers h handler })
-is_plan_control_as plan h ctrl controls handler is within room new more owns = rw (more, owns) (is_plan_control plan h ctrl is within room new)
+is_plan_control_as plan h ctrl controls handler is within room whole new more owns = rw (more, owns) (is_plan_control plan h ctrl is within room whole new)
+
+-- where nothing refuses an adding, the handler is there and the other has a smaller number
+adding_by : (none later : Bool) (other : Bool) → (if none then Some UnknownNumber else if other then Some UnknownNumber else if later then Some LaterHandler else None) ≡ None → (none ≡ false) × (later ≡ false)
+adding_by true later other is = cc
+adding_by false later true is = cc
+adding_by false true false is = cc
+adding_by false false false is = (refl, refl)
+
+pub may_add : (plan : PlanData) (to added : ℕ) → adding_refusal plan to added ≡ None → (to < length plan.handlers) × (added < to)
+may_add plan to added is =
+    let each = adding_by (nat_le (length plan.handlers) to) (nat_le to added) (nat_le (length plan.handlers) added) is in
+    (grind (arith, nat_tests, each.0), grind (arith, nat_tests, each.1))
 
 -- a handler that keeps its own controls and adds only handlers with smaller numbers
 pub is_plan_handler : (plan : PlanData) (h : ℕ) (handler : HandlerData) → IsPlan plan → h < length plan.handlers → handler.own ≡ own plan h → All (λ a. a < h) handler.added
     → IsPlan (record plan { handlers = slice_set plan.handlers h handler })
 is_plan_handler plan h handler is within same before = record {
   few_controls = is.few_controls;
+  well_formed = is.well_formed;
+  items_known = is.items_known;
+  items_taken = is.items_taken;
   few_handlers = omega (arith, is.few_handlers, length-set plan.handlers h handler);
   members_known = is.members_known;
   members_apart = is.members_apart;

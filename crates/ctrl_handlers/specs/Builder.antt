@@ -1,13 +1,12 @@
 -- When the calls of a plan builder refuse (of this project).
-use Rattle.std.specs.Prelude.{◌≡◌, ℕ, pos, Bool, false, not, ◌||◌, List, nat_eq, nat_le, nat_lt, if◌then◌else◌, length, Option, None, Some, is_some, is_ok}
+use Rattle.std.specs.Prelude.{◌≡◌, ℕ, Bool, not, ◌||◌, List, nat_eq, nat_le, nat_lt, if◌then◌else◌, length, Option, None, Some, is_some}
 use Rattle.std.specs.List.{list_any, list_all}
-use Rattle.ctrl_types.specs.declared.kind.Kind.{Kind}
-use Rattle.ctrl_types.specs.declared.kind.Kind.TheVariants.{Menu, IntegerMenu}
 use Rattle.ctrl_settle.specs.Control.{Control}
-use Rattle.ctrl_settle.specs.Settle.{settle}
+use Rattle.menu_items.specs.Places.{takes_name, takes_number}
+use Rattle.menu_items.specs.declared.name.TheConstants.{MAX_MENU_NAME}
 use Rattle.ctrl_handlers.specs.declared.fault.PlanFault.{PlanFault}
 use Rattle.ctrl_handlers.specs.declared.fault.PlanFault.TheVariants.{DuplicateId, InCluster, ClusterSize, LaterHandler, UnknownNumber, Limit, Memory}
-use Rattle.ctrl_handlers.specs.declared.limits.TheConstants.{MAX_CONTROLS, MAX_HANDLERS, MAX_MENU_NAME}
+use Rattle.ctrl_handlers.specs.declared.limits.TheConstants.{MAX_CONTROLS, MAX_HANDLERS}
 use Rattle.ctrl_calls.specs.declared.row.TheConstants.{MAX_MEMBERS}
 use Rattle.ctrl_handlers.specs.Plan.{PlanData, own, control, cluster_of, names_twice}
 use Rattle.ctrl_handlers.specs.Visible.{first_with_id}
@@ -32,26 +31,6 @@ adding_refusal plan to added =
     else if nat_le (length plan.handlers) added then Some UnknownNumber
     else if nat_le to added then Some LaterHandler
     else None
-
--- an index that a menu takes: within its range, and not skipped
-abbrev pub is_taken : Control → ℕ → Bool
-is_taken ctrl index = is_ok (settle ctrl (pos index))
-
--- a control takes a name at an index: its items have names, and it takes the index
-abbrev pub names_in : Kind → Control → ℕ → Bool
-names_in Menu ctrl index = is_taken ctrl index
-names_in _ ctrl index = false
-
-abbrev pub takes_name : Control → ℕ → Bool
-takes_name ctrl index = names_in ctrl.kind ctrl index
-
--- a control takes a number at an index: its items are numbers, and it takes the index
-abbrev pub numbers_in : Kind → Control → ℕ → Bool
-numbers_in IntegerMenu ctrl index = is_taken ctrl index
-numbers_in _ ctrl index = false
-
-abbrev pub takes_number : Control → ℕ → Bool
-takes_number ctrl index = numbers_in ctrl.kind ctrl index
 
 -- Why a name is refused: there is no such control; it isn't a menu of names that takes the index; the name is too long.
 abbrev pub name_refusal : PlanData → ℕ → ℕ → List ℕ → Option PlanFault

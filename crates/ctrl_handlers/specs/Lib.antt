@@ -3,6 +3,7 @@ pub use Rattle.ctrl_calls.specs.Counts
 pub use Rattle.ctrl_settle.specs.Control
 pub use Rattle.ctrl_settle.specs.Settle
 pub use Rattle.ctrl_types.specs.Flags
+pub use Rattle.menu_items.specs.Places
 pub mod HandlerData
 pub mod ClusterData
 pub mod Plan

@@ -11,10 +11,12 @@ use Rattle.ctrl_types.specs.declared.flags.TheConstants.Flags.{UPDATE}
 use Rattle.ctrl_calls.specs.declared.relation.Relations.{Relations}
 use Rattle.ctrl_calls.specs.declared.row.TheConstants.{MAX_MEMBERS}
 use Rattle.ctrl_settle.specs.Control.{Control}
+use Rattle.ctrl_settle.specs.Faults.{IsWellFormed}
+use Rattle.menu_items.specs.Places.{takes}
 use Rattle.ctrl_handlers.specs.HandlerData.{HandlerData}
 use Rattle.ctrl_handlers.specs.ClusterData.{ClusterData}
 use Rattle.ctrl_handlers.specs.declared.limits.TheConstants.{MAX_CONTROLS, MAX_HANDLERS}
-use Rattle.ctrl_handlers.specs.declared.menu.MenuItem.{MenuItem}
+use Rattle.menu_items.specs.declared.item.MenuItem.{MenuItem}
 
 -- The controls by number, the handlers by number, the items of menus by control and index, and the clusters by number.
 pub record PlanData : Type 0 where
@@ -120,12 +122,15 @@ names_twice (c ∷ cs) = list_any (nat_eq c) cs || names_twice cs
 abbrev pub ids_of : List Control → List ℕ → List ℕ
 ids_of controls numbers = map (λ c. (control_in controls c).id.0) numbers
 
--- What holds of every plan: the limits, that a cluster has members, not too many, that they are there and differ, that a control is
--- in one cluster at most, that each handler's own controls are there and their ids differ, and that it adds only handlers with
--- smaller numbers.
+-- What holds of every plan: the limits, that nothing is wrong with a control, that an item stands only where its control takes it, that a
+-- cluster has members, not too many, that they are there and differ, that a control is in one cluster at most, that each handler's own
+-- controls are there and their ids differ, and that it adds only handlers with smaller numbers.
 pub record IsPlan (plan : PlanData) : Type 0 where
   pub few_controls : length plan.controls ≤ MAX_CONTROLS
   pub few_handlers : length plan.handlers ≤ MAX_HANDLERS
+  pub well_formed : All IsWellFormed plan.controls
+  pub items_known : (c index : ℕ) (item : MenuItem) → menu_item plan c index ≡ Some item → c < length plan.controls
+  pub items_taken : (c index : ℕ) (item : MenuItem) → menu_item plan c index ≡ Some item → takes item (control plan c) index ≡ true
   pub some_members : (k : ℕ) → k < length plan.clusters → 0 < length (members plan k)
   pub few_members : (k : ℕ) → length (members plan k) ≤ MAX_MEMBERS
   pub members_known : (k : ℕ) → All (λ c. c < length plan.controls) (members plan k)

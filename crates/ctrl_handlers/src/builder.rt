@@ -1,19 +1,19 @@
-ghost use Rattle.std.specs.Prelude.{◌≡◌, ◌<◌, ◌&&◌, pos, ℕ, length, None, Some, Option, IfOk, IfErr, MatchResult};
-ghost use Rattle.ctrl_handlers.specs.Plan.{no_plan, with_handler, with_control, with_added, with_item, with_cluster, finished, control as control_of};
-ghost use Rattle.ctrl_handlers.specs.Builder.{handler_refusal, control_refusal, adding_refusal, name_refusal, number_refusal, cluster_refusal, takes_name, takes_number, is_taken, IsRefusedBy};
+ghost use Rattle.std.specs.Prelude.{◌≡◌, ◌<◌, true, length, None, Some, IfOk, IfErr, MatchResult};
+ghost use Rattle.ctrl_handlers.specs.Plan.{IsFinished, no_plan, with_handler, with_control, with_added, with_item, with_cluster, finished, control as control_of};
+ghost use Rattle.ctrl_handlers.specs.Builder.{handler_refusal, control_refusal, adding_refusal, name_refusal, number_refusal, cluster_refusal, IsRefusedBy};
+ghost use Rattle.menu_items.specs.Places.{takes};
 ghost use Rattle.ctrl_handlers.specs.Visible.{shown_below};
-ghost use Rattle.ctrl_handlers.specs.declared.menu.MenuItem.TheVariants as items;
+ghost use Rattle.menu_items.specs.declared.item.MenuItem.TheVariants as items;
 ghost use Rattle.ctrl_handlers.specs.declared.fault.PlanFault.TheVariants.{Memory};
 
 use crate::fault::PlanFault;
-use crate::limits::{MAX_CONTROLS, MAX_HANDLERS, MAX_MENU_NAME};
-use crate::menu::{MenuItem, MenuName};
+use crate::limits::{MAX_CONTROLS, MAX_HANDLERS};
 use crate::numbers::NumberList;
 use crate::outline::Outline;
 use crate::plan::Plan;
 use ctrl_calls::{Calls, Driver};
-use ctrl_settle::{Ctrl, settle};
-use ctrl_types::Kind;
+use ctrl_settle::Ctrl;
+use menu_items::{MAX_MENU_NAME, MenuItem, MenuName, takes_name, takes_number};
 use std::alloc::Global;
 use std::marker::Model;
 
@@ -109,14 +109,8 @@ impl<D: Driver> PlanBuilder<D> {
         ensures ok { IfOk result (λ _. (adding_refusal self.old to added ≡ None) × (self.new ≡ with_added self.old to added)) }
         ensures err { IfErr result (λ fault. IsRefusedBy (adding_refusal self.old to added) fault × (self.new ≡ self.old)) }
     {
-        if !self.outline.has_handler(to) {
-            return Err(PlanFault::UnknownNumber);
-        }
-        if !self.outline.has_handler(added) {
-            return Err(PlanFault::UnknownNumber);
-        }
-        if added >= to {
-            return Err(PlanFault::LaterHandler);
+        if let Some(fault) = self.outline.adding_refusal(to, added) {
+            return Err(fault);
         }
         match self.outline.add_to(to, added) {
             Ok(()) => Ok(()),
@@ -176,8 +170,10 @@ impl<D: Driver> PlanBuilder<D> {
         self.set_item(control, index, MenuItem::Number(number))
     }
 
-    // Gives a menu an item.
+    // Gives a menu an item that it takes.
     fn set_item(&mut self, control: u32, index: u32, item: MenuItem) -> Result<(), PlanFault>
+        requires known { control < length self.old.controls }
+        requires takes { takes item (control_of self.old control) index ≡ true }
         ensures { MatchResult result (λ _. self.new ≡ with_item self.old control index item) (λ fault. (fault ≡ Memory) × (self.new ≡ self.old)) }
     {
         if self.outline.set_item(control, index, item).is_err() {
@@ -272,6 +268,7 @@ impl<D: Driver> PlanBuilder<D> {
     /// controls. `Memory` (7), with the builder as it was, where a growth was refused.
     pub fn finish(self) -> Result<Plan<D>, (PlanBuilder<D>, PlanFault)>
         ensures ok { IfOk result (λ plan. plan ≡ finished self) }
+        ensures finished { IfOk result (λ plan. IsFinished plan) }
         ensures err { IfErr result (λ e. (e.0 ≡ self) × (e.1 ≡ Memory)) }
     {
         match self.outline.shown_lists(self.alloc) {
@@ -284,6 +281,7 @@ impl<D: Driver> PlanBuilder<D> {
     fn finish_with(self, shown: Vec<NumberList>) -> Result<Plan<D>, (PlanBuilder<D>, PlanFault)>
         requires { shown.items ≡ shown_below self (length self.handlers) }
         ensures ok { IfOk result (λ plan. plan ≡ finished self) }
+        ensures finished { IfOk result (λ plan. IsFinished plan) }
         ensures err { IfErr result (λ e. (e.0 ≡ self) × (e.1 ≡ Memory)) }
     {
         let PlanBuilder {
@@ -303,31 +301,4 @@ impl<D: Driver> PlanBuilder<D> {
             )),
         }
     }
-}
-
-// Whether a control is a menu of names that takes an index.
-fn takes_name(ctrl: &Ctrl, index: u32) -> bool
-    ensures { result ≡ takes_name ctrl.now index }
-{
-    match ctrl.kind() {
-        Kind::Menu => is_taken(ctrl, index),
-        _ => false,
-    }
-}
-
-// Whether a control is a menu of numbers that takes an index.
-fn takes_number(ctrl: &Ctrl, index: u32) -> bool
-    ensures { result ≡ takes_number ctrl.now index }
-{
-    match ctrl.kind() {
-        Kind::IntegerMenu => is_taken(ctrl, index),
-        _ => false,
-    }
-}
-
-// Whether a menu takes an index.
-fn is_taken(ctrl: &Ctrl, index: u32) -> bool
-    ensures { result ≡ is_taken ctrl.now index }
-{
-    settle(ctrl, i64::from(index)).is_ok()
 }

@@ -1,5 +1,5 @@
 ghost use Rattle.std.specs.Prelude.{◌≡◌, ◌<◌, ◌≤◌, length};
-ghost use Rattle.ctrl_handlers.specs.Plan.{has_member, leads, alone};
+ghost use Rattle.ctrl_handlers.specs.Plan.{has_member, leads};
 ghost use Rattle.ctrl_calls.specs.declared.row.TheConstants.{MAX_MEMBERS};
 
 use arrayvec::ArrayVec;
@@ -42,17 +42,6 @@ impl Cluster {
             manual,
             calls,
         }
-    }
-
-    /// A cluster of one control, without closures.
-    pub(crate) fn alone(control: u32) -> Cluster
-        ensures { result ≡ alone control }
-    {
-        let calls = Relations {
-            validator: None,
-            notifier: None,
-        };
-        Cluster::new(&[control], None, calls)
     }
 
     /// The master's manual value, where it is an auto cluster.

@@ -8,7 +8,6 @@ mod fault;
 mod handler;
 pub mod laws;
 mod limits;
-mod menu;
 mod numbers;
 mod outline;
 mod plan;
@@ -16,8 +15,8 @@ mod showing;
 
 pub use builder::PlanBuilder;
 pub use fault::PlanFault;
-pub use limits::{MAX_CONTROLS, MAX_HANDLERS, MAX_MENU_NAME};
-pub use menu::{MenuItem, MenuName};
+pub use limits::{MAX_CONTROLS, MAX_HANDLERS};
+pub use menu_items::{MAX_MENU_NAME, MenuItem, MenuName};
 pub use plan::Plan;
 
 #[cfg(test)]

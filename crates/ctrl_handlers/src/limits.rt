@@ -5,6 +5,3 @@ pub const MAX_HANDLERS: u32 = 16;
 
 /// How many controls a plan has at most.
 pub const MAX_CONTROLS: u32 = 256;
-
-/// How many bytes the name of a menu's item has at most.
-pub const MAX_MENU_NAME: usize = 32;

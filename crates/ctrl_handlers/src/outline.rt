@@ -1,6 +1,8 @@
-ghost use Rattle.std.specs.Prelude.{◌≡◌, ◌==◌, ◌<◌, ◌≤◌, ◌+◌, ℕ, false, if◌then◌else◌, [], ◌∷◌, ◌++◌, map, length, vec_capacity, None, Some, is_some, nat_lt, OnOk, OnErr, MatchOption, position, IfOk, IfSome, IsTrue, ◌↔◌};
+ghost use Rattle.std.specs.Prelude.{◌≡◌, ◌==◌, ◌<◌, ◌≤◌, ◌+◌, ℕ, true, false, if◌then◌else◌, [], ◌∷◌, ◌++◌, map, length, vec_capacity, None, Some, is_some, nat_lt, OnOk, OnErr, MatchOption, position, IfOk, IfSome, IsTrue, ◌↔◌};
 ghost use Rattle.ctrl_handlers.specs.Plan.{IsPlan, IsFinished, no_plan, with_handler, with_control, with_added, with_item, with_cluster, finished, in_none, alone, control as control_of, own, added, menu_item, cluster_of, cluster_at, members, has_member, leads, plan_flags, names_twice};
-ghost use Rattle.ctrl_handlers.specs.Builder.{cluster_refusal, misfits};
+ghost use Rattle.ctrl_handlers.specs.Builder.{cluster_refusal, misfits, adding_refusal};
+ghost use Rattle.ctrl_settle.specs.Faults.{IsWellFormed};
+ghost use Rattle.menu_items.specs.Places.{takes};
 ghost use Rattle.ctrl_calls.specs.declared.row.TheConstants.{MAX_MEMBERS};
 ghost use Rattle.std.specs.List.{All, list_all, list_any};
 ghost use Rattle.ctrl_handlers.specs.Visible.{first_with_id, shown_over, shown_below};
@@ -9,7 +11,6 @@ use crate::cluster::Cluster;
 use crate::fault::PlanFault;
 use crate::handler::Handler;
 use crate::limits::{MAX_CONTROLS, MAX_HANDLERS};
-use crate::menu::MenuItem;
 use crate::numbers::NumberList;
 use crate::showing::{bring_added, first_with_id};
 use bitflags::Flags as FlagSet;
@@ -17,6 +18,7 @@ use ctrl_calls::{MAX_MEMBERS, Relations};
 use ctrl_settle::Ctrl;
 use ctrl_types::{CtrlId, Flags};
 use indexmap::IndexMap;
+use menu_items::MenuItem;
 use std::alloc::{AllocError, Global};
 use std::marker::Model;
 
@@ -68,6 +70,7 @@ impl Outline {
     pub(crate) fn add_control(&mut self, handler: u32, ctrl: Ctrl) -> Result<u32, AllocError>
         requires known { handler < length self.old.handlers }
         requires room { length self.old.controls < MAX_CONTROLS }
+        requires well_formed { IsWellFormed ctrl }
         requires differs { is_some (first_with_id self.old.controls (own self.old handler) ctrl.id) ≡ false }
         ensures ok { IfOk result (λ n. (n ≡ length self.old.controls) × (self.new ≡ with_control self.old handler ctrl)) }
         ensures err { OnErr result (self.new ≡ self.old) }
@@ -79,23 +82,40 @@ impl Outline {
         Ok(number)
     }
 
+    /// Why a handler doesn't add another, memory apart.
+    pub(crate) fn adding_refusal(&self, to: u32, added: u32) -> Option<PlanFault>
+        ensures { result ≡ adding_refusal self.now to added }
+    {
+        if !self.has_handler(to) {
+            return Some(PlanFault::UnknownNumber);
+        }
+        if !self.has_handler(added) {
+            return Some(PlanFault::UnknownNumber);
+        }
+        if added >= to {
+            return Some(PlanFault::LaterHandler);
+        }
+        None
+    }
+
     /// Has a handler add another.
     pub(crate) fn add_to(&mut self, to: u32, added: u32) -> Result<(), AllocError>
-        requires known { to < length self.old.handlers }
-        requires before { added < to }
+        requires { adding_refusal self.old to added ≡ None }
         ensures ok { OnOk result (self.new ≡ with_added self.old to added) }
         ensures err { OnErr result (self.new ≡ self.old) }
     {
         self.handlers[to as usize].add_handler(added)
     }
 
-    /// Gives a menu an item, in place of the one that it has at this index.
+    /// Gives a menu an item that it takes, in place of the one that it has at this index.
     pub(crate) fn set_item(
         &mut self,
         control: u32,
         index: u32,
         item: MenuItem,
     ) -> Result<(), AllocError>
+        requires known { control < length self.old.controls }
+        requires takes { takes item (control_of self.old control) index ≡ true }
         ensures ok { OnOk result (self.new ≡ with_item self.old control index item) }
         ensures err { OnErr result (self.new ≡ self.old) }
     {
@@ -339,7 +359,11 @@ fn cluster_alone(clusters: &mut Vec<Cluster>, control: u32)
     ensures few { length clusters.new.items ≤ length clusters.old.items + 1 }
 {
     if !is_clustered(clusters.as_slice(), control) {
-        clusters.push_reserved(Cluster::alone(control));
+        let calls = Relations {
+            validator: None,
+            notifier: None,
+        };
+        clusters.push_reserved(Cluster::new(&[control], None, calls));
     }
 }
 

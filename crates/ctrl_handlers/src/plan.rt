@@ -6,13 +6,13 @@ ghost use Rattle.ctrl_calls.specs.declared.row.TheConstants.{MAX_MEMBERS};
 ghost use Rattle.ctrl_handlers.specs.Visible.{visible, find as find_in, next_id};
 
 use crate::limits::{MAX_CONTROLS, MAX_HANDLERS};
-use crate::menu::MenuItem;
 use crate::numbers::NumberList;
 use crate::outline::Outline;
 use crate::showing::{first_with_id, least_above};
 use ctrl_calls::{Calls, Driver, Notifier, Validator};
 use ctrl_settle::Ctrl;
 use ctrl_types::{CtrlId, Errno, Flags};
+use menu_items::MenuItem;
 use std::marker::Model;
 
 /// What a device is built of: its controls, its handlers, the items of its menus and its clusters, with the driver's closures
@@ -138,6 +138,7 @@ impl<D: Driver> Plan<D> {
         ensures controls { result.now ≡ self.now.controls }
         ensures within { length result.now ≤ MAX_CONTROLS }
         ensures plan { IsPlan self.now }
+        ensures finished { IsFinished self.now }
     {
         self.outline.controls()
     }
@@ -147,6 +148,7 @@ impl<D: Driver> Plan<D> {
         requires { number < length self.now.controls }
         ensures control { result ≡ control_of self.now number }
         ensures plan { IsPlan self.now }
+        ensures finished { IsFinished self.now }
     {
         self.outline.control(number)
     }

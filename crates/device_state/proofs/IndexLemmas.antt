@@ -8,7 +8,7 @@ use Rattle.ctrl_calls.specs.Meanings.{Verdicts}
 use Rattle.device_state.specs.declared.ask.Ask.{Ask}
 use Rattle.device_state.specs.declared.ask.Ask.TheVariants as asks
 use Rattle.device_state.specs.declared.ask.Reply.{Reply}
-use Rattle.ctrl_handlers.specs.declared.menu.MenuItem.{MenuItem}
+use Rattle.menu_items.specs.declared.item.MenuItem.{MenuItem}
 use Rattle.ctrl_handlers.specs.Plan.{PlanData, menu_item}
 use Rattle.ctrl_handlers.specs.Visible.{next_id}
 use Rattle.ctrl_lists.specs.declared.refusal.Refusal.{Refusal}

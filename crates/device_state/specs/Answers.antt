@@ -19,7 +19,7 @@ use Rattle.device_state.specs.declared.ask.Reply.TheVariants.{Fh, Done, Controls
 use Rattle.device_state.specs.declared.ask.Step.{Step}
 use Rattle.device_state.specs.declared.ask.Step.TheVariants as steps
 use Rattle.device_state.specs.declared.limits.TheConstants.{MAX_FILE_HANDLES, MAX_STEPS}
-use Rattle.ctrl_handlers.specs.declared.menu.MenuItem.{MenuItem}
+use Rattle.menu_items.specs.declared.item.MenuItem.{MenuItem}
 use Rattle.ctrl_handlers.specs.Plan.{PlanData, control, menu_item}
 use Rattle.ctrl_handlers.specs.Visible.{next_id}
 use Rattle.ctrl_calls.specs.Meanings.{Verdicts}

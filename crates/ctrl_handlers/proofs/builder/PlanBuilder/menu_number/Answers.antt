@@ -2,7 +2,8 @@ use Rattle.std.proofs.Common.{◌≡◌, ◌<◌, true, None, length, w64, ap, s
 use Rattle.std.proofs.Math.Facts.{to_z-of_z}
 use Rattle.ctrl_settle.specs.Control.{Control}
 use Rattle.ctrl_handlers.specs.Plan.{PlanData, control}
-use Rattle.ctrl_handlers.specs.Builder.{number_refusal, takes_number}
+use Rattle.menu_items.specs.Places.{takes_number}
+use Rattle.ctrl_handlers.specs.Builder.{number_refusal}
 use Rattle.ctrl_handlers.proofs.BuilderLemmas.{number_passes, set_ok, set_err}
 use Rattle.ctrl_handlers.proofs.builder.PlanBuilder.menu_number.Goals as goal
 

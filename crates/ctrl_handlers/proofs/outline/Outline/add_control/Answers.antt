@@ -13,7 +13,7 @@ invariant_of-self-2 c =
     let there : c.args.handler < length plan.handlers.items = rw (ap (λ (p : PlanData). p.handlers) c.self.view_is) c.requires.known in
     let number : c.len-number.result ≡ length plan.controls.items = omega (arith, c.len-number.ensures, plan.controls.ok.0) in
     is_plan_control_as _ c.args.handler c.args.ctrl _ _ c.self.invariant there
-    (rw (← c.self.view_is) at c.requires.room) (rw (← c.self.view_is) at c.requires.differs)
+    (rw (← c.self.view_is) at c.requires.room) c.requires.well_formed (rw (← c.self.view_is) at c.requires.differs)
     (c.push_reserved.ensures.items ∙ ap (λ (xs : List Control). xs ++ c.args.ctrl ∷ []) c.reserve.ensures.items)
     (c.in_ok-own_control.ensures.ok ∙ ap (λ (h : HandlerData). owning h c.len-number.result) (c.index_mut.ensures.value ∙ get_or_default plan.handlers.items c.args.handler _ no_handler there)
     ∙ ap (owning (get_or plan.handlers.items c.args.handler no_handler)) number)

@@ -1,9 +1,11 @@
 ghost use Rattle.std.specs.Prelude.{◌≡◌, ◌≤◌, IfOk, length};
 
-use crate::limits::MAX_MENU_NAME;
 use std::alloc::{AllocError, Global};
 use std::fmt;
 use std::marker::Model;
+
+/// How many bytes the name of a menu's item has at most (of this project).
+pub const MAX_MENU_NAME: usize = 32;
 
 /// The name of a menu's item, of at most 32 bytes (Linux userspace API, "struct v4l2_querymenu"). Contracts see it as the
 /// bytes of its text.
@@ -15,7 +17,7 @@ pub struct MenuName {
 impl Model for MenuName {
     ghost use Rattle.std.specs.Prelude.{List, ℕ, ◌≤◌, length};
     ghost use Rattle.std.specs.String.{string_bytes};
-    ghost use Rattle.ctrl_handlers.specs.declared.limits.TheConstants.{MAX_MENU_NAME};
+    ghost use Rattle.menu_items.specs.declared.name.TheConstants.{MAX_MENU_NAME};
 
     ghost Value = { List ℕ };
 
@@ -25,7 +27,7 @@ impl Model for MenuName {
 }
 
 impl MenuName {
-    ghost use Rattle.ctrl_handlers.specs.declared.limits.TheConstants.{MAX_MENU_NAME};
+    ghost use Rattle.menu_items.specs.declared.name.TheConstants.{MAX_MENU_NAME};
 
     /// The name with this text, of at most 32 bytes. The error is that a growth was refused.
     pub fn new(alloc: Global, text: &str) -> Result<MenuName, AllocError>
@@ -53,26 +55,5 @@ impl fmt::Display for MenuName {
 
     fn fmt<W: fmt::Write>(&self, f: &mut fmt::Formatter<W>) -> fmt::Result {
         f.write_str(self.as_str())
-    }
-}
-
-/// An item of a menu (Linux userspace API, "struct v4l2_querymenu").
-#[derive(Debug, Drop)]
-pub enum MenuItem {
-    /// An item of a `Menu`, by its name.
-    Name(MenuName),
-    /// An item of an `IntegerMenu`, by its number.
-    Number(i64),
-}
-
-impl MenuItem {
-    /// The same item once more. The error is that a growth was refused.
-    pub fn copied(&self, alloc: Global) -> Result<MenuItem, AllocError>
-        ensures { IfOk result (λ item. item ≡ self.now) }
-    {
-        match self {
-            MenuItem::Name(name) => Ok(MenuItem::Name(MenuName::new(alloc, name.as_str())?)),
-            MenuItem::Number(number) => Ok(MenuItem::Number(*number)),
-        }
     }
 }
