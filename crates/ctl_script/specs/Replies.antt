@@ -9,9 +9,9 @@ use Rattle.ctrl_types.specs.declared.ids.CtrlId.{CtrlId}
 use Rattle.ctrl_types.specs.declared.ids.ExtControl.{ExtControl}
 use Rattle.menu_items.specs.declared.item.MenuItem.{MenuItem}
 use Rattle.menu_items.specs.declared.item.MenuItem.TheVariants.{Name, Number}
-use Rattle.device_state.specs.declared.info.CtrlInfo.{CtrlInfo}
-use Rattle.device_state.specs.declared.ask.Reply.{Reply}
-use Rattle.device_state.specs.declared.ask.Reply.TheVariants.{Fh, Done, Controls, Info, Id, Item, Word}
+use Rattle.device_history.specs.declared.info.CtrlInfo.{CtrlInfo}
+use Rattle.device_history.specs.declared.ask.Reply.{Reply}
+use Rattle.device_history.specs.declared.ask.Reply.TheVariants.{Fh, Done, Controls, Info, Id, Item, Word}
 use Rattle.ctl_script.specs.declared.fault.Outcome.{Outcome}
 use Rattle.ctl_script.specs.declared.fault.Outcome.TheVariants.{Finished, BadLine, TooLong, ReadFault, WriteFault, NoSecond, Memory}
 
