@@ -133,5 +133,8 @@ fn show<R: AllocGlobal + Print>(
     outcome: Outcome,
 ) -> io::Result<()> {
     let printed = String::from_utf8_lossy(rt.alloc(), printed)?;
-    println!(rt; "{file}: {}\n{printed}{outcome:?} in place of {}", case.name, case.outcome)
+    println!(rt;
+        "{file}: {}\n{printed}{outcome:?} in place of {}",
+        case.name, case.outcome
+    )
 }

@@ -119,12 +119,7 @@ fn form_at(forms: &[Form], number: usize) -> Form {
     forms.get(number).copied().unwrap_or(Form::Get)
 }
 
-fn list_ask(
-    alloc: Global,
-    form: Form,
-    at: At,
-    pairs: &[(u32, i64)],
-) -> Result<Ask, AllocError> {
+fn list_ask(alloc: Global, form: Form, at: At, pairs: &[(u32, i64)]) -> Result<Ask, AllocError> {
     let At(fh, which, request) = at;
     let fh = FhId(fh);
     let request = request.map(RequestId);
@@ -318,14 +313,20 @@ pub fn is_step_of(device: &Device<Counting>, step: &Step, ask: &Ask) -> bool {
         }
         Step::Set { fh, pairs } => match ask {
             Ask::SetCtrls {
-                fh: asked, list, ..
+                fh: asked,
+                list,
+                ..
             } => asked == fh && has_pairs(device, pairs.as_slice(), list.as_slice()),
             _ => false,
         },
     }
 }
 
-fn has_pairs(device: &Device<Counting>, pairs: &[ctrl_types::Pair], entries: &[ExtControl]) -> bool {
+fn has_pairs(
+    device: &Device<Counting>,
+    pairs: &[ctrl_types::Pair],
+    entries: &[ExtControl],
+) -> bool {
     if pairs.len() != entries.len() {
         return false;
     }

@@ -114,12 +114,16 @@ fn word_of(number: u32, row: &ClusterRow) -> u64 {
     let first = if row.len() > 0 { row.value(0) } else { 0 };
     let second = if row.len() > 1 { row.value(1) } else { 0 };
     match number {
-        11 => (first.wrapping_mul(256)).wrapping_add(second).unsigned_abs(),
+        11 => (first.wrapping_mul(256))
+            .wrapping_add(second)
+            .unsigned_abs(),
         14 => {
             let tens = first.unsigned_abs().wrapping_mul(10);
             tens.wrapping_add(second.unsigned_abs())
         }
-        _ => u64::from(number).wrapping_mul(1000).wrapping_add(first.unsigned_abs()),
+        _ => u64::from(number)
+            .wrapping_mul(1000)
+            .wrapping_add(first.unsigned_abs()),
     }
 }
 

@@ -70,28 +70,100 @@ const INVALID: Want = Want::Entry(Errno::EINVAL, 1);
 
 const KINDS: &[Row] = &[
     (Question::Open(0, 1), Want::Opened, &[]),
-    (Question::List(GET, NOW, &[(PLAIN, -3)]), Want::Values(&[5]), &[]),
-    (Question::List(TRY, NOW, &[(PLAIN, -3)]), Want::Values(&[-5]), &[]),
-    (Question::List(GET, NOW, &[(PLAIN, -3)]), Want::Values(&[5]), &[]),
-    (Question::List(SET, NOW, &[(PLAIN, -3)]), Want::Values(&[-5]), &[]),
-    (Question::List(GET, NOW, &[(PLAIN, -3)]), Want::Values(&[-5]), &[]),
-    (Question::List(WRITES, NOW, &[(PLAIN, 9)]), Want::Values(&[10]), &[]),
-    (Question::List(GET, NOW, &[(PLAIN, 0)]), Want::Values(&[10]), &[]),
+    (
+        Question::List(GET, NOW, &[(PLAIN, -3)]),
+        Want::Values(&[5]),
+        &[],
+    ),
+    (
+        Question::List(TRY, NOW, &[(PLAIN, -3)]),
+        Want::Values(&[-5]),
+        &[],
+    ),
+    (
+        Question::List(GET, NOW, &[(PLAIN, -3)]),
+        Want::Values(&[5]),
+        &[],
+    ),
+    (
+        Question::List(SET, NOW, &[(PLAIN, -3)]),
+        Want::Values(&[-5]),
+        &[],
+    ),
+    (
+        Question::List(GET, NOW, &[(PLAIN, -3)]),
+        Want::Values(&[-5]),
+        &[],
+    ),
+    (
+        Question::List(WRITES, NOW, &[(PLAIN, 9)]),
+        Want::Values(&[10]),
+        &[],
+    ),
+    (
+        Question::List(GET, NOW, &[(PLAIN, 0)]),
+        Want::Values(&[10]),
+        &[],
+    ),
     // READ_ONLY
-    (Question::List(GET, NOW, EITHER), Want::Values(&[10, 5]), &[]),
-    (Question::List(GET, USER, EITHER), Want::Values(&[10, 5]), &[]),
-    (Question::List(GET, DEFAULTS, EITHER), Want::Values(&[5, 5]), &[]),
+    (
+        Question::List(GET, NOW, EITHER),
+        Want::Values(&[10, 5]),
+        &[],
+    ),
+    (
+        Question::List(GET, USER, EITHER),
+        Want::Values(&[10, 5]),
+        &[],
+    ),
+    (
+        Question::List(GET, DEFAULTS, EITHER),
+        Want::Values(&[5, 5]),
+        &[],
+    ),
     (Question::List(WRITES, NOW, EITHER), ACCESS, &[]),
     (Question::List(WRITES, USER, EITHER), ACCESS, &[]),
     // WRITE_ONLY
-    (Question::List(GET, NOW, HIDDEN), Want::Whole(Errno::EACCES), &[]),
-    (Question::List(GET, USER, HIDDEN), Want::Whole(Errno::EACCES), &[]),
-    (Question::List(GET, DEFAULTS, HIDDEN), Want::Whole(Errno::EACCES), &[]),
-    (Question::List(TRY, NOW, HIDDEN), Want::Values(&[-10, 10]), &[]),
-    (Question::List(GET, NOW, &[(PLAIN, 0)]), Want::Values(&[10]), &[]),
-    (Question::List(SET, NOW, HIDDEN), Want::Values(&[-10, 10]), &[]),
-    (Question::List(GET, NOW, &[(PLAIN, 0)]), Want::Values(&[-10]), &[]),
-    (Question::List(GET, DEFAULTS, &[(PLAIN, 0)]), Want::Values(&[5]), &[]),
+    (
+        Question::List(GET, NOW, HIDDEN),
+        Want::Whole(Errno::EACCES),
+        &[],
+    ),
+    (
+        Question::List(GET, USER, HIDDEN),
+        Want::Whole(Errno::EACCES),
+        &[],
+    ),
+    (
+        Question::List(GET, DEFAULTS, HIDDEN),
+        Want::Whole(Errno::EACCES),
+        &[],
+    ),
+    (
+        Question::List(TRY, NOW, HIDDEN),
+        Want::Values(&[-10, 10]),
+        &[],
+    ),
+    (
+        Question::List(GET, NOW, &[(PLAIN, 0)]),
+        Want::Values(&[10]),
+        &[],
+    ),
+    (
+        Question::List(SET, NOW, HIDDEN),
+        Want::Values(&[-10, 10]),
+        &[],
+    ),
+    (
+        Question::List(GET, NOW, &[(PLAIN, 0)]),
+        Want::Values(&[-10]),
+        &[],
+    ),
+    (
+        Question::List(GET, DEFAULTS, &[(PLAIN, 0)]),
+        Want::Values(&[5]),
+        &[],
+    ),
     // DISABLED
     (Question::List(ALL, NOW, OFF), INVALID, &[]),
     (Question::List(ALL, USER, OFF), INVALID, &[]),
@@ -112,17 +184,49 @@ const GRABS: &[Row] = &[
     (Question::Open(0, 1), Want::Opened, &[]),
     (Question::Grab(4, true), Want::Done, &[]),
     (Question::List(WRITES, NOW, UNSHOWN), INVALID, &[]),
-    (Question::List(TRY, NOW, GRABBED), Want::Values(&[0, 10]), &[]),
-    (Question::List(SET, NOW, GRABBED), Want::Whole(Errno::EBUSY), &[]),
-    (Question::List(GET, NOW, GRABBED), Want::Values(&[5, 5]), &[]),
+    (
+        Question::List(TRY, NOW, GRABBED),
+        Want::Values(&[0, 10]),
+        &[],
+    ),
+    (
+        Question::List(SET, NOW, GRABBED),
+        Want::Whole(Errno::EBUSY),
+        &[],
+    ),
+    (
+        Question::List(GET, NOW, GRABBED),
+        Want::Values(&[5, 5]),
+        &[],
+    ),
     (Question::List(TRY, NOW, BEFORE), ACCESS, &[]),
-    (Question::List(SET, NOW, BEFORE), Want::Whole(Errno::EBUSY), &[]),
-    (Question::List(WRITES, NOW, BEHIND), Want::Entry(Errno::EACCES, 0), &[]),
+    (
+        Question::List(SET, NOW, BEFORE),
+        Want::Whole(Errno::EBUSY),
+        &[],
+    ),
+    (
+        Question::List(WRITES, NOW, BEHIND),
+        Want::Entry(Errno::EACCES, 0),
+        &[],
+    ),
     (Question::Grab(2, true), Want::Done, &[]),
     (Question::Grab(4, false), Want::Done, &[]),
-    (Question::List(SET, NOW, BEHIND), Want::Whole(Errno::EACCES), &[]),
-    (Question::List(SET, NOW, GRABBED), Want::Values(&[0, 10]), &[]),
-    (Question::List(GET, NOW, GRABBED), Want::Values(&[0, 10]), &[]),
+    (
+        Question::List(SET, NOW, BEHIND),
+        Want::Whole(Errno::EACCES),
+        &[],
+    ),
+    (
+        Question::List(SET, NOW, GRABBED),
+        Want::Values(&[0, 10]),
+        &[],
+    ),
+    (
+        Question::List(GET, NOW, GRABBED),
+        Want::Values(&[0, 10]),
+        &[],
+    ),
 ];
 
 const FIRST: Want = Want::Entry(Errno::EINVAL, 0);
@@ -136,11 +240,27 @@ const CLASSES: &[Row] = &[
     (Question::List(ALL, CAMERA, &[(PLAIN, 0)]), FIRST, &[]),
     (Question::List(ALL, USER, &[(LONE, 0)]), FIRST, &[]),
     (Question::List(ALL, USER, &[]), Want::Values(&[]), &[]),
-    (Question::List(ALL, At(0, 0x009c_0000, None), &[]), Want::Whole(Errno::EINVAL), &[]),
+    (
+        Question::List(ALL, At(0, 0x009c_0000, None), &[]),
+        Want::Whole(Errno::EINVAL),
+        &[],
+    ),
     // handler 1 shows no control
-    (Question::List(ALL, At(1, 0x0098_0000, None), &[]), Want::Whole(Errno::EINVAL), &[]),
-    (Question::List(ALL, At(1, 0x009a_0000, None), &[]), Want::Whole(Errno::EINVAL), &[]),
-    (Question::List(ALL, At(1, 0, None), &[]), Want::Values(&[]), &[]),
+    (
+        Question::List(ALL, At(1, 0x0098_0000, None), &[]),
+        Want::Whole(Errno::EINVAL),
+        &[],
+    ),
+    (
+        Question::List(ALL, At(1, 0x009a_0000, None), &[]),
+        Want::Whole(Errno::EINVAL),
+        &[],
+    ),
+    (
+        Question::List(ALL, At(1, 0, None), &[]),
+        Want::Values(&[]),
+        &[],
+    ),
 ];
 
 // Handler 0 has one control, which is private and the one of its class; handler 1 adds handler 0.
@@ -156,10 +276,26 @@ const OWN_CLASS: &[Row] = &[
     (Question::Open(0, 1), Want::Opened, &[]),
     (Question::Open(1, 1), Want::Opened, &[]),
     (Question::List(ALL, CAMERA, &[]), Want::Values(&[]), &[]),
-    (Question::List(ALL, CAMERA, &[(LONE, 5)]), Want::Values(&[5]), &[]),
-    (Question::List(ALL, USER, &[]), Want::Whole(Errno::EINVAL), &[]),
-    (Question::List(ALL, At(1, 0x009a_0000, None), &[]), Want::Whole(Errno::EINVAL), &[]),
-    (Question::List(ALL, At(1, 0x009a_0000, None), &[(LONE, 5)]), FIRST, &[]),
+    (
+        Question::List(ALL, CAMERA, &[(LONE, 5)]),
+        Want::Values(&[5]),
+        &[],
+    ),
+    (
+        Question::List(ALL, USER, &[]),
+        Want::Whole(Errno::EINVAL),
+        &[],
+    ),
+    (
+        Question::List(ALL, At(1, 0x009a_0000, None), &[]),
+        Want::Whole(Errno::EINVAL),
+        &[],
+    ),
+    (
+        Question::List(ALL, At(1, 0x009a_0000, None), &[(LONE, 5)]),
+        FIRST,
+        &[],
+    ),
 ];
 
 #[test]

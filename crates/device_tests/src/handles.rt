@@ -66,11 +66,27 @@ const LIMIT: &[Row] = &[
     (Question::Close(u32::MAX), UNOPENED, &[]),
     (Question::Open(1, 1), Want::Opened, &[]),
     (Question::Open(0, 1), Want::Refused(Errno::ENOSPC), &[]),
-    (Question::List(SET, At(3, 0, None), NINE), Want::Whole(Errno::EBADF), &[]),
+    (
+        Question::List(SET, At(3, 0, None), NINE),
+        Want::Whole(Errno::EBADF),
+        &[],
+    ),
     (Question::List(SET, NOW, NINE), Want::Values(&[9]), &[]),
-    (Question::List(SET, At(2, 0, None), NINE), Want::Values(&[9]), &[]),
-    (Question::List(SET, At(4, 0, None), NINE), Want::Values(&[9]), &[]),
-    (Question::List(SET, At(63, 0, None), NINE), Want::Values(&[9]), &[]),
+    (
+        Question::List(SET, At(2, 0, None), NINE),
+        Want::Values(&[9]),
+        &[],
+    ),
+    (
+        Question::List(SET, At(4, 0, None), NINE),
+        Want::Values(&[9]),
+        &[],
+    ),
+    (
+        Question::List(SET, At(63, 0, None), NINE),
+        Want::Values(&[9]),
+        &[],
+    ),
     (Question::Query(3, GAIN), UNOPENED, &[]),
     (Question::Query(65, GAIN), Want::Refused(Errno::EINVAL), &[]),
 ];
@@ -99,7 +115,15 @@ const QUERIES: &[Row] = &[
     ),
     (
         Question::Query(0, WIDE),
-        Want::Info((WIDE, Kind::Integer64, i64::MIN, i64::MAX, u64::MAX, i64::MAX, 0)),
+        Want::Info((
+            WIDE,
+            Kind::Integer64,
+            i64::MIN,
+            i64::MAX,
+            u64::MAX,
+            i64::MAX,
+            0,
+        )),
         &[],
     ),
     (Question::Query(1, GAIN), UNSHOWN, &[]),

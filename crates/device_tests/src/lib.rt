@@ -8,7 +8,8 @@
 
 #[cfg(test)]
 mod asks;
-pub mod closures;
+#[cfg(test)]
+mod closures;
 #[cfg(test)]
 mod flags;
 #[cfg(test)]

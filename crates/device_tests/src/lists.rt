@@ -50,23 +50,55 @@ const WRITTEN: &[Row] = &[
     (Question::List(GET, NOW, BOTH), Want::Values(&[7, 7]), &[]),
     (Question::List(SET, NOW, BOTH), Want::Values(&[255, 8]), &[]),
     (Question::List(GET, NOW, BOTH), Want::Values(&[255, 8]), &[]),
-    (Question::List(GET, USER, BOTH), Want::Values(&[255, 8]), &[]),
-    (Question::List(GET, DEFAULTS, BOTH), Want::Values(&[7, 7]), &[]),
+    (
+        Question::List(GET, USER, BOTH),
+        Want::Values(&[255, 8]),
+        &[],
+    ),
+    (
+        Question::List(GET, DEFAULTS, BOTH),
+        Want::Values(&[7, 7]),
+        &[],
+    ),
     (
         Question::List(WRITES, NOW, &[(GAIN, 9), (1, 8)]),
         Want::Entry(Errno::EINVAL, 1),
         &[],
     ),
     (Question::List(GET, NOW, BOTH), Want::Values(&[255, 8]), &[]),
-    (Question::List(TRY, NOW, TWICE), Want::Values(&[5, 0, 5]), &[]),
-    (Question::List(GET, NOW, TWICE), Want::Values(&[255, 8, 255]), &[]),
-    (Question::List(SET, USER, TWICE), Want::Values(&[5, 0, 5]), &[]),
-    (Question::List(GET, NOW, TWICE), Want::Values(&[5, 0, 5]), &[]),
+    (
+        Question::List(TRY, NOW, TWICE),
+        Want::Values(&[5, 0, 5]),
+        &[],
+    ),
+    (
+        Question::List(GET, NOW, TWICE),
+        Want::Values(&[255, 8, 255]),
+        &[],
+    ),
+    (
+        Question::List(SET, USER, TWICE),
+        Want::Values(&[5, 0, 5]),
+        &[],
+    ),
+    (
+        Question::List(GET, NOW, TWICE),
+        Want::Values(&[5, 0, 5]),
+        &[],
+    ),
     (Question::List(SET, NOW, &[]), Want::Values(&[]), &[]),
-    (Question::List(GET, NOW, TWICE), Want::Values(&[5, 0, 5]), &[]),
+    (
+        Question::List(GET, NOW, TWICE),
+        Want::Values(&[5, 0, 5]),
+        &[],
+    ),
     (Question::Grab(2, true), Want::Done, &[]),
     (Question::List(TRY, NOW, BOTH), Want::Values(&[255, 8]), &[]),
-    (Question::List(SET, NOW, BOTH), Want::Whole(Errno::EBUSY), &[]),
+    (
+        Question::List(SET, NOW, BOTH),
+        Want::Whole(Errno::EBUSY),
+        &[],
+    ),
 ];
 
 const TWO: &[(u32, i64)] = &[(GAIN, 0); 2];
@@ -89,27 +121,83 @@ const UNOPENED: Want = Want::Whole(Errno::EBADF);
 const WHOLE: &[Row] = &[
     (Question::Open(0, 1), Want::Opened, &[]),
     (Question::List(ALL, At(9, 0, None), &[]), UNOPENED, &[]),
-    (Question::List(ALL, At(9, 1, None), ONE_UNKNOWN), UNOPENED, &[]),
-    (Question::List(ALL, At(9, 0, None), LONG_UNKNOWN), UNOPENED, &[]),
-    (Question::List(ALL, At(9, 0x0f00_0000, None), LONG_UNKNOWN), UNOPENED, &[]),
+    (
+        Question::List(ALL, At(9, 1, None), ONE_UNKNOWN),
+        UNOPENED,
+        &[],
+    ),
+    (
+        Question::List(ALL, At(9, 0, None), LONG_UNKNOWN),
+        UNOPENED,
+        &[],
+    ),
+    (
+        Question::List(ALL, At(9, 0x0f00_0000, None), LONG_UNKNOWN),
+        UNOPENED,
+        &[],
+    ),
     (Question::List(ALL, At(0, 1, None), &[]), REFUSED, &[]),
-    (Question::List(ALL, At(0, 1, None), ONE_UNKNOWN), REFUSED, &[]),
-    (Question::List(ALL, At(0, 1, None), LONG_UNKNOWN), REFUSED, &[]),
-    (Question::List(ALL, At(0, 0x0098_0901, None), ONE_UNKNOWN), REFUSED, &[]),
-    (Question::List(ALL, At(0, 0x0f00_0001, None), LONG_UNKNOWN), REFUSED, &[]),
-    (Question::List(ALL, At(0, u32::MAX, None), &[]), REFUSED, &[]),
+    (
+        Question::List(ALL, At(0, 1, None), ONE_UNKNOWN),
+        REFUSED,
+        &[],
+    ),
+    (
+        Question::List(ALL, At(0, 1, None), LONG_UNKNOWN),
+        REFUSED,
+        &[],
+    ),
+    (
+        Question::List(ALL, At(0, 0x0098_0901, None), ONE_UNKNOWN),
+        REFUSED,
+        &[],
+    ),
+    (
+        Question::List(ALL, At(0, 0x0f00_0001, None), LONG_UNKNOWN),
+        REFUSED,
+        &[],
+    ),
+    (
+        Question::List(ALL, At(0, u32::MAX, None), &[]),
+        REFUSED,
+        &[],
+    ),
     (Question::List(WRITES, DEFAULTS, &[]), REFUSED, &[]),
     (Question::List(WRITES, DEFAULTS, ONE_UNKNOWN), REFUSED, &[]),
     (Question::List(WRITES, DEFAULTS, LONG_UNKNOWN), REFUSED, &[]),
     // there is no request
-    (Question::List(ALL, At(0, 0x0f01_0000, None), &[]), REFUSED, &[]),
-    (Question::List(ALL, At(0, 0x0f01_0000, Some(0)), TWO), REFUSED, &[]),
-    (Question::List(ALL, At(0, 0x0f01_0000, Some(u32::MAX)), LONG), REFUSED, &[]),
+    (
+        Question::List(ALL, At(0, 0x0f01_0000, None), &[]),
+        REFUSED,
+        &[],
+    ),
+    (
+        Question::List(ALL, At(0, 0x0f01_0000, Some(0)), TWO),
+        REFUSED,
+        &[],
+    ),
+    (
+        Question::List(ALL, At(0, 0x0f01_0000, Some(u32::MAX)), LONG),
+        REFUSED,
+        &[],
+    ),
     // with another `which` the field is ignored
-    (Question::List(ALL, At(0, 0, Some(0)), &[]), Want::Values(&[]), &[]),
-    (Question::List(GET, At(0, 0, Some(u32::MAX)), TWO), Want::Values(&[7, 7]), &[]),
+    (
+        Question::List(ALL, At(0, 0, Some(0)), &[]),
+        Want::Values(&[]),
+        &[],
+    ),
+    (
+        Question::List(GET, At(0, 0, Some(u32::MAX)), TWO),
+        Want::Values(&[7, 7]),
+        &[],
+    ),
     // a class of which no control is shown
-    (Question::List(ALL, At(0, 0x009a_0000, None), &[]), REFUSED, &[]),
+    (
+        Question::List(ALL, At(0, 0x009a_0000, None), &[]),
+        REFUSED,
+        &[],
+    ),
     (
         Question::List(ALL, At(0, 0x009a_0000, None), TWO),
         Want::Entry(Errno::EINVAL, 0),

@@ -72,7 +72,11 @@ const ITEMS: &[Row] = &[
     (Question::Item(1, RATES, u32::MAX), NONE, &[]),
     (Question::Item(2, RATES, 0), UNOPENED, &[]),
     (Question::Item(0, MODES, 0), Want::Name(""), &[]),
-    (Question::Item(1, MODES, 1), Want::Name("a name of thirty-two bytes, yes."), &[]),
+    (
+        Question::Item(1, MODES, 1),
+        Want::Name("a name of thirty-two bytes, yes."),
+        &[],
+    ),
     (Question::Item(0, MODES, 2), NONE, &[]),
     (Question::Item(0, MODES, 3), NONE, &[]),
     (Question::Item(0, MODES, 4), Want::Name("last"), &[]),

@@ -78,24 +78,60 @@ const MIRRORS: Table = Table {
 const MOVED: &[Row] = &[
     (Question::Open(0, 1), Want::Opened, &[]),
     (Question::Told(0), Want::Word(1), &[]),
-    (Question::List(SET, NOW, &[(LEAD, 7)]), Want::Values(&[7]), &[(0, 1, 1)]),
-    (Question::List(GET, NOW, &[(FOLLOWER, 0)]), Want::Values(&[7]), &[]),
+    (
+        Question::List(SET, NOW, &[(LEAD, 7)]),
+        Want::Values(&[7]),
+        &[(0, 1, 1)],
+    ),
+    (
+        Question::List(GET, NOW, &[(FOLLOWER, 0)]),
+        Want::Values(&[7]),
+        &[],
+    ),
     (Question::Told(0), Want::Word(77), &[]),
-    (Question::List(SET, NOW, &[(FOLLOWER, 3)]), Want::Whole(Errno::EACCES), &[]),
-    (Question::List(SET, NOW, &[(LEAD, 7)]), Want::Values(&[7]), &[(0, 1, 0)]),
+    (
+        Question::List(SET, NOW, &[(FOLLOWER, 3)]),
+        Want::Whole(Errno::EACCES),
+        &[],
+    ),
+    (
+        Question::List(SET, NOW, &[(LEAD, 7)]),
+        Want::Values(&[7]),
+        &[(0, 1, 0)],
+    ),
     (Question::Told(0), Want::Word(77), &[]),
     // a grabbed member is moved, too
     (Question::Grab(1, true), Want::Done, &[]),
-    (Question::List(SET, NOW, &[(LEAD, -4)]), Want::Values(&[-4]), &[(0, 1, 1)]),
-    (Question::List(GET, NOW, &[(FOLLOWER, 0)]), Want::Values(&[-4]), &[]),
+    (
+        Question::List(SET, NOW, &[(LEAD, -4)]),
+        Want::Values(&[-4]),
+        &[(0, 1, 1)],
+    ),
+    (
+        Question::List(GET, NOW, &[(FOLLOWER, 0)]),
+        Want::Values(&[-4]),
+        &[],
+    ),
     (Question::Told(0), Want::Word(44), &[]),
 ];
 
 const REFUSED: &[Row] = &[
     (Question::Open(0, 1), Want::Opened, &[]),
-    (Question::List(SET, NOW, &[(STUBBORN, 5)]), Want::Whole(Errno::EACCES), &[(1, 1, 0)]),
-    (Question::List(SET, NOW, &[(BESIDE, 5)]), Want::Whole(Errno::EACCES), &[(1, 1, 0)]),
-    (Question::List(GET, NOW, &[(STUBBORN, 0), (BESIDE, 0)]), Want::Values(&[2, 3]), &[]),
+    (
+        Question::List(SET, NOW, &[(STUBBORN, 5)]),
+        Want::Whole(Errno::EACCES),
+        &[(1, 1, 0)],
+    ),
+    (
+        Question::List(SET, NOW, &[(BESIDE, 5)]),
+        Want::Whole(Errno::EACCES),
+        &[(1, 1, 0)],
+    ),
+    (
+        Question::List(GET, NOW, &[(STUBBORN, 0), (BESIDE, 0)]),
+        Want::Values(&[2, 3]),
+        &[],
+    ),
     (Question::Told(1), Want::Word(23), &[]),
 ];
 
@@ -105,18 +141,38 @@ const GRABS: &[Row] = &[
     (Question::Grab(13, true), Want::Refused(Errno::EINVAL), &[]),
     (Question::Grab(13, false), Want::Refused(Errno::EINVAL), &[]),
     (Question::Grab(99, true), Want::Refused(Errno::EINVAL), &[]),
-    (Question::Grab(u32::MAX, false), Want::Refused(Errno::EINVAL), &[]),
+    (
+        Question::Grab(u32::MAX, false),
+        Want::Refused(Errno::EINVAL),
+        &[],
+    ),
     (Question::Grab(0, true), Want::Done, &[]),
-    (Question::List(SET, NOW, &[(LEAD, 5)]), Want::Whole(Errno::EBUSY), &[]),
+    (
+        Question::List(SET, NOW, &[(LEAD, 5)]),
+        Want::Whole(Errno::EBUSY),
+        &[],
+    ),
     (Question::Grab(0, true), Want::Done, &[]),
-    (Question::List(SET, NOW, &[(LEAD, 5)]), Want::Whole(Errno::EBUSY), &[]),
-    (Question::List(GET, NOW, &[(LEAD, 0)]), Want::Values(&[0]), &[]),
+    (
+        Question::List(SET, NOW, &[(LEAD, 5)]),
+        Want::Whole(Errno::EBUSY),
+        &[],
+    ),
+    (
+        Question::List(GET, NOW, &[(LEAD, 0)]),
+        Want::Values(&[0]),
+        &[],
+    ),
     (Question::Query(0, LEAD), Want::Flags(0x2), &[]),
     (Question::Grab(0, false), Want::Done, &[]),
     (Question::Query(0, LEAD), Want::Flags(0), &[]),
     (Question::Grab(0, false), Want::Done, &[]),
     (Question::Query(0, LEAD), Want::Flags(0), &[]),
-    (Question::List(SET, NOW, &[(LEAD, 5)]), Want::Values(&[5]), &[(0, 1, 1)]),
+    (
+        Question::List(SET, NOW, &[(LEAD, 5)]),
+        Want::Values(&[5]),
+        &[(0, 1, 1)],
+    ),
 ];
 
 // A control that can't be set at all answers so, and a grab comes before a verdict.
@@ -137,10 +193,26 @@ const ALL_GRABBED: &[Row] = &[
     (Question::Grab(12, true), Want::Done, &[]),
     (Question::Query(0, FOLLOWER), Want::Flags(0x6), &[]),
     (Question::Query(0, 112), Want::Flags(0x3), &[]),
-    (Question::List(SET, NOW, &[(FOLLOWER, 5)]), Want::Whole(Errno::EACCES), &[]),
-    (Question::List(SET, NOW, &[(112, 5)]), Want::Whole(Errno::EINVAL), &[]),
-    (Question::List(SET, NOW, &[(STUBBORN, 5)]), Want::Whole(Errno::EBUSY), &[]),
-    (Question::List(SET, NOW, &[(111, 5)]), Want::Whole(Errno::EBUSY), &[]),
+    (
+        Question::List(SET, NOW, &[(FOLLOWER, 5)]),
+        Want::Whole(Errno::EACCES),
+        &[],
+    ),
+    (
+        Question::List(SET, NOW, &[(112, 5)]),
+        Want::Whole(Errno::EINVAL),
+        &[],
+    ),
+    (
+        Question::List(SET, NOW, &[(STUBBORN, 5)]),
+        Want::Whole(Errno::EBUSY),
+        &[],
+    ),
+    (
+        Question::List(SET, NOW, &[(111, 5)]),
+        Want::Whole(Errno::EBUSY),
+        &[],
+    ),
 ];
 
 const OFF: Want = Want::Flags(0x10);
@@ -158,8 +230,16 @@ const INACTIVE: &[Row] = &[
     (Question::Query(0, 110), OFF, &[]),
     (Question::Query(0, 111), Want::Flags(0x50), &[]),
     (Question::Query(0, MODE), Want::Flags(0x8), &[]),
-    (Question::List(SET, NOW, &[(107, -7)]), Want::Values(&[-7]), &[]),
-    (Question::List(SET, NOW, &[(MODE, 3)]), Want::Values(&[3]), &[]),
+    (
+        Question::List(SET, NOW, &[(107, -7)]),
+        Want::Values(&[-7]),
+        &[],
+    ),
+    (
+        Question::List(SET, NOW, &[(MODE, 3)]),
+        Want::Values(&[3]),
+        &[],
+    ),
     (Question::Query(0, 105), ON, &[]),
     (Question::Query(0, 106), ON, &[]),
     (Question::Query(0, 107), ON, &[]),
@@ -168,18 +248,38 @@ const INACTIVE: &[Row] = &[
     (Question::Query(0, 110), ON, &[]),
     (Question::Query(0, 111), Want::Flags(0x40), &[]),
     (Question::Query(0, MODE), Want::Flags(0x8), &[]),
-    (Question::List(SET, NOW, &[(MODE, 3)]), Want::Values(&[3]), &[]),
+    (
+        Question::List(SET, NOW, &[(MODE, 3)]),
+        Want::Values(&[3]),
+        &[],
+    ),
     (Question::Query(0, 105), ON, &[]),
-    (Question::List(SET, NOW, &[(MODE, 2)]), Want::Values(&[2]), &[]),
+    (
+        Question::List(SET, NOW, &[(MODE, 2)]),
+        Want::Values(&[2]),
+        &[],
+    ),
     (Question::Query(0, 105), OFF, &[]),
     (Question::Query(0, 111), Want::Flags(0x50), &[]),
-    (Question::List(SET, NOW, &[(MODE, -9)]), Want::Values(&[-9]), &[]),
+    (
+        Question::List(SET, NOW, &[(MODE, -9)]),
+        Want::Values(&[-9]),
+        &[],
+    ),
     (Question::Query(0, 110), OFF, &[]),
     (Question::Query(0, MODE), Want::Flags(0x8), &[]),
-    (Question::List(SET, NOW, &[(MODE, 3)]), Want::Values(&[3]), &[]),
+    (
+        Question::List(SET, NOW, &[(MODE, 3)]),
+        Want::Values(&[3]),
+        &[],
+    ),
     (Question::Query(0, 107), ON, &[]),
     (Question::Query(0, 111), Want::Flags(0x40), &[]),
-    (Question::List(GET, NOW, &[(107, 0)]), Want::Values(&[-7]), &[]),
+    (
+        Question::List(GET, NOW, &[(107, 0)]),
+        Want::Values(&[-7]),
+        &[],
+    ),
     (Question::Grab(4, true), Want::Done, &[]),
     (Question::Grab(6, true), Want::Done, &[]),
     (Question::Query(0, MODE), Want::Flags(0xa), &[]),
@@ -213,7 +313,11 @@ const WHOLE: &[Row] = &[
         &[(0, 1, 0), (1, 1, 0)],
     ),
     (
-        Question::List(GET, NOW, &[(LEAD, 0), (STUBBORN, 0), (BESIDE, 0), (MODE, 0)]),
+        Question::List(
+            GET,
+            NOW,
+            &[(LEAD, 0), (STUBBORN, 0), (BESIDE, 0), (MODE, 0)],
+        ),
         Want::Values(&[0, 2, 3, 4]),
         &[],
     ),
@@ -250,12 +354,32 @@ const BOTH: Table = Table {
 const ONCE: &[Row] = &[
     (Question::Open(0, 1), Want::Opened, &[]),
     // both members change, and the cluster is told once
-    (Question::List(SET, NOW, &[(1, 7)]), Want::Values(&[7]), &[(0, 1, 1)]),
-    (Question::List(GET, NOW, &[(1, 0), (2, 0)]), Want::Values(&[7, 7]), &[]),
-    (Question::List(SET, NOW, &[(1, 7)]), Want::Values(&[7]), &[(0, 1, 0)]),
+    (
+        Question::List(SET, NOW, &[(1, 7)]),
+        Want::Values(&[7]),
+        &[(0, 1, 1)],
+    ),
+    (
+        Question::List(GET, NOW, &[(1, 0), (2, 0)]),
+        Want::Values(&[7, 7]),
+        &[],
+    ),
+    (
+        Question::List(SET, NOW, &[(1, 7)]),
+        Want::Values(&[7]),
+        &[(0, 1, 0)],
+    ),
     // the second takes the first's value again
-    (Question::List(SET, NOW, &[(2, 5)]), Want::Values(&[7]), &[(0, 1, 0)]),
-    (Question::List(SET, NOW, &[(1, 99)]), Want::Values(&[9]), &[(0, 1, 1)]),
+    (
+        Question::List(SET, NOW, &[(2, 5)]),
+        Want::Values(&[7]),
+        &[(0, 1, 0)],
+    ),
+    (
+        Question::List(SET, NOW, &[(1, 99)]),
+        Want::Values(&[9]),
+        &[(0, 1, 1)],
+    ),
     (Question::Told(0), Want::Word(99), &[]),
 ];
 

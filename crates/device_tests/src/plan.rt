@@ -155,10 +155,7 @@ pub fn scene_of(alloc: Global, table: &Table, refused: &mut u32) -> Result<Scene
     for counter in counters.iter_mut() {
         counter.look();
     }
-    Ok(Scene {
-        device,
-        counters,
-    })
+    Ok(Scene { device, counters })
 }
 
 // Whether no validator was asked, and each notifier was told once, or none was.

@@ -20,7 +20,10 @@ pub fn expect<R: AllocGlobal + Abort>(rt: &R, table: &Table, rows: &[Row]) {
             refused = refused.saturating_add(1);
             played = play(rt.alloc(), table, rows, by_handle, &mut refused);
         }
-        assert!(rt; played == Ok(()) && refused < 2, "{played:?}, {refused} refused");
+        assert!(rt;
+            played == Ok(()) && refused < 2,
+            "{played:?}, {refused} refused"
+        );
     }
 }
 
@@ -89,8 +92,17 @@ fn is_unchanged(alloc: Global, scene: &mut Scene, earlier: Earlier<'_>) -> Resul
         return Ok(false);
     }
     let mut twin = scene_of(alloc, earlier.table, &mut 0)?;
-    for (number, row) in earlier.rows.iter().enumerate().take(earlier.number.saturating_add(1)) {
-        let parts = if number < earlier.number { row.0.count() } else { earlier.part };
+    for (number, row) in earlier
+        .rows
+        .iter()
+        .enumerate()
+        .take(earlier.number.saturating_add(1))
+    {
+        let parts = if number < earlier.number {
+            row.0.count()
+        } else {
+            earlier.part
+        };
         for part in 0..parts {
             let ask = row.0.ask(alloc, part)?;
             let seat = u32::try_from(number).unwrap_or(0);

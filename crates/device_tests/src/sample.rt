@@ -131,26 +131,82 @@ const SETS: &[Row] = &[
     (Question::Open(1, 1), Want::Opened, &[]),
     (Question::Told(0), Want::Word(272), &[]),
     // the gain is lessened, and then stays
-    (Question::List(SET, NOW, &[(GAIN, 250)]), Want::Values(&[200]), &[(0, 1, 1)]),
-    (Question::List(SET, NOW, &[(GAIN, 201)]), Want::Values(&[200]), &[(0, 1, 0)]),
-    (Question::List(SET, NOW, &[(AUTOGAIN, 0)]), Want::Values(&[0]), &[(0, 1, 1)]),
-    (Question::List(SET, NOW, &[(AUTOGAIN, 0)]), Want::Values(&[0]), &[(0, 1, 0)]),
+    (
+        Question::List(SET, NOW, &[(GAIN, 250)]),
+        Want::Values(&[200]),
+        &[(0, 1, 1)],
+    ),
+    (
+        Question::List(SET, NOW, &[(GAIN, 201)]),
+        Want::Values(&[200]),
+        &[(0, 1, 0)],
+    ),
+    (
+        Question::List(SET, NOW, &[(AUTOGAIN, 0)]),
+        Want::Values(&[0]),
+        &[(0, 1, 1)],
+    ),
+    (
+        Question::List(SET, NOW, &[(AUTOGAIN, 0)]),
+        Want::Values(&[0]),
+        &[(0, 1, 0)],
+    ),
     (Question::Told(0), Want::Word(200), &[]),
     // red and blue are at most 384 together
-    (Question::List(SET, NOW, &[(RED, 200)]), Want::Values(&[200]), &[(1, 1, 1)]),
-    (Question::List(SET, NOW, &[(BLUE, 200)]), Want::Whole(Errno::EINVAL), &[(1, 1, 0)]),
-    (Question::List(SET, NOW, &[(BLUE, 128)]), Want::Values(&[128]), &[(1, 1, 0)]),
-    (Question::List(SET, NOW, &[(BLUE, 184)]), Want::Values(&[184]), &[(1, 1, 1)]),
+    (
+        Question::List(SET, NOW, &[(RED, 200)]),
+        Want::Values(&[200]),
+        &[(1, 1, 1)],
+    ),
+    (
+        Question::List(SET, NOW, &[(BLUE, 200)]),
+        Want::Whole(Errno::EINVAL),
+        &[(1, 1, 0)],
+    ),
+    (
+        Question::List(SET, NOW, &[(BLUE, 128)]),
+        Want::Values(&[128]),
+        &[(1, 1, 0)],
+    ),
+    (
+        Question::List(SET, NOW, &[(BLUE, 184)]),
+        Want::Values(&[184]),
+        &[(1, 1, 1)],
+    ),
     (Question::Told(1), Want::Word(51384), &[]),
     // each press is told, and nobody is asked about the button and brightness
-    (Question::List(SET, NOW, &[(BUTTON, 1)]), Want::Values(&[0]), &[(2, 0, 1)]),
-    (Question::List(SET, NOW, &[(BUTTON, 1)]), Want::Values(&[0]), &[(2, 0, 1)]),
-    (Question::List(SET, NOW, &[(BRIGHTNESS, 4)]), Want::Values(&[4]), &[(3, 0, 1)]),
-    (Question::List(SET, NOW, &[(BRIGHTNESS, 5)]), Want::Values(&[4]), &[]),
+    (
+        Question::List(SET, NOW, &[(BUTTON, 1)]),
+        Want::Values(&[0]),
+        &[(2, 0, 1)],
+    ),
+    (
+        Question::List(SET, NOW, &[(BUTTON, 1)]),
+        Want::Values(&[0]),
+        &[(2, 0, 1)],
+    ),
+    (
+        Question::List(SET, NOW, &[(BRIGHTNESS, 4)]),
+        Want::Values(&[4]),
+        &[(3, 0, 1)],
+    ),
+    (
+        Question::List(SET, NOW, &[(BRIGHTNESS, 5)]),
+        Want::Values(&[4]),
+        &[],
+    ),
     (Question::Told(3), Want::Word(13004), &[]),
     // a control alone, and none that is shown
-    (Question::List(SET, NOW, &[(HFLIP, 1)]), Want::Values(&[1]), &[]),
-    (Question::List(SET, NOW, &[(HUE, 3)]), Want::Whole(Errno::EINVAL), &[]),
+    (
+        Question::List(SET, NOW, &[(HFLIP, 1)]),
+        Want::Values(&[1]),
+        &[],
+    ),
+    (
+        Question::List(SET, NOW, &[(HUE, 3)]),
+        Want::Whole(Errno::EINVAL),
+        &[],
+    ),
 ];
 
 const EACH: &[(u32, i64)] = &[
@@ -169,7 +225,11 @@ const TWICE: &[(u32, i64)] = &[(GAIN, 250), (RED, 1), (GAIN, 5)];
 // Lists over several clusters: each validator is asked once, and each cluster that changes is told once.
 const LISTS: &[Row] = &[
     (Question::Open(1, 1), Want::Opened, &[]),
-    (Question::List(TRY, NOW, EACH), TAKEN, &[(0, 1, 0), (1, 1, 0)]),
+    (
+        Question::List(TRY, NOW, EACH),
+        TAKEN,
+        &[(0, 1, 0), (1, 1, 0)],
+    ),
     (
         Question::List(SET, NOW, EACH),
         TAKEN,
@@ -240,16 +300,32 @@ const KINDS: &[Row] = &[
         &[(0, 1, 1), (1, 1, 1), (2, 0, 1), (3, 0, 1)],
     ),
     (Question::Grab(8, true), Want::Done, &[]),
-    (Question::List(TRY, NOW, &[(RED, 5)]), Want::Values(&[5]), &[(1, 1, 0)]),
-    (Question::List(SET, NOW, &[(RED, 5)]), Want::Whole(Errno::EBUSY), &[]),
+    (
+        Question::List(TRY, NOW, &[(RED, 5)]),
+        Want::Values(&[5]),
+        &[(1, 1, 0)],
+    ),
+    (
+        Question::List(SET, NOW, &[(RED, 5)]),
+        Want::Whole(Errno::EBUSY),
+        &[],
+    ),
     (Question::Grab(8, false), Want::Done, &[]),
-    (Question::List(SET, NOW, &[(RED, 5)]), Want::Values(&[5]), &[(1, 1, 1)]),
+    (
+        Question::List(SET, NOW, &[(RED, 5)]),
+        Want::Values(&[5]),
+        &[(1, 1, 1)],
+    ),
     (
         Question::List(WRITES, NOW, &[(GAIN, 7), (RED, 200), (BLUE, 200)]),
         Want::Entry(Errno::EINVAL, 1),
         &[(0, 1, 0), (1, 1, 0)],
     ),
-    (Question::Item(1, POWER, 1), Want::Refused(Errno::EINVAL), &[]),
+    (
+        Question::Item(1, POWER, 1),
+        Want::Refused(Errno::EINVAL),
+        &[],
+    ),
     (Question::Item(0, POWER, 0), Want::Name("Disabled"), &[]),
     (Question::Item(0, POWER, 1), Want::Name("50 Hz"), &[]),
     (Question::Item(0, POWER, 2), Want::Name("60 Hz"), &[]),
@@ -258,7 +334,11 @@ const KINDS: &[Row] = &[
     (Question::Told(0), Want::Word(265), &[]),
     (Question::Told(1), Want::Word(1370), &[]),
     (
-        Question::List(GET, NOW, &[(AUTOGAIN, 0), (RED, 0), (BLUE, 0), (BRIGHTNESS, 0)]),
+        Question::List(
+            GET,
+            NOW,
+            &[(AUTOGAIN, 0), (RED, 0), (BLUE, 0), (BRIGHTNESS, 0)],
+        ),
         Want::Values(&[1, 5, 90, 8]),
         &[],
     ),

@@ -70,15 +70,43 @@ const ACCEPTED: &[Row] = &[
     (Question::Told(0), Want::Word(1007), &[]),
     (Question::Told(1), Want::Word(1000), &[]),
     (Question::Open(0, 1), Want::Opened, &[]),
-    (Question::List(SET, NOW, &[(GAIN, 9)]), Want::Values(&[9]), &[(0, 1, 1)]),
+    (
+        Question::List(SET, NOW, &[(GAIN, 9)]),
+        Want::Values(&[9]),
+        &[(0, 1, 1)],
+    ),
     (Question::Told(0), Want::Word(1009), &[]),
-    (Question::List(SET, NOW, &[(GAIN, 9)]), Want::Values(&[9]), &[(0, 1, 0)]),
-    (Question::List(SET, NOW, &[(GAIN, 999)]), Want::Values(&[255]), &[(0, 1, 1)]),
+    (
+        Question::List(SET, NOW, &[(GAIN, 9)]),
+        Want::Values(&[9]),
+        &[(0, 1, 0)],
+    ),
+    (
+        Question::List(SET, NOW, &[(GAIN, 999)]),
+        Want::Values(&[255]),
+        &[(0, 1, 1)],
+    ),
     (Question::Told(0), Want::Word(1255), &[]),
-    (Question::List(SET, NOW, &[(BUTTON, 5)]), Want::Values(&[0]), &[(1, 0, 1)]),
-    (Question::List(SET, NOW, &[(BUTTON, 5)]), Want::Values(&[0]), &[(1, 0, 1)]),
-    (Question::List(SET, NOW, &[(ALONE, 8)]), Want::Values(&[8]), &[]),
-    (Question::List(WRITES, NOW, &[(1, 8)]), Want::Entry(Errno::EINVAL, 0), &[]),
+    (
+        Question::List(SET, NOW, &[(BUTTON, 5)]),
+        Want::Values(&[0]),
+        &[(1, 0, 1)],
+    ),
+    (
+        Question::List(SET, NOW, &[(BUTTON, 5)]),
+        Want::Values(&[0]),
+        &[(1, 0, 1)],
+    ),
+    (
+        Question::List(SET, NOW, &[(ALONE, 8)]),
+        Want::Values(&[8]),
+        &[],
+    ),
+    (
+        Question::List(WRITES, NOW, &[(1, 8)]),
+        Want::Entry(Errno::EINVAL, 0),
+        &[],
+    ),
     (Question::Told(2), Want::Word(0), &[]),
     (Question::Told(3), Want::Refused(Errno::EINVAL), &[]),
 ];
@@ -134,10 +162,26 @@ const EQUAL: Table = Table {
 
 const OWN: &[Row] = &[
     (Question::Open(0, 1), Want::Opened, &[]),
-    (Question::List(SET, NOW, &[(1, 8)]), Want::Values(&[8]), &[(0, 1, 1)]),
-    (Question::List(SET, NOW, &[(2, 7)]), Want::Values(&[7]), &[(2, 1, 1)]),
-    (Question::List(SET, NOW, &[(5, 6)]), Want::Values(&[6]), &[(3, 1, 1)]),
-    (Question::List(SET, NOW, &[(6, 5)]), Want::Values(&[5]), &[(1, 1, 1)]),
+    (
+        Question::List(SET, NOW, &[(1, 8)]),
+        Want::Values(&[8]),
+        &[(0, 1, 1)],
+    ),
+    (
+        Question::List(SET, NOW, &[(2, 7)]),
+        Want::Values(&[7]),
+        &[(2, 1, 1)],
+    ),
+    (
+        Question::List(SET, NOW, &[(5, 6)]),
+        Want::Values(&[6]),
+        &[(3, 1, 1)],
+    ),
+    (
+        Question::List(SET, NOW, &[(6, 5)]),
+        Want::Values(&[5]),
+        &[(1, 1, 1)],
+    ),
     (
         Question::List(TRY, NOW, &[(3, 4), (4, 3)]),
         Want::Values(&[4, 3]),
