@@ -1,7 +1,6 @@
 //! Reads the files of cases.
 
 use std::alloc::{AllocError, Global};
-use thiserror::Error;
 
 /// A script, and what is to come of it.
 #[derive(Drop)]
@@ -17,13 +16,10 @@ pub struct Case<'a> {
 }
 
 /// Why the cases of a file weren't read.
-#[derive(Clone, Copy, Debug, PartialEq, Eq, Error)]
 pub enum CaseFault {
     /// The line with this number, from 1, doesn't belong there.
-    #[error("not a line of a case")]
     Line(u32),
     /// A growth was refused.
-    #[error("no memory")]
     Memory,
 }
 

@@ -7,7 +7,7 @@ use device_state::{Ask, ControlList, CtrlInfo, Device, MenuItem, Reply, Step};
 use std::alloc::{AllocError, Global};
 
 /// What is asked of a list.
-#[derive(Clone, Copy, Debug, PartialEq, Eq)]
+#[derive(Clone, Copy)]
 pub enum Form {
     Get,
     Set,
@@ -26,14 +26,14 @@ pub const WRITES: &[Form] = &[Form::Try, Form::Set];
 pub const ALL: &[Form] = &[Form::Get, Form::Try, Form::Set];
 
 /// The file handle, `which` and the request of a list.
-#[derive(Clone, Copy, Debug)]
+#[derive(Clone, Copy)]
 pub struct At(pub u32, pub u32, pub Option<u32>);
 
 /// The present values, at the file handle 0.
 pub const NOW: At = At(0, 0, None);
 
 /// What is asked.
-#[derive(Clone, Copy, Debug)]
+#[derive(Clone, Copy)]
 pub enum Question {
     /// So many openings of a handler.
     Open(u32, u32),
@@ -51,7 +51,7 @@ pub enum Question {
 pub type Info = (u32, Kind, i64, i64, u64, i64, u32);
 
 /// What is to be answered.
-#[derive(Clone, Copy, Debug)]
+#[derive(Clone, Copy)]
 pub enum Want {
     /// The file handle whose id is the number of the step.
     Opened,
@@ -116,13 +116,19 @@ impl Question {
 }
 
 fn form_at(forms: &[Form], number: usize) -> Form {
-    forms.get(number).copied().unwrap_or(Form::Get)
+    match forms.get(number) {
+        Some(form) => *form,
+        None => Form::Get,
+    }
 }
 
 fn list_ask(alloc: Global, form: Form, at: At, pairs: &[(u32, i64)]) -> Result<Ask, AllocError> {
     let At(fh, which, request) = at;
     let fh = FhId(fh);
-    let request = request.map(RequestId);
+    let request = match request {
+        Some(request) => Some(RequestId(request)),
+        None => None,
+    };
     let list = list_of(alloc, pairs)?;
     Ok(match form {
         Form::Get => Ask::GetCtrls {
@@ -247,7 +253,7 @@ fn is_info(info: &CtrlInfo, want: Want) -> bool {
 }
 
 fn is_fault(ask: &Ask, fault: Fault, want: Want) -> bool {
-    let count = list_in(ask).map(|list| list.len());
+    let count = count_in(ask);
     let (errno, index) = match want {
         Want::Refused(errno) => (errno, None),
         Want::Whole(errno) => (errno, count),
@@ -262,10 +268,9 @@ fn is_fault(ask: &Ask, fault: Fault, want: Want) -> bool {
 
 /// Whether an answer is want of memory, with the index that it has there.
 pub fn is_refused_growth(ask: &Ask, answer: &Result<Reply, Fault>) -> bool {
-    let index = list_in(ask).map(|list| list.len());
     let fault = Fault {
         errno: Errno::ENOMEM,
-        index,
+        index: count_in(ask),
     };
     matches!(answer, Err(given) if *given == fault)
 }
@@ -277,6 +282,14 @@ fn list_in(ask: &Ask) -> Option<&ControlList> {
             Some(list)
         }
         _ => None,
+    }
+}
+
+// How many entries the list of an ask has.
+fn count_in(ask: &Ask) -> Option<u32> {
+    match list_in(ask) {
+        Some(list) => Some(list.len()),
+        None => None,
     }
 }
 

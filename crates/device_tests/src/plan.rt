@@ -9,7 +9,7 @@ use device_state::{Device, Plan, PlanBuilder, PlanFault};
 use std::alloc::{AllocError, Global};
 
 /// A control, as `Ctrl::new` takes it, and the handler that declares it.
-#[derive(Clone, Copy, Debug)]
+#[derive(Clone, Copy)]
 pub struct Control {
     pub handler: u32,
     pub id: u32,
@@ -46,7 +46,7 @@ pub const PRESS: Control = Control {
 };
 
 /// A cluster: its members, the manual value of an auto cluster, and the numbers of the relations of its closures.
-#[derive(Clone, Copy, Debug)]
+#[derive(Clone, Copy)]
 pub struct Cluster {
     pub members: &'static [u32],
     pub manual: Option<i64>,
@@ -56,7 +56,7 @@ pub struct Cluster {
 
 /// What a plan is built of: how many handlers there are, the controls, which handlers add which, the items of menus, each a control, an
 /// index and what it is, and the clusters.
-#[derive(Clone, Copy, Debug)]
+#[derive(Clone, Copy)]
 pub struct Table {
     pub handlers: u32,
     pub controls: &'static [Control],
@@ -77,7 +77,7 @@ pub const EMPTY: Table = Table {
 };
 
 /// Why a table wasn't played to its end.
-#[derive(Clone, Copy, Debug, PartialEq, Eq)]
+#[derive(Clone, Copy, Debug)]
 pub enum Trouble {
     /// A growth of the test's own was refused, or one of the plan's.
     Memory,

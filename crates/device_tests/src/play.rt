@@ -16,12 +16,12 @@ pub fn expect<R: AllocGlobal + Abort>(rt: &R, table: &Table, rows: &[Row]) {
     let mut refused = 0;
     for by_handle in [false, true] {
         let mut played = play(rt.alloc(), table, rows, by_handle, &mut refused);
-        if played == Err(Trouble::Memory) {
+        if matches!(played, Err(Trouble::Memory)) {
             refused = refused.saturating_add(1);
             played = play(rt.alloc(), table, rows, by_handle, &mut refused);
         }
         assert!(rt;
-            played == Ok(()) && refused < 2,
+            played.is_ok() && refused < 2,
             "{played:?}, {refused} refused"
         );
     }

@@ -54,7 +54,7 @@ impl Notifies for Silent {
 }
 
 /// Which device a script is asked of.
-#[derive(Clone, Copy, Debug, PartialEq, Eq)]
+#[derive(Clone, Copy)]
 pub enum Kept {
     /// The sample device.
     Sample,

@@ -8,7 +8,7 @@ use std::alloc::{AllocError, Global};
 pub type Line = (&'static str, &'static str, bool);
 
 /// A script: the device that it is asked of, its lines, of which the last has no line feed where `is_cut` says so, and how it ends.
-#[derive(Clone, Copy, Debug)]
+#[derive(Clone, Copy)]
 pub struct Script {
     pub kept: Kept,
     pub lines: &'static [Line],

@@ -64,7 +64,7 @@ impl Write for Sink {
 }
 
 /// How reads and writes go.
-#[derive(Clone, Copy, Debug)]
+#[derive(Clone, Copy)]
 pub struct Streams {
     pub most_read: usize,
     pub read_fault: Option<(u32, ErrorKind)>,
