@@ -266,13 +266,21 @@ fn is_fault(ask: &Ask, fault: Fault, want: Want) -> bool {
     fault == Fault { errno, index }
 }
 
-/// Whether an answer is want of memory, with the index that it has there.
+/// Whether an answer is want of memory, with the index that it has there, to an ask that takes memory at all: no other has that answer.
 pub fn is_refused_growth(ask: &Ask, answer: &Result<Reply, Fault>) -> bool {
     let fault = Fault {
         errno: Errno::ENOMEM,
         index: count_in(ask),
     };
-    matches!(answer, Err(given) if *given == fault)
+    matches!(answer, Err(given) if *given == fault) && takes_memory(ask)
+}
+
+fn takes_memory(ask: &Ask) -> bool {
+    match ask {
+        Ask::GetCtrls { list, .. } | Ask::TryCtrls { list, .. } => list.len() > 0,
+        Ask::Query { .. } | Ask::NextId { .. } | Ask::Told { .. } => false,
+        _ => true,
+    }
 }
 
 // The list of an ask that has one.

@@ -122,12 +122,33 @@ const WHOLE: &[Row] = &[
     (Question::Open(0, 1), Want::Opened, &[]),
     (Question::List(ALL, At(9, 0, None), &[]), UNOPENED, &[]),
     (
-        Question::List(ALL, At(9, 1, None), ONE_UNKNOWN),
+        Question::List(ALL, At(9, 0, None), ONE_UNKNOWN),
         UNOPENED,
         &[],
     ),
     (
         Question::List(ALL, At(9, 0, None), LONG_UNKNOWN),
+        UNOPENED,
+        &[],
+    ),
+    (Question::List(ALL, At(9, 1, None), &[]), UNOPENED, &[]),
+    (
+        Question::List(ALL, At(9, 1, None), ONE_UNKNOWN),
+        UNOPENED,
+        &[],
+    ),
+    (
+        Question::List(ALL, At(9, 1, None), LONG_UNKNOWN),
+        UNOPENED,
+        &[],
+    ),
+    (
+        Question::List(ALL, At(9, 0x0f00_0000, None), &[]),
+        UNOPENED,
+        &[],
+    ),
+    (
+        Question::List(ALL, At(9, 0x0f00_0000, None), ONE_UNKNOWN),
         UNOPENED,
         &[],
     ),
@@ -148,7 +169,27 @@ const WHOLE: &[Row] = &[
         &[],
     ),
     (
+        Question::List(ALL, At(0, 0x0098_0901, None), &[]),
+        REFUSED,
+        &[],
+    ),
+    (
         Question::List(ALL, At(0, 0x0098_0901, None), ONE_UNKNOWN),
+        REFUSED,
+        &[],
+    ),
+    (
+        Question::List(ALL, At(0, 0x0098_0901, None), LONG_UNKNOWN),
+        REFUSED,
+        &[],
+    ),
+    (
+        Question::List(ALL, At(0, 0x0f00_0001, None), &[]),
+        REFUSED,
+        &[],
+    ),
+    (
+        Question::List(ALL, At(0, 0x0f00_0001, None), ONE_UNKNOWN),
         REFUSED,
         &[],
     ),
@@ -162,6 +203,16 @@ const WHOLE: &[Row] = &[
         REFUSED,
         &[],
     ),
+    (
+        Question::List(ALL, At(0, u32::MAX, None), ONE_UNKNOWN),
+        REFUSED,
+        &[],
+    ),
+    (
+        Question::List(ALL, At(0, u32::MAX, None), LONG_UNKNOWN),
+        REFUSED,
+        &[],
+    ),
     (Question::List(WRITES, DEFAULTS, &[]), REFUSED, &[]),
     (Question::List(WRITES, DEFAULTS, ONE_UNKNOWN), REFUSED, &[]),
     (Question::List(WRITES, DEFAULTS, LONG_UNKNOWN), REFUSED, &[]),
@@ -172,7 +223,37 @@ const WHOLE: &[Row] = &[
         &[],
     ),
     (
+        Question::List(ALL, At(0, 0x0f01_0000, None), TWO),
+        REFUSED,
+        &[],
+    ),
+    (
+        Question::List(ALL, At(0, 0x0f01_0000, None), LONG),
+        REFUSED,
+        &[],
+    ),
+    (
+        Question::List(ALL, At(0, 0x0f01_0000, Some(0)), &[]),
+        REFUSED,
+        &[],
+    ),
+    (
         Question::List(ALL, At(0, 0x0f01_0000, Some(0)), TWO),
+        REFUSED,
+        &[],
+    ),
+    (
+        Question::List(ALL, At(0, 0x0f01_0000, Some(0)), LONG),
+        REFUSED,
+        &[],
+    ),
+    (
+        Question::List(ALL, At(0, 0x0f01_0000, Some(u32::MAX)), &[]),
+        REFUSED,
+        &[],
+    ),
+    (
+        Question::List(ALL, At(0, 0x0f01_0000, Some(u32::MAX)), TWO),
         REFUSED,
         &[],
     ),
@@ -184,6 +265,11 @@ const WHOLE: &[Row] = &[
     // with another `which` the field is ignored
     (
         Question::List(ALL, At(0, 0, Some(0)), &[]),
+        Want::Values(&[]),
+        &[],
+    ),
+    (
+        Question::List(ALL, At(0, 0, Some(u32::MAX)), &[]),
         Want::Values(&[]),
         &[],
     ),

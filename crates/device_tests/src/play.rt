@@ -37,41 +37,58 @@ fn play(
     let mut scene = scene_of(alloc, table, refused)?;
     for (number, row) in rows.iter().enumerate() {
         for part in 0..row.0.count() {
-            let ask = row.0.ask(alloc, part)?;
-            let before = scene.device.steps().len();
-            let seat = u32::try_from(number).unwrap_or(0);
-            let mut answer = asked(&mut scene.device, seat, &ask, by_handle);
-            if is_refused_growth(&ask, &answer) {
-                *refused = refused.saturating_add(1);
-                let earlier = Earlier {
-                    table,
-                    rows,
-                    number,
-                    part,
-                    by_handle,
-                };
-                if !is_unchanged(alloc, &mut scene, earlier)? {
-                    return Err(Trouble::Changed(number));
-                }
-                answer = asked(&mut scene.device, seat, &ask, by_handle);
-            }
-            if !is_wanted(&ask, &answer, row.1, before) {
-                return Err(Trouble::Answer(number));
-            }
-            if !are_calls(&mut scene, row.2) {
-                return Err(Trouble::Calls(number));
-            }
-            if !is_entered(&scene, &ask, &answer, seat, before) {
-                return Err(Trouble::Step(number));
-            }
+            let place = Place {
+                table,
+                rows,
+                number,
+                part,
+                by_handle,
+            };
+            play_ask(alloc, &mut scene, row, place, refused)?;
         }
     }
     Ok(())
 }
 
-// The asks that came before one: those of the rows before a number, and of this row the parts before another.
+// Makes the ask at a place, and compares what comes of it. Where it is refused for want of memory, it is made again.
+fn play_ask(
+    alloc: Global,
+    scene: &mut Scene,
+    row: &Row,
+    place: Place<'_>,
+    refused: &mut u32,
+) -> Result<(), Trouble> {
+    let ask = row.0.ask(alloc, place.part)?;
+    let before = scene.device.steps().len();
+    let seat = seat_of(place.number);
+    let mut answer = asked(&mut scene.device, seat, &ask, place.by_handle);
+    if is_refused_growth(&ask, &answer) {
+        *refused = refused.saturating_add(1);
+        if !is_unchanged(alloc, scene, place)? {
+            return Err(Trouble::Changed(place.number));
+        }
+        answer = asked(&mut scene.device, seat, &ask, place.by_handle);
+    }
+    if !is_wanted(&ask, &answer, row.1, before) {
+        return Err(Trouble::Answer(place.number));
+    }
+    if !are_calls(scene, row.2) {
+        return Err(Trouble::Calls(place.number));
+    }
+    if !is_entered(scene, &ask, &answer, seat, before) {
+        return Err(Trouble::Step(place.number));
+    }
+    Ok(())
+}
+
+// The seat of a row's asks is the row's number.
+fn seat_of(number: usize) -> u32 {
+    u32::try_from(number).unwrap_or(0)
+}
+
+// Where an ask stands: the number of its row, and its number in the row.
 #[derive(Clone, Copy)]
-struct Earlier<'a> {
+struct Place<'a> {
     table: &'a Table,
     rows: &'a [Row],
     number: usize,
@@ -81,7 +98,7 @@ struct Earlier<'a> {
 
 // Whether an ask that was refused for want of memory told nobody, and left the device as it is in one that had the earlier asks
 // alone.
-fn is_unchanged(alloc: Global, scene: &mut Scene, earlier: Earlier<'_>) -> Result<bool, Trouble> {
+fn is_unchanged(alloc: Global, scene: &mut Scene, place: Place<'_>) -> Result<bool, Trouble> {
     for counter in scene.counters.iter_mut() {
         if counter.calls().1 != 0 {
             return Ok(false);
@@ -91,25 +108,22 @@ fn is_unchanged(alloc: Global, scene: &mut Scene, earlier: Earlier<'_>) -> Resul
     if scene.device.work().told != 0 {
         return Ok(false);
     }
-    let mut twin = scene_of(alloc, earlier.table, &mut 0)?;
-    for (number, row) in earlier
-        .rows
-        .iter()
-        .enumerate()
-        .take(earlier.number.saturating_add(1))
-    {
-        let parts = if number < earlier.number {
-            row.0.count()
-        } else {
-            earlier.part
-        };
-        for part in 0..parts {
-            let ask = row.0.ask(alloc, part)?;
-            let seat = u32::try_from(number).unwrap_or(0);
-            let _answer = asked(&mut twin.device, seat, &ask, earlier.by_handle);
+    let mut twin = twin_of(alloc, place)?;
+    are_alike(alloc, place.table, &mut scene.device, &mut twin.device)
+}
+
+// A device that had the asks before a place alone.
+fn twin_of(alloc: Global, place: Place<'_>) -> Result<Scene, Trouble> {
+    let mut twin = scene_of(alloc, place.table, &mut 0)?;
+    for (number, row) in place.rows.iter().enumerate() {
+        for part in 0..row.0.count() {
+            if number < place.number || (number == place.number && part < place.part) {
+                let ask = row.0.ask(alloc, part)?;
+                let _answer = asked(&mut twin.device, seat_of(number), &ask, place.by_handle);
+            }
         }
     }
-    are_alike(alloc, earlier.table, &mut scene.device, &mut twin.device)
+    Ok(twin)
 }
 
 // Whether these closures were called since the last look, no others were, and the device counts as they do.
