@@ -101,9 +101,12 @@ struct Head<'a> {
     is_each: bool,
 }
 
-/// The cases of a file.
-pub fn read_cases<'a>(alloc: Global, text: &'a str) -> Result<Vec<Case<'a>>, CaseFault> {
-    let mut cases = Vec::new(alloc);
+/// Adds the cases of a file to others.
+pub fn read_cases<'a>(
+    alloc: Global,
+    text: &'a str,
+    cases: &mut Vec<Case<'a>>,
+) -> Result<(), CaseFault> {
     let mut head = Head {
         name: "",
         outcome: "",
@@ -112,11 +115,11 @@ pub fn read_cases<'a>(alloc: Global, text: &'a str) -> Result<Vec<Case<'a>>, Cas
     let mut number = 0u32;
     for line in text.lines() {
         number = number.saturating_add(1);
-        if read_line(alloc, &mut cases, &mut head, line)?.is_none() {
+        if read_line(alloc, cases, &mut head, line)?.is_none() {
             return Err(CaseFault::Line(number));
         }
     }
-    Ok(cases)
+    Ok(())
 }
 
 // Reads a line of a file. `None` where it doesn't belong there.

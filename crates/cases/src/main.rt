@@ -17,6 +17,7 @@ use ctrl_calls::{Calls, ClusterRow, Driver, Notifier, Validator, Verdict};
 use device_state::Device;
 use std::alloc::{AllocError, Global};
 use std::process::ExitCode;
+use std::rt::Files;
 use std::{fs, io};
 
 type Judge = Box<dyn Fn(ClusterRow) -> Verdict + Send>;
@@ -27,39 +28,58 @@ type Teller = Box<dyn Fn(ClusterRow) -> u64 + Send>;
 const FILES: [&str; 4] = ["sample.txt", "words.txt", "lists.txt", "examples.txt"];
 
 fn main(rt: HostRuntime) -> io::Result<ExitCode> {
-    let (mut count, mut differing) = (0u32, 0u32);
-    for file in FILES {
-        let text = fs::read_to_string(&rt, file)?;
-        let cases = match read_cases(rt.alloc(), text.as_str()) {
-            Ok(cases) => cases,
-            Err(CaseFault::Line(number)) => {
-                println!(rt; "{file}, line {number}: not a line of a case")?;
-                return Ok(ExitCode::from(1));
-            }
-            Err(CaseFault::Memory) => return Err(io::Error::from(io::ErrorKind::OutOfMemory)),
-        };
-        for case in cases.as_slice() {
-            let limit: Judge = Box::new(rt.alloc(), |row: ClusterRow| gain_verdict(&row))?;
-            let sum: Judge = Box::new(rt.alloc(), |row: ClusterRow| balance_verdict(&row))?;
-            let gain: Teller = Box::new(rt.alloc(), |row: ClusterRow| pair_word(&row))?;
-            let balance: Teller = Box::new(rt.alloc(), |row: ClusterRow| pair_word(&row))?;
-            let button: Teller = Box::new(rt.alloc(), |row: ClusterRow| button_word(&row))?;
-            let brightness: Teller = Box::new(rt.alloc(), |row: ClusterRow| brightness_word(&row))?;
-            let (printed, outcome) = run::<Sample>(
-                rt.alloc(),
-                case.script.as_slice(),
-                (limit, sum),
-                (gain, balance, button, brightness),
-            )?;
-            count = count.saturating_add(1);
-            if !is_wanted(rt.alloc(), case, printed.as_slice(), outcome)? {
-                differing = differing.saturating_add(1);
-                show(&rt, file, case, printed.as_slice(), outcome)?;
-            }
+    let texts = read_files(&rt)?;
+    let Some(cases) = cases_of(&rt, texts.as_slice())? else {
+        return Ok(ExitCode::from(1));
+    };
+    let mut differing = 0u32;
+    for case in cases.as_slice() {
+        let limit: Judge = Box::new(rt.alloc(), |row: ClusterRow| gain_verdict(&row))?;
+        let sum: Judge = Box::new(rt.alloc(), |row: ClusterRow| balance_verdict(&row))?;
+        let gain: Teller = Box::new(rt.alloc(), |row: ClusterRow| pair_word(&row))?;
+        let balance: Teller = Box::new(rt.alloc(), |row: ClusterRow| pair_word(&row))?;
+        let button: Teller = Box::new(rt.alloc(), |row: ClusterRow| button_word(&row))?;
+        let brightness: Teller = Box::new(rt.alloc(), |row: ClusterRow| brightness_word(&row))?;
+        let (printed, outcome) = run::<Sample>(
+            rt.alloc(),
+            case.script.as_slice(),
+            (limit, sum),
+            (gain, balance, button, brightness),
+        )?;
+        if !is_wanted(rt.alloc(), case, printed.as_slice(), outcome)? {
+            differing = differing.saturating_add(1);
+            show(&rt, case, printed.as_slice(), outcome)?;
         }
     }
-    println!(rt; "{count} cases, {differing} differ")?;
+    println!(rt; "{} cases, {differing} differ", cases.len())?;
     Ok(ExitCode::from(if differing == 0 { 0 } else { 1 }))
+}
+
+fn read_files<R: AllocGlobal + Files>(rt: &R) -> io::Result<Vec<String>> {
+    let mut texts = Vec::new(rt.alloc());
+    for file in FILES {
+        texts.push(fs::read_to_string(rt, file)?)?;
+    }
+    Ok(texts)
+}
+
+// The cases of the files' texts. Where a line doesn't belong there, this is printed, and there are none.
+fn cases_of<'a, R: AllocGlobal + Print>(
+    rt: &R,
+    texts: &'a [String],
+) -> io::Result<Option<Vec<Case<'a>>>> {
+    let mut cases = Vec::new(rt.alloc());
+    for (file, text) in FILES.iter().zip(texts) {
+        match read_cases(rt.alloc(), text.as_str(), &mut cases) {
+            Ok(()) => {}
+            Err(CaseFault::Line(number)) => {
+                println!(rt; "{file}, line {number}: not a line of a case")?;
+                return Ok(None);
+            }
+            Err(CaseFault::Memory) => return Err(io::Error::from(io::ErrorKind::OutOfMemory)),
+        }
+    }
+    Ok(Some(cases))
 }
 
 // What a script prints on a fresh sample device, and how it ends. The device's clusters have these closures: of autogain and gain the
@@ -127,14 +147,13 @@ fn is_wanted(
 // Prints a case that differs.
 fn show<R: AllocGlobal + Print>(
     rt: &R,
-    file: &str,
     case: &Case<'_>,
     printed: &[u8],
     outcome: Outcome,
 ) -> io::Result<()> {
     let printed = String::from_utf8_lossy(rt.alloc(), printed)?;
     println!(rt;
-        "{file}: {}\n{printed}{outcome:?} in place of {}",
+        "{}\n{printed}{outcome:?} in place of {}",
         case.name, case.outcome
     )
 }
