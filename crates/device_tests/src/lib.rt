@@ -1,12 +1,34 @@
-//! Tests of the device through its public calls, with closures in boxes that count how often they are called: sets that are
-//! accepted, refused and unchanged, file handles that close, lists, and what a query tells.
+//! Tests of the device through its public calls. A test is a plan and a table of asks, each with its answer and the closures that it
+//! calls, as data; `play` makes the asks, by the short forms and by `handle`. Each closure counts its calls for itself.
+//!
+//! The tests stand growths that are refused, too (`rt try --test --fail-alloc 1..`, which refuses one in each run): an ask that is
+//! refused for want of memory leaves every part of the device as it is in a device that was never asked, tells nobody, and has its
+//! answer when it is asked again.
 #![tactic(auto)]
 
 #[cfg(test)]
-mod counting;
+mod asks;
+#[cfg(test)]
+mod closures;
+#[cfg(test)]
+mod flags;
+#[cfg(test)]
+mod handlers;
 #[cfg(test)]
 mod handles;
 #[cfg(test)]
 mod lists;
 #[cfg(test)]
 mod menus;
+#[cfg(test)]
+mod mirrors;
+#[cfg(test)]
+mod plan;
+#[cfg(test)]
+mod play;
+#[cfg(test)]
+mod sample;
+#[cfg(test)]
+mod twin;
+#[cfg(test)]
+mod verdicts;

@@ -1,155 +1,117 @@
 //! The ids that a handler shows in turn, and the items of its menus.
 
-use crate::counting::{Counting, GAIN, number};
-use bitflags::Flags as FlagSet;
-use ctrl_calls::{Driver, Work};
-use ctrl_settle::Ctrl;
-use ctrl_types::{CtrlId, Errno, Fault, FhId, Flags, Kind};
-use device_state::{Ask, Device, MenuItem, PlanBuilder, Reply};
-use std::alloc::Global;
-use std::process::Abort;
-use std::test::Fail;
+use crate::asks::{Question, Row, Want};
+use crate::plan::{Control, DIGIT, EMPTY, Table};
+use crate::play::expect;
+use ctrl_types::{Errno, Kind};
 
-const RATES: CtrlId = CtrlId(0x0098_0910);
+const GAIN: u32 = 0x0098_0901;
 
-const MODES: CtrlId = CtrlId(0x0098_0920);
+const RATES: u32 = 0x0098_0910;
 
-const HIDDEN: CtrlId = CtrlId(0x0098_0930);
+const MODES: u32 = 0x0098_0920;
 
-// Handler 0 has a menu of numbers, which has none at 1, a DISABLED menu of names, and a private number; handler 1 has a gain,
-// and adds handler 0. File handle 0 is opened on handler 1, and file handle 1 on handler 0.
-fn device<D: Driver>(alloc: Global) -> Result<Device<D>, Fail> {
-    let mut builder = PlanBuilder::new(alloc);
-    builder.handler()?;
-    builder.handler()?;
-    let rates = Ctrl::new(
-        RATES,
-        Kind::IntegerMenu,
-        0,
-        2,
-        1,
-        0,
-        0,
-        Flags::empty(),
-        false,
-    )?;
-    let modes = Ctrl::new(MODES, Kind::Menu, 0, 3, 1, 0, 4, Flags::DISABLED, false)?;
-    let hidden = Ctrl::new(HIDDEN, Kind::Integer, 0, 1, 1, 0, 0, Flags::empty(), true)?;
-    let rates = builder.control(0, rates)?;
-    let modes = builder.control(0, modes)?;
-    builder.control(0, hidden)?;
-    builder.control(1, number(GAIN)?)?;
-    builder.add_handler(1, 0)?;
-    builder.menu_number(rates, 0, i64::MIN)?;
-    builder.menu_number(rates, 2, 48_000)?;
-    builder.menu_name(modes, 1, "Slow")?;
-    builder.menu_name(modes, 3, "")?;
-    let Ok(plan) = builder.finish() else {
-        return Err(Fail::new("the plan"));
-    };
-    let Ok(mut device) = Device::new(alloc, plan) else {
-        return Err(Fail::new("no device"));
-    };
-    for handler in [1, 0] {
-        if device.handle(0, &Ask::OpenFh { handler }).is_err() {
-            return Err(Fail::new("no file handle"));
-        }
-    }
-    Ok(device)
-}
+const HIDDEN: u32 = 0x0098_0930;
 
-fn plain(errno: Errno) -> Fault {
-    Fault { errno, index: None }
-}
+// Handler 0 has a menu of numbers, a DISABLED menu of names, and a private number; handler 1 has a number, and adds handler 0. Item 2
+// of each menu is skipped, and item 3 was never given.
+const MENUS: Table = Table {
+    handlers: 2,
+    controls: &[
+        Control {
+            id: RATES,
+            kind: Kind::IntegerMenu,
+            maximum: 4,
+            skip: 4,
+            ..DIGIT
+        },
+        Control {
+            id: MODES,
+            kind: Kind::Menu,
+            maximum: 4,
+            skip: 4,
+            flags: 0x1,
+            ..DIGIT
+        },
+        Control {
+            id: HIDDEN,
+            is_private: true,
+            ..DIGIT
+        },
+        Control {
+            handler: 1,
+            id: GAIN,
+            ..DIGIT
+        },
+    ],
+    added: &[(1, 0)],
+    names: &[
+        (1, 0, ""),
+        (1, 1, "first"),
+        (1, 1, "a name of thirty-two bytes, yes."),
+        (1, 4, "last"),
+    ],
+    numbers: &[(0, 0, i64::MIN), (0, 1, -7), (0, 1, 25), (0, 4, i64::MAX)],
+    clusters: &[],
+};
 
-fn next<D: Driver>(device: &mut Device<D>, fh: u32, id: u32) -> Result<CtrlId, Fault> {
-    let ask = Ask::NextId {
-        fh: FhId(fh),
-        id: CtrlId(id),
-    };
-    match device.handle(3, &ask) {
-        Ok(Reply::Id(id)) => Ok(id),
-        Ok(_) => Err(plain(Errno::ENOENT)),
-        Err(fault) => Err(fault),
-    }
-}
+const NONE: Want = Want::Refused(Errno::EINVAL);
 
-fn item<D: Driver>(
-    device: &mut Device<D>,
-    fh: u32,
-    id: CtrlId,
-    index: u32,
-) -> Result<MenuItem, Fault> {
-    let ask = Ask::MenuItem {
-        fh: FhId(fh),
-        id,
-        index,
-    };
-    match device.handle(3, &ask) {
-        Ok(Reply::Item(item)) => Ok(item),
-        Ok(_) => Err(plain(Errno::ENOENT)),
-        Err(fault) => Err(fault),
-    }
-}
+const UNOPENED: Want = Want::Refused(Errno::EBADF);
 
-fn ids_in_turn<D: Driver>(rt: &impl Abort, alloc: Global) -> Result<(), Fail> {
-    let mut device: Device<D> = device(alloc)?;
-    assert_eq!(rt; next(&mut device, 0, 0), Ok(GAIN));
-    assert_eq!(rt; next(&mut device, 0, GAIN.0), Ok(RATES));
-    assert_eq!(rt; next(&mut device, 0, RATES.0), Ok(MODES));
-    assert_eq!(rt; next(&mut device, 0, RATES.0 - 1), Ok(RATES));
-    assert_eq!(rt; next(&mut device, 0, MODES.0), Err(plain(Errno::EINVAL)));
-    assert_eq!(rt; next(&mut device, 0, u32::MAX), Err(plain(Errno::EINVAL)));
-    assert_eq!(rt; next(&mut device, 1, 0), Ok(RATES));
-    assert_eq!(rt; next(&mut device, 1, MODES.0), Ok(HIDDEN));
-    assert_eq!(rt; next(&mut device, 2, 0), Err(plain(Errno::EBADF)));
-    assert_eq!(rt; device.work(), Work::new());
-    assert_eq!(rt; device.steps().len(), 2);
-    Ok(())
-}
+const ITEMS: &[Row] = &[
+    (Question::Open(1, 1), Want::Opened, &[]),
+    (Question::Open(0, 1), Want::Opened, &[]),
+    (Question::Item(0, RATES, 0), Want::Number(i64::MIN), &[]),
+    (Question::Item(0, RATES, 1), Want::Number(25), &[]),
+    (Question::Item(0, RATES, 2), NONE, &[]),
+    (Question::Item(0, RATES, 3), NONE, &[]),
+    (Question::Item(0, RATES, 4), Want::Number(i64::MAX), &[]),
+    (Question::Item(0, RATES, 5), NONE, &[]),
+    (Question::Item(0, RATES, u32::MAX), NONE, &[]),
+    (Question::Item(1, RATES, 0), Want::Number(i64::MIN), &[]),
+    (Question::Item(1, RATES, 1), Want::Number(25), &[]),
+    (Question::Item(1, RATES, 2), NONE, &[]),
+    (Question::Item(1, RATES, 3), NONE, &[]),
+    (Question::Item(1, RATES, 4), Want::Number(i64::MAX), &[]),
+    (Question::Item(1, RATES, 5), NONE, &[]),
+    (Question::Item(1, RATES, u32::MAX), NONE, &[]),
+    (Question::Item(2, RATES, 0), UNOPENED, &[]),
+    (Question::Item(0, MODES, 0), Want::Name(""), &[]),
+    (
+        Question::Item(1, MODES, 1),
+        Want::Name("a name of thirty-two bytes, yes."),
+        &[],
+    ),
+    (Question::Item(0, MODES, 2), NONE, &[]),
+    (Question::Item(0, MODES, 3), NONE, &[]),
+    (Question::Item(0, MODES, 4), Want::Name("last"), &[]),
+    // no menu, and not shown
+    (Question::Item(0, GAIN, 0), NONE, &[]),
+    (Question::Item(0, HIDDEN, 0), NONE, &[]),
+    (Question::Item(1, HIDDEN, 0), NONE, &[]),
+];
 
-fn is_number(answer: &Result<MenuItem, Fault>, number: i64) -> bool {
-    match answer {
-        Ok(MenuItem::Number(told)) => *told == number,
-        _ => false,
-    }
-}
+const IDS: &[Row] = &[
+    (Question::Open(1, 1), Want::Opened, &[]),
+    (Question::Open(0, 1), Want::Opened, &[]),
+    (Question::Next(0, 0), Want::Id(GAIN), &[]),
+    (Question::Next(0, GAIN), Want::Id(RATES), &[]),
+    (Question::Next(0, RATES), Want::Id(MODES), &[]),
+    (Question::Next(0, RATES - 1), Want::Id(RATES), &[]),
+    (Question::Next(0, MODES), NONE, &[]),
+    (Question::Next(0, u32::MAX), NONE, &[]),
+    (Question::Next(1, 0), Want::Id(RATES), &[]),
+    (Question::Next(1, MODES), Want::Id(HIDDEN), &[]),
+    (Question::Next(2, 0), UNOPENED, &[]),
+];
 
-fn is_name(answer: &Result<MenuItem, Fault>, name: &str) -> bool {
-    match answer {
-        Ok(MenuItem::Name(told)) => told.as_str() == name,
-        _ => false,
-    }
-}
-
-fn is_refusal(answer: &Result<MenuItem, Fault>, errno: Errno) -> bool {
-    match answer {
-        Ok(_) => false,
-        Err(fault) => *fault == plain(errno),
-    }
-}
-
-fn items_in_turn<D: Driver>(rt: &impl Abort, alloc: Global) -> Result<(), Fail> {
-    let mut device: Device<D> = device(alloc)?;
-    assert!(rt; is_number(&item(&mut device, 0, RATES, 0), i64::MIN));
-    assert!(rt; is_number(&item(&mut device, 1, RATES, 2), 48_000));
-    assert!(rt; is_name(&item(&mut device, 0, MODES, 1), "Slow"));
-    assert!(rt; is_name(&item(&mut device, 0, MODES, 3), ""));
-    // none was given; the index is skipped; it lies outside; no menu; not shown
-    for &(id, index) in &[(RATES, 1), (MODES, 2), (RATES, 3), (GAIN, 0), (HIDDEN, 0)] {
-        assert!(rt; is_refusal(&item(&mut device, 0, id, index), Errno::EINVAL));
-    }
-    assert!(rt; is_refusal(&item(&mut device, 2, RATES, 0), Errno::EBADF));
-    assert_eq!(rt; device.steps().len(), 2);
-    Ok(())
+#[test]
+fn items_of_menus(rt: HostRuntime) {
+    expect(&rt, &MENUS, ITEMS);
 }
 
 #[test]
-fn next_ids(rt: HostRuntime) -> Result<(), Fail> {
-    ids_in_turn::<Counting>(&rt, rt.alloc())
-}
-
-#[test]
-fn menu_items(rt: HostRuntime) -> Result<(), Fail> {
-    items_in_turn::<Counting>(&rt, rt.alloc())
+fn next_ids(rt: HostRuntime) {
+    expect(&rt, &MENUS, IDS);
 }

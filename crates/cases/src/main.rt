@@ -1,0 +1,159 @@
+//! Runs the scripts of the files in `data/`, each on a fresh sample device, and compares what they print and how they end with what
+//! the files say. It prints each case that differs, with what came in its place, and at last how many cases there are. `data/sample.txt`
+//! begins with the format of the files.
+#![tactic(auto)]
+
+mod case;
+
+ghost use Rattle.ctrl_calls.specs.Meanings.{JudgesBy, TellsBy};
+
+use crate::case::{Case, CaseFault, read_cases};
+use ctl_script::{
+    BALANCE_LIMIT, BRIGHTNESS_WORDS, BUTTON_WORDS, GAIN_LIMIT, Outcome, PAIR_WORDS, Sample,
+    balance_verdict, brightness_word, button_word, gain_verdict, pair_word, run_script,
+    sample_plan,
+};
+use ctrl_calls::{Calls, ClusterRow, Driver, Notifier, Validator, Verdict};
+use device_state::Device;
+use std::alloc::{AllocError, Global};
+use std::process::ExitCode;
+use std::rt::Files;
+use std::{fs, io};
+
+type Judge = Box<dyn Fn(ClusterRow) -> Verdict + Send>;
+
+type Teller = Box<dyn Fn(ClusterRow) -> u64 + Send>;
+
+// The files that are read, in this order.
+const FILES: [&str; 4] = ["sample.txt", "words.txt", "lists.txt", "examples.txt"];
+
+fn main(rt: HostRuntime) -> io::Result<ExitCode> {
+    let texts = read_files(&rt)?;
+    let Some(cases) = cases_of(&rt, texts.as_slice())? else {
+        return Ok(ExitCode::from(1));
+    };
+    let mut differing = 0u32;
+    for case in cases.as_slice() {
+        let limit: Judge = Box::new(rt.alloc(), |row: ClusterRow| gain_verdict(&row))?;
+        let sum: Judge = Box::new(rt.alloc(), |row: ClusterRow| balance_verdict(&row))?;
+        let gain: Teller = Box::new(rt.alloc(), |row: ClusterRow| pair_word(&row))?;
+        let balance: Teller = Box::new(rt.alloc(), |row: ClusterRow| pair_word(&row))?;
+        let button: Teller = Box::new(rt.alloc(), |row: ClusterRow| button_word(&row))?;
+        let brightness: Teller = Box::new(rt.alloc(), |row: ClusterRow| brightness_word(&row))?;
+        let (printed, outcome) = run::<Sample>(
+            rt.alloc(),
+            case.script.as_slice(),
+            (limit, sum),
+            (gain, balance, button, brightness),
+        )?;
+        if !is_wanted(rt.alloc(), case, printed.as_slice(), outcome)? {
+            differing = differing.saturating_add(1);
+            show(&rt, case, printed.as_slice(), outcome)?;
+        }
+    }
+    println!(rt; "{} cases, {differing} differ", cases.len())?;
+    Ok(ExitCode::from(if differing == 0 { 0 } else { 1 }))
+}
+
+fn read_files<R: AllocGlobal + Files>(rt: &R) -> io::Result<Vec<String>> {
+    let mut texts = Vec::new(rt.alloc());
+    for file in FILES {
+        texts.push(fs::read_to_string(rt, file)?)?;
+    }
+    Ok(texts)
+}
+
+// The cases of the files' texts. Where a line doesn't belong there, this is printed, and there are none.
+fn cases_of<'a, R: AllocGlobal + Print>(
+    rt: &R,
+    texts: &'a [String],
+) -> io::Result<Option<Vec<Case<'a>>>> {
+    let mut cases = Vec::new(rt.alloc());
+    for (file, text) in FILES.iter().zip(texts) {
+        match read_cases(rt.alloc(), text.as_str(), &mut cases) {
+            Ok(()) => {}
+            Err(CaseFault::Line(number)) => {
+                println!(rt; "{file}, line {number}: not a line of a case")?;
+                return Ok(None);
+            }
+            Err(CaseFault::Memory) => return Err(io::Error::from(io::ErrorKind::OutOfMemory)),
+        }
+    }
+    Ok(Some(cases))
+}
+
+// What a script prints on a fresh sample device, and how it ends. The device's clusters have these closures: of autogain and gain the
+// first validator and the first notifier, of red and blue the second ones, of the button and of brightness the last notifiers.
+fn run<D: Driver>(
+    alloc: Global,
+    script: &[u8],
+    judges: (D::Judge, D::Judge),
+    tellers: (D::Teller, D::Teller, D::Teller, D::Teller),
+) -> Result<(Vec<u8>, Outcome), AllocError>
+    requires limit { D.Judge.callable judges.0 }
+    requires limit_judges { JudgesBy (D.Judge.answers judges.0) (D.verdict GAIN_LIMIT) }
+    requires sum { D.Judge.callable judges.1 }
+    requires sum_judges { JudgesBy (D.Judge.answers judges.1) (D.verdict BALANCE_LIMIT) }
+    requires gain { D.Teller.callable tellers.0 }
+    requires gain_tells { TellsBy (D.Teller.answers tellers.0) (D.told PAIR_WORDS) }
+    requires balance { D.Teller.callable tellers.1 }
+    requires balance_tells { TellsBy (D.Teller.answers tellers.1) (D.told PAIR_WORDS) }
+    requires button { D.Teller.callable tellers.2 }
+    requires button_tells { TellsBy (D.Teller.answers tellers.2) (D.told BUTTON_WORDS) }
+    requires brightness { D.Teller.callable tellers.3 }
+    requires brightness_tells { TellsBy (D.Teller.answers tellers.3) (D.told BRIGHTNESS_WORDS) }
+{
+    let (limit, sum) = judges;
+    let (gain, balance, button, brightness) = tellers;
+    let of_gain: Calls<D> = Calls {
+        validator: Some(Validator::new(GAIN_LIMIT, limit)),
+        notifier: Some(Notifier::new(PAIR_WORDS, gain)),
+    };
+    let of_balance: Calls<D> = Calls {
+        validator: Some(Validator::new(BALANCE_LIMIT, sum)),
+        notifier: Some(Notifier::new(PAIR_WORDS, balance)),
+    };
+    let of_button: Calls<D> = Calls {
+        validator: None,
+        notifier: Some(Notifier::new(BUTTON_WORDS, button)),
+    };
+    let of_brightness: Calls<D> = Calls {
+        validator: None,
+        notifier: Some(Notifier::new(BRIGHTNESS_WORDS, brightness)),
+    };
+    let Ok(plan) = sample_plan(alloc, of_gain, of_balance, of_button, of_brightness) else {
+        return Err(AllocError);
+    };
+    let Ok(device) = Device::new(alloc, plan) else {
+        return Err(AllocError);
+    };
+    let mut printed = Vec::new(alloc);
+    let mut reader = script;
+    let (_, outcome) = run_script(alloc, device, &mut reader, &mut printed);
+    Ok((printed, outcome))
+}
+
+// Whether a script printed what it is to print, and ended as it is to end.
+fn is_wanted(
+    alloc: Global,
+    case: &Case<'_>,
+    printed: &[u8],
+    outcome: Outcome,
+) -> Result<bool, AllocError> {
+    let ended = format!(in alloc; "{outcome:?}")?;
+    Ok(printed == case.lines.as_slice() && ended.as_str() == case.outcome)
+}
+
+// Prints a case that differs.
+fn show<R: AllocGlobal + Print>(
+    rt: &R,
+    case: &Case<'_>,
+    printed: &[u8],
+    outcome: Outcome,
+) -> io::Result<()> {
+    let printed = String::from_utf8_lossy(rt.alloc(), printed)?;
+    println!(rt;
+        "{}\n{printed}{outcome:?} in place of {}",
+        case.name, case.outcome
+    )
+}

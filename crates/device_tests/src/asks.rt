@@ -1,0 +1,364 @@
+//! Asks and their answers as data.
+
+use crate::closures::Counting;
+use bitflags::Flags as FlagSet;
+use ctrl_types::{CtrlId, Errno, ExtControl, Fault, FhId, Kind, RequestId};
+use device_state::{Ask, ControlList, CtrlInfo, Device, MenuItem, Reply, Step};
+use std::alloc::{AllocError, Global};
+
+/// What is asked of a list.
+#[derive(Clone, Copy)]
+pub enum Form {
+    Get,
+    Set,
+    Try,
+}
+
+pub const GET: &[Form] = &[Form::Get];
+
+pub const SET: &[Form] = &[Form::Set];
+
+pub const TRY: &[Form] = &[Form::Try];
+
+/// Those that write.
+pub const WRITES: &[Form] = &[Form::Try, Form::Set];
+
+pub const ALL: &[Form] = &[Form::Get, Form::Try, Form::Set];
+
+/// The file handle, `which` and the request of a list.
+#[derive(Clone, Copy)]
+pub struct At(pub u32, pub u32, pub Option<u32>);
+
+/// The present values, at the file handle 0.
+pub const NOW: At = At(0, 0, None);
+
+/// What is asked.
+#[derive(Clone, Copy)]
+pub enum Question {
+    /// So many openings of a handler.
+    Open(u32, u32),
+    Close(u32),
+    /// A list of ids and values, in each of these forms.
+    List(&'static [Form], At, &'static [(u32, i64)]),
+    Grab(u32, bool),
+    Query(u32, u32),
+    Next(u32, u32),
+    Item(u32, u32, u32),
+    Told(u32),
+}
+
+/// What a query is to tell: id, kind, minimum, maximum, step, default and flags.
+pub type Info = (u32, Kind, i64, i64, u64, i64, u32);
+
+/// What is to be answered.
+#[derive(Clone, Copy)]
+pub enum Want {
+    /// The file handle whose id is the number of the step.
+    Opened,
+    Done,
+    /// The controls of the list, in order, with these values.
+    Values(&'static [i64]),
+    Info(Info),
+    /// What a query tells of the flags, and of the default.
+    Flags(u32),
+    Default(i64),
+    Id(u32),
+    Name(&'static str),
+    Number(i64),
+    Word(u64),
+    /// A refusal without an index.
+    Refused(Errno),
+    /// The refusal of a list at an entry, from 0: a try answers the entry's place, a get and a set the number of entries.
+    Entry(Errno, u32),
+    /// The refusal of a whole list: the index is the number of entries.
+    Whole(Errno),
+}
+
+/// An ask, its answer, and the calls of closures that it makes: of clusters, in rising number, how often the validator is asked and
+/// the notifier told. No other closure is called. Of several asks each one is answered so and makes these calls.
+pub type Row = (Question, Want, &'static [(u32, u64, u64)]);
+
+impl Question {
+    /// How many asks it is.
+    pub fn count(&self) -> usize {
+        match *self {
+            Question::Open(_, count) => count as usize,
+            Question::List(forms, _, _) => forms.len(),
+            _ => 1,
+        }
+    }
+
+    /// The ask with this number, from 0.
+    pub fn ask(&self, alloc: Global, number: usize) -> Result<Ask, AllocError> {
+        Ok(match *self {
+            Question::Open(handler, _) => Ask::OpenFh { handler },
+            Question::Close(fh) => Ask::CloseFh { fh: FhId(fh) },
+            Question::List(forms, at, pairs) => {
+                return list_ask(alloc, form_at(forms, number), at, pairs);
+            }
+            Question::Grab(control, on) => Ask::Grab { control, on },
+            Question::Query(fh, id) => Ask::Query {
+                fh: FhId(fh),
+                id: CtrlId(id),
+            },
+            Question::Next(fh, id) => Ask::NextId {
+                fh: FhId(fh),
+                id: CtrlId(id),
+            },
+            Question::Item(fh, id, index) => Ask::MenuItem {
+                fh: FhId(fh),
+                id: CtrlId(id),
+                index,
+            },
+            Question::Told(cluster) => Ask::Told { cluster },
+        })
+    }
+}
+
+fn form_at(forms: &[Form], number: usize) -> Form {
+    match forms.get(number) {
+        Some(form) => *form,
+        None => Form::Get,
+    }
+}
+
+fn list_ask(alloc: Global, form: Form, at: At, pairs: &[(u32, i64)]) -> Result<Ask, AllocError> {
+    let At(fh, which, request) = at;
+    let fh = FhId(fh);
+    let request = match request {
+        Some(request) => Some(RequestId(request)),
+        None => None,
+    };
+    let list = list_of(alloc, pairs)?;
+    Ok(match form {
+        Form::Get => Ask::GetCtrls {
+            fh,
+            which,
+            request,
+            list,
+        },
+        Form::Set => Ask::SetCtrls {
+            fh,
+            which,
+            request,
+            list,
+        },
+        Form::Try => Ask::TryCtrls {
+            fh,
+            which,
+            request,
+            list,
+        },
+    })
+}
+
+/// The list of these controls, each an id and a value; none where they are more than a thousand.
+pub fn list_of(alloc: Global, pairs: &[(u32, i64)]) -> Result<ControlList, AllocError> {
+    let mut entries = Vec::with_capacity(alloc, pairs.len())?;
+    for &(id, value) in pairs {
+        entries.push(ExtControl {
+            id: CtrlId(id),
+            value,
+        })?;
+    }
+    if entries.len() > 1000 {
+        entries.clear();
+    }
+    Ok(ControlList::from_vec(entries))
+}
+
+/// Asks a device, by `handle` or by the short form where there is one.
+pub fn asked(
+    device: &mut Device<Counting>,
+    seat: u32,
+    ask: &Ask,
+    by_handle: bool,
+) -> Result<Reply, Fault> {
+    if by_handle {
+        return device.handle(seat, ask);
+    }
+    match ask {
+        Ask::GetCtrls {
+            fh,
+            which,
+            request,
+            list,
+        } => device.get(*fh, *which, *request, list),
+        Ask::SetCtrls {
+            fh,
+            which,
+            request,
+            list,
+        } => device.set(seat, *fh, *which, *request, list),
+        Ask::TryCtrls {
+            fh,
+            which,
+            request,
+            list,
+        } => device.try_set(*fh, *which, *request, list),
+        Ask::Query { fh, id } => device.query(*fh, *id),
+        Ask::Told { cluster } => device.told(*cluster),
+        _ => device.handle(seat, ask),
+    }
+}
+
+/// Whether this is the answer to the ask, where the step that it added, if any, has this number.
+pub fn is_wanted(ask: &Ask, answer: &Result<Reply, Fault>, want: Want, number: usize) -> bool {
+    match answer {
+        Ok(reply) => is_reply(ask, reply, want, number),
+        Err(fault) => is_fault(ask, *fault, want),
+    }
+}
+
+fn is_reply(ask: &Ask, reply: &Reply, want: Want, number: usize) -> bool {
+    match reply {
+        Reply::Fh(fh) => matches!(want, Want::Opened) && fh.0 as usize == number,
+        Reply::Done => matches!(want, Want::Done),
+        Reply::Controls(list) => match want {
+            Want::Values(values) => match list_in(ask) {
+                Some(entries) => has_values(entries.as_slice(), list.as_slice(), values),
+                None => false,
+            },
+            _ => false,
+        },
+        Reply::Info(info) => is_info(info, want),
+        Reply::Id(id) => matches!(want, Want::Id(wanted) if id.0 == wanted),
+        Reply::Item(MenuItem::Name(name)) => match want {
+            Want::Name(wanted) => name.as_str() == wanted,
+            _ => false,
+        },
+        Reply::Item(MenuItem::Number(number)) => match want {
+            Want::Number(wanted) => *number == wanted,
+            _ => false,
+        },
+        Reply::Word(word) => matches!(want, Want::Word(wanted) if *word == wanted),
+    }
+}
+
+fn is_info(info: &CtrlInfo, want: Want) -> bool {
+    match want {
+        Want::Info((id, kind, minimum, maximum, step, default_value, flags)) => {
+            info.id.0 == id
+                && info.kind == kind
+                && info.minimum == minimum
+                && info.maximum == maximum
+                && info.step == step
+                && info.default_value == default_value
+                && info.flags.bits() == flags
+        }
+        Want::Flags(flags) => info.flags.bits() == flags,
+        Want::Default(default_value) => info.default_value == default_value,
+        _ => false,
+    }
+}
+
+fn is_fault(ask: &Ask, fault: Fault, want: Want) -> bool {
+    let count = count_in(ask);
+    let (errno, index) = match want {
+        Want::Refused(errno) => (errno, None),
+        Want::Whole(errno) => (errno, count),
+        Want::Entry(errno, place) => match ask {
+            Ask::TryCtrls { .. } => (errno, Some(place)),
+            _ => (errno, count),
+        },
+        _ => return false,
+    };
+    fault == Fault { errno, index }
+}
+
+/// Whether an answer is want of memory, with the index that it has there, to an ask that takes memory at all: no other has that answer.
+pub fn is_refused_growth(ask: &Ask, answer: &Result<Reply, Fault>) -> bool {
+    let fault = Fault {
+        errno: Errno::ENOMEM,
+        index: count_in(ask),
+    };
+    matches!(answer, Err(given) if *given == fault) && takes_memory(ask)
+}
+
+fn takes_memory(ask: &Ask) -> bool {
+    match ask {
+        Ask::GetCtrls { list, .. } | Ask::TryCtrls { list, .. } => list.len() > 0,
+        Ask::Query { .. } | Ask::NextId { .. } | Ask::Told { .. } => false,
+        _ => true,
+    }
+}
+
+// The list of an ask that has one.
+fn list_in(ask: &Ask) -> Option<&ControlList> {
+    match ask {
+        Ask::GetCtrls { list, .. } | Ask::SetCtrls { list, .. } | Ask::TryCtrls { list, .. } => {
+            Some(list)
+        }
+        _ => None,
+    }
+}
+
+// How many entries the list of an ask has.
+fn count_in(ask: &Ask) -> Option<u32> {
+    match list_in(ask) {
+        Some(list) => Some(list.len()),
+        None => None,
+    }
+}
+
+// Whether entries name the controls that were asked for, in order, with these values.
+fn has_values(asked: &[ExtControl], answered: &[ExtControl], values: &[i64]) -> bool {
+    if asked.len() != answered.len() || answered.len() != values.len() {
+        return false;
+    }
+    for (entry, (answer, value)) in asked.iter().zip(answered.iter().zip(values)) {
+        if entry.id != answer.id || answer.value != *value {
+            return false;
+        }
+    }
+    true
+}
+
+/// Whether an accepted ask adds a step.
+pub fn is_step(ask: &Ask) -> bool {
+    matches!(
+        ask,
+        Ask::OpenFh { .. } | Ask::CloseFh { .. } | Ask::SetCtrls { .. } | Ask::Grab { .. }
+    )
+}
+
+/// Whether a step is the one that the ask adds: a set keeps the values as they were given, each under its control's number.
+pub fn is_step_of(device: &Device<Counting>, step: &Step, ask: &Ask) -> bool {
+    match step {
+        Step::OpenFh { handler } => {
+            matches!(ask, Ask::OpenFh { handler: asked } if asked == handler)
+        }
+        Step::CloseFh { fh } => matches!(ask, Ask::CloseFh { fh: asked } if asked == fh),
+        Step::Grab { control, on } => {
+            matches!(ask, Ask::Grab { control: asked, on: way } if asked == control && way == on)
+        }
+        Step::Set { fh, pairs } => match ask {
+            Ask::SetCtrls {
+                fh: asked,
+                list,
+                ..
+            } => asked == fh && has_pairs(device, pairs.as_slice(), list.as_slice()),
+            _ => false,
+        },
+    }
+}
+
+fn has_pairs(
+    device: &Device<Counting>,
+    pairs: &[ctrl_types::Pair],
+    entries: &[ExtControl],
+) -> bool {
+    if pairs.len() != entries.len() {
+        return false;
+    }
+    let controls = device.plan().controls();
+    for (pair, entry) in pairs.iter().zip(entries) {
+        let Some(ctrl) = controls.get(pair.control as usize) else {
+            return false;
+        };
+        if ctrl.id() != entry.id || pair.value != entry.value {
+            return false;
+        }
+    }
+    true
+}

@@ -1,0 +1,168 @@
+//! Makes the asks of a table.
+
+use crate::asks::{Question, Row, asked, is_refused_growth, is_step, is_step_of, is_wanted};
+use crate::closures::Counter;
+use crate::plan::{Scene, Table, Trouble, scene_of};
+use crate::twin::are_alike;
+use ctrl_calls::Work;
+use ctrl_types::Fault;
+use device_state::{Ask, Reply};
+use std::alloc::Global;
+use std::process::Abort;
+
+/// Plays a table, once with the short forms and once with `handle` alone. Where a growth is refused outside the device it is played
+/// again. No more than one growth is refused in all.
+pub fn expect<R: AllocGlobal + Abort>(rt: &R, table: &Table, rows: &[Row]) {
+    let mut refused = 0;
+    for by_handle in [false, true] {
+        let mut played = play(rt.alloc(), table, rows, by_handle, &mut refused);
+        if matches!(played, Err(Trouble::Memory)) {
+            refused = refused.saturating_add(1);
+            played = play(rt.alloc(), table, rows, by_handle, &mut refused);
+        }
+        assert!(rt;
+            played.is_ok() && refused < 2,
+            "{played:?}, {refused} refused"
+        );
+    }
+}
+
+fn play(
+    alloc: Global,
+    table: &Table,
+    rows: &[Row],
+    by_handle: bool,
+    refused: &mut u32,
+) -> Result<(), Trouble> {
+    let mut scene = scene_of(alloc, table, refused)?;
+    for (number, row) in rows.iter().enumerate() {
+        for part in 0..row.0.count() {
+            let place = Place {
+                table,
+                rows,
+                number,
+                part,
+                by_handle,
+            };
+            play_ask(alloc, &mut scene, row, place, refused)?;
+        }
+    }
+    Ok(())
+}
+
+// Makes the ask at a place, and compares what comes of it. Where it is refused for want of memory, it is made again.
+fn play_ask(
+    alloc: Global,
+    scene: &mut Scene,
+    row: &Row,
+    place: Place<'_>,
+    refused: &mut u32,
+) -> Result<(), Trouble> {
+    let ask = row.0.ask(alloc, place.part)?;
+    let before = scene.device.steps().len();
+    let seat = seat_of(place.number);
+    let mut answer = asked(&mut scene.device, seat, &ask, place.by_handle);
+    if is_refused_growth(&ask, &answer) {
+        *refused = refused.saturating_add(1);
+        if !is_unchanged(alloc, scene, place)? {
+            return Err(Trouble::Changed(place.number));
+        }
+        answer = asked(&mut scene.device, seat, &ask, place.by_handle);
+    }
+    if !is_wanted(&ask, &answer, row.1, before) {
+        return Err(Trouble::Answer(place.number));
+    }
+    if !are_calls(scene, row.2) {
+        return Err(Trouble::Calls(place.number));
+    }
+    if !is_entered(scene, &ask, &answer, seat, before) {
+        return Err(Trouble::Step(place.number));
+    }
+    Ok(())
+}
+
+// The seat of a row's asks is the row's number.
+fn seat_of(number: usize) -> u32 {
+    u32::try_from(number).unwrap_or(0)
+}
+
+// Where an ask stands: the number of its row, and its number in the row.
+#[derive(Clone, Copy)]
+struct Place<'a> {
+    table: &'a Table,
+    rows: &'a [Row],
+    number: usize,
+    part: usize,
+    by_handle: bool,
+}
+
+// Whether an ask that was refused for want of memory told nobody, and left the device as it is in one that had the earlier asks
+// alone.
+fn is_unchanged(alloc: Global, scene: &mut Scene, place: Place<'_>) -> Result<bool, Trouble> {
+    for counter in scene.counters.iter_mut() {
+        if counter.calls().1 != 0 {
+            return Ok(false);
+        }
+        counter.look();
+    }
+    if scene.device.work().told != 0 {
+        return Ok(false);
+    }
+    let mut twin = twin_of(alloc, place)?;
+    are_alike(alloc, place.table, &mut scene.device, &mut twin.device)
+}
+
+// A device that had the asks before a place alone.
+fn twin_of(alloc: Global, place: Place<'_>) -> Result<Scene, Trouble> {
+    let mut twin = scene_of(alloc, place.table, &mut 0)?;
+    for (number, row) in place.rows.iter().enumerate() {
+        for part in 0..row.0.count() {
+            if number < place.number || (number == place.number && part < place.part) {
+                let ask = row.0.ask(alloc, part)?;
+                let _answer = asked(&mut twin.device, seat_of(number), &ask, place.by_handle);
+            }
+        }
+    }
+    Ok(twin)
+}
+
+// Whether these closures were called since the last look, no others were, and the device counts as they do.
+fn are_calls(scene: &mut Scene, wanted: &[(u32, u64, u64)]) -> bool {
+    let mut work = Work::new();
+    let mut found = 0usize;
+    for (cluster, counter) in (0..).zip(scene.counters.iter_mut()) {
+        let (asked, told) = counter.calls();
+        if (asked, told) != (0, 0) {
+            if !wanted.contains(&(cluster, asked, told)) {
+                return false;
+            }
+            found = found.saturating_add(1);
+        }
+        work.asked = work.asked.saturating_add(asked);
+        work.told = work.told.saturating_add(told);
+        counter.look();
+    }
+    found == wanted.len() && scene.device.work() == work
+}
+
+// Whether the ask added its step, where it was accepted and has one, and else none.
+fn is_entered(
+    scene: &Scene,
+    ask: &Ask,
+    answer: &Result<Reply, Fault>,
+    seat: u32,
+    before: usize,
+) -> bool {
+    let steps = scene.device.steps();
+    if answer.is_err() || !is_step(ask) {
+        return steps.len() == before;
+    }
+    match steps.get(before) {
+        Some(entry) => {
+            steps.len().wrapping_sub(before) == 1
+                && entry.seat == seat
+                && is_step_of(&scene.device, &entry.step, ask)
+        }
+        None => false,
+    }
+}

@@ -1,0 +1,88 @@
+//! Two devices of one plan, compared in all their parts.
+
+use crate::asks::list_of;
+use crate::closures::Counting;
+use crate::plan::{Table, Trouble};
+use ctrl_types::{CtrlId, Fault, FhId};
+use device_state::{Device, Entry, Reply, Step};
+use std::alloc::Global;
+
+/// Whether two devices of a table are alike: in their steps, in the words told, and, through each file handle that the steps could
+/// have opened and one more, in the values of the controls and in what a query tells of them, with its flags and grabs.
+pub fn are_alike(
+    alloc: Global,
+    table: &Table,
+    one: &mut Device<Counting>,
+    other: &mut Device<Counting>,
+) -> Result<bool, Trouble> {
+    if !have_like_steps(one.steps(), other.steps()) {
+        return Ok(false);
+    }
+    for cluster in 0..one.plan().cluster_count() {
+        if !are_like_answers(&one.told(cluster), &other.told(cluster)) {
+            return Ok(false);
+        }
+    }
+    let handles = u32::try_from(one.steps().len()).unwrap_or(0);
+    for fh in 0..=handles {
+        for control in table.controls {
+            if !show_alike(alloc, one, other, FhId(fh), control.id)? {
+                return Ok(false);
+            }
+        }
+    }
+    Ok(true)
+}
+
+// Whether a control has the same value, default and description through a file handle.
+fn show_alike(
+    alloc: Global,
+    one: &mut Device<Counting>,
+    other: &mut Device<Counting>,
+    fh: FhId,
+    id: u32,
+) -> Result<bool, Trouble> {
+    let list = list_of(alloc, &[(id, 0)])?;
+    let values = are_like_answers(&one.get(fh, 0, None, &list), &other.get(fh, 0, None, &list));
+    let id = CtrlId(id);
+    Ok(values && are_like_answers(&one.query(fh, id), &other.query(fh, id)))
+}
+
+fn have_like_steps(one: &[Entry<Step>], other: &[Entry<Step>]) -> bool {
+    if one.len() != other.len() {
+        return false;
+    }
+    for (a, b) in one.iter().zip(other) {
+        if a.seat != b.seat || !are_like_steps(&a.step, &b.step) {
+            return false;
+        }
+    }
+    true
+}
+
+fn are_like_steps(one: &Step, other: &Step) -> bool {
+    match one {
+        Step::OpenFh { handler } => matches!(other, Step::OpenFh { handler: h } if h == handler),
+        Step::CloseFh { fh } => matches!(other, Step::CloseFh { fh: f } if f == fh),
+        Step::Grab { control, on } => {
+            matches!(other, Step::Grab { control: c, on: o } if c == control && o == on)
+        }
+        Step::Set { fh, pairs } => match other {
+            Step::Set { fh: f, pairs: p } => f == fh && p.as_slice() == pairs.as_slice(),
+            _ => false,
+        },
+    }
+}
+
+// Of answers to reads alone.
+fn are_like_answers(one: &Result<Reply, Fault>, other: &Result<Reply, Fault>) -> bool {
+    match one {
+        Ok(Reply::Controls(list)) => {
+            matches!(other, Ok(Reply::Controls(l)) if l.as_slice() == list.as_slice())
+        }
+        Ok(Reply::Info(info)) => matches!(other, Ok(Reply::Info(i)) if i == info),
+        Ok(Reply::Word(word)) => matches!(other, Ok(Reply::Word(w)) if w == word),
+        Ok(_) => false,
+        Err(fault) => matches!(other, Err(f) if f == fault),
+    }
+}

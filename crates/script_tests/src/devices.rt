@@ -1,0 +1,108 @@
+//! Devices without closures.
+
+ghost use Rattle.std.specs.Prelude.{⊤, ◌≡◌};
+ghost use Rattle.ctrl_calls.specs.declared.verdict.Verdict.TheVariants.{Accept};
+
+use bitflags::Flags as FlagSet;
+use ctl_script::sample_plan;
+use ctrl_calls::{Calls, ClusterRow, Judging, Notifies, Telling, Validates, Verdict};
+use ctrl_settle::Ctrl;
+use ctrl_types::{CtrlId, Flags, Kind};
+use device_state::{Device, Plan, PlanBuilder, PlanFault};
+use std::alloc::{AllocError, Global};
+
+/// A driver that keeps no closure.
+pub enum Silent {}
+
+#[derive(Drop)]
+pub struct Accepts;
+
+impl Judging for Accepts {
+    ghost callable = { λ _. ⊤ };
+
+    ghost answers = { λ _ row verdict. verdict ≡ Accept row };
+
+    fn judge(&self, row: ClusterRow) -> Verdict {
+        Verdict::Accept(row)
+    }
+}
+
+#[derive(Drop)]
+pub struct Says;
+
+impl Telling for Says {
+    ghost callable = { λ _. ⊤ };
+
+    ghost answers = { λ _ _ _. ⊤ };
+
+    fn tell(&self, row: ClusterRow) -> u64 {
+        let _ = row;
+        0
+    }
+}
+
+impl Validates for Silent {
+    type Judge = Accepts;
+
+    ghost verdict = { λ _ row. Accept row };
+}
+
+impl Notifies for Silent {
+    type Teller = Says;
+
+    ghost told = { λ _ _ _. ⊤ };
+}
+
+/// Which device a script is asked of.
+#[derive(Clone, Copy)]
+pub enum Kept {
+    /// The sample device.
+    Sample,
+    /// Two menus.
+    Menus,
+}
+
+/// A fresh device. All that it can lack is memory.
+pub fn device_of(alloc: Global, kept: Kept) -> Result<Device<Silent>, AllocError> {
+    let plan = match kept {
+        Kept::Sample => sample_plan(alloc, none(), none(), none(), none()),
+        Kept::Menus => menus(alloc),
+    };
+    let Ok(plan) = plan else {
+        return Err(AllocError);
+    };
+    match Device::new(alloc, plan) {
+        Ok(device) => Ok(device),
+        Err(_) => Err(AllocError),
+    }
+}
+
+fn none() -> Calls<Silent> {
+    Calls {
+        validator: None,
+        notifier: None,
+    }
+}
+
+// A menu of names, of which the first is empty, and one of numbers, the least and the greatest among them.
+fn menus(alloc: Global) -> Result<Plan<Silent>, PlanFault> {
+    let mut builder = PlanBuilder::new(alloc);
+    builder.handler()?;
+    for (id, kind) in [(1, Kind::Menu), (2, Kind::IntegerMenu)] {
+        let flags = Flags::empty();
+        let Ok(ctrl) = Ctrl::new(CtrlId(id), kind, 0, 4, 1, 0, 4, flags, false) else {
+            return Err(PlanFault::Limit);
+        };
+        builder.control(0, ctrl)?;
+    }
+    builder.menu_name(0, 0, "")?;
+    builder.menu_name(0, 1, "a name of thirty-two bytes, yes.")?;
+    builder.menu_name(0, 4, "last")?;
+    builder.menu_number(1, 0, i64::MIN)?;
+    builder.menu_number(1, 1, 25)?;
+    builder.menu_number(1, 4, i64::MAX)?;
+    match builder.finish() {
+        Ok(plan) => Ok(plan),
+        Err((_, fault)) => Err(fault),
+    }
+}

@@ -1,0 +1,121 @@
+//! The scripts of these tests.
+
+use crate::devices::Kept;
+use ctl_script::Outcome;
+use std::alloc::{AllocError, Global};
+
+/// A line of a script, the line that it prints, and whether it adds a step to the device.
+pub type Line = (&'static str, &'static str, bool);
+
+/// A script: the device that it is asked of, its lines, of which the last has no line feed where `is_cut` says so, and how it ends.
+#[derive(Clone, Copy)]
+pub struct Script {
+    pub kept: Kept,
+    pub lines: &'static [Line],
+    pub is_cut: bool,
+    pub outcome: Outcome,
+}
+
+/// Each command.
+const COMMANDS: Script = Script {
+    kept: Kept::Sample,
+    lines: &[
+        ("open f 1", "ok", true),
+        ("open g 0", "ok", true),
+        ("set g cur hue=10", "ok 9", true),
+        ("get g cur hue hflip", "ok 9 0", false),
+        ("try f cur red=7 brightness=2", "ok 7 4", false),
+        ("set f cur red=7 0x00980999=1", "error 22 index 2", false),
+        ("set f cur red=300 gain=7 red=8", "ok 8 7 8", true),
+        ("grab red on", "ok", true),
+        ("set f cur red=5", "error 16 index 1", false),
+        ("grab red off", "ok", true),
+        (
+            "query f gain",
+            "ok 0x00980913 kind 1 min 0 max 255 step 1 default 16 flags 0x10",
+            false,
+        ),
+        ("next f 0x0", "ok 0x00980900", false),
+        ("menu f power 1", "ok 50 Hz", false),
+        ("told 0", "ok 0", false),
+        ("close g", "ok", true),
+        ("get g cur hue", "error 9 index 1", false),
+        ("open g 0", "ok", true),
+        ("get g cur hue", "ok 9", false),
+    ],
+    is_cut: false,
+    outcome: Outcome::Finished,
+};
+
+/// The last line is cut off inside a word.
+const CUT: Script = Script {
+    kept: Kept::Sample,
+    lines: &[
+        ("open f 0", "ok", true),
+        ("set f cur hu", "line 2: not a command", false),
+    ],
+    is_cut: true,
+    outcome: Outcome::BadLine(2),
+};
+
+/// Items of menus: empty, of 32 bytes, skipped, never given, and the least and the greatest number.
+const ITEMS: Script = Script {
+    kept: Kept::Menus,
+    lines: &[
+        ("open f 0", "ok", true),
+        ("menu f 0x1 0", "ok ", false),
+        ("menu f 0x1 1", "ok a name of thirty-two bytes, yes.", false),
+        ("menu f 0x1 2", "error 22", false),
+        ("menu f 0x1 3", "error 22", false),
+        ("menu f 0x1 4", "ok last", false),
+        ("menu f 0x2 0", "ok -9223372036854775808", false),
+        ("menu f 0x2 1", "ok 25", false),
+        ("menu f 0x2 3", "error 22", false),
+        ("menu f 0x2 4", "ok 9223372036854775807", false),
+        ("menu f power 0", "error 22", false),
+        ("next f 0x0", "ok 0x00000001", false),
+    ],
+    is_cut: false,
+    outcome: Outcome::Finished,
+};
+
+/// Each script.
+pub const SCRIPTS: &[Script] = &[COMMANDS, CUT, ITEMS];
+
+impl Script {
+    /// Its bytes. The line with the number `left_out`, from 0, is empty in place of a command.
+    pub fn text(&self, alloc: Global, left_out: Option<usize>) -> Result<Vec<u8>, AllocError> {
+        let mut text = Vec::with_capacity(alloc, 1024)?;
+        for (number, line) in self.lines.iter().enumerate() {
+            if left_out != Some(number) {
+                text.extend_from_slice(line.0.as_bytes())?;
+            }
+            text.push(b'\n')?;
+        }
+        if self.is_cut {
+            let _line_feed = text.pop();
+        }
+        Ok(text)
+    }
+
+    /// The lines that it prints.
+    pub fn reply(&self, alloc: Global) -> Result<Vec<u8>, AllocError> {
+        let mut text = Vec::with_capacity(alloc, 1024)?;
+        for line in self.lines {
+            text.extend_from_slice(line.1.as_bytes())?;
+            text.push(b'\n')?;
+        }
+        Ok(text)
+    }
+
+    /// How many steps its first lines add.
+    pub fn steps(&self, lines: usize) -> usize {
+        let mut steps = 0usize;
+        for line in self.lines.iter().take(lines) {
+            if line.2 {
+                steps = steps.saturating_add(1);
+            }
+        }
+        steps
+    }
+}

@@ -1,0 +1,270 @@
+use crate::devices::Kept;
+use crate::scripts::{SCRIPTS, Script};
+use crate::streams::{Ran, Streams, WHOLE, run};
+use ctl_script::{MAX_INPUT, MAX_READS, Outcome};
+use std::alloc::{AllocError, Global};
+use std::io::ErrorKind;
+
+// Whether a reply line is one write, where the writer takes it whole. Else a line may take several.
+const ONE_WRITE_A_LINE: bool = false;
+
+// How many bytes the writers take at once.
+const MOST: [usize; 3] = [1, 7, 4096];
+
+const FAULTS: [Option<ErrorKind>; 3] = [Some(ErrorKind::Other), Some(ErrorKind::Interrupted), None];
+
+// A run that wrote these bytes and ended so, with so many steps.
+fn is_run(ran: &Ran, bytes: &[u8], outcome: Outcome, steps: usize) -> bool {
+    ran.bytes.as_slice() == bytes && ran.outcome == outcome && ran.steps == steps
+}
+
+// A script prints its lines to a writer that takes few bytes at once.
+fn prints(alloc: Global, script: &Script, most: usize) -> Result<bool, AllocError> {
+    let (text, reply) = (script.text(alloc, None)?, script.reply(alloc)?);
+    let streams = Streams {
+        most_written: most,
+        ..WHOLE
+    };
+    let ran = run(alloc, script.kept, text.as_slice(), streams)?;
+    let lines = script.lines.len();
+    let fewest = if most == 1 { reply.len() } else { lines };
+    let is_few = !ONE_WRITE_A_LINE || most < 4096 || ran.writes as usize == lines;
+    let has_run = is_run(&ran, reply.as_slice(), script.outcome, script.steps(lines));
+    Ok(has_run && ran.writes as usize >= fewest && is_few)
+}
+
+#[test]
+fn scripts_print_their_lines(rt: HostRuntime) -> Result<(), AllocError> {
+    for (number, script) in SCRIPTS.iter().enumerate() {
+        for most in MOST {
+            assert!(rt; prints(rt.alloc(), script, most)?, "{number} {most}");
+        }
+    }
+    Ok(())
+}
+
+// A write that fails ends the run: what was written is a prefix of the lines, and the device has the steps of the commands up to the
+// one whose line failed. `None` where there are fewer writes than `number`.
+fn fails_at(
+    alloc: Global,
+    script: &Script,
+    most: usize,
+    number: u32,
+    fault: Option<ErrorKind>,
+) -> Result<Option<bool>, AllocError> {
+    let (text, reply) = (script.text(alloc, None)?, script.reply(alloc)?);
+    let streams = Streams {
+        most_written: most,
+        write_fault: Some((number, fault)),
+        ..WHOLE
+    };
+    let ran = run(alloc, script.kept, text.as_slice(), streams)?;
+    if ran.writes < number {
+        return Ok(None);
+    }
+    let written = ran.bytes.as_slice();
+    let whole = lines_in(written);
+    let is_prefix = written.len() < reply.len() && reply.as_slice().starts_with(written);
+    let steps = script.steps(whole.saturating_add(1));
+    Ok(Some(
+        is_prefix
+            && ran.outcome == Outcome::WriteFault
+            && ran.writes == number
+            && ran.steps == steps,
+    ))
+}
+
+fn lines_in(bytes: &[u8]) -> usize {
+    let mut lines = 0usize;
+    for byte in bytes {
+        if *byte == b'\n' {
+            lines = lines.saturating_add(1);
+        }
+    }
+    lines
+}
+
+// Whether each write fails as it has to; and the number of the first that isn't made.
+fn fails_at_each(
+    alloc: Global,
+    script: &Script,
+    most: usize,
+    fault: Option<ErrorKind>,
+) -> Result<Option<u32>, AllocError> {
+    for number in 1..2000 {
+        match fails_at(alloc, script, most, number, fault)? {
+            Some(true) => {}
+            Some(false) => return Ok(None),
+            None => return Ok(Some(number)),
+        }
+    }
+    Ok(None)
+}
+
+#[test]
+fn writers_fail_at_each_write(rt: HostRuntime) -> Result<(), AllocError> {
+    for (number, script) in SCRIPTS.iter().enumerate() {
+        for most in MOST {
+            for fault in FAULTS {
+                let failed = fails_at_each(rt.alloc(), script, most, fault)?;
+                let lines = script.lines.len();
+                assert!(rt;
+                    matches!(failed, Some(number) if number as usize > lines),
+                    "{number} {most} {fault:?}"
+                );
+            }
+        }
+    }
+    Ok(())
+}
+
+// A read that fails ends the run before a command was asked; one that is interrupted is made again.
+fn reads(alloc: Global, script: &Script, number: u32) -> Result<bool, AllocError> {
+    let (text, reply) = (script.text(alloc, None)?, script.reply(alloc)?);
+    let mut streams = Streams {
+        most_read: 8,
+        read_fault: Some((number, ErrorKind::Other)),
+        ..WHOLE
+    };
+    let failed = run(alloc, script.kept, text.as_slice(), streams)?;
+    streams.read_fault = Some((number, ErrorKind::Interrupted));
+    let ran = run(alloc, script.kept, text.as_slice(), streams)?;
+    let steps = script.steps(script.lines.len());
+    Ok(
+        failed.reads == number
+            && is_run(&failed, b"read fault\n", Outcome::ReadFault, 0)
+            && is_run(&ran, reply.as_slice(), script.outcome, steps),
+    )
+}
+
+#[test]
+fn readers_fail_at_each_read(rt: HostRuntime) -> Result<(), AllocError> {
+    for (number, script) in SCRIPTS.iter().enumerate() {
+        let length = script.text(rt.alloc(), None)?.len();
+        let count = u32::try_from(length.div_ceil(8)).unwrap_or(0);
+        // the last read shows the end
+        for read in 1..=count.saturating_add(1) {
+            assert!(rt; reads(rt.alloc(), script, read)?, "{number}, read {read}");
+        }
+    }
+    Ok(())
+}
+
+// What a run of an input prints on the sample device, which gets no step, and how many reads it takes.
+fn ends(
+    alloc: Global,
+    text: &[u8],
+    fault: Option<(u32, ErrorKind)>,
+    printed: &str,
+    outcome: Outcome,
+) -> Result<Option<u32>, AllocError> {
+    let streams = Streams {
+        read_fault: fault,
+        ..WHOLE
+    };
+    let ran = run(alloc, Kept::Sample, text, streams)?;
+    if is_run(&ran, printed.as_bytes(), outcome, 0) {
+        Ok(Some(ran.reads))
+    } else {
+        Ok(None)
+    }
+}
+
+// Every read is interrupted; an input has the most bytes, and one more.
+#[test]
+fn inputs_at_the_limits(rt: HostRuntime) -> Result<(), AllocError> {
+    let text = vec![in rt.alloc(); b'#'; MAX_INPUT + 1]?;
+    let most = &text.as_slice()[..MAX_INPUT];
+    let cases = [
+        (
+            most,
+            Some((0, ErrorKind::Interrupted)),
+            "read fault\n",
+            Outcome::ReadFault,
+            MAX_READS,
+        ),
+        (most, None, "", Outcome::Finished, 257),
+        (
+            most,
+            Some((257, ErrorKind::Other)),
+            "read fault\n",
+            Outcome::ReadFault,
+            257,
+        ),
+        (
+            text.as_slice(),
+            None,
+            "input too long\n",
+            Outcome::TooLong,
+            257,
+        ),
+    ];
+    for (text, fault, printed, outcome, reads) in cases {
+        let ended = ends(rt.alloc(), text, fault, printed, outcome)?;
+        assert!(rt; ended == Some(reads), "{outcome:?} {ended:?}");
+    }
+    Ok(())
+}
+
+// Runs a script, in which one growth may be refused. Where a growth of the tool's own was, the run ends behind the lines that were
+// answered, and the device has their steps. Where one of the device's was, the line is answered with error 12, and all else is as if
+// an empty line had stood in its place.
+fn stands_refusals(alloc: Global, script: &Script, refused: &mut u32) -> Result<bool, AllocError> {
+    let (text, reply) = (script.text(alloc, None)?, script.reply(alloc)?);
+    let ran = run(alloc, script.kept, text.as_slice(), WHOLE)?;
+    let steps = script.steps(script.lines.len());
+    if is_run(&ran, reply.as_slice(), script.outcome, steps) {
+        return Ok(true);
+    }
+    *refused = refused.saturating_add(1);
+    let (start, lines) = alike(ran.bytes.as_slice(), reply.as_slice());
+    let rest = &ran.bytes.as_slice()[start..];
+    if ran.outcome == Outcome::Memory {
+        return Ok(rest == b"no memory\n".as_slice() && ran.steps == script.steps(lines));
+    }
+    let text = script.text(alloc, Some(lines))?;
+    let without = run(alloc, script.kept, text.as_slice(), WHOLE)?;
+    let behind = match rest.iter().position(|byte| *byte == b'\n') {
+        Some(at) => &rest[at + 1..],
+        None => rest,
+    };
+    let is_same = match without
+        .bytes
+        .as_slice()
+        .strip_prefix(&ran.bytes.as_slice()[..start])
+    {
+        Some(lines) => lines == behind,
+        None => false,
+    };
+    let is_as_without = without.outcome == ran.outcome && without.steps == ran.steps;
+    Ok(rest.starts_with(b"error 12") && is_same && is_as_without)
+}
+
+// How many bytes two texts begin with alike, up to the end of a line, and how many lines these are.
+fn alike(a: &[u8], b: &[u8]) -> (usize, usize) {
+    let (mut end, mut lines) = (0, 0usize);
+    for (i, (x, y)) in a.iter().zip(b).enumerate() {
+        if x != y {
+            break;
+        }
+        if *x == b'\n' {
+            end = i + 1;
+            lines = lines.saturating_add(1);
+        }
+    }
+    (end.min(a.len()), lines)
+}
+
+#[test]
+fn scripts_with_a_refused_growth(rt: HostRuntime) {
+    let mut refused = 0u32;
+    for (number, script) in SCRIPTS.iter().enumerate() {
+        let mut stood = stands_refusals(rt.alloc(), script, &mut refused);
+        if stood.is_err() {
+            refused = refused.saturating_add(1);
+            stood = stands_refusals(rt.alloc(), script, &mut refused);
+        }
+        // no second one is refused
+        assert!(rt; stood == Ok(true) && refused < 2, "{number} {refused}");
+    }
+}
