@@ -4,8 +4,8 @@ use Rattle.ctrl_calls.specs.Meanings.{Verdicts}
 use Rattle.ctrl_calls.specs.declared.verdict.Verdict.{Verdict}
 use Rattle.ctrl_calls.specs.declared.verdict.Verdict.TheVariants.{Accept, Refuse}
 use Rattle.ctrl_types.specs.declared.errno.Errno.TheVariants.{EACCES}
-use Rattle.ctl_script.specs.Sample.{sample_verdict, sample_told}
-use Rattle.ctl_script.specs.declared.driver.TheConstants.{GAIN_LIMIT, BALANCE_LIMIT, PAIR_WORDS, BUTTON_WORDS, BRIGHTNESS_WORDS}
+use Rattle.sample_device.specs.Sample.{sample_verdict, sample_told}
+use Rattle.sample_device.specs.declared.driver.TheConstants.{GAIN_LIMIT, BALANCE_LIMIT, PAIR_WORDS, BUTTON_WORDS, BRIGHTNESS_WORDS}
 use Rattle.conformance.specs.declared.driver.PlainJudge.{PlainJudge}
 use Rattle.conformance.specs.declared.driver.PlainJudge.TheVariants as judging
 use Rattle.conformance.specs.declared.driver.PlainTeller.{PlainTeller}

@@ -1,6 +1,6 @@
 //! The sample driver without boxes, so that a test can name its device.
 ghost use Rattle.std.specs.Prelude.{◌≡◌, None, Some};
-ghost use Rattle.ctl_script.specs.Sample.{sample_verdict, sample_told};
+ghost use Rattle.sample_device.specs.Sample.{sample_verdict, sample_told};
 
 use ctl_script::{
     BALANCE_LIMIT, BRIGHTNESS_WORDS, BUTTON_WORDS, GAIN_LIMIT, PAIR_WORDS, balance_verdict,
