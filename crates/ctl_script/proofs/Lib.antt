@@ -1,6 +1,1 @@
-mod Digits
 mod Runs
-mod SampleLemmas
-mod Writes
-mod Lists
-mod Texts

@@ -1,6 +1,3 @@
-pub mod Commands
-pub mod Lexemes
-pub mod Names
-pub mod Replies
+pub use Rattle.sample_device.specs.Sample
+pub mod Bindings
 pub mod Run
-pub mod Sample

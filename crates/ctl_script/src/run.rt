@@ -1,14 +1,17 @@
 ghost use Rattle.std.specs.Prelude.{◌≡◌, ◌≢◌, ◌≤◌, ◌∷◌, ◌++◌, length, MatchOption};
+ghost use Rattle.std.specs.Io.KnownBytes.{Appends};
+ghost use Rattle.script_replies.specs.Replies.{outcome_line};
 ghost use Rattle.ctl_script.specs.Run.{GoesOn};
 
-use crate::fault::{InputFault, LineFault, Outcome};
+use crate::ask::ask_of;
+use crate::binding::Binding;
+use crate::fault::InputFault;
 use crate::input::read_input;
-use crate::name::Bindings;
-use crate::output::Lines;
-use crate::parse::read_line;
-use crate::reply::{print_answer, print_outcome};
+use crate::names::Bindings;
 use ctrl_calls::Driver;
 use device_state::Device;
+use script_lines::{LineFault, read_line};
+use script_replies::{Outcome, ReplyLine, write_answer, write_no_memory, write_outcome};
 use std::alloc::Global;
 use std::io::{Read, Write};
 
@@ -17,7 +20,8 @@ use std::io::{Read, Write};
 /// - `device`: what the commands are asked of, at seat 0; it may have steps.
 /// - `reader`: gives the script, at most 1,048,576 bytes in at most 2,097,152 reads; an interrupted read counts as one. It is
 ///   read whole before the first command runs.
-/// - `writer`: takes one line for each command before the next one runs. It isn't flushed.
+/// - `writer`: is given the line of each command, whole, before the next one runs, and what is left of it after a short write. It isn't
+///   flushed.
 ///
 /// The outcome is `Finished` where every line was a command or skipped; refused commands count, the device's own want of
 /// memory (error 12) included. `BadLine` names the first line that is no command: the lines before it have been answered,
@@ -25,8 +29,9 @@ use std::io::{Read, Write};
 /// `no memory`; the first two come before any command runs. `WriteFault` is a write that failed, was interrupted or took no
 /// byte; nothing is printed after it.
 ///
-/// All that a command needs of the tool's own memory is taken before the device is asked, so at `Memory` each step of the
-/// device has its reply line. The device has the plan that was handed in, and its steps begin with those that it had.
+/// Room for the longest line is made before the input is read, and all else that a command needs of the tool's own memory is taken
+/// before the device is asked, so at `Memory` each step of the device has its reply line. The device has the plan that was handed in,
+/// and its steps begin with those that it had.
 pub fn run_script<D: Driver, R: Read, W: Write>(
     alloc: Global,
     mut device: Device<D>,
@@ -36,11 +41,32 @@ pub fn run_script<D: Driver, R: Read, W: Write>(
     ensures device { GoesOn device result.0 }
     ensures one_script { result.1 ≢ Outcome.NoSecond }
 {
-    let mut lines = Lines::new(writer);
-    let outcome = read_and_answer(alloc, &mut device, reader, &mut lines);
-    match print_outcome(&mut lines, outcome) {
-        Ok(()) => (device, outcome),
-        Err(_) => (device, Outcome::WriteFault),
+    let Ok(mut reply) = ReplyLine::new(alloc) else {
+        return (device, without_line(writer));
+    };
+    let outcome = read_and_answer(alloc, &mut device, reader, writer, &mut reply);
+    (device, with_line(writer, &mut reply, outcome))
+}
+
+// The outcome where no room for a line could be made; its line needs none.
+fn without_line<W: Write>(writer: &mut W) -> Outcome
+    ensures memory { result ≢ Outcome.WriteFault → result ≡ Outcome.Memory }
+    ensures line { result ≢ Outcome.WriteFault → Appends (W.contents writer.old) (W.contents writer.new) (outcome_line Outcome.Memory) }
+{
+    match write_no_memory(writer) {
+        Ok(()) => Outcome::Memory,
+        Err(_) => Outcome::WriteFault,
+    }
+}
+
+// Writes the line of an outcome, if it has one.
+fn with_line<W: Write>(writer: &mut W, reply: &mut ReplyLine, outcome: Outcome) -> Outcome
+    ensures same { result ≢ Outcome.WriteFault → result ≡ outcome }
+    ensures line { result ≢ Outcome.WriteFault → Appends (W.contents writer.old) (W.contents writer.new) (outcome_line outcome) }
+{
+    match write_outcome(writer, reply, outcome) {
+        Ok(()) => outcome,
+        Err(_) => Outcome::WriteFault,
     }
 }
 
@@ -50,13 +76,14 @@ fn read_and_answer<D: Driver, R: Read, W: Write>(
     alloc: Global,
     device: &mut Device<D>,
     reader: &mut R,
-    lines: &mut Lines<'_, W>,
+    writer: &mut W,
+    reply: &mut ReplyLine,
 ) -> Outcome
     ensures device { GoesOn device.old device.new }
     ensures one_script { result ≢ Outcome.NoSecond }
 {
     match read_input(alloc, reader) {
-        Ok(text) => answer_script(alloc, device, text.as_slice(), lines),
+        Ok(text) => answer_script(alloc, device, text.as_slice(), writer, reply),
         Err(InputFault::TooLong) => Outcome::TooLong,
         Err(InputFault::Reader) => Outcome::ReadFault,
         Err(InputFault::Memory) => Outcome::Memory,
@@ -68,7 +95,8 @@ fn answer_script<D: Driver, W: Write>(
     alloc: Global,
     device: &mut Device<D>,
     text: &[u8],
-    lines: &mut Lines<'_, W>,
+    writer: &mut W,
+    reply: &mut ReplyLine,
 ) -> Outcome
     requires { length text.now ≤ 1048576 }
     ensures device { GoesOn device.old device.new }
@@ -80,7 +108,7 @@ fn answer_script<D: Driver, W: Write>(
     while let Some(text) = rest {
         let (line, more) = first_line(text);
         number += 1;
-        match answer_line(alloc, device, &mut names, line, lines) {
+        match answer_line(alloc, device, &mut names, line, writer, reply) {
             Ok(()) => rest = more,
             Err(LineEnd::NotACommand) => return Outcome::BadLine(number),
             Err(LineEnd::Memory) => return Outcome::Memory,
@@ -115,7 +143,8 @@ fn answer_line<D: Driver, W: Write>(
     device: &mut Device<D>,
     names: &mut Bindings,
     line: &[u8],
-    lines: &mut Lines<'_, W>,
+    writer: &mut W,
+    reply: &mut ReplyLine,
 ) -> Result<(), LineEnd>
     requires { length line.now ≤ 1048576 }
     ensures { GoesOn device.old device.new }
@@ -126,13 +155,13 @@ fn answer_line<D: Driver, W: Write>(
         Err(LineFault::NotACommand) => return Err(LineEnd::NotACommand),
         Err(LineFault::Memory) => return Err(LineEnd::Memory),
     };
-    let binding = command.binding();
+    let binding = Binding::of(&command);
     if binding.enter(names).is_err() {
         return Err(LineEnd::Memory);
     }
-    let answer = device.handle(SEAT, &command.ask(names));
+    let answer = device.handle(SEAT, &ask_of(command, names));
     binding.bind(names, &answer);
-    match print_answer(lines, &answer) {
+    match write_answer(writer, reply, &answer) {
         Ok(()) => Ok(()),
         Err(_) => Err(LineEnd::WriteFault),
     }

@@ -1,8 +1,8 @@
 -- What the tool is asked to do by its command line (of this project).
 use Rattle.std.specs.Prelude.{◌≡◌, ℕ, true, List, [], Result, Ok, Err, codes}
 use Rattle.clap.specs.Words.{App, Text, fault_of, new_app, with_subcommand}
-use Rattle.ctl_script.specs.declared.fault.Outcome.{Outcome}
-use Rattle.ctl_script.specs.declared.fault.Outcome.TheVariants.{Finished, BadLine, TooLong, ReadFault, WriteFault, NoSecond, Memory as NoMemory}
+use Rattle.script_replies.specs.declared.outcome.Outcome.{Outcome}
+use Rattle.script_replies.specs.declared.outcome.Outcome.TheVariants.{Finished, BadLine, TooLong, ReadFault, WriteFault, NoSecond, Memory as NoMemory}
 use Rattle.ctl_tool.specs.declared.mode.Mode.{Mode}
 use Rattle.ctl_tool.specs.declared.mode.ModeFault.{ModeFault}
 use Rattle.ctl_tool.specs.declared.mode.ModeFault.TheVariants.{Usage, Memory}

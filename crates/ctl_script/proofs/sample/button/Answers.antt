@@ -1,6 +1,0 @@
-use Rattle.std.proofs.Common.{refl}
-use Rattle.ctrl_settle.proofs.WellFormed.{IsWellFormed-test}
-use Rattle.ctl_script.proofs.sample.button.Goals as goal
-
-pub plain-requires : goal.plain-requires
-plain-requires c = IsWellFormed-test _ refl

@@ -1,0 +1,72 @@
+use crate::names::Bindings;
+use ctrl_types::RequestId;
+use device_state::{Ask, ControlList};
+use script_lines::{Command, EntryList, WhichWord};
+
+// the number by which a list speaks of a request's values
+const REQUEST_VALUES: u32 = 0x0f01_0000;
+
+/// What a command asks, with the ids that its names stand for.
+pub fn ask_of(command: Command, names: &Bindings) -> Ask {
+    match command {
+        Command::Open { fh: _, handler } => Ask::OpenFh { handler },
+        Command::Close { fh } => Ask::CloseFh { fh: names.fh(fh) },
+        Command::Get { fh, which, list } => {
+            let (which, request) = which_of(which, names);
+            Ask::GetCtrls {
+                fh: names.fh(fh),
+                which,
+                request,
+                list: controls(list),
+            }
+        }
+        Command::Set { fh, which, list } => {
+            let (which, request) = which_of(which, names);
+            Ask::SetCtrls {
+                fh: names.fh(fh),
+                which,
+                request,
+                list: controls(list),
+            }
+        }
+        Command::Try { fh, which, list } => {
+            let (which, request) = which_of(which, names);
+            Ask::TryCtrls {
+                fh: names.fh(fh),
+                which,
+                request,
+                list: controls(list),
+            }
+        }
+        Command::Grab { control, on } => Ask::Grab { control, on },
+        Command::Query { fh, id } => Ask::Query {
+            fh: names.fh(fh),
+            id,
+        },
+        Command::Next { fh, id } => Ask::NextId {
+            fh: names.fh(fh),
+            id,
+        },
+        Command::Menu { fh, id, index } => Ask::MenuItem {
+            fh: names.fh(fh),
+            id,
+            index,
+        },
+        Command::Told { cluster } => Ask::Told { cluster },
+    }
+}
+
+// The number of the values that a list speaks of, and the request where it speaks of one.
+fn which_of(which: WhichWord, names: &Bindings) -> (u32, Option<RequestId>) {
+    match which {
+        WhichWord::Number(number) => (number, None),
+        WhichWord::Request(name) => {
+            let id = RequestId(names.requests.id_of(name));
+            (REQUEST_VALUES, Some(id))
+        }
+    }
+}
+
+fn controls(list: EntryList) -> ControlList {
+    ControlList::from_vec(list.into_vec())
+}

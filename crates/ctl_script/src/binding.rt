@@ -1,0 +1,44 @@
+ghost use Rattle.std.specs.Prelude.{◌≡◌};
+ghost use Rattle.ctl_script.specs.Bindings.{binding_of};
+
+use crate::names::Bindings;
+use ctrl_types::Fault;
+use device_state::Reply;
+use script_lines::{Command, Name};
+use std::alloc::AllocError;
+
+/// What an accepted command binds.
+#[derive(Clone, Copy, Debug, PartialEq, Eq)]
+pub enum Binding {
+    /// Nothing.
+    None,
+    /// A file handle.
+    FileHandle(Name),
+}
+
+impl Binding {
+    /// What a command binds where it is accepted.
+    pub fn of(command: &Command) -> Binding
+        ensures { result ≡ binding_of command.now }
+    {
+        match command {
+            Command::Open { fh, .. } => Binding::FileHandle(*fh),
+            _ => Binding::None,
+        }
+    }
+
+    /// Makes room for the binding, so that `bind` takes no memory.
+    pub fn enter(self, names: &mut Bindings) -> Result<(), AllocError> {
+        match self {
+            Binding::None => Ok(()),
+            Binding::FileHandle(name) => names.file_handles.enter(name),
+        }
+    }
+
+    /// Binds what the answer gives. A refused command binds nothing, and an earlier binding stays.
+    pub fn bind(self, names: &mut Bindings, answer: &Result<Reply, Fault>) {
+        if let (Binding::FileHandle(name), Ok(Reply::Fh(fh))) = (self, answer) {
+            names.file_handles.bind(name, fh.0);
+        }
+    }
+}

@@ -1,0 +1,6 @@
+use Rattle.std.proofs.Common.{refl}
+use Rattle.ctrl_settle.proofs.WellFormed.{IsWellFormed-test}
+use Rattle.sample_device.proofs.plan.power.Goals as goal
+
+pub plain-requires : goal.plain-requires
+plain-requires c = IsWellFormed-test _ refl

@@ -1,0 +1,68 @@
+-- The entries of a list, read one after another.
+use Rattle.std.proofs.Common.{◌≡◌, ◌≢◌, ℕ, ◌+◌, ◌<◌, zero, suc, List, [], ◌∷◌, ◌++◌, Option, None, Some, refl, length, get_or, arith, ap, map, take, Bor, add-one}
+use Rattle.ctrl_types.specs.declared.ids.ExtControl.{ExtControl}
+use Rattle.script_lines.specs.Commands.{entry_of, list_of, onto, query_of, menu_of}
+use Rattle.script_lines.specs.declared.parse.EntryForm.{EntryForm}
+
+onto-push : (x : Option ExtControl) (es fs : Option (List ExtControl)) (all : List ExtControl) (e : ExtControl)
+    → ((part : List ExtControl) → es ≡ Some part → fs ≡ Some (part ++ e ∷ [])) → onto x es ≡ Some all → onto x fs ≡ Some (all ++ e ∷ [])
+onto-push (Some x) (Some es) fs all e step h =
+    let more = step es refl in
+    let is : x ∷ es ≡ all = cc in
+    rw (more, ← is) refl
+onto-push (Some x) None fs all e step h = cc
+onto-push None es fs all e step h = cc
+
+-- one more word that writes an entry
+pub list_of-push : (form : EntryForm) (ws : List (List ℕ)) (w : List ℕ) (es : List ExtControl) (e : ExtControl)
+    → list_of form ws ≡ Some es → entry_of form w ≡ Some e → list_of form (ws ++ w ∷ []) ≡ Some (es ++ e ∷ [])
+list_of-push form [] w es e h k = let none : [] ≡ es = cc in rw (k, ← none) refl
+list_of-push form (x ∷ ws) w es e h k =
+    onto-push (entry_of form x) (list_of form ws) (list_of form (ws ++ w ∷ [])) es e (λ part is. list_of-push form ws w part e is k) h
+
+onto-none : (x : Option ExtControl) (es : Option (List ExtControl)) → es ≡ None → onto x es ≡ None
+onto-none (Some x) es h = rw h refl
+onto-none None es h = refl
+
+-- a word that writes none
+pub list_of-none : (form : EntryForm) (ws : List (List ℕ)) (i : ℕ) (d : List ℕ) → i < length ws → entry_of form (get_or ws i d) ≡ None → list_of form ws ≡ None
+list_of-none form [] i d h k = absurd (omega arith)
+list_of-none form (x ∷ ws) zero d h k = rw k refl
+list_of-none form (x ∷ ws) (suc i) d h k = onto-none (entry_of form x) (list_of form ws) (list_of-none form ws i d (omega arith) k)
+
+-- the same of a slice of words
+pub none_at : (form : EntryForm) (ws : List (Bor (List ℕ))) (i : ℕ) (d : Bor (List ℕ)) (r : Option ExtControl)
+    → i < length ws → r ≡ entry_of form (get_or ws i d).now → r ≡ None → list_of form (map (λ w. w.now) ws) ≡ None
+none_at form [] i d r h is none = absurd (omega arith)
+none_at form (w ∷ ws) zero d r h is none = let k : entry_of form w.now ≡ None = cc in rw k refl
+none_at form (w ∷ ws) (suc i) d r h is none =
+    onto-none (entry_of form w.now) (list_of form (map (λ v. v.now) ws)) (none_at form ws i d r (omega arith) is none)
+
+take_one_more : (ws : List (Bor (List ℕ))) (i : ℕ) (d : Bor (List ℕ)) → i < length ws
+    → take (suc i) (map (λ w. w.now) ws) ≡ take i (map (λ w. w.now) ws) ++ (get_or ws i d).now ∷ []
+take_one_more [] i d h = absurd (omega arith)
+take_one_more (w ∷ ws) zero d h = refl
+take_one_more (w ∷ ws) (suc i) d h = ap (λ (vs : List (List ℕ)). w.now ∷ vs) (take_one_more ws i d (omega arith))
+
+pub push_at : (form : EntryForm) (ws : List (Bor (List ℕ))) (i : ℕ) (d : Bor (List ℕ)) (r : Option ExtControl) (es : List ExtControl) (e : ExtControl)
+    → i < length ws → list_of form (take i (map (λ w. w.now) ws)) ≡ Some es → r ≡ entry_of form (get_or ws i d).now → r ≡ Some e
+    → list_of form (take (i + 1) (map (λ w. w.now) ws)) ≡ Some (es ++ e ∷ [])
+push_at form ws i d r es e h front is some =
+    let k : entry_of form (get_or ws i d).now ≡ Some e = cc in
+    let more = take_one_more ws i d h in
+    rw (add-one, more) (list_of-push form (take i (map (λ w. w.now) ws)) (get_or ws i d).now es e front k)
+
+-- other operands than two are no query
+pub not_two : (ws : List (Bor (List ℕ))) → length ws ≢ 2 → query_of (map (λ w. w.now) ws) ≡ None
+not_two [] h = refl
+not_two (a ∷ []) h = refl
+not_two (a ∷ b ∷ []) h = absurd (h refl)
+not_two (a ∷ b ∷ c ∷ ws) h = refl
+
+-- other operands than three ask for no item
+pub not_three : (ws : List (Bor (List ℕ))) → length ws ≢ 3 → menu_of (map (λ w. w.now) ws) ≡ None
+not_three [] h = refl
+not_three (a ∷ []) h = refl
+not_three (a ∷ b ∷ []) h = refl
+not_three (a ∷ b ∷ c ∷ []) h = absurd (h refl)
+not_three (a ∷ b ∷ c ∷ d ∷ ws) h = refl

@@ -1,0 +1,190 @@
+-- The commands of a script (of this project), over the words of a line.
+use Rattle.std.specs.Prelude.{◌≡◌, ℕ, ◌+◌, ◌==◌, Bool, true, false, not, ℤ, pos, if◌then◌else◌, List, [], ◌∷◌, length, take, drop, filter, position, Option, None, Some, Result, Ok, Err, codes, slice_index, ⊤}
+use Rattle.std.specs.List.{slice_split}
+use Rattle.std.specs.Option.{option_map, option_or}
+use Rattle.std.specs.Str.{bytes_eq}
+use Rattle.ctrl_types.specs.declared.ids.CtrlId.{CtrlId}
+use Rattle.ctrl_types.specs.declared.ids.ExtControl.{ExtControl}
+use Rattle.sample_device.specs.Words.{sample_number}
+use Rattle.script_lines.specs.Lexemes.{after, control_id, decimal_i64, decimal_u32, hexadecimal_u32}
+use Rattle.script_lines.specs.Names.{name_of}
+use Rattle.script_lines.specs.declared.command.Command.{Command}
+use Rattle.script_lines.specs.declared.command.Command.TheVariants.{Open, Close, Get, Set, Try, Grab, Query, Next, Menu, Told}
+use Rattle.script_lines.specs.declared.command.WhichWord.{WhichWord}
+use Rattle.script_lines.specs.declared.command.WhichWord.TheVariants.{Number, Request}
+use Rattle.script_lines.specs.declared.fault.LineFault.{LineFault}
+use Rattle.script_lines.specs.declared.fault.LineFault.TheVariants.{NotACommand, Memory}
+use Rattle.script_lines.specs.declared.name.Name.{Name}
+use Rattle.script_lines.specs.declared.parse.EntryForm.{EntryForm}
+use Rattle.script_lines.specs.declared.parse.EntryForm.TheVariants.{Control, ControlWithValue}
+use Rattle.script_lines.specs.declared.parse.Verb.{Verb}
+use Rattle.script_lines.specs.declared.parse.Verb.TheVariants as verbs
+
+-- the words of a line: what stands between spaces
+abbrev pub words : List ℕ → List (List ℕ)
+words line = filter (λ w. not (length w == 0)) (slice_split (λ b. b == 32) line)
+
+-- a request by its name, or a number by an id
+abbrev pub which_at : Option (List ℕ) → List ℕ → Option WhichWord
+which_at (Some name) word = option_map (λ n. Request n) (name_of name)
+which_at None word = option_map (λ n. Number n) (hexadecimal_u32 word)
+
+-- the numbers that have words
+abbrev pub fixed_which_of : List ℕ → Option ℕ
+fixed_which_of word =
+    if bytes_eq word (codes "cur") then Some 0
+    else if bytes_eq word (codes "def") then Some 0x0f000000
+    else if bytes_eq word (codes "user") then Some 0x00980000
+    else if bytes_eq word (codes "camera") then Some 0x009a0000
+    else None
+
+-- which values a list speaks of
+abbrev pub which_of : List ℕ → Option WhichWord
+which_of word = option_or (option_map (λ n. Number n) (fixed_which_of word)) (which_at (after (codes "req:") word) word)
+
+abbrev pub with_value : Option CtrlId → Option ℤ → Option ExtControl
+with_value (Some id) (Some value) = Some (record { id = id; value = value })
+with_value (Some id) None = None
+with_value None value = None
+
+-- a control before an equals sign at this place, and its value behind it
+abbrev pub entry_at : List ℕ → Option ℕ → Option ExtControl
+entry_at word None = None
+entry_at word (Some at) = with_value (control_id (take at word)) (decimal_i64 (drop (at + 1) word))
+
+-- an entry of a list: a control, with a value or not
+abbrev pub entry_of : EntryForm → List ℕ → Option ExtControl
+entry_of Control word = option_map (λ id. record { id = id; value = pos 0 }) (control_id word)
+entry_of ControlWithValue word = entry_at word (position (λ b. b == 61) word)
+
+abbrev pub onto : Option ExtControl → Option (List ExtControl) → Option (List ExtControl)
+onto (Some entry) (Some list) = Some (entry ∷ list)
+onto (Some entry) None = None
+onto None list = None
+
+-- the entries that some words write, if each writes one
+abbrev pub list_of : EntryForm → List (List ℕ) → Option (List ExtControl)
+list_of form [] = Some []
+list_of form (w ∷ ws) = onto (entry_of form w) (list_of form ws)
+
+abbrev pub open_parts : Option Name → Option ℕ → Option Command
+open_parts (Some fh) (Some handler) = Some (Open fh handler)
+open_parts (Some fh) None = None
+open_parts None handler = None
+
+-- the operands of `open`
+abbrev pub open_of : List (List ℕ) → Option Command
+open_of (fh ∷ handler ∷ []) = open_parts (name_of fh) (decimal_u32 handler)
+open_of _ = None
+
+abbrev pub list_parts : (Name → WhichWord → List ExtControl → Command) → Option Name → Option WhichWord → Option (List ExtControl) → Option Command
+list_parts make (Some fh) (Some which) (Some list) = Some (make fh which list)
+list_parts make (Some fh) (Some which) None = None
+list_parts make (Some fh) None list = None
+list_parts make None which list = None
+
+-- the operands of a command on a list
+abbrev pub list_command_of : (Name → WhichWord → List ExtControl → Command) → EntryForm → List (List ℕ) → Option Command
+list_command_of make form [] = None
+list_command_of make form (fh ∷ []) = None
+list_command_of make form (fh ∷ which ∷ entries) = list_parts make (name_of fh) (which_of which) (list_of form entries)
+
+-- the operand of `close`
+abbrev pub close_of : List (List ℕ) → Option Command
+close_of (fh ∷ []) = option_map (λ name. Close name) (name_of fh)
+close_of _ = None
+
+-- how a grab is to be: `on` or `off`
+abbrev pub on_or_off : List ℕ → Option Bool
+on_or_off word =
+    if bytes_eq word (codes "on") then Some true
+    else if bytes_eq word (codes "off") then Some false
+    else None
+
+abbrev pub grab_parts : Option ℕ → Option Bool → Option Command
+grab_parts (Some control) (Some on) = Some (Grab control on)
+grab_parts (Some control) None = None
+grab_parts None on = None
+
+-- the operands of `grab`: a word of the sample device, which stands for its control's number, and `on` or `off`
+abbrev pub grab_of : List (List ℕ) → Option Command
+grab_of (control ∷ form ∷ []) = grab_parts (sample_number control) (on_or_off form)
+grab_of _ = None
+
+abbrev pub query_parts : Option Name → Option CtrlId → Option Command
+query_parts (Some fh) (Some id) = Some (Query fh id)
+query_parts (Some fh) None = None
+query_parts None id = None
+
+-- the operands of `query`
+abbrev pub query_of : List (List ℕ) → Option Command
+query_of (fh ∷ control ∷ []) = query_parts (name_of fh) (control_id control)
+query_of _ = None
+
+abbrev pub next_parts : Option Name → Option ℕ → Option Command
+next_parts (Some fh) (Some id) = Some (Next fh (record { 0 = id }))
+next_parts (Some fh) None = None
+next_parts None id = None
+
+-- the operands of `next`
+abbrev pub next_of : List (List ℕ) → Option Command
+next_of (fh ∷ id ∷ []) = next_parts (name_of fh) (hexadecimal_u32 id)
+next_of _ = None
+
+abbrev pub menu_parts : Option Name → Option CtrlId → Option ℕ → Option Command
+menu_parts (Some fh) (Some id) (Some index) = Some (Menu fh id index)
+menu_parts (Some fh) (Some id) None = None
+menu_parts (Some fh) None index = None
+menu_parts None id index = None
+
+-- the operands of `menu`
+abbrev pub menu_of : List (List ℕ) → Option Command
+menu_of (fh ∷ control ∷ index ∷ []) = menu_parts (name_of fh) (control_id control) (decimal_u32 index)
+menu_of _ = None
+
+-- the operand of `told`
+abbrev pub told_of : List (List ℕ) → Option Command
+told_of (cluster ∷ []) = option_map (λ n. Told n) (decimal_u32 cluster)
+told_of _ = None
+
+-- the first words of commands
+abbrev pub verb_of : List ℕ → Option Verb
+verb_of word =
+    if bytes_eq word (codes "open") then Some verbs.Open
+    else if bytes_eq word (codes "close") then Some verbs.Close
+    else if bytes_eq word (codes "get") then Some verbs.Get
+    else if bytes_eq word (codes "set") then Some verbs.Set
+    else if bytes_eq word (codes "try") then Some verbs.Try
+    else if bytes_eq word (codes "grab") then Some verbs.Grab
+    else if bytes_eq word (codes "query") then Some verbs.Query
+    else if bytes_eq word (codes "next") then Some verbs.Next
+    else if bytes_eq word (codes "menu") then Some verbs.Menu
+    else if bytes_eq word (codes "told") then Some verbs.Told
+    else None
+
+-- the command that a verb and its operands write
+abbrev pub command_of : Option Verb → List (List ℕ) → Option Command
+command_of (Some verbs.Open) operands = open_of operands
+command_of (Some verbs.Close) operands = close_of operands
+command_of (Some verbs.Get) operands = list_command_of (λ fh which list. Get fh which list) Control operands
+command_of (Some verbs.Set) operands = list_command_of (λ fh which list. Set fh which list) ControlWithValue operands
+command_of (Some verbs.Try) operands = list_command_of (λ fh which list. Try fh which list) ControlWithValue operands
+command_of (Some verbs.Grab) operands = grab_of operands
+command_of (Some verbs.Query) operands = query_of operands
+command_of (Some verbs.Next) operands = next_of operands
+command_of (Some verbs.Menu) operands = menu_of operands
+command_of (Some verbs.Told) operands = told_of operands
+command_of None operands = None
+
+-- What was read of a line is what it writes; only want of memory may take its place.
+abbrev pub IsRead : {T : Type 0} → Result T LineFault → Option T → Type 0
+IsRead (Ok value) written = written ≡ Some value
+IsRead (Err NotACommand) written = written ≡ None
+IsRead (Err Memory) written = ⊤
+
+-- a line without a word, or whose first word begins with `#`, is skipped
+abbrev pub line_of : List (List ℕ) → Option (Option Command)
+line_of [] = Some None
+line_of (verb ∷ operands) =
+    if slice_index verb 0 == 35 then Some None
+    else option_map (λ command. Some command) (command_of (verb_of verb) operands)

@@ -1,0 +1,58 @@
+ghost use Rattle.std.specs.Prelude.{◌≡◌, ◌^◌, ◌≤◌};
+ghost use Rattle.script_lines.specs.Lexemes.{numeral as numeral_of, decimal_u32 as decimal_u32_of, decimal_i64 as decimal_i64_of, hexadecimal_u32 as hexadecimal_u32_of, control_id as control_id_of};
+
+use ctrl_types::CtrlId;
+use sample_device::sample_id;
+
+/// The number that a word of at least one and at most `most` digits writes.
+pub fn numeral(word: &[u8], radix: u32, most: usize) -> Option<u64>
+    requires low { 2 ≤ radix }
+    requires high { radix ≤ 36 }
+    requires fits { radix ^ most ≤ 2 ^ 64 }
+    ensures { result ≡ numeral_of radix most word.now }
+{
+    if word.is_empty() || word.len() > most {
+        return None;
+    }
+    let mut number = 0u64;
+    for byte in word {
+        let digit = char::from(*byte).to_digit(radix)?;
+        number = number * u64::from(radix) + u64::from(digit);
+    }
+    Some(number)
+}
+
+/// A decimal number of 32 bits, of at most 10 digits.
+pub fn decimal_u32(word: &[u8]) -> Option<u32>
+    ensures { result ≡ decimal_u32_of word.now }
+{
+    u32::try_from(numeral(word, 10, 10)?).ok()
+}
+
+/// A decimal number of 64 bits with a sign, of at most 19 digits; a `-` may stand before them.
+pub fn decimal_i64(word: &[u8]) -> Option<i64>
+    ensures { result ≡ decimal_i64_of word.now }
+{
+    match word.strip_prefix(b"-") {
+        Some(digits) => 0i64.checked_sub_unsigned(numeral(digits, 10, 19)?),
+        None => i64::try_from(numeral(word, 10, 19)?).ok(),
+    }
+}
+
+/// The number of an id: `0x`, and at most 8 hexadecimal digits of either case.
+pub fn hexadecimal_u32(word: &[u8]) -> Option<u32>
+    ensures { result ≡ hexadecimal_u32_of word.now }
+{
+    let digits = word.strip_prefix(b"0x")?;
+    u32::try_from(numeral(digits, 16, 8)?).ok()
+}
+
+/// The id that a word names a control by: a word of the sample device, or the id itself.
+pub fn control_id(word: &[u8]) -> Option<CtrlId>
+    ensures { result ≡ control_id_of word.now }
+{
+    match sample_id(word) {
+        Some(id) => Some(id),
+        None => hexadecimal_u32(word).map(CtrlId),
+    }
+}

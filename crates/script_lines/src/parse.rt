@@ -1,0 +1,319 @@
+ghost use Rattle.std.specs.Prelude.{◌≡◌, ◌+◌, ◌<◌, ◌≤◌, ◌^◌, ◌∷◌, ◌==◌, length, map, position, vec_len, IfOk, IfSome};
+ghost use Rattle.script_lines.specs.Commands.{IsRead, words as words_in, line_of, command_of, verb_of, open_of, close_of, grab_of, on_or_off as on_or_off_of, query_of, next_of, menu_of, told_of, list_command_of, which_of, fixed_which_of, entry_of, entry_at, list_of};
+ghost use Rattle.script_lines.specs.declared.command.Command.TheVariants as commands;
+
+use crate::command::{Command, WhichWord};
+use crate::entry_list::EntryList;
+use crate::fault::LineFault;
+use crate::lexeme::{control_id, decimal_i64, decimal_u32, hexadecimal_u32};
+use crate::name::Name;
+use ctrl_types::{CtrlId, ExtControl};
+use sample_device::sample_number;
+use std::alloc::{AllocError, Global};
+
+/// Reads a line, without its line feed and of fewer than 2^32 - 1 bytes: the command, or nothing where the line is to be skipped, since
+/// it has no word or its first word begins with `#`. `NotACommand` where it is neither; `Memory` where a growth was refused.
+pub fn read_line(alloc: Global, line: &[u8]) -> Result<Option<Command>, LineFault>
+    requires { length line.now + 1 < 2 ^ 32 }
+    ensures { IsRead result (line_of (words_in line.now)) }
+{
+    let Ok(words) = words_of(alloc, line) else {
+        return Err(LineFault::Memory);
+    };
+    match words.as_slice() {
+        [] => Ok(None),
+        [verb, operands @ ..] => read_words(alloc, *verb, operands),
+    }
+}
+
+fn read_words(alloc: Global, verb: &[u8], operands: &[&[u8]]) -> Result<Option<Command>, LineFault>
+    requires { length operands.now < 2 ^ 32 }
+    ensures { IsRead result (line_of (verb.now ∷ map (λ w. w.now) operands.now)) }
+{
+    if let [b'#', ..] = verb {
+        return Ok(None);
+    }
+    match read_command(alloc, verb, operands) {
+        Ok(command) => Ok(Some(command)),
+        Err(fault) => Err(fault),
+    }
+}
+
+// What stands between the spaces of a line.
+fn words_of<'a>(alloc: Global, line: &'a [u8]) -> Result<Vec<&'a [u8]>, AllocError>
+    ensures words { IfOk result (λ words. map (λ w. w.now) words.items ≡ words_in line.now) }
+    ensures few { IfOk result (λ words. vec_len words ≤ length line.now + 1) }
+{
+    line.split(|byte| *byte == b' ')
+        .filter(|word| !word.is_empty())
+        .collect(alloc)
+}
+
+// The first words of commands.
+#[derive(Clone, Copy, Debug, PartialEq, Eq)]
+enum Verb {
+    Open,
+    Close,
+    Get,
+    Set,
+    Try,
+    Grab,
+    Query,
+    Next,
+    Menu,
+    Told,
+}
+
+fn read_verb(word: &[u8]) -> Option<Verb>
+    ensures { result ≡ verb_of word.now }
+{
+    match word {
+        b"open" => Some(Verb::Open),
+        b"close" => Some(Verb::Close),
+        b"get" => Some(Verb::Get),
+        b"set" => Some(Verb::Set),
+        b"try" => Some(Verb::Try),
+        b"grab" => Some(Verb::Grab),
+        b"query" => Some(Verb::Query),
+        b"next" => Some(Verb::Next),
+        b"menu" => Some(Verb::Menu),
+        b"told" => Some(Verb::Told),
+        _ => None,
+    }
+}
+
+fn read_command(alloc: Global, verb: &[u8], operands: &[&[u8]]) -> Result<Command, LineFault>
+    requires { length operands.now < 2 ^ 32 }
+    ensures { IsRead result (command_of (verb_of verb.now) (map (λ w. w.now) operands.now)) }
+{
+    match read_verb(verb) {
+        Some(Verb::Open) => read_open(operands),
+        Some(Verb::Close) => read_close(operands),
+        Some(Verb::Get) => read_get(alloc, operands),
+        Some(Verb::Set) => read_set(alloc, operands),
+        Some(Verb::Try) => read_try(alloc, operands),
+        Some(Verb::Grab) => read_grab(operands),
+        Some(Verb::Query) => read_query(operands),
+        Some(Verb::Next) => read_next(operands),
+        Some(Verb::Menu) => read_menu(operands),
+        Some(Verb::Told) => read_told(operands),
+        None => Err(LineFault::NotACommand),
+    }
+}
+
+fn read_open(operands: &[&[u8]]) -> Result<Command, LineFault>
+    ensures { IsRead result (open_of (map (λ w. w.now) operands.now)) }
+{
+    let [fh, handler] = operands else {
+        return Err(LineFault::NotACommand);
+    };
+    match (Name::read(*fh), decimal_u32(*handler)) {
+        (Some(fh), Some(handler)) => Ok(Command::Open { fh, handler }),
+        _ => Err(LineFault::NotACommand),
+    }
+}
+
+fn read_close(operands: &[&[u8]]) -> Result<Command, LineFault>
+    ensures { IsRead result (close_of (map (λ w. w.now) operands.now)) }
+{
+    let [fh] = operands else {
+        return Err(LineFault::NotACommand);
+    };
+    match Name::read(*fh) {
+        Some(fh) => Ok(Command::Close { fh }),
+        None => Err(LineFault::NotACommand),
+    }
+}
+
+fn read_grab(operands: &[&[u8]]) -> Result<Command, LineFault>
+    ensures { IsRead result (grab_of (map (λ w. w.now) operands.now)) }
+{
+    let [control, form] = operands else {
+        return Err(LineFault::NotACommand);
+    };
+    match (sample_number(*control), on_or_off(*form)) {
+        (Some(control), Some(on)) => Ok(Command::Grab { control, on }),
+        _ => Err(LineFault::NotACommand),
+    }
+}
+
+fn on_or_off(word: &[u8]) -> Option<bool>
+    ensures { result ≡ on_or_off_of word.now }
+{
+    match word {
+        b"on" => Some(true),
+        b"off" => Some(false),
+        _ => None,
+    }
+}
+
+fn read_query(operands: &[&[u8]]) -> Result<Command, LineFault>
+    ensures { IsRead result (query_of (map (λ w. w.now) operands.now)) }
+{
+    let [fh, control] = operands else {
+        return Err(LineFault::NotACommand);
+    };
+    match (Name::read(*fh), control_id(*control)) {
+        (Some(fh), Some(id)) => Ok(Command::Query { fh, id }),
+        _ => Err(LineFault::NotACommand),
+    }
+}
+
+fn read_next(operands: &[&[u8]]) -> Result<Command, LineFault>
+    ensures { IsRead result (next_of (map (λ w. w.now) operands.now)) }
+{
+    let [fh, id] = operands else {
+        return Err(LineFault::NotACommand);
+    };
+    match (Name::read(*fh), hexadecimal_u32(*id)) {
+        (Some(fh), Some(id)) => Ok(Command::Next { fh, id: CtrlId(id) }),
+        _ => Err(LineFault::NotACommand),
+    }
+}
+
+fn read_menu(operands: &[&[u8]]) -> Result<Command, LineFault>
+    ensures { IsRead result (menu_of (map (λ w. w.now) operands.now)) }
+{
+    let [fh, control, index] = operands else {
+        return Err(LineFault::NotACommand);
+    };
+    match (Name::read(*fh), control_id(*control), decimal_u32(*index)) {
+        (Some(fh), Some(id), Some(index)) => Ok(Command::Menu { fh, id, index }),
+        _ => Err(LineFault::NotACommand),
+    }
+}
+
+fn read_told(operands: &[&[u8]]) -> Result<Command, LineFault>
+    ensures { IsRead result (told_of (map (λ w. w.now) operands.now)) }
+{
+    let [cluster] = operands else {
+        return Err(LineFault::NotACommand);
+    };
+    match decimal_u32(*cluster) {
+        Some(cluster) => Ok(Command::Told { cluster }),
+        None => Err(LineFault::NotACommand),
+    }
+}
+
+fn read_get(alloc: Global, operands: &[&[u8]]) -> Result<Command, LineFault>
+    requires { length operands.now < 2 ^ 32 }
+    ensures { IsRead result (list_command_of (λ fh which list. commands.Get fh which list) EntryForm.Control (map (λ w. w.now) operands.now)) }
+{
+    let [fh, which, entries @ ..] = operands else {
+        return Err(LineFault::NotACommand);
+    };
+    let (Some(fh), Some(which)) = (Name::read(*fh), read_which(*which)) else {
+        return Err(LineFault::NotACommand);
+    };
+    let list = read_list(alloc, EntryForm::Control, entries)?;
+    Ok(Command::Get { fh, which, list })
+}
+
+fn read_set(alloc: Global, operands: &[&[u8]]) -> Result<Command, LineFault>
+    requires { length operands.now < 2 ^ 32 }
+    ensures { IsRead result (list_command_of (λ fh which list. commands.Set fh which list) EntryForm.ControlWithValue (map (λ w. w.now) operands.now)) }
+{
+    let [fh, which, entries @ ..] = operands else {
+        return Err(LineFault::NotACommand);
+    };
+    let (Some(fh), Some(which)) = (Name::read(*fh), read_which(*which)) else {
+        return Err(LineFault::NotACommand);
+    };
+    let list = read_list(alloc, EntryForm::ControlWithValue, entries)?;
+    Ok(Command::Set { fh, which, list })
+}
+
+fn read_try(alloc: Global, operands: &[&[u8]]) -> Result<Command, LineFault>
+    requires { length operands.now < 2 ^ 32 }
+    ensures { IsRead result (list_command_of (λ fh which list. commands.Try fh which list) EntryForm.ControlWithValue (map (λ w. w.now) operands.now)) }
+{
+    let [fh, which, entries @ ..] = operands else {
+        return Err(LineFault::NotACommand);
+    };
+    let (Some(fh), Some(which)) = (Name::read(*fh), read_which(*which)) else {
+        return Err(LineFault::NotACommand);
+    };
+    let list = read_list(alloc, EntryForm::ControlWithValue, entries)?;
+    Ok(Command::Try { fh, which, list })
+}
+
+// Which values a list speaks of.
+fn read_which(word: &[u8]) -> Option<WhichWord>
+    ensures { result ≡ which_of word.now }
+{
+    if let Some(number) = fixed_which(word) {
+        return Some(WhichWord::Number(number));
+    }
+    match word.strip_prefix(b"req:") {
+        Some(name) => Name::read(name).map(WhichWord::Request),
+        None => hexadecimal_u32(word).map(WhichWord::Number),
+    }
+}
+
+// The numbers that have words.
+fn fixed_which(word: &[u8]) -> Option<u32>
+    ensures { result ≡ fixed_which_of word.now }
+{
+    match word {
+        b"cur" => Some(0),
+        b"def" => Some(0x0f00_0000),
+        b"user" => Some(0x0098_0000),
+        b"camera" => Some(0x009a_0000),
+        _ => None,
+    }
+}
+
+// How the entries of a list are written.
+#[derive(Clone, Copy, Debug, PartialEq, Eq)]
+enum EntryForm {
+    // `CTRL`
+    Control,
+    // `CTRL=V`
+    ControlWithValue,
+}
+
+fn read_list(alloc: Global, form: EntryForm, words: &[&[u8]]) -> Result<EntryList, LineFault>
+    requires { length words.now < 2 ^ 32 }
+    ensures { IsRead result (list_of form (map (λ w. w.now) words.now)) }
+{
+    let Ok(mut list) = Vec::with_capacity(alloc, words.len()) else {
+        return Err(LineFault::Memory);
+    };
+    for word in words {
+        let Some(entry) = read_entry(form, *word) else {
+            return Err(LineFault::NotACommand);
+        };
+        list.push_reserved(entry);
+    }
+    Ok(EntryList::from_vec(list))
+}
+
+fn read_entry(form: EntryForm, word: &[u8]) -> Option<ExtControl>
+    ensures { result ≡ entry_of form word.now }
+{
+    match form {
+        EntryForm::Control => Some(ExtControl {
+            id: control_id(word)?,
+            value: 0,
+        }),
+        EntryForm::ControlWithValue => read_valued_entry(word),
+    }
+}
+
+// An entry with a value: what stands before the first `=`, and what behind it.
+fn read_valued_entry(word: &[u8]) -> Option<ExtControl>
+    ensures { result ≡ entry_at word.now (position (λ b. b == 61) word.now) }
+{
+    let at = equals_sign(word)?;
+    match (control_id(&word[..at]), decimal_i64(&word[at + 1..])) {
+        (Some(id), Some(value)) => Some(ExtControl { id, value }),
+        _ => None,
+    }
+}
+
+fn equals_sign(word: &[u8]) -> Option<usize>
+    ensures at { result ≡ position (λ b. b == 61) word.now }
+    ensures within { IfSome result (λ at. at < length word.now) }
+{
+    word.iter().position(|byte| *byte == b'=')
+}

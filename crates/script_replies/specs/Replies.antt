@@ -1,0 +1,73 @@
+-- The lines that the tool prints (of this project), as bytes.
+use Rattle.std.specs.Prelude.{ℕ, ◌-◌, List, [], ◌∷◌, ◌++◌, length, replicate, Option, None, Some, Result, Ok, Err, false, codes}
+use Rattle.std.specs.Fmt.{decimal, signed_decimal, digits}
+use Rattle.std.specs.List.{flat_map}
+use Rattle.ctrl_types.specs.Numbers.{errno_number, kind_number}
+use Rattle.ctrl_types.specs.declared.errno.Fault.{Fault}
+use Rattle.ctrl_types.specs.declared.flags.Flags.{Flags}
+use Rattle.ctrl_types.specs.declared.ids.CtrlId.{CtrlId}
+use Rattle.ctrl_types.specs.declared.ids.ExtControl.{ExtControl}
+use Rattle.menu_items.specs.declared.item.MenuItem.{MenuItem}
+use Rattle.menu_items.specs.declared.item.MenuItem.TheVariants.{Name, Number}
+use Rattle.device_history.specs.declared.info.CtrlInfo.{CtrlInfo}
+use Rattle.device_history.specs.declared.ask.Reply.{Reply}
+use Rattle.device_history.specs.declared.ask.Reply.TheVariants.{Fh, Done, Controls, Info, Id, Item, Word}
+use Rattle.script_replies.specs.declared.outcome.Outcome.{Outcome}
+use Rattle.script_replies.specs.declared.outcome.Outcome.TheVariants.{Finished, BadLine, TooLong, ReadFault, WriteFault, NoSecond, Memory}
+
+-- a value behind a space
+abbrev pub value_text : ExtControl → List ℕ
+value_text entry = 32 ∷ signed_decimal entry.value
+
+-- a refusal: its number, and its index where it has one
+abbrev pub refusal_line : ℕ → Option ℕ → List ℕ
+refusal_line number None = codes "error " ++ (decimal number ++ codes "\n")
+refusal_line number (Some index) = codes "error " ++ (decimal number ++ (codes " index " ++ (decimal index ++ codes "\n")))
+
+-- a number in hexadecimal, in lower case
+abbrev pub hexadecimal : ℕ → List ℕ
+hexadecimal n = digits 16 false n
+
+-- an id: its eight hexadecimal digits
+abbrev pub id_text : CtrlId → List ℕ
+id_text id = codes "0x" ++ (replicate (8 - length (hexadecimal id.0)) 48 ++ hexadecimal id.0)
+
+-- flags: the hexadecimal digits of their bits, without zeros before them
+abbrev pub flags_text : Flags → List ℕ
+flags_text flags = codes "0x" ++ hexadecimal flags.0
+
+-- the number of a control's kind, its bounds, its step and its default
+abbrev pub range_text : CtrlInfo → List ℕ
+range_text info = codes " kind " ++ (decimal (kind_number info.kind) ++ (codes " min " ++ (signed_decimal info.minimum
+    ++ (codes " max " ++ (signed_decimal info.maximum ++ (codes " step " ++ (decimal info.step
+    ++ (codes " default " ++ (signed_decimal info.default_value ++ codes " flags ")))))))))
+
+-- what a control is like
+abbrev pub info_line : CtrlInfo → List ℕ
+info_line info = codes "ok " ++ (id_text info.id ++ (range_text info ++ (flags_text info.flags ++ codes "\n")))
+
+-- an item of a menu: its name, or its number
+abbrev pub item_text : MenuItem → List ℕ
+item_text (Name name) = name
+item_text (Number number) = signed_decimal number
+
+-- the line of an answer
+abbrev pub answer_line : Result Reply Fault → List ℕ
+answer_line (Ok (Fh fh)) = codes "ok\n"
+answer_line (Ok Done) = codes "ok\n"
+answer_line (Ok (Controls list)) = codes "ok" ++ (flat_map value_text list ++ codes "\n")
+answer_line (Ok (Info info)) = info_line info
+answer_line (Ok (Id id)) = codes "ok " ++ (id_text id ++ codes "\n")
+answer_line (Ok (Item item)) = codes "ok " ++ (item_text item ++ codes "\n")
+answer_line (Ok (Word word)) = codes "ok " ++ (decimal word ++ codes "\n")
+answer_line (Err fault) = refusal_line (errno_number fault.errno) fault.index
+
+-- the line of an outcome; some print none
+abbrev pub outcome_line : Outcome → List ℕ
+outcome_line Finished = []
+outcome_line (BadLine number) = codes "line " ++ (decimal number ++ codes ": not a command\n")
+outcome_line TooLong = codes "input too long\n"
+outcome_line ReadFault = codes "read fault\n"
+outcome_line WriteFault = []
+outcome_line NoSecond = codes "no second script\n"
+outcome_line Memory = codes "no memory\n"

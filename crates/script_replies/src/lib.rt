@@ -1,0 +1,11 @@
+//! The reply lines of a script, and how a line is written at once.
+#![tactic(auto)]
+
+mod outcome;
+mod reply;
+mod reply_line;
+#[cfg(test)]
+mod tests;
+
+pub use outcome::Outcome;
+pub use reply_line::{MAX_LINE, ReplyLine, write_answer, write_no_memory, write_outcome};

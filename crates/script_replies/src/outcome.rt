@@ -1,0 +1,18 @@
+/// How the run of a script ended.
+#[derive(Clone, Copy, Debug, PartialEq, Eq)]
+pub enum Outcome {
+    /// Every line was a command or skipped; refused commands count.
+    Finished,
+    /// The line with this number, from 1, is not a command.
+    BadLine(u32),
+    /// The input has more than 1,048,576 bytes.
+    TooLong,
+    /// The reader failed, or didn't come to an end.
+    ReadFault,
+    /// The writer failed, or took nothing.
+    WriteFault,
+    /// The input has no line that divides it into two scripts.
+    NoSecond,
+    /// A growth of the tool's own was refused.
+    Memory,
+}

@@ -1,0 +1,125 @@
+ghost use Rattle.std.specs.Prelude.{◌≡◌, [], IfOk, OnOk, Some};
+ghost use Rattle.std.specs.Io.KnownBytes.{Appends};
+ghost use Rattle.script_replies.specs.Replies.{answer_line, outcome_line};
+ghost use Rattle.script_replies.specs.declared.outcome.Outcome.TheVariants as outcomes;
+
+use crate::outcome::Outcome;
+use crate::reply::{print_answer, print_outcome};
+use ctrl_handlers::MAX_CONTROLS;
+use ctrl_types::Fault;
+use device_history::Reply;
+use std::alloc::{AllocError, Global};
+use std::io;
+use std::io::{ErrorKind, Write};
+use std::marker::Model;
+
+/// How many bytes a reply line may have: 72 for each control that a device can have, and 64 beside them. The longest is that of a list,
+/// `ok` and at most 21 bytes for each of at most 64 values.
+pub const MAX_LINE: usize = 64 + 72 * MAX_CONTROLS as usize;
+
+/// Where a reply line is put together, so that it is written at once. Contracts see the bytes so far.
+#[derive(Drop)]
+pub struct ReplyLine {
+    bytes: Vec<u8>,
+}
+
+impl Model for ReplyLine {
+    ghost use Rattle.std.specs.Prelude.{ℕ, List};
+
+    ghost Value = { List ℕ };
+
+    ghost view = { λ l. l.bytes.items };
+}
+
+impl ReplyLine {
+    /// A line without a byte. All the room that it will need is made here, and this may be refused.
+    pub fn new(alloc: Global) -> Result<ReplyLine, AllocError>
+        ensures { IfOk result (λ line. line ≡ []) }
+    {
+        Ok(ReplyLine {
+            bytes: Vec::with_capacity(alloc, MAX_LINE)?,
+        })
+    }
+
+    fn clear(&mut self)
+        ensures { self.new ≡ [] }
+    {
+        self.bytes.clear();
+    }
+
+    fn as_slice(&self) -> &[u8]
+        ensures { result.now ≡ self.now }
+    {
+        self.bytes.as_slice()
+    }
+}
+
+// It takes what there is room for, and no memory.
+impl Write for ReplyLine {
+    ghost contents = { λ l. Some l };
+
+    fn write(&mut self, buf: &[u8]) -> io::Result<usize> {
+        let count = buf.len().min(self.bytes.capacity() - self.bytes.len());
+        self.bytes.extend_from_slice(&buf[..count])?;
+        Ok(count)
+    }
+
+    // nothing is held back
+    fn flush(&mut self) -> io::Result<()> {
+        Ok(())
+    }
+}
+
+/// Writes the line of an answer. It takes no memory.
+///
+/// - `writer`: is given the whole line, and what is left of it after a short write.
+/// - `line`: where it is put together; what was there is forgotten.
+///
+/// A write that fails, is interrupted or takes no byte is an error, after which the writer may have a part of the line; so is a line
+/// longer than `MAX_LINE`, of which nothing is written.
+pub fn write_answer<W: Write>(
+    writer: &mut W,
+    line: &mut ReplyLine,
+    answer: &Result<Reply, Fault>,
+) -> io::Result<()>
+    ensures { OnOk result (Appends (W.contents writer.old) (W.contents writer.new) (answer_line answer.now)) }
+{
+    line.clear();
+    print_answer(line, answer)?;
+    write_whole(writer, line.as_slice())
+}
+
+/// Writes the line of an outcome, if it has one, as `write_answer` writes that of an answer. It takes no memory.
+pub fn write_outcome<W: Write>(
+    writer: &mut W,
+    line: &mut ReplyLine,
+    outcome: Outcome,
+) -> io::Result<()>
+    ensures { OnOk result (Appends (W.contents writer.old) (W.contents writer.new) (outcome_line outcome)) }
+{
+    line.clear();
+    print_outcome(line, outcome)?;
+    write_whole(writer, line.as_slice())
+}
+
+/// Writes the line of the outcome `Memory`, for want of room where a line could be put together. Errors are those of `write_answer`.
+pub fn write_no_memory<W: Write>(writer: &mut W) -> io::Result<()>
+    ensures { OnOk result (Appends (W.contents writer.old) (W.contents writer.new) (outcome_line outcomes.Memory)) }
+{
+    write_whole(writer, b"no memory\n")
+}
+
+// Writes a text whole. An error, an interruption too, and a write that takes no byte are faults.
+fn write_whole<W: Write>(writer: &mut W, text: &[u8]) -> io::Result<()>
+    ensures { OnOk result (Appends (W.contents writer.old) (W.contents writer.new) text.now) }
+{
+    let mut rest = text;
+    while !rest.is_empty() {
+        let count = writer.write(rest)?;
+        if count == 0 {
+            return Err(io::Error::from(ErrorKind::WriteZero));
+        }
+        rest = &rest[count..];
+    }
+    Ok(())
+}
