@@ -158,7 +158,7 @@ member_there : (plan : PlanData) (values : Values) (k c : ℕ) → IsPlan plan �
 member_there plan values k c is many among = omega (arith, many, each_of (length plan.controls) c (members plan k) (is.members_known k) among)
 
 -- the value of a member afterwards
-member_after : (verdicts : Verdicts) (plan : PlanData) (controls : List Control) (values : Values) (grabs : Grabs) (pairs : List Pair) (k c : ℕ) → IsPlan plan → length values ≡ length plan.controls → k < length plan.clusters
+pub member_after : (verdicts : Verdicts) (plan : PlanData) (controls : List Control) (values : Values) (grabs : Grabs) (pairs : List Pair) (k c : ℕ) → IsPlan plan → length values ≡ length plan.controls → k < length plan.clusters
     → list_any (nat_eq c) (members plan k) ≡ true
     → value_at (overlay verdicts plan controls values grabs pairs) c ≡ unwrap_or (given_by (members plan k) (row_after verdicts plan controls values grabs pairs k) c) (value_at values c)
 member_after verdicts plan controls values grabs pairs k c is many lt among =

@@ -1,2 +1,3 @@
 pub mod ListLemmas
 pub mod TouchLemmas
+pub mod TouchedLemmas

@@ -1,7 +1,6 @@
 pub mod GrabLemmas
 pub mod PastLemmas
 pub mod PresentLemmas
-pub mod OverlayLemmas
 pub mod ListLemmas
 pub mod WholeLemmas
 pub mod WordLemmas

@@ -11,7 +11,7 @@ use Rattle.ctrl_types.specs.declared.ids.Pair.{Pair}
 use Rattle.ctrl_types.specs.declared.which.Which.{Which}
 use Rattle.ctrl_calls.specs.Meanings.{Verdicts}
 use Rattle.ctrl_settle.specs.Settle.{settle}
-use Rattle.ctrl_handlers.specs.Plan.{PlanData, control}
+use Rattle.ctrl_handlers.specs.Plan.{PlanData, control, control_in}
 use Rattle.ctrl_lists.specs.declared.refusal.Refusal.{Refusal}
 use Rattle.ctrl_lists.specs.View.{ViewData, pairs_of}
 use Rattle.ctrl_lists.specs.Checks.{at_first, errno_of, first_from, first_refusal, found_at, is_long, is_of_no_class, laid_pairs, refused_if, judging_refusal, naming_refusal, writing_refusal, write_checks}
@@ -25,25 +25,26 @@ read_as count read of view is = ap (λ (r : Result ViewData Errno). list_answer 
 
 -- What a list is read against has the values and grabs, and no pairs from before; the pairs of the list are those that it reads.
 pub record Reads (plan : PlanData) (values : Values) (grabs : Grabs) (list : List ExtControl) (handler : Option ℕ) (which : Result Which Errno) (view : ViewData) : Type 0 where
+  pub same_controls : view.controls ≡ plan.controls
   pub same_values : view.values ≡ values
   pub same_grabs : view.grabs ≡ grabs
   pub none_asked : view.asked ≡ []
   pub same_pairs : pairs_by plan list handler which ≡ pairs_of plan view.handler view.which list
 
 pub reads : (plan : PlanData) (values : Values) (grabs : Grabs) (writes : Bool) (list : List ExtControl) (handler : Option ℕ) (which : Result Which Errno) (view : ViewData)
-    → view_by values grabs writes handler which ≡ Ok view → Reads plan values grabs list handler which view
+    → view_by plan values grabs writes handler which ≡ Ok view → Reads plan values grabs list handler which view
 reads plan values grabs writes list None which view is = absurd (differ is)
   where
-    differ : view_by values grabs writes None which ≡ Ok view → ⊥
+    differ : view_by plan values grabs writes None which ≡ Ok view → ⊥
     differ e = cc
 reads plan values grabs writes list (Some h) (Err errno) view is = absurd (differ is)
   where
-    differ : view_by values grabs writes (Some h) (Err errno) ≡ Ok view → ⊥
+    differ : view_by plan values grabs writes (Some h) (Err errno) ≡ Ok view → ⊥
     differ e = cc
 reads plan values grabs writes list (Some h) (Ok which) view is = by (is_refused writes which) is
   where
     made : ViewData
-    made = record { handler = h; which = which; values = values; grabs = grabs; asked = [] }
+    made = record { handler = h; which = which; controls = plan.controls; values = values; grabs = grabs; asked = [] }
 
     found : Result ViewData Errno
     found = Ok made
@@ -56,7 +57,7 @@ reads plan values grabs writes list (Some h) (Ok which) view is = by (is_refused
       where
         differ : cond true (Err EINVAL) found ≡ Ok view → ⊥
         differ e = cc
-    by false e = subst (λ (v : ViewData). Reads plan values grabs list (Some h) (Ok which) v) (same e) (record { same_values = refl; same_grabs = refl; none_asked = refl; same_pairs = refl })
+    by false e = subst (λ (v : ViewData). Reads plan values grabs list (Some h) (Ok which) v) (same e) (record { same_controls = refl; same_values = refl; same_grabs = refl; none_asked = refl; same_pairs = refl })
 
 -- what passes each check passes the first
 pub passes : (check : Option Refusal) (checks : List (Option Refusal)) → first_refusal (check ∷ checks) ≡ None → (check ≡ None) × (first_refusal checks ≡ None)
@@ -90,7 +91,7 @@ free_from plan view n [] h = refl
 free_from plan view n (p ∷ pairs) h =
     let parts : (writing_refusal plan view true p ≡ None) × (first_from (writing_refusal plan view true) (n + 1) pairs ≡ None) = none_found n (writing_refusal plan view true p) (first_from (writing_refusal plan view true) (n + 1) pairs) h in
     let own : is_grabbed view.grabs p.control ≡ false =
-    not_grabbed (contains (control plan p.control).flags READ_ONLY) (is_grabbed view.grabs p.control) (errno_of (settle (control plan p.control) p.value)) parts.0 in
+    not_grabbed (contains (control plan p.control).flags READ_ONLY) (is_grabbed view.grabs p.control) (errno_of (settle (control_in view.controls p.control) p.value)) parts.0 in
     rw own (free_from plan view (n + 1) pairs parts.1)
 
 -- no control of a set that is accepted is grabbed

@@ -16,7 +16,8 @@ use Rattle.ctrl_handlers.specs.Plan.{PlanData}
 use Rattle.device_history.specs.Steps.{History, Past}
 use Rattle.device_history.specs.Handles.{opening, ever_opened, closes, is_closed, opened, opened_after, handler_of}
 use Rattle.device_history.specs.Grabs.{grabbed, grabbed_after}
-use Rattle.device_history.specs.Flags.{flags_under, flags_now}
+use Rattle.ctrl_clusters.specs.PresentFlags.{flags_under}
+use Rattle.device_history.specs.Flags.{flags_now}
 use Rattle.device_history.specs.Values.{defaults, now, now_after}
 use Rattle.device_history.proofs.GrabLemmas.{grabbed_start, grabbed_add}
 use Rattle.device_history.specs.Legal.{IsLegal, MayFollow}

@@ -1,45 +1,21 @@
 -- There is a present value, and a grab, for each control.
-use Rattle.std.proofs.Common.{◌≡◌, ℕ, zero, suc, ℤ, Bool, true, false, cond, List, [], ◌∷◌, length, slice_set, Result, Ok, Err, refl, ◌∙◌}
+use Rattle.std.proofs.Common.{◌≡◌, [], ◌∷◌, length, refl, ◌∙◌}
 use Rattle.std.specs.List.{range_with_len}
-use Rattle.std.proofs.lemmas.List.{length-map, length-set}
+use Rattle.std.proofs.lemmas.List.{length-map}
 use Rattle.std.proofs.lemmas.List.FromFn.{length-range_with_len}
-use Rattle.ctrl_types.specs.declared.errno.Errno.{Errno}
-use Rattle.ctrl_types.specs.declared.ids.Pair.{Pair}
 use Rattle.ctrl_calls.specs.Meanings.{Verdicts}
 use Rattle.device_history.specs.declared.ask.Step.{Step}
 use Rattle.device_history.specs.declared.ask.Step.TheVariants.{OpenFh, CloseFh, Set, Grab}
-use Rattle.ctrl_handlers.specs.Plan.{PlanData, members}
+use Rattle.ctrl_handlers.specs.Plan.{PlanData}
 use Rattle.device_history.specs.Steps.{Past}
 use Rattle.ctrl_clusters.specs.Rows.{Grabs, Values}
 use Rattle.device_history.specs.Grabs.{grabbed}
-use Rattle.device_history.specs.Overlay.{is_touched, laid, with_row, with_laid, overlaid}
+use Rattle.ctrl_clusters.proofs.OverlayLemmas.{length_overlay}
 use Rattle.device_history.specs.Values.{now, now_after}
-
--- a row that is written leaves as many values
-pub length_with_row : (values : Values) (cs : List ℕ) (row : List ℤ) → length (with_row values cs row) ≡ length values
-length_with_row values [] row = refl
-length_with_row values (c ∷ cs) [] = refl
-length_with_row values (c ∷ cs) (v ∷ vs) = length_with_row (slice_set values c v) cs vs ∙ length-set values c v
-
-length_with_laid : (values : Values) (cs : List ℕ) (row : Result (List ℤ) Errno) → length (with_laid values cs row) ≡ length values
-length_with_laid values cs (Ok row) = length_with_row values cs row
-length_with_laid values cs (Err errno) = refl
-
-length_overlaid : (verdicts : Verdicts) (plan : PlanData) (values : Values) (grabs : Grabs) (pairs : List Pair) (n : ℕ) → length (overlaid verdicts plan values grabs pairs n) ≡ length values
-unfolding overlaid
-length_overlaid verdicts plan values grabs pairs zero = refl
-length_overlaid verdicts plan values grabs pairs (suc k) = by (is_touched pairs (members plan k)) (length_overlaid verdicts plan values grabs pairs k)
-  where
-    before : Values
-    before = overlaid verdicts plan values grabs pairs k
-
-    by : (b : Bool) → length before ≡ length values → length (cond b (with_laid before (members plan k) (laid verdicts plan values grabs pairs k)) before) ≡ length values
-    by true same = length_with_laid before (members plan k) (laid verdicts plan values grabs pairs k) ∙ same
-    by false same = same
 
 -- a step leaves as many values
 length_now_after : (verdicts : Verdicts) (plan : PlanData) (grabs : Grabs) (step : Step) (values : Values) → length (now_after verdicts plan grabs step values) ≡ length values
-length_now_after verdicts plan grabs (Set fh pairs) values = length_overlaid verdicts plan values grabs pairs (length plan.clusters)
+length_now_after verdicts plan grabs (Set fh pairs) values = length_overlay verdicts plan plan.controls values grabs pairs
 length_now_after verdicts plan grabs (OpenFh handler) values = refl
 length_now_after verdicts plan grabs (CloseFh fh) values = refl
 length_now_after verdicts plan grabs (Grab c on) values = refl

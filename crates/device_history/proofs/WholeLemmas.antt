@@ -1,32 +1,35 @@
--- A set that is accepted is made whole: no cluster that it touches is refused.
-use Rattle.std.proofs.Common.{◌≡◌, ℕ, ℤ, Bool, true, false, ◌||◌, ◌+◌, ◌<◌, List, [], ◌∷◌, ◌++◌, length, map, nat_eq, unwrap_or, Option, None, Some, Result, Ok, Err, refl, ap, sym, subst, ◌∙◌, ◌==◌, ◌≢◌, ◌⊎◌, inl, inr, arith}
+-- A set that is accepted is made whole: no cluster is refused.
+use Rattle.std.proofs.Common.{◌≡◌, ℕ, Bool, true, false, not, cond, ◌||◌, ◌+◌, ◌<◌, List, [], ◌∷◌, ◌++◌, length, map, nat_eq, unwrap_or, Option, None, Some, Result, Ok, Err, refl, ap, sym, subst, ◌∙◌, ◌==◌, ◌≢◌, ◌⊎◌, inl, inr, eq-eqb}
 use Rattle.std.specs.List.{list_any}
-use Rattle.std.proofs.lemmas.Bool.Decides.{eqb_tells, nat_tests}
+use Rattle.std.proofs.lemmas.Bool.Decides.{eqb_tells}
 use Rattle.ctrl_types.specs.Classes.{which_of}
+use Rattle.ctrl_types.specs.Values.{CtrlValue}
 use Rattle.ctrl_types.specs.declared.errno.Errno.{Errno}
-use Rattle.ctrl_types.specs.declared.errno.Errno.TheVariants.{EINVAL}
+use Rattle.ctrl_types.specs.declared.errno.Errno.TheVariants.{EBUSY, EINVAL}
 use Rattle.ctrl_types.specs.declared.ids.ExtControl.{ExtControl}
 use Rattle.ctrl_types.specs.declared.ids.FhId.{FhId}
 use Rattle.ctrl_types.specs.declared.ids.Pair.{Pair}
 use Rattle.ctrl_calls.specs.Meanings.{Verdicts}
+use Rattle.ctrl_settle.specs.Control.{Control}
 use Rattle.ctrl_handlers.specs.Plan.{PlanData, IsPlan, control, cluster_of, members}
 use Rattle.ctrl_handlers.proofs.ClusterLemmas.{cluster_of_member, cluster_of_within}
-use Rattle.ctrl_clusters.specs.Rows.{value_in, Grabs, is_grabbed, Values, value_at, row_of}
+use Rattle.ctrl_clusters.specs.Rows.{Grabs, is_grabbed, Values, value_at, row_of}
 use Rattle.ctrl_clusters.specs.Judging.{becomes}
+use Rattle.ctrl_clusters.specs.Overlay.{is_touched, is_held, row_after, given_by, given_in, value_after, overlay, no_grabs}
+use Rattle.ctrl_clusters.proofs.OverlayLemmas.{held_none, held_not, overlaid_row, member_after, or_true_right}
 use Rattle.ctrl_lists.specs.declared.refusal.Refusal.{Refusal}
 use Rattle.ctrl_lists.specs.View.{ViewData, pairs_of}
-use Rattle.ctrl_lists.specs.Checks.{at_first, errno_of, first_from, first_refusal, is_long, is_of_no_class, laid_pairs, refused_if, row_becomes, judging_refusal, naming_refusal, writing_refusal, write_checks}
-use Rattle.ctrl_lists.specs.Answers.{ListAnswer, answered, entries_judged, entry_judged, fault_at_count, set_answer, value_of_row, value_judged}
+use Rattle.ctrl_lists.specs.Checks.{at_first, errno_of, first_from, first_refusal, is_long, is_of_no_class, laid_pairs, refused_if, row_laid, judging_refusal, naming_refusal, writing_refusal, write_checks}
+use Rattle.ctrl_lists.specs.Answers.{ListAnswer, answered, entries_judged, entry_judged, fault_at_count, set_answer, value_judged}
+use Rattle.ctrl_lists.proofs.TouchedLemmas.{is_at, touched_members}
 use Rattle.device_history.specs.declared.ask.Reply.TheVariants.{Controls}
 use Rattle.device_history.specs.Steps.{Past}
 use Rattle.device_history.specs.Handles.{handler_of}
 use Rattle.device_history.specs.Grabs.{grabbed}
-use Rattle.device_history.specs.Overlay.{is_touched, laid_or, overlay}
 use Rattle.device_history.specs.Values.{now}
 use Rattle.device_history.specs.Refusals.{is_full}
 use Rattle.device_history.specs.Lists.{kept_controls, list_answer, list_pairs, list_view, set_list, values_set}
 use Rattle.device_history.proofs.PresentLemmas.{length_now}
-use Rattle.device_history.proofs.OverlayLemmas.{is_at, held_none, or_true, or_true_right, overlaid_row, touched_members}
 use Rattle.device_history.proofs.ListLemmas.{Reads, reads, passes, none_found, not_refused, accepted_free}
 
 -- the pairs have one of a control in this cluster
@@ -34,13 +37,13 @@ abbrev some_in : PlanData → List Pair → ℕ → Bool
 some_in plan pairs k = list_any (λ p. is_at (cluster_of plan p.control) k) pairs
 
 -- the cluster of a pair that passes judging isn't refused
-judged_here : (verdicts : Verdicts) (plan : PlanData) (view : ViewData) (over : List Pair) (o : Option ℕ) (k : ℕ) → errno_of (row_becomes verdicts plan view over o) ≡ None → is_at o k ≡ true
-    → errno_of (becomes verdicts plan view.values over k) ≡ None
+judged_here : (verdicts : Verdicts) (plan : PlanData) (view : ViewData) (over : List Pair) (o : Option ℕ) (k : ℕ) → errno_of (row_laid verdicts plan view over o) ≡ None → is_at o k ≡ true
+    → errno_of (row_laid verdicts plan view over (Some k)) ≡ None
 judged_here verdicts plan view over None k h at = cc
 judged_here verdicts plan view over (Some j) k h at = by (eqb_tells k j)
   where
-    by : ((k == j) ≡ true × (k ≡ j)) ⊎ ((k == j) ≡ false × (k ≢ j)) → errno_of (becomes verdicts plan view.values over k) ≡ None
-    by (inl e) = subst (λ (i : ℕ). errno_of (becomes verdicts plan view.values over i) ≡ None) (sym e.1) h
+    by : ((k == j) ≡ true × (k ≡ j)) ⊎ ((k == j) ≡ false × (k ≢ j)) → errno_of (row_laid verdicts plan view over (Some k)) ≡ None
+    by (inl e) = subst (λ (i : ℕ). errno_of (row_laid verdicts plan view over (Some i)) ≡ None) (sym e.1) h
     by (inr e) = absurd (clash (sym e.0 ∙ at))
       where
         clash : false ≡ true → ⊥
@@ -48,51 +51,36 @@ judged_here verdicts plan view over (Some j) k h at = by (eqb_tells k j)
 
 -- nor is any cluster with a control among pairs that pass
 judged_all : (verdicts : Verdicts) (plan : PlanData) (view : ViewData) (over : List Pair) (n : ℕ) (pairs : List Pair) (k : ℕ) → first_from (judging_refusal verdicts plan view over) n pairs ≡ None → some_in plan pairs k ≡ true
-    → errno_of (becomes verdicts plan view.values over k) ≡ None
+    → errno_of (row_laid verdicts plan view over (Some k)) ≡ None
 judged_all verdicts plan view over n [] k h some = cc
 judged_all verdicts plan view over n (p ∷ pairs) k h some =
     let parts : (judging_refusal verdicts plan view over p ≡ None) × (first_from (judging_refusal verdicts plan view over) (n + 1) pairs ≡ None) =
     none_found n (judging_refusal verdicts plan view over p) (first_from (judging_refusal verdicts plan view over) (n + 1) pairs) h in
     by (is_at (cluster_of plan p.control) k) refl parts.0 (λ more. judged_all verdicts plan view over (n + 1) pairs k parts.1 more) some
   where
-    by : (b : Bool) → is_at (cluster_of plan p.control) k ≡ b → judging_refusal verdicts plan view over p ≡ None → (some_in plan pairs k ≡ true → errno_of (becomes verdicts plan view.values over k) ≡ None)
-        → (b || some_in plan pairs k) ≡ true → errno_of (becomes verdicts plan view.values over k) ≡ None
+    by : (b : Bool) → is_at (cluster_of plan p.control) k ≡ b → judging_refusal verdicts plan view over p ≡ None → (some_in plan pairs k ≡ true → errno_of (row_laid verdicts plan view over (Some k)) ≡ None)
+        → (b || some_in plan pairs k) ≡ true → errno_of (row_laid verdicts plan view over (Some k)) ≡ None
     by true at own rest h = judged_here verdicts plan view over (cluster_of plan p.control) k own at
     by false at own rest h = rest h
 
--- a cluster that is touched, and neither held nor refused, has the row that it becomes
-row_made : (verdicts : Verdicts) (plan : PlanData) (values : Values) (grabs : Grabs) (pairs : List Pair) (k : ℕ) → IsPlan plan → length values ≡ length plan.controls → k < length plan.clusters
-    → list_any (λ p. is_grabbed grabs p.control) pairs ≡ false → is_touched pairs (members plan k) ≡ true → errno_of (becomes verdicts plan values pairs k) ≡ None
-    → becomes verdicts plan values pairs k ≡ Ok (row_of (overlay verdicts plan values grabs pairs) (members plan k))
-row_made verdicts plan values grabs pairs k is many lt free touched fine =
-    by (becomes verdicts plan values pairs k) refl fine
+-- grabs of other controls don't matter to a row
+same_ungrabbed : (verdicts : Verdicts) (plan : PlanData) (controls : List Control) (values : Values) (grabs : Grabs) (pairs : List Pair) (k : ℕ) → list_any (λ p. is_grabbed grabs p.control) pairs ≡ false
+    → row_after verdicts plan controls values grabs pairs k ≡ row_after verdicts plan controls values no_grabs pairs k
+same_ungrabbed verdicts plan controls values grabs pairs k free = rw (held_none grabs pairs (members plan k) free, held_not pairs (members plan k)) refl
+
+-- a row that isn't refused is the one that the cluster has then
+row_made : (verdicts : Verdicts) (plan : PlanData) (controls : List Control) (values : Values) (grabs : Grabs) (pairs : List Pair) (k : ℕ) → IsPlan plan → length values ≡ length plan.controls → k < length plan.clusters
+    → errno_of (row_after verdicts plan controls values grabs pairs k) ≡ None
+    → row_after verdicts plan controls values grabs pairs k ≡ Ok (row_of (overlay verdicts plan controls values grabs pairs) (members plan k))
+row_made verdicts plan controls values grabs pairs k is many lt fine = by (row_after verdicts plan controls values grabs pairs k) refl fine
   where
-    own : List ℤ
-    own = row_of values (members plan k)
-
-    made : (r : Result (List ℤ) Errno) → becomes verdicts plan values pairs k ≡ r → row_of (overlay verdicts plan values grabs pairs) (members plan k) ≡ laid_or own r
-    made r e = overlaid_row verdicts plan values grabs pairs k is many lt ∙ rw (touched, held_none grabs pairs (members plan k) free, e) refl
-
-    by : (r : Result (List ℤ) Errno) → becomes verdicts plan values pairs k ≡ r → errno_of r ≡ None → r ≡ Ok (row_of (overlay verdicts plan values grabs pairs) (members plan k))
-    by (Ok row) e h = ap (λ (l : List ℤ). Ok l) (sym (made (Ok row) e))
+    by : (r : Result (List CtrlValue) Errno) → row_after verdicts plan controls values grabs pairs k ≡ r → errno_of r ≡ None → r ≡ Ok (row_of (overlay verdicts plan controls values grabs pairs) (members plan k))
+    by (Ok row) e h = ap (λ (l : List CtrlValue). Ok l) (sym (overlaid_row verdicts plan controls values grabs pairs k row is many lt e))
     by (Err errno) e h = cc
-
--- the value that a cluster's row gives a member
-given : (values : Values) (ms : List ℕ) (c : ℕ) → list_any (nat_eq c) ms ≡ true → value_in ms (row_of values ms) c ≡ Some (value_at values c)
-given values [] c h = cc
-given values (m ∷ ms) c h = by (eqb_tells m c) (given values ms c)
-  where
-    rest : m ≢ c → ((c == m) ≡ true × (c ≡ m)) ⊎ ((c == m) ≡ false × (c ≢ m)) → (nat_eq c m || list_any (nat_eq c) ms) ≡ true → list_any (nat_eq c) ms ≡ true
-    rest other (inl f) g = absurd (other (sym f.1))
-    rest other (inr f) g = subst (λ (b : Bool). (b || list_any (nat_eq c) ms) ≡ true) f.0 g
-
-    by : ((m == c) ≡ true × (m ≡ c)) ⊎ ((m == c) ≡ false × (m ≢ c)) → (list_any (nat_eq c) ms ≡ true → value_in ms (row_of values ms) c ≡ Some (value_at values c))
-        → value_in (m ∷ ms) (row_of values (m ∷ ms)) c ≡ Some (value_at values c)
-    by (inl e) behind = rw e.0 (ap (λ (d : ℕ). Some (value_at values d)) e.1)
-    by (inr e) behind = rw e.0 (behind (rest e.1 (eqb_tells c m) h))
 
 -- What an accepted set is made of: none of its controls is grabbed, each passes judging, and it is answered so.
 record IsWhole (verdicts : Verdicts) (plan : PlanData) (values : Values) (grabs : Grabs) (pairs : List Pair) (view : ViewData) (answers : List ExtControl) : Type 0 where
+  same_controls : view.controls ≡ plan.controls
   same_values : view.values ≡ values
   free : list_any (λ p. is_grabbed grabs p.control) pairs ≡ false
   passed : at_first (judging_refusal verdicts plan view pairs) pairs ≡ None
@@ -147,6 +135,7 @@ whole verdicts plan older fh which list answers is = by (list_view verdicts plan
         subst (λ (g : Grabs). list_any (λ p. is_grabbed g p.control) own ≡ false) it.same_grabs (accepted_free verdicts plan view list answers accepted) in (
           view,
           record {
+            same_controls = it.same_controls;
             same_values = it.same_values;
             free = subst (λ (l : List Pair). list_any (λ p. is_grabbed (grabbed plan older) p.control) l ≡ false) (sym same) free;
             passed = subst (λ (l : List Pair). at_first (judging_refusal verdicts plan view l) l ≡ None) (sym same) (subst (λ (l : List Pair). at_first (judging_refusal verdicts plan view l) own ≡ None) over parts.0);
@@ -154,42 +143,63 @@ whole verdicts plan older fh which list answers is = by (list_view verdicts plan
           },
         )
 
--- each cluster that an accepted set touches has the row that it becomes
-pub all_rows : (verdicts : Verdicts) (plan : PlanData) (older : Past) (fh : FhId) (which : ℕ) (list answers : List ExtControl) (k : ℕ) → IsPlan plan → set_list verdicts plan older fh which list ≡ Ok (Controls answers)
-    → k < length plan.clusters → is_touched (list_pairs plan older fh which list) (members plan k) ≡ true
-    → becomes verdicts plan (now verdicts plan older) (list_pairs plan older fh which list) k ≡ Ok (row_of (values_set verdicts plan older fh which list) (members plan k))
-all_rows verdicts plan older fh which list answers k is accepted lt touched =
+-- a cluster without a control of the pairs keeps its row
+untouched : (verdicts : Verdicts) (plan : PlanData) (controls : List Control) (values : Values) (grabs : Grabs) (pairs : List Pair) (k : ℕ) → is_touched pairs (members plan k) ≡ false
+    → errno_of (row_after verdicts plan controls values grabs pairs k) ≡ None
+untouched verdicts plan controls values grabs pairs k none = rw none refl
+
+-- no cluster is refused where an accepted set's pairs are laid
+none_refused : (verdicts : Verdicts) (plan : PlanData) (values : Values) (grabs : Grabs) (pairs : List Pair) (view : ViewData) (answers : List ExtControl) (k : ℕ) → IsPlan plan → k < length plan.clusters
+    → IsWhole verdicts plan values grabs pairs view answers → errno_of (row_after verdicts plan plan.controls values grabs pairs k) ≡ None
+none_refused verdicts plan values grabs pairs view answers k is lt whole = by (is_touched pairs (members plan k)) refl
+  where
+    laid : some_in plan pairs k ≡ true → errno_of (row_after verdicts plan plan.controls values no_grabs pairs k) ≡ None
+    laid some =
+        subst (λ (v : Values). errno_of (row_after verdicts plan plan.controls v no_grabs pairs k) ≡ None) whole.same_values
+        (subst (λ (cs : List Control). errno_of (row_after verdicts plan cs view.values no_grabs pairs k) ≡ None) whole.same_controls (judged_all verdicts plan view pairs 0 pairs k whole.passed some))
+
+    by : (b : Bool) → is_touched pairs (members plan k) ≡ b → errno_of (row_after verdicts plan plan.controls values grabs pairs k) ≡ None
+    by true touched = ap errno_of (same_ungrabbed verdicts plan plan.controls values grabs pairs k whole.free) ∙ laid (sym (touched_members plan pairs k is lt) ∙ touched)
+    by false none = untouched verdicts plan plan.controls values grabs pairs k none
+
+-- each cluster has the row that an accepted set's pairs make of it
+pub all_rows : (verdicts : Verdicts) (plan : PlanData) (older : Past) (fh : FhId) (which k : ℕ) (list answers : List ExtControl) → IsPlan plan → set_list verdicts plan older fh which list ≡ Ok (Controls answers)
+    → k < length plan.clusters → row_after verdicts plan plan.controls (now verdicts plan older) (grabbed plan older) (list_pairs plan older fh which list) k ≡ Ok (row_of (values_set verdicts plan older fh which list) (members plan k))
+all_rows verdicts plan older fh which k list answers is accepted lt =
     let it = whole verdicts plan older fh which list answers accepted in
-    let pairs : List Pair = list_pairs plan older fh which list in
-    let judged : errno_of (becomes verdicts plan it.0.values pairs k) ≡ None =
-    judged_all verdicts plan it.0 pairs 0 pairs k it.1.passed (sym (touched_members plan pairs k is lt) ∙ touched) in
-    row_made verdicts plan (now verdicts plan older) (grabbed plan older) pairs k is (length_now verdicts plan older) lt it.1.free touched
-    (subst (λ (v : Values). errno_of (becomes verdicts plan v pairs k) ≡ None) it.1.same_values judged)
+    row_made verdicts plan plan.controls (now verdicts plan older) (grabbed plan older) (list_pairs plan older fh which list) k is (length_now verdicts plan older) lt
+    (none_refused verdicts plan (now verdicts plan older) (grabbed plan older) (list_pairs plan older fh which list) it.0 answers k is lt it.1)
 
 -- what an entry is answered is the value that its control has then
-entries_made : (verdicts : Verdicts) (plan : PlanData) (view : ViewData) (after : Values) (pairs rest : List Pair) (n : ℕ) → IsPlan plan
-    → ((k : ℕ) → k < length plan.clusters → some_in plan pairs k ≡ true → becomes verdicts plan view.values pairs k ≡ Ok (row_of after (members plan k)))
-    → ((k : ℕ) → some_in plan rest k ≡ true → some_in plan pairs k ≡ true) → first_from (judging_refusal verdicts plan view pairs) n rest ≡ None
-    → map (entry_judged verdicts plan view pairs) rest ≡ map (λ p. record { id = (control plan p.control).id; value = value_at after p.control }) rest
-entries_made verdicts plan view after pairs [] n is become among passed = refl
-entries_made verdicts plan view after pairs (p ∷ rest) n is become among passed =
+entry_made : (verdicts : Verdicts) (plan : PlanData) (values : Values) (grabs : Grabs) (pairs : List Pair) (c : ℕ) (o : Option ℕ) → IsPlan plan → length values ≡ length plan.controls
+    → list_any (λ p. is_grabbed grabs p.control) pairs ≡ false → cluster_of plan c ≡ o → o ≢ None
+    → value_after verdicts plan plan.controls values no_grabs pairs c ≡ value_at (overlay verdicts plan plan.controls values grabs pairs) c
+entry_made verdicts plan values grabs pairs c None is many free found some = absurd (some refl)
+entry_made verdicts plan values grabs pairs c (Some k) is many free found some =
+    ap (λ (o : Option ℕ). unwrap_or (given_in plan (row_after verdicts plan plan.controls values no_grabs pairs) o c) (value_at values c)) found
+    ∙ ap (λ (r : Result (List CtrlValue) Errno). unwrap_or (given_by (members plan k) r c) (value_at values c)) (sym (same_ungrabbed verdicts plan plan.controls values grabs pairs k free))
+    ∙ sym (member_after verdicts plan plan.controls values grabs pairs k c is many (cluster_of_within plan c k found) (cluster_of_member plan c k found))
+
+-- so are all
+entries_made : (verdicts : Verdicts) (plan : PlanData) (values : Values) (grabs : Grabs) (view : ViewData) (pairs rest : List Pair) (n : ℕ) → IsPlan plan → length values ≡ length plan.controls
+    → view.controls ≡ plan.controls → view.values ≡ values → list_any (λ p. is_grabbed grabs p.control) pairs ≡ false → first_from (judging_refusal verdicts plan view pairs) n rest ≡ None
+    → map (entry_judged verdicts plan view pairs) rest ≡ map (λ p. record { id = (control plan p.control).id; value = value_at (overlay verdicts plan plan.controls values grabs pairs) p.control }) rest
+entries_made verdicts plan values grabs view pairs [] n is many cs vs free passed = refl
+entries_made verdicts plan values grabs view pairs (p ∷ rest) n is many cs vs free passed =
     let parts : (judging_refusal verdicts plan view pairs p ≡ None) × (first_from (judging_refusal verdicts plan view pairs) (n + 1) rest ≡ None) =
     none_found n (judging_refusal verdicts plan view pairs p) (first_from (judging_refusal verdicts plan view pairs) (n + 1) rest) passed in
-    let value : value_judged verdicts plan view pairs p.control ≡ value_at after p.control = by (cluster_of plan p.control) refl parts.0 in
-    rw (value, entries_made verdicts plan view after pairs rest (n + 1) is become (λ k h. among k (or_true_right (is_at (cluster_of plan p.control) k) (some_in plan rest k) h)) parts.1) refl
+    let value : value_judged verdicts plan view pairs p.control ≡ value_at (overlay verdicts plan plan.controls values grabs pairs) p.control =
+    ap (λ (l : List Control). value_after verdicts plan l view.values no_grabs pairs p.control) cs
+    ∙ ap (λ (v : Values). value_after verdicts plan plan.controls v no_grabs pairs p.control) vs
+    ∙ entry_made verdicts plan values grabs pairs p.control (cluster_of plan p.control) is many free refl (clustered (cluster_of plan p.control) parts.0) in
+    rw (value, entries_made verdicts plan values grabs view pairs rest (n + 1) is many cs vs free parts.1) refl
   where
-    by : (o : Option ℕ) → cluster_of plan p.control ≡ o → errno_of (row_becomes verdicts plan view pairs o) ≡ None
-        → unwrap_or (value_of_row plan o (row_becomes verdicts plan view pairs o) p.control) (value_at view.values p.control) ≡ value_at after p.control
-    by None found h = cc
-    by (Some k) found h =
-        let lt : k < length plan.clusters = cluster_of_within plan p.control k found in
-        let at : is_at (cluster_of plan p.control) k ≡ true = rw found (own k) in
-        let made : becomes verdicts plan view.values pairs k ≡ Ok (row_of after (members plan k)) = become k lt (among k (or_true (is_at (cluster_of plan p.control) k) (some_in plan rest k) at)) in
-        let member : list_any (nat_eq p.control) (members plan k) ≡ true = cluster_of_member plan p.control k found in
-        rw (made, given after (members plan k) p.control member) refl
+    clustered : (o : Option ℕ) → errno_of (row_laid verdicts plan view pairs o) ≡ None → o ≢ None
+    clustered None h = λ e. clash h
       where
-        own : (k : ℕ) → nat_eq k k ≡ true
-        own k = grind (arith, nat_tests)
+        clash : errno_of (row_laid verdicts plan view pairs None) ≡ None → ⊥
+        clash f = cc
+    clustered (Some k) h = λ e. cc
 
 -- each entry of an accepted set is answered the value that its control has then
 pub all_answers : (verdicts : Verdicts) (plan : PlanData) (older : Past) (fh : FhId) (which : ℕ) (list answers : List ExtControl) → IsPlan plan → set_list verdicts plan older fh which list ≡ Ok (Controls answers)
@@ -197,8 +207,4 @@ pub all_answers : (verdicts : Verdicts) (plan : PlanData) (older : Past) (fh : F
 all_answers verdicts plan older fh which list answers is accepted =
     let it = whole verdicts plan older fh which list answers accepted in
     let pairs : List Pair = list_pairs plan older fh which list in
-    it.1.answers_are
-    ∙ entries_made verdicts plan it.0 (values_set verdicts plan older fh which list) pairs pairs 0 is
-    (λ k lt some. subst (λ (v : Values). becomes verdicts plan v pairs k ≡ Ok (row_of (values_set verdicts plan older fh which list) (members plan k))) (sym it.1.same_values)
-    (all_rows verdicts plan older fh which list answers k is accepted lt (touched_members plan pairs k is lt ∙ some)))
-    (λ k h. h) it.1.passed
+    it.1.answers_are ∙ entries_made verdicts plan (now verdicts plan older) (grabbed plan older) it.0 pairs pairs 0 is (length_now verdicts plan older) it.1.same_controls it.1.same_values it.1.free it.1.passed

@@ -13,6 +13,11 @@ pub use Rattle.ctrl_handlers.specs.Builder
 pub use Rattle.ctrl_clusters.specs.Rows
 pub use Rattle.ctrl_clusters.specs.Judging
 pub use Rattle.ctrl_clusters.specs.AutoClusters
+pub use Rattle.ctrl_clusters.specs.Overlay
+pub use Rattle.ctrl_clusters.specs.NewRows
+pub use Rattle.ctrl_clusters.specs.Changes
+pub use Rattle.ctrl_clusters.specs.Notified
+pub use Rattle.ctrl_clusters.specs.PresentFlags
 pub use Rattle.ctrl_lists.specs.View
 pub use Rattle.ctrl_lists.specs.Checks
 pub use Rattle.ctrl_lists.specs.Touched
@@ -21,7 +26,6 @@ pub mod Steps
 pub mod Refusals
 pub mod Handles
 pub mod Grabs
-pub mod Overlay
 pub mod Values
 pub mod Flags
 pub mod Words
@@ -29,4 +33,3 @@ pub mod Lists
 pub mod Queries
 pub mod Answers
 pub mod Legal
-pub mod Written

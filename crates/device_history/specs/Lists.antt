@@ -30,21 +30,22 @@ is_refused writes Request = true
 is_refused writes _ = false
 
 -- what a list that a handler gets is read against, at these values and grabs
-abbrev pub view_on : Values → Grabs → Bool → ℕ → Result Which Errno → Result ViewData Errno
-view_on values grabs writes handler (Err errno) = Err errno
-view_on values grabs writes handler (Ok which) =
+abbrev pub view_on : PlanData → Values → Grabs → Bool → ℕ → Result Which Errno → Result ViewData Errno
+view_on plan values grabs writes handler (Err errno) = Err errno
+view_on plan values grabs writes handler (Ok which) =
     if is_refused writes which then Err EINVAL
-    else Ok (record { handler = handler; which = which; values = values; grabs = grabs; asked = [] })
+    else Ok (record { handler = handler; which = which; controls = plan.controls; values = values; grabs = grabs; asked = [] })
 
 -- the same, of the handler that a file handle is open on
-abbrev pub view_by : Values → Grabs → Bool → Option ℕ → Result Which Errno → Result ViewData Errno
-view_by values grabs writes None which = Err EBADF
-view_by values grabs writes (Some handler) which = view_on values grabs writes handler which
+abbrev pub view_by : PlanData → Values → Grabs → Bool → Option ℕ → Result Which Errno → Result ViewData Errno
+view_by plan values grabs writes None which = Err EBADF
+view_by plan values grabs writes (Some handler) which = view_on plan values grabs writes handler which
 
 -- What a list is read against: EBADF where the file handle isn't open; EINVAL where `which` can't be read; EINVAL where it speaks of
--- the defaults and the list writes, and where it speaks of a request. Else the present values, the grabs, and no pairs from before.
+-- the defaults and the list writes, and where it speaks of a request. Else the controls of the plan, the present values, the grabs, and no
+-- pairs from before.
 abbrev pub list_view : Verdicts → PlanData → Past → FhId → ℕ → Bool → Result ViewData Errno
-list_view verdicts plan past fh which writes = view_by (now verdicts plan past) (grabbed plan past) writes (handler_of past fh) (which_of which)
+list_view verdicts plan past fh which writes = view_by plan (now verdicts plan past) (grabbed plan past) writes (handler_of past fh) (which_of which)
 
 -- a list with so many entries: a refusal of what it is read against has their number as its index; else it is as of that
 abbrev pub list_answer : ℕ → Result ViewData Errno → (ViewData → Answer) → Answer

@@ -15,11 +15,12 @@ ghost use Rattle.device_history.specs.declared.ask.Reply.TheVariants.{Controls};
 ghost use Rattle.device_history.specs.declared.ask.Step.{Step};
 ghost use Rattle.device_history.specs.declared.ask.Step.TheVariants.{CloseFh};
 ghost use Rattle.ctrl_handlers.specs.Plan.{PlanData, IsPlan, calls_of, control, members};
-ghost use Rattle.ctrl_clusters.specs.Judging.{becomes};
 ghost use Rattle.ctrl_clusters.specs.Rows.{Grabs, Values, value_at, row_of};
 ghost use Rattle.device_history.specs.Grabs.{grabbed, grabbed_after};
-ghost use Rattle.device_history.specs.Overlay.{is_touched, overlay, row_laid};
-ghost use Rattle.device_history.specs.Flags.{flags_under, flags_now};
+ghost use Rattle.ctrl_clusters.specs.Notified.{MaySay};
+ghost use Rattle.ctrl_clusters.specs.Overlay.{row_after};
+ghost use Rattle.ctrl_clusters.specs.PresentFlags.{flags_under};
+ghost use Rattle.device_history.specs.Flags.{flags_now};
 ghost use Rattle.device_history.specs.Steps.{History, Past};
 ghost use Rattle.device_history.specs.Refusals.{fault_of};
 ghost use Rattle.device_history.specs.Handles.{opened, opened_after, handler_of};
@@ -27,7 +28,7 @@ ghost use Rattle.device_history.specs.Values.{defaults, now, now_after};
 ghost use Rattle.device_history.specs.Answers.{MayAnswer, answer_of, is_list, refusal};
 ghost use Rattle.device_history.specs.Lists.{list_pairs, set_list, values_set};
 ghost use Rattle.device_history.specs.Legal.{IsLegal, MayFollow};
-ghost use Rattle.device_history.specs.Words.{MayBeTold, changes};
+ghost use Rattle.device_history.specs.Words.{changes};
 
 use ctrl_calls::Driver;
 
@@ -53,21 +54,12 @@ pub fn present_values()
     ensures one_more { (verdicts : Verdicts) (plan : PlanData) (steps : History) (e : Entry Step) → now verdicts plan (past (steps ++ e ∷ [])) ≡ now_after verdicts plan (grabbed plan (past steps)) e.step (now verdicts plan (past steps)) }
 {}
 
-/// Pairs laid over values give each cluster that has a member among them, and isn't refused, the row that is laid; every other keeps
-/// its row.
-#[tactic(auto, using(crate::proofs::OverlayLemmas::overlaid_row))]
-pub fn overlaid_rows()
-    ensures { (verdicts : Verdicts) (plan : PlanData) (values : Values) (grabs : Grabs) (pairs : List Pair) (k : ℕ) → IsPlan plan → length values ≡ length plan.controls → k < length plan.clusters
-        → row_of (overlay verdicts plan values grabs pairs) (members plan k) ≡ row_laid verdicts plan values grabs pairs k }
-{}
-
-/// A set that is accepted is made whole: no cluster with a member among its pairs is refused, so that each has the row that it becomes;
-/// and each entry is answered the value that its control has then.
+/// A set that is accepted is made whole: no cluster is refused, so that each has the row that its pairs make of it; and each entry is answered
+/// the value that its control has then.
 #[tactic(auto, using(crate::proofs::WholeLemmas::all_rows, crate::proofs::WholeLemmas::all_answers))]
 pub fn whole_sets()
     ensures rows { (verdicts : Verdicts) (plan : PlanData) (older : Past) (fh : FhId) (which k : ℕ) (list answers : List ExtControl) → IsPlan plan → set_list verdicts plan older fh which list ≡ Ok (Controls answers)
-        → k < length plan.clusters → is_touched (list_pairs plan older fh which list) (members plan k) ≡ true
-        → becomes verdicts plan (now verdicts plan older) (list_pairs plan older fh which list) k ≡ Ok (row_of (values_set verdicts plan older fh which list) (members plan k)) }
+        → k < length plan.clusters → row_after verdicts plan plan.controls (now verdicts plan older) (grabbed plan older) (list_pairs plan older fh which list) k ≡ Ok (row_of (values_set verdicts plan older fh which list) (members plan k)) }
     ensures answers { (verdicts : Verdicts) (plan : PlanData) (older : Past) (fh : FhId) (which : ℕ) (list answers : List ExtControl) → IsPlan plan → set_list verdicts plan older fh which list ≡ Ok (Controls answers)
         → answers ≡ map (λ p. record { id = (control plan p.control).id; value = value_at (values_set verdicts plan older fh which list) p.control }) (list_pairs plan older fh which list) }
 {}
@@ -92,8 +84,8 @@ pub fn present_flags()
 pub fn told_words<D: Driver>()
     ensures { (verdicts : Verdicts) (plan : PlanData) (steps : History) (e : Entry Step) (k word : ℕ)
         → list_any (changes plan (now verdicts plan (past steps)) (now_after verdicts plan (grabbed plan (past steps)) e.step (now verdicts plan (past steps))) e.step) (members plan k) ≡ false
-        → MayBeTold D.told (calls_of plan k).notifier (row_of (now verdicts plan (past steps)) (members plan k)) word
-        → MayBeTold D.told (calls_of plan k).notifier (row_of (now verdicts plan (past (steps ++ e ∷ []))) (members plan k)) word }
+        → MaySay D.told (calls_of plan k).notifier (row_of (now verdicts plan (past steps)) (members plan k)) word
+        → MaySay D.told (calls_of plan k).notifier (row_of (now verdicts plan (past (steps ++ e ∷ []))) (members plan k)) word }
 {}
 
 /// A refusal has an index exactly where the ask is one about a list. The words that were told don't matter to it.

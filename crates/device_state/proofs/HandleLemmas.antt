@@ -1,5 +1,5 @@
 -- What a call does to the device: where it adds no step, where it opens or closes a file handle, where it sets controls.
-use Rattle.std.proofs.Common.{◌≡◌, ℕ, ◌<◌, ◌≤◌, ◌+◌, Bool, List, [], ◌∷◌, ◌++◌, length, Option, Some, None, Ok, Err, refl, ap, sym, ◌∙◌, arith, inl}
+use Rattle.std.proofs.Common.{◌≡◌, ℕ, ◌<◌, ◌≤◌, ◌+◌, Bool, List, [], ◌∷◌, ◌++◌, length, Option, Some, None, Ok, Err, IsOk, OnOk, refl, ap, sym, ◌∙◌, arith, inl}
 use Rattle.std.specs.List.{list_any}
 use Rattle.std.proofs.lemmas.List.{append-nil}
 use Rattle.history.specs.Past.{past}
@@ -29,12 +29,13 @@ use Rattle.device_history.specs.Handles.{open_answer, close_answer}
 use Rattle.device_history.specs.Queries.{query_answer, next_answer, told_answer}
 use Rattle.device_history.specs.Lists.{list_pairs}
 use Rattle.device_history.specs.Answers.{MayAnswer, taken}
-use Rattle.device_state.specs.Device.{DeviceData, Handles, may_ask, with_step, step_changes}
+use Rattle.device_state.specs.Device.{DeviceData, Handles, may_ask, must_ask, with_step, step_changes}
 use Rattle.device_state.specs.Setting.{IsSettable, SetsAll}
-use Rattle.device_history.specs.Written.{cluster_changes, row_given, told_below}
+use Rattle.ctrl_clusters.specs.Changes.{cluster_changes}
+use Rattle.ctrl_clusters.specs.Notified.{notified_count}
+use Rattle.ctrl_lists.specs.Touched.{judged_count, with_calls}
 use Rattle.device_history.proofs.PresentLemmas.{length_now}
-use Rattle.device_history.proofs.OverlayLemmas.{overlaid_rows, rows_given}
-use Rattle.device_state.proofs.TellLemmas.{changes_written, told_none, told_all}
+use Rattle.device_state.proofs.SetLemmas.{changes_written, notified_none, notified_same}
 
 -- no call yet
 abbrev pub at_rest : Work
@@ -45,16 +46,17 @@ asked_at_rest work n rest = omega (arith, ap (λ (w : Work). w.asked) rest)
 
 -- a call that adds no step
 pub handles_none : (verdicts : Verdicts) (old : DeviceData) (work : Work) (seat : ℕ) (ask : Ask) (answer : Answer) → work.told ≡ 0 → work.asked ≤ may_ask old.plan (past old.steps) ask
-    → taken old.plan (past old.steps) ask answer ≡ None → MayAnswer verdicts old.plan (past old.steps) old.words ask answer
+    → (IsOk answer → with_calls (must_ask old.plan (past old.steps) ask) 0 ≤ work.asked) → taken old.plan (past old.steps) ask answer ≡ None → MayAnswer verdicts old.plan (past old.steps) old.words ask answer
     → Handles verdicts old (record old { work = work }) seat ask answer
-handles_none verdicts old work seat ask answer told asked none may = record {
+handles_none verdicts old work seat ask answer told asked all none may = record {
   plan = refl;
   answers = may;
   refused = λ _. refl;
   steps = rw none (sym (append-nil old.steps));
   words = λ k lt same. refl;
-  told = rw none (told ∙ sym (told_none old.plan (step_changes verdicts old.plan (past old.steps) None) (λ c. refl)));
+  told = rw none (told ∙ sym (notified_none old.plan (step_changes verdicts old.plan (past old.steps) None) (λ c. refl)));
   asked = asked;
+  asked_all = all;
 }
 
 -- what reads takes no step
@@ -84,42 +86,42 @@ pub handles_get : (verdicts : Verdicts) (old : DeviceData) (work : Work) (seat :
     → MayAnswer verdicts old.plan (past old.steps) old.words (asks.GetCtrls fh which request list) answer
     → Handles verdicts old (record old { work = work }) seat (asks.GetCtrls fh which request list) answer
 handles_get verdicts old work seat fh which request list answer rest may =
-    handles_none verdicts old work seat _ answer (ap (λ (w : Work). w.told) rest) (asked_at_rest work _ rest) (taken_get old.plan (past old.steps) fh which request list answer) may
+    handles_none verdicts old work seat _ answer (ap (λ (w : Work). w.told) rest) (asked_at_rest work _ rest) (λ _. omega arith) (taken_get old.plan (past old.steps) fh which request list answer) may
 
 -- reading a word
 pub handles_told : (verdicts : Verdicts) (old : DeviceData) (work : Work) (seat cluster : ℕ) (answer : Answer) → work ≡ at_rest
     → answer ≡ told_answer old.plan old.words cluster
     → Handles verdicts old (record old { work = work }) seat (asks.Told cluster) answer
 handles_told verdicts old work seat cluster answer rest is =
-    handles_none verdicts old work seat _ answer (ap (λ (w : Work). w.told) rest) (asked_at_rest work _ rest) (taken_told old.plan (past old.steps) cluster answer) (inl is)
+    handles_none verdicts old work seat _ answer (ap (λ (w : Work). w.told) rest) (asked_at_rest work _ rest) (λ _. omega arith) (taken_told old.plan (past old.steps) cluster answer) (inl is)
 
 -- a query
 pub handles_query : (verdicts : Verdicts) (old : DeviceData) (work : Work) (seat : ℕ) (fh : FhId) (id : CtrlId) (answer : Answer) → work ≡ at_rest
     → answer ≡ query_answer verdicts old.plan (past old.steps) fh id
     → Handles verdicts old (record old { work = work }) seat (asks.Query fh id) answer
 handles_query verdicts old work seat fh id answer rest is =
-    handles_none verdicts old work seat _ answer (ap (λ (w : Work). w.told) rest) (asked_at_rest work _ rest) (taken_query old.plan (past old.steps) fh id answer) (inl is)
+    handles_none verdicts old work seat _ answer (ap (λ (w : Work). w.told) rest) (asked_at_rest work _ rest) (λ _. omega arith) (taken_query old.plan (past old.steps) fh id answer) (inl is)
 
 -- the next id
 pub handles_next : (verdicts : Verdicts) (old : DeviceData) (work : Work) (seat : ℕ) (fh : FhId) (id : CtrlId) (answer : Answer) → work ≡ at_rest
     → answer ≡ next_answer old.plan (past old.steps) fh id
     → Handles verdicts old (record old { work = work }) seat (asks.NextId fh id) answer
 handles_next verdicts old work seat fh id answer rest is =
-    handles_none verdicts old work seat _ answer (ap (λ (w : Work). w.told) rest) (asked_at_rest work _ rest) (taken_next old.plan (past old.steps) fh id answer) (inl is)
+    handles_none verdicts old work seat _ answer (ap (λ (w : Work). w.told) rest) (asked_at_rest work _ rest) (λ _. omega arith) (taken_next old.plan (past old.steps) fh id answer) (inl is)
 
 -- an item of a menu
 pub handles_item : (verdicts : Verdicts) (old : DeviceData) (work : Work) (seat : ℕ) (fh : FhId) (id : CtrlId) (index : ℕ) (answer : Answer) → work ≡ at_rest
     → MayAnswer verdicts old.plan (past old.steps) old.words (asks.MenuItem fh id index) answer
     → Handles verdicts old (record old { work = work }) seat (asks.MenuItem fh id index) answer
 handles_item verdicts old work seat fh id index answer rest may =
-    handles_none verdicts old work seat _ answer (ap (λ (w : Work). w.told) rest) (asked_at_rest work _ rest) (taken_item old.plan (past old.steps) fh id index answer) may
+    handles_none verdicts old work seat _ answer (ap (λ (w : Work). w.told) rest) (asked_at_rest work _ rest) (λ _. omega arith) (taken_item old.plan (past old.steps) fh id index answer) may
 
 -- a refusal before anybody is asked
 pub handles_refused : (verdicts : Verdicts) (old new : DeviceData) (work : Work) (seat : ℕ) (ask : Ask) (fault : Fault) → new ≡ record old { work = work } → work ≡ at_rest
     → MayAnswer verdicts old.plan (past old.steps) old.words ask (Err fault)
     → Handles verdicts old new seat ask (Err fault)
 handles_refused verdicts old new work seat ask fault begin rest may =
-    rw begin (handles_none verdicts old work seat ask (Err fault) (ap (λ (w : Work). w.told) rest) (asked_at_rest work _ rest) refl may)
+    rw begin (handles_none verdicts old work seat ask (Err fault) (ap (λ (w : Work). w.told) rest) (asked_at_rest work _ rest) (λ e. cc) refl may)
 
 abbrev opened_as : ℕ → Answer
 opened_as n = Ok (Fh (record { 0 = n }))
@@ -134,8 +136,9 @@ handles_open verdicts old work seat handler fh rest is number = record {
   refused = λ e. cc;
   steps = refl;
   words = λ k lt same. refl;
-  told = ap (λ (w : Work). w.told) rest ∙ sym (told_none old.plan (step_changes verdicts old.plan (past old.steps) (Some (OpenFh handler))) (λ c. refl));
+  told = ap (λ (w : Work). w.told) rest ∙ sym (notified_none old.plan (step_changes verdicts old.plan (past old.steps) (Some (OpenFh handler))) (λ c. refl));
   asked = asked_at_rest work _ rest;
+  asked_all = λ _. omega arith;
 }
 
 -- a close tells nobody
@@ -148,8 +151,9 @@ handles_close verdicts old work seat fh rest is = record {
   refused = λ e. cc;
   steps = refl;
   words = λ k lt same. refl;
-  told = ap (λ (w : Work). w.told) rest ∙ sym (told_none old.plan (step_changes verdicts old.plan (past old.steps) (Some (CloseFh fh))) (λ c. refl));
+  told = ap (λ (w : Work). w.told) rest ∙ sym (notified_none old.plan (step_changes verdicts old.plan (past old.steps) (Some (CloseFh fh))) (λ c. refl));
   asked = asked_at_rest work _ rest;
+  asked_all = λ _. omega arith;
 }
 
 -- a grab tells nobody
@@ -162,8 +166,9 @@ handles_grab verdicts old work seat c on rest is = record {
   refused = λ e. cc;
   steps = refl;
   words = λ k lt same. refl;
-  told = ap (λ (w : Work). w.told) rest ∙ sym (told_none old.plan (step_changes verdicts old.plan (past old.steps) (Some (Grab c on))) (λ c. refl));
+  told = ap (λ (w : Work). w.told) rest ∙ sym (notified_none old.plan (step_changes verdicts old.plan (past old.steps) (Some (Grab c on))) (λ c. refl));
   asked = asked_at_rest work _ rest;
+  asked_all = λ _. omega arith;
 }
 
 -- what was counted since the start of a call
@@ -175,10 +180,10 @@ asked_since start work n rest asked = omega (arith, asked, ap (λ (w : Work). w.
 
 -- a call that changes nothing, where validators were asked
 pub handles_asked : (verdicts : Verdicts) (old new : DeviceData) (start work : Work) (seat : ℕ) (ask : Ask) (answer : Answer) → new ≡ record old { work = work } → start ≡ at_rest
-    → work.told ≡ start.told → work.asked ≤ start.asked + may_ask old.plan (past old.steps) ask → taken old.plan (past old.steps) ask answer ≡ None
+    → work.told ≡ start.told → work.asked ≤ start.asked + may_ask old.plan (past old.steps) ask → (IsOk answer → with_calls (must_ask old.plan (past old.steps) ask) 0 ≤ work.asked) → taken old.plan (past old.steps) ask answer ≡ None
     → MayAnswer verdicts old.plan (past old.steps) old.words ask answer → Handles verdicts old new seat ask answer
-handles_asked verdicts old new start work seat ask answer begin rest told asked none may =
-    rw begin (handles_none verdicts old work seat ask answer (told_since start work rest told) (asked_since start work _ rest asked) none may)
+handles_asked verdicts old new start work seat ask answer begin rest told asked all none may =
+    rw begin (handles_none verdicts old work seat ask answer (told_since start work rest told) (asked_since start work _ rest asked) all none may)
 
 -- a try takes no step
 pub taken_try : (plan : PlanData) (older : Past) (fh : FhId) (which : ℕ) (request : Option RequestId) (list : List ExtControl) (answer : Answer)
@@ -190,22 +195,18 @@ taken_try plan older fh which request list (Err fault) = refl
 set_changing : (verdicts : Verdicts) (plan : PlanData) (older : Past) (fh : FhId) (which : ℕ) (request : Option RequestId) (list : List ExtControl) (touch : TouchedData) (reply : Reply)
     → IsSettable verdicts plan older fh which list touch → (j : ℕ) → j < length plan.clusters
     → list_any (step_changes verdicts plan older (taken plan older (asks.SetCtrls fh which request list) (Ok reply))) (members plan j)
-    ≡ cluster_changes plan (now verdicts plan older) touch.pairs (row_given touch.rows) j
+    ≡ cluster_changes plan (now verdicts plan older) touch.pairs touch.rows j
 set_changing verdicts plan older fh which request list touch reply sets j lt =
     ap (λ (pairs : List Pair). list_any (step_changes verdicts plan older (Some (Set fh pairs))) (members plan j)) (sym sets.own_pairs)
-    ∙ ap (λ (after : Values). list_any (changes plan (now verdicts plan older) after (Set fh touch.pairs)) (members plan j))
-    (overlaid_rows verdicts plan (now verdicts plan older) (grabbed plan older) touch.pairs touch.rows (length plan.clusters) sets.plans sets.judged sets.free (omega arith))
-    ∙ changes_written plan (now verdicts plan older) fh touch.pairs (row_given touch.rows) j
-    (rows_given verdicts plan (now verdicts plan older) touch.pairs touch.rows sets.plans (length_now verdicts plan older) sets.judged) lt
+    ∙ changes_written verdicts plan (now verdicts plan older) (grabbed plan older) fh touch.pairs touch.rows j sets.plans (length_now verdicts plan older) lt sets.judged sets.free
 
 -- a set that is accepted
 pub handles_set : (verdicts : Verdicts) (told : Words) (old between new : DeviceData) (start work : Work) (seat : ℕ) (fh : FhId) (which : ℕ) (request : Option RequestId) (list : List ExtControl) (touch : TouchedData) (controls : List ExtControl)
     → between ≡ record old { work = work } → start ≡ at_rest → work.told ≡ start.told → work.asked ≤ start.asked + length (touched old.plan (list_pairs old.plan (past old.steps) fh which list))
-    → IsSettable verdicts old.plan (past old.steps) fh which list touch → controls ≡ touch.answers → SetsAll verdicts told between new seat fh touch
+    → IsSettable verdicts old.plan (past old.steps) fh which list touch → controls ≡ touch.answers → with_calls (judged_count old.plan (touched old.plan (list_pairs old.plan (past old.steps) fh which list))) 0 ≤ work.asked → SetsAll verdicts told between new seat fh touch
     → Handles verdicts old new seat (asks.SetCtrls fh which request list) (Ok (Controls controls))
-handles_set verdicts told old between new start work seat fh which request list touch controls begin rest untold asked sets reply does =
+handles_set verdicts told old between new start work seat fh which request list touch controls begin rest untold asked sets reply all does =
     let done : SetsAll verdicts told (record old { work = work }) new seat fh touch = rw begin at does in
-    let changed = cluster_changes old.plan (now verdicts old.plan (past old.steps)) touch.pairs (row_given touch.rows) in
     let changing = set_changing verdicts old.plan (past old.steps) fh which request list touch (Controls controls) sets in
     record {
       plan = done.plan;
@@ -214,7 +215,17 @@ handles_set verdicts told old between new start work seat fh which request list 
       steps = done.steps ∙ ap (λ (pairs : List Pair). old.steps ++ record { seat = seat; step = Set fh pairs } ∷ []) sets.own_pairs;
       words = λ j lt same. done.words.others j (λ _. sym (changing j lt) ∙ same);
       told =
-          ap (λ (w : Work). w.told) done.work ∙ ap (told_below old.plan changed (length old.plan.clusters)) (told_since start work rest untold)
-          ∙ told_all old.plan changed (step_changes verdicts old.plan (past old.steps) (taken old.plan (past old.steps) (asks.SetCtrls fh which request list) (Ok (Controls controls)))) done.few changing;
+          ap (λ (w : Work). w.told) done.work
+          ∙ notified_same old.plan (cluster_changes old.plan (now verdicts old.plan (past old.steps)) touch.pairs touch.rows)
+          (λ k. list_any (step_changes verdicts old.plan (past old.steps) (taken old.plan (past old.steps) (asks.SetCtrls fh which request list) (Ok (Controls controls)))) (members old.plan k)) (λ j lt. sym (changing j lt));
       asked = omega (arith, ap (λ (w : Work). w.asked) done.work, asked_since start work _ rest asked);
+      asked_all = λ _. omega (arith, ap (λ (w : Work). w.asked) done.work, all);
     }
+
+-- an accepted list asked all that it must
+pub asked_all : (asked n : ℕ) (start : Work) → start ≡ at_rest → asked ≡ with_calls n start.asked → with_calls n 0 ≤ asked
+asked_all asked n start rest is = rw (is, ap (λ (w : Work). w.asked) rest) (omega arith)
+
+pub tried_all : (answer : Answer) (asked n : ℕ) (start : Work) → start ≡ at_rest → OnOk answer (asked ≡ with_calls n start.asked) → IsOk answer → with_calls n 0 ≤ asked
+tried_all (Ok reply) asked n start rest is ok = asked_all asked n start rest is
+tried_all (Err fault) asked n start rest is ok = cc

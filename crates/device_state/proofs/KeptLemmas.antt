@@ -23,24 +23,24 @@ use Rattle.device_history.specs.Handles.{opened, ever_opened, open_answer, close
 use Rattle.ctrl_clusters.specs.Rows.{Grabs, Values}
 use Rattle.device_history.specs.Grabs.{grabbed, grab_answer, grabbed_after}
 use Rattle.device_history.specs.Values.{now, defaults, now_after}
-use Rattle.device_history.specs.Words.{AreTold}
+use Rattle.ctrl_clusters.specs.Notified.{HaveWords, AreRenewed}
+use Rattle.ctrl_clusters.specs.Changes.{cluster_changes}
+use Rattle.ctrl_clusters.specs.NewRows.{row_given, written}
 use Rattle.device_history.specs.Refusals.{Answer, is_full}
 use Rattle.device_history.specs.Lists.{set_list}
 use Rattle.device_history.specs.Answers.{step_of}
 use Rattle.device_history.specs.Legal.{IsLegal, MayFollow}
 use Rattle.device_state.specs.Kept.{Caches, IsKept}
-use Rattle.device_history.specs.Written.{AreRetold, cluster_changes, row_given, written}
 use Rattle.device_state.specs.Setting.{IsSettable}
 use Rattle.device_history.proofs.PastLemmas.{opened_add, opened_fresh, opened_rising, drops_one, now_add, legal_add}
 use Rattle.device_history.proofs.GrabLemmas.{grabbed_start, grabbed_add}
 use Rattle.device_history.proofs.LegalLemmas.{unrefused}
 use Rattle.device_history.proofs.PresentLemmas.{length_now}
-use Rattle.device_history.proofs.OverlayLemmas.{overlaid_rows, rows_given}
-use Rattle.device_state.proofs.TellLemmas.{told_after}
+use Rattle.device_state.proofs.SetLemmas.{laid_written, words_after}
 
 -- a device without steps
 pub kept_start : (verdicts : Verdicts) (told : Words) (plan : PlanData) (steps : History) (caches : Caches) → steps ≡ [] → caches.file_handles ≡ [] → caches.grabs ≡ map (λ _. false) plan.controls → caches.values ≡ defaults plan
-    → AreTold told plan (defaults plan) caches.words → IsKept verdicts told plan steps caches
+    → HaveWords told plan (defaults plan) caches.words → IsKept verdicts told plan steps caches
 unfolding IsLegal opened ever_opened now
 kept_start verdicts told plan steps caches s h g v w = rw s (record {
   legal = tt;
@@ -48,7 +48,7 @@ kept_start verdicts told plan steps caches s h g v w = rw s (record {
   file_handles = h;
   grabs = g ∙ sym (grabbed_start plan);
   values = v;
-  words = subst (λ (values : Values). AreTold told plan values caches.words) (sym v) w;
+  words = subst (λ (values : Values). HaveWords told plan values caches.words) (sym v) w;
 })
 
 -- the number of the next step is no open file handle's id
@@ -61,7 +61,7 @@ kept_fresh verdicts told plan steps caches kept =
 kept_add : (verdicts : Verdicts) (told : Words) (plan : PlanData) (steps steps' : History) (caches caches' : Caches) (e : Entry Step)
     → IsKept verdicts told plan steps caches → length steps < MAX_STEPS → MayFollow verdicts plan (past steps) e.step → steps' ≡ steps ++ e ∷ []
     → caches'.file_handles ≡ opened_after (length steps) e.step (opened (past steps)) → caches'.grabs ≡ grabbed_after e.step (grabbed plan (past steps))
-    → caches'.values ≡ now_after verdicts plan (grabbed plan (past steps)) e.step (now verdicts plan (past steps)) → AreTold told plan caches'.values caches'.words
+    → caches'.values ≡ now_after verdicts plan (grabbed plan (past steps)) e.step (now verdicts plan (past steps)) → HaveWords told plan caches'.values caches'.words
     → IsKept verdicts told plan steps' caches'
 kept_add verdicts told plan steps steps' caches caches' e kept room may s h g v w = rw s (record {
   legal = legal_add verdicts plan steps e kept.legal may;
@@ -125,19 +125,18 @@ accepted_set answer reply is = rw is refl
 -- a set
 pub kept_set : (verdicts : Verdicts) (told : Words) (plan : PlanData) (steps steps' : History) (caches : Caches) (values : Values) (words : List ℕ) (seat : ℕ) (fh : FhId) (which : ℕ) (list : List ExtControl) (touch : TouchedData)
     → IsKept verdicts told plan steps caches → IsSettable verdicts plan (past steps) fh which list touch → steps' ≡ steps ++ record { seat = seat; step = Set fh touch.pairs } ∷ []
-    → values ≡ written plan caches.values (row_given touch.rows) (length plan.clusters)
-    → AreRetold told plan (cluster_changes plan caches.values touch.pairs (row_given touch.rows)) (row_given touch.rows) (length plan.clusters) caches.words words
+    → values ≡ written plan caches.values touch.rows
+    → AreRenewed told plan (cluster_changes plan caches.values touch.pairs touch.rows) (row_given touch.rows) caches.words words
     → IsKept verdicts told plan steps' (record caches { values = values; words = words })
 kept_set verdicts told plan steps steps' caches values words seat fh which list touch kept sets s v retold =
     let many : length caches.values ≡ length plan.controls = ap length kept.values ∙ length_now verdicts plan (past steps) in
-    let judged : AreJudged verdicts plan caches.values touch.pairs touch.pairs touch.rows =
-    subst (λ (v : Values). AreJudged verdicts plan v touch.pairs touch.pairs touch.rows) (sym kept.values) sets.judged in
+    let judged : AreJudged verdicts plan plan.controls caches.values touch.pairs touch.pairs touch.rows =
+    subst (λ (v : Values). AreJudged verdicts plan plan.controls v touch.pairs touch.pairs touch.rows) (sym kept.values) sets.judged in
     let adds : step_of plan (past steps) (asks.SetCtrls fh which None list) ≡ Some (Set fh touch.pairs) = ap (λ (pairs : List Pair). Some (Set fh pairs)) (sym sets.own_pairs) in
     let accepted : IsOk (set_list verdicts plan (past steps) fh which list) = accepted_set (set_list verdicts plan (past steps) fh which list) (Controls touch.answers) sets.accepted in
     kept_add verdicts told plan steps steps' caches (record caches { values = values; words = words }) (record { seat = seat; step = Set fh touch.pairs }) kept (set_room steps sets.room)
     (asks.SetCtrls fh which None list, unrefused (set_list verdicts plan (past steps) fh which list) accepted, adds) s
     kept.file_handles kept.grabs
-    (v ∙ ap (λ (v : Values). written plan v (row_given touch.rows) (length plan.clusters)) kept.values
-    ∙ sym (overlaid_rows verdicts plan (now verdicts plan (past steps)) (grabbed plan (past steps)) touch.pairs touch.rows (length plan.clusters) sets.plans sets.judged sets.free (omega arith)))
-    (subst (λ (v : Values). AreTold told plan v words) (sym v)
-    (told_after told plan caches.values touch.pairs (row_given touch.rows) caches.words words (rows_given verdicts plan caches.values touch.pairs touch.rows sets.plans many judged) kept.words retold))
+    (v ∙ ap (λ (v : Values). written plan v touch.rows) kept.values ∙ sym (laid_written verdicts plan (now verdicts plan (past steps)) (grabbed plan (past steps)) touch.pairs touch.rows sets.plans sets.judged sets.free))
+    (subst (λ (v : Values). HaveWords told plan v words) (laid_written verdicts plan caches.values (grabbed plan (past steps)) touch.pairs touch.rows sets.plans judged sets.free ∙ sym v)
+    (words_after told verdicts plan caches.values (grabbed plan (past steps)) touch.pairs touch.rows caches.words words sets.plans many judged sets.free kept.words retold))

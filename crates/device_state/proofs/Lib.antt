@@ -1,5 +1,4 @@
-pub mod RowLemmas
-pub mod TellLemmas
+pub mod SetLemmas
 pub mod SettingLemmas
 pub mod KeptLemmas
 pub mod HandleLemmas

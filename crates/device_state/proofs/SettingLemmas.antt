@@ -9,6 +9,7 @@ use Rattle.ctrl_types.specs.declared.ids.FhId.{FhId}
 use Rattle.ctrl_types.specs.declared.ids.Pair.{Pair}
 use Rattle.ctrl_types.specs.declared.ids.RequestId.{RequestId}
 use Rattle.ctrl_calls.specs.Meanings.{Verdicts}
+use Rattle.ctrl_settle.specs.Control.{Control}
 use Rattle.ctrl_handlers.specs.Plan.{PlanData, IsPlan}
 use Rattle.ctrl_lists.specs.View.{ViewData, pairs_of}
 use Rattle.ctrl_lists.specs.Touched.{TouchedData, AreJudged, IsTouched}
@@ -46,13 +47,14 @@ settable verdicts plan older fh which list view touch plans read is touching roo
     let free : list_any (λ p. is_grabbed (grabbed plan older) p.control) own ≡ false =
     subst (λ (g : Grabs). list_any (λ p. is_grabbed g p.control) own ≡ false) it.same_grabs (accepted_free verdicts plan view list touch.answers is) in
     let laid : view.asked ++ own ≡ touch.pairs = ap (λ (asked : List Pair). asked ++ own) it.none_asked ∙ sym touching.own_pairs in
-    let first : AreJudged verdicts plan view.values touch.pairs own touch.rows = subst (λ (l : List Pair). AreJudged verdicts plan view.values l own touch.rows) laid touching.judged in
-    let second : AreJudged verdicts plan view.values touch.pairs touch.pairs touch.rows =
-    subst (λ (l : List Pair). AreJudged verdicts plan view.values touch.pairs l touch.rows) (sym touching.own_pairs) first in
+    let first : AreJudged verdicts plan view.controls view.values touch.pairs own touch.rows = subst (λ (l : List Pair). AreJudged verdicts plan view.controls view.values l own touch.rows) laid touching.judged in
+    let second : AreJudged verdicts plan view.controls view.values touch.pairs touch.pairs touch.rows =
+    subst (λ (l : List Pair). AreJudged verdicts plan view.controls view.values touch.pairs l touch.rows) (sym touching.own_pairs) first in
     record {
       plans = plans;
       own_pairs = touching.own_pairs ∙ sym it.same_pairs;
-      judged = subst (λ (v : Values). AreJudged verdicts plan v touch.pairs touch.pairs touch.rows) it.same_values second;
+      judged = subst (λ (v : Values). AreJudged verdicts plan plan.controls v touch.pairs touch.pairs touch.rows) it.same_values
+          (subst (λ (cs : List Control). AreJudged verdicts plan cs view.values touch.pairs touch.pairs touch.rows) it.same_controls second);
       free = subst (λ (l : List Pair). list_any (λ p. is_grabbed (grabbed plan older) p.control) l ≡ false) (sym touching.own_pairs) free;
       room = room;
       accepted = read_as (length list) (list_view verdicts plan older fh which true) _ view read ∙ ap (kept_controls (is_full older) (length list)) is ∙ by (is_full older) room;

@@ -1,5 +1,5 @@
 -- What a device is seen as, and what a call does to it (of this project).
-use Rattle.std.specs.Prelude.{◌≡◌, ℕ, Bool, false, ◌≤◌, [], ◌∷◌, ◌++◌, List, Option, None, Some, IsErr, length, ◌<◌, slice_index}
+use Rattle.std.specs.Prelude.{◌≡◌, ℕ, Bool, false, ◌≤◌, [], ◌∷◌, ◌++◌, List, Option, None, Some, IsErr, IsOk, length, ◌<◌, slice_index}
 use Rattle.std.specs.List.{list_any}
 use Rattle.history.specs.Past.{past, entered}
 use Rattle.ctrl_calls.specs.declared.work.Work.{Work}
@@ -8,11 +8,12 @@ use Rattle.device_history.specs.declared.ask.Ask.TheVariants as asks
 use Rattle.device_history.specs.declared.ask.Step.{Step}
 use Rattle.ctrl_handlers.specs.Plan.{PlanData, members}
 use Rattle.ctrl_calls.specs.Meanings.{Verdicts}
-use Rattle.ctrl_lists.specs.Touched.{touched}
+use Rattle.ctrl_clusters.specs.Notified.{notified_count}
+use Rattle.ctrl_lists.specs.Touched.{touched, judged_count, with_calls}
 use Rattle.device_history.specs.Steps.{History, Past}
 use Rattle.device_history.specs.Grabs.{grabbed}
 use Rattle.device_history.specs.Values.{now, now_after}
-use Rattle.device_history.specs.Words.{changes, told_count}
+use Rattle.device_history.specs.Words.{changes}
 use Rattle.device_history.specs.Refusals.{Answer}
 use Rattle.device_history.specs.Answers.{MayAnswer, taken}
 use Rattle.device_history.specs.Lists.{list_pairs}
@@ -40,6 +41,12 @@ may_ask plan past (asks.SetCtrls fh which request list) = length (touched plan (
 may_ask plan past (asks.TryCtrls fh which request list) = length (touched plan (list_pairs plan past fh which list))
 may_ask plan past _ = 0
 
+-- how many it asks where it is accepted: the clusters with a validator among them
+abbrev pub must_ask : PlanData → Past → Ask → ℕ
+must_ask plan past (asks.SetCtrls fh which request list) = judged_count plan (touched plan (list_pairs plan past fh which list))
+must_ask plan past (asks.TryCtrls fh which request list) = judged_count plan (touched plan (list_pairs plan past fh which list))
+must_ask plan past _ = 0
+
 -- What a call at a seat does: the answer is one that the ask may get, and the steps grow by the one that it takes, or by none.
 -- Each cluster with a changed member is told once, and the word of every other stays. Only a set and a try may ask validators.
 pub record Handles (verdicts : Verdicts) (old new : DeviceData) (seat : ℕ) (ask : Ask) (answer : Answer) : Type 0 where
@@ -51,5 +58,6 @@ pub record Handles (verdicts : Verdicts) (old new : DeviceData) (seat : ℕ) (as
   pub words : (k : ℕ) → k < length old.plan.clusters
       → list_any (step_changes verdicts old.plan (past old.steps) (taken old.plan (past old.steps) ask answer)) (members old.plan k) ≡ false
       → slice_index new.words k ≡ slice_index old.words k
-  pub told : new.work.told ≡ told_count old.plan (step_changes verdicts old.plan (past old.steps) (taken old.plan (past old.steps) ask answer))
+  pub told : new.work.told ≡ notified_count old.plan (λ k. list_any (step_changes verdicts old.plan (past old.steps) (taken old.plan (past old.steps) ask answer)) (members old.plan k))
   pub asked : new.work.asked ≤ may_ask old.plan (past old.steps) ask
+  pub asked_all : IsOk answer → with_calls (must_ask old.plan (past old.steps) ask) 0 ≤ new.work.asked

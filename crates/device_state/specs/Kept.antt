@@ -9,7 +9,7 @@ use Rattle.device_history.specs.Steps.{History}
 use Rattle.device_history.specs.Handles.{opened}
 use Rattle.device_history.specs.Grabs.{grabbed}
 use Rattle.device_history.specs.Values.{now}
-use Rattle.device_history.specs.Words.{AreTold}
+use Rattle.ctrl_clusters.specs.Notified.{HaveWords}
 use Rattle.device_history.specs.Legal.{IsLegal}
 
 -- what a device keeps beside its plan and its steps
@@ -29,4 +29,4 @@ pub record IsKept (verdicts : Verdicts) (told : Words) (plan : PlanData) (steps 
   pub file_handles : caches.file_handles ≡ opened (past steps)
   pub grabs : caches.grabs ≡ grabbed plan (past steps)
   pub values : caches.values ≡ now verdicts plan (past steps)
-  pub words : AreTold told plan caches.values caches.words
+  pub words : HaveWords told plan caches.values caches.words

@@ -21,7 +21,6 @@ pub use Rattle.device_history.specs.Steps
 pub use Rattle.device_history.specs.Refusals
 pub use Rattle.device_history.specs.Handles
 pub use Rattle.device_history.specs.Grabs
-pub use Rattle.device_history.specs.Overlay
 pub use Rattle.device_history.specs.Values
 pub use Rattle.device_history.specs.Flags
 pub use Rattle.device_history.specs.Words
@@ -29,7 +28,6 @@ pub use Rattle.device_history.specs.Lists
 pub use Rattle.device_history.specs.Queries
 pub use Rattle.device_history.specs.Answers
 pub use Rattle.device_history.specs.Legal
-pub use Rattle.device_history.specs.Written
 pub mod Device
 pub mod Setting
 pub mod Kept

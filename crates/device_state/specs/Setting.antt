@@ -1,5 +1,5 @@
 -- What an accepted list makes of the values, the words and the counts, one cluster after another (of this project).
-use Rattle.std.specs.Prelude.{◌≡◌, ℕ, false, ◌<◌, ◌^◌, ◌++◌, List, [], ◌∷◌, length, Ok}
+use Rattle.std.specs.Prelude.{◌≡◌, ℕ, false, ◌++◌, List, [], ◌∷◌, length, Ok}
 use Rattle.std.specs.List.{list_any}
 use Rattle.history.specs.Past.{past}
 use Rattle.ctrl_types.specs.declared.ids.ExtControl.{ExtControl}
@@ -16,14 +16,16 @@ use Rattle.device_history.specs.Values.{now}
 use Rattle.device_history.specs.Refusals.{is_full}
 use Rattle.device_history.specs.Lists.{list_pairs, set_list}
 use Rattle.device_state.specs.Device.{DeviceData}
-use Rattle.device_history.specs.Written.{row_given, cluster_changes, told_below, AreRetold}
+use Rattle.ctrl_clusters.specs.NewRows.{row_given}
+use Rattle.ctrl_clusters.specs.Changes.{cluster_changes}
+use Rattle.ctrl_clusters.specs.Notified.{AreRenewed, notified_count}
 
 -- A list that is set: its pairs touch clusters that get rows, no control of it is grabbed, it is answered so, and one more step is
 -- kept.
 pub record IsSettable (verdicts : Verdicts) (plan : PlanData) (older : Past) (fh : FhId) (which : ℕ) (list : List ExtControl) (touch : TouchedData) : Type 0 where
   pub plans : IsPlan plan
   pub own_pairs : touch.pairs ≡ list_pairs plan older fh which list
-  pub judged : AreJudged verdicts plan (now verdicts plan older) touch.pairs touch.pairs touch.rows
+  pub judged : AreJudged verdicts plan plan.controls (now verdicts plan older) touch.pairs touch.pairs touch.rows
   pub free : list_any (λ p. is_grabbed (grabbed plan older) p.control) touch.pairs ≡ false
   pub room : is_full older ≡ false
   pub accepted : set_list verdicts plan older fh which list ≡ Ok (Controls touch.answers)
@@ -31,7 +33,6 @@ pub record IsSettable (verdicts : Verdicts) (plan : PlanData) (older : Past) (fh
 -- What setting it does: it adds its step, and each cluster is told its row where the row changes a member.
 pub record SetsAll (verdicts : Verdicts) (told : Words) (old new : DeviceData) (seat : ℕ) (fh : FhId) (touch : TouchedData) : Type 0 where
   pub plan : new.plan ≡ old.plan
-  pub few : length old.plan.clusters < 2 ^ 32
   pub steps : new.steps ≡ old.steps ++ record { seat = seat; step = Set fh touch.pairs } ∷ []
-  pub words : AreRetold told old.plan (cluster_changes old.plan (now verdicts old.plan (past old.steps)) touch.pairs (row_given touch.rows)) (row_given touch.rows) (length old.plan.clusters) old.words new.words
-  pub work : new.work ≡ record old.work { told = told_below old.plan (cluster_changes old.plan (now verdicts old.plan (past old.steps)) touch.pairs (row_given touch.rows)) (length old.plan.clusters) old.work.told }
+  pub words : AreRenewed told old.plan (cluster_changes old.plan (now verdicts old.plan (past old.steps)) touch.pairs touch.rows) (row_given touch.rows) old.words new.words
+  pub work : new.work ≡ record old.work { told = notified_count old.plan (cluster_changes old.plan (now verdicts old.plan (past old.steps)) touch.pairs touch.rows) }

@@ -9,7 +9,7 @@ ghost use Rattle.device_history.specs.Grabs.{grabbed, grab_answer};
 ghost use Rattle.device_history.specs.Flags.{flags_now};
 ghost use Rattle.device_history.specs.Handles.{handler_of, shown, are_all_open, open_answer, close_answer};
 ghost use Rattle.device_history.specs.Values.{defaults, now};
-ghost use Rattle.device_history.specs.Words.{AreTold};
+ghost use Rattle.ctrl_clusters.specs.Notified.{HaveWords};
 ghost use Rattle.device_history.specs.Refusals.{refused, is_full};
 ghost use Rattle.device_history.specs.Queries.{query_answer, next_answer, told_answer};
 ghost use Rattle.device_history.specs.Answers.{MayAnswer};
@@ -18,11 +18,9 @@ ghost use Rattle.device_state.specs.Device.{Handles, with_step};
 
 mod lists;
 
-use crate::change::first_words;
 use crate::start::{first_values, no_grabs};
-use bitflags::Flags as FlagSet;
 use ctrl_calls::{Driver, Work};
-use ctrl_clusters::inactive;
+use ctrl_clusters::{first_words, flags_under};
 use ctrl_handlers::Plan;
 use ctrl_types::{CtrlId, Errno, Fault, FhId, Flags};
 use device_history::{Ask, CtrlInfo, MAX_FILE_HANDLES, MAX_STEPS, Reply, Step};
@@ -85,7 +83,7 @@ impl<D: Driver> Device<D> {
     ///
     /// Refused with ENOMEM (12) where a growth was refused. The plan is handed back as it was then, and nobody was told.
     pub fn new(alloc: Global, plan: Plan<D>) -> Result<Device<D>, (Plan<D>, Errno)>
-        ensures ok { IfOk result (λ d. (d.plan ≡ plan) × (d.steps ≡ []) × AreTold D.told plan (defaults plan) d.words × (d.work ≡ record { asked = 0; told = 0 })) }
+        ensures ok { IfOk result (λ d. (d.plan ≡ plan) × (d.steps ≡ []) × HaveWords D.told plan (defaults plan) d.words × (d.work ≡ record { asked = 0; told = 0 })) }
         ensures err { IfErr result (λ e. (e.0 ≡ plan) × (e.1 ≡ ENOMEM)) }
     {
         let Ok(values) = first_values(alloc, &plan) else {
@@ -122,7 +120,7 @@ impl<D: Driver> Device<D> {
         ensures steps { result.now ≡ self.now.steps }
         ensures legal { IsLegal D.verdict self.now.plan (past self.now.steps) }
         ensures few { length self.now.steps ≤ MAX_STEPS }
-        ensures told { AreTold D.told self.now.plan (now D.verdict self.now.plan (past self.now.steps)) self.now.words }
+        ensures told { HaveWords D.told self.now.plan (now D.verdict self.now.plan (past self.now.steps)) self.now.words }
     {
         self.steps.as_slice()
     }
@@ -146,14 +144,7 @@ impl<D: Driver> Device<D> {
         requires { control < length self.now.plan.controls }
         ensures { result ≡ flags_now D.verdict self.now.plan (past self.now.steps) control }
     {
-        let mut flags = self.plan.flags(control);
-        if self.is_grabbed(control) {
-            flags = flags.union(Flags::GRABBED);
-        }
-        if inactive(&self.plan, self.values(), control) {
-            flags = flags.union(Flags::INACTIVE);
-        }
-        flags
+        flags_under(&self.plan, self.values(), self.grabs(), control)
     }
 
     /// Whether a control is grabbed, for a driver's own use (Linux driver API, `v4l2_ctrl_grab`): its last accepted grab holds
@@ -210,7 +201,7 @@ impl<D: Driver> Device<D> {
     /// and with ENOMEM where a growth was refused. Neither changes anything but the counts of `work`.
     pub fn handle(&mut self, seat: u32, ask: &Ask) -> Result<Reply, Fault>
         ensures handles { Handles D.verdict self.old self.new seat ask.now result }
-        ensures told { AreTold D.told self.new.plan (now D.verdict self.new.plan (past self.new.steps)) self.new.words }
+        ensures told { HaveWords D.told self.new.plan (now D.verdict self.new.plan (past self.new.steps)) self.new.words }
     {
         let answer = self.answer(seat, ask);
         // the words are such as were told, as the contract of `steps` says

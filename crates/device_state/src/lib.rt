@@ -1,10 +1,8 @@
 //! The device: its plan, its present state, and the history of the steps that it accepted.
 #![tactic(auto)]
 
-mod change;
 mod device;
 pub mod laws;
-mod row;
 mod serve;
 mod start;
 

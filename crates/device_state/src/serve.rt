@@ -10,7 +10,7 @@ impl<D: Driver> Served for Device<D> {
     ghost use Rattle.history.specs.Past.{past};
     ghost use Rattle.device_history.specs.Answers.{MayAnswer, taken as step_taken};
     ghost use Rattle.device_history.specs.Legal.{IsLegal, IsLegal-start};
-    ghost use Rattle.device_history.specs.Words.{AreTold};
+    ghost use Rattle.ctrl_clusters.specs.Notified.{HaveWords};
     ghost use Rattle.device_history.specs.Values.{now};
 
     type Plan = Plan<D>;
@@ -27,7 +27,7 @@ impl<D: Driver> Served for Device<D> {
 
     ghost is_legal = { λ plan steps. IsLegal D.verdict plan (past steps) };
 
-    ghost answers = { λ plan steps ask answer. (words : List ℕ) × AreTold D.told plan (now D.verdict plan (past steps)) words × MayAnswer D.verdict plan (past steps) words ask answer };
+    ghost answers = { λ plan steps ask answer. (words : List ℕ) × HaveWords D.told plan (now D.verdict plan (past steps)) words × MayAnswer D.verdict plan (past steps) words ask answer };
 
     ghost taken = { λ plan steps ask answer. step_taken plan (past steps) ask answer };
 

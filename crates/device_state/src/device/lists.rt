@@ -4,19 +4,19 @@ ghost use Rattle.std.specs.Prelude.{◌≡◌, ◌≢◌, ◌≤◌, ◌+◌, �
 ghost use Rattle.history.specs.Past.{past};
 ghost use Rattle.ctrl_types.specs.declared.ids.RequestId.{RequestId as RequestIdOf};
 ghost use Rattle.ctrl_types.specs.declared.which.Which.TheVariants.{Defaults};
-ghost use Rattle.ctrl_lists.specs.Touched.{touched};
+ghost use Rattle.ctrl_clusters.specs.Rows.{AreControlsOf};
+ghost use Rattle.ctrl_lists.specs.Touched.{touched, judged_count, with_calls};
 ghost use Rattle.device_history.specs.declared.ask.Ask.TheVariants as asks;
 ghost use Rattle.device_history.specs.Values.{now};
-ghost use Rattle.device_history.specs.Words.{AreTold};
+ghost use Rattle.ctrl_clusters.specs.Notified.{HaveWords};
 ghost use Rattle.device_history.specs.Lists.{is_refused, list_pairs, list_view};
 ghost use Rattle.device_history.specs.Answers.{MayAnswer};
 ghost use Rattle.device_state.specs.Device.{Handles};
 ghost use Rattle.device_state.specs.Setting.{IsSettable, SetsAll};
 
 use super::Device;
-use crate::change::tell_changes;
-use crate::row::write_rows;
 use ctrl_calls::{Driver, Work};
+use ctrl_clusters::{notify_changed, write_rows};
 use ctrl_lists::{ControlList, Touched, View, plan_set, read_list, try_list};
 use ctrl_types::{Errno, Fault, FhId, RequestId, Which};
 use device_history::{PairList, Reply, Step};
@@ -87,7 +87,7 @@ impl<D: Driver> Device<D> {
         list: &ControlList,
     ) -> Result<Reply, Fault>
         ensures handles { Handles D.verdict self.old self.new seat (asks.SetCtrls fh which request list.now) result }
-        ensures told { AreTold D.told self.new.plan (now D.verdict self.new.plan (past self.new.steps)) self.new.words }
+        ensures told { HaveWords D.told self.new.plan (now D.verdict self.new.plan (past self.new.steps)) self.new.words }
     {
         let answer = self.set_list(seat, fh, which, list);
         // the words are such as were told, as the contract of `steps` says
@@ -125,6 +125,7 @@ impl<D: Driver> Device<D> {
     fn view(&self, fh: FhId, which: u32, writes: bool) -> Result<View<'_>, Errno>
         ensures view { result ≡ list_view D.verdict self.now.plan (past self.now.steps) fh which writes }
         ensures which { IfOk result (λ view. writes ≡ true → view.which ≢ Defaults) }
+        ensures controls { IfOk result (λ view. AreControlsOf self.now.plan view.controls) }
         ensures values { IfOk result (λ view. length view.values ≡ length self.now.plan.controls) }
         ensures grabs { IfOk result (λ view. length view.grabs ≡ length self.now.plan.controls) }
     {
@@ -135,7 +136,14 @@ impl<D: Driver> Device<D> {
         if is_refused(writes, which) {
             return Err(Errno::EINVAL);
         }
-        Ok(View::new(handler, which, self.values(), self.grabs(), &[]))
+        Ok(View::new(
+            handler,
+            which,
+            self.plan.controls(),
+            self.values(),
+            self.grabs(),
+            &[],
+        ))
     }
 
     // Gets the controls of a list.
@@ -161,7 +169,8 @@ impl<D: Driver> Device<D> {
         work: &mut Work,
     ) -> Result<Reply, Fault>
         ensures answers { (request : Option RequestIdOf) → MayAnswer D.verdict self.now.plan (past self.now.steps) self.now.words (asks.TryCtrls fh which request list.now) result }
-        ensures asked { work.new.asked ≤ work.old.asked + length (touched self.now.plan (list_pairs self.now.plan (past self.now.steps) fh which list.now)) }
+        ensures at_most { work.new.asked ≤ work.old.asked + length (touched self.now.plan (list_pairs self.now.plan (past self.now.steps) fh which list.now)) }
+        ensures asked { OnOk result (work.new.asked ≡ with_calls (judged_count self.now.plan (touched self.now.plan (list_pairs self.now.plan (past self.now.steps) fh which list.now))) work.old.asked) }
         ensures told { work.new.told ≡ work.old.told }
     {
         let view = match self.view(fh, which, true) {
@@ -207,7 +216,8 @@ impl<D: Driver> Device<D> {
     ) -> Result<Touched, Fault>
         ensures ok { IfOk result (λ touch. IsSettable D.verdict self.now.plan (past self.now.steps) fh which list.now touch) }
         ensures err { IfErr result (λ fault. (request : Option RequestIdOf) → MayAnswer D.verdict self.now.plan (past self.now.steps) self.now.words (asks.SetCtrls fh which request list.now) (Err fault)) }
-        ensures asked { work.new.asked ≤ work.old.asked + length (touched self.now.plan (list_pairs self.now.plan (past self.now.steps) fh which list.now)) }
+        ensures at_most { work.new.asked ≤ work.old.asked + length (touched self.now.plan (list_pairs self.now.plan (past self.now.steps) fh which list.now)) }
+        ensures asked { OnOk result (work.new.asked ≡ with_calls (judged_count self.now.plan (touched self.now.plan (list_pairs self.now.plan (past self.now.steps) fh which list.now))) work.old.asked) }
         ensures told { work.new.told ≡ work.old.told }
     {
         let view = match self.view(fh, which, true) {
@@ -232,20 +242,22 @@ impl<D: Driver> Device<D> {
         list: &ControlList,
         touch: Touched,
     ) -> Result<ControlList, AllocError>
-        requires { IsSettable D.verdict self.old.plan (past self.old.steps) fh which list.now touch }
+        requires settable { IsSettable D.verdict self.old.plan (past self.old.steps) fh which list.now touch }
+        requires fresh { self.old.work.told ≡ 0 }
         ensures answers { IfOk result (λ controls. controls ≡ touch.answers) }
         ensures ok { OnOk result (SetsAll D.verdict D.told self.old self.new seat fh touch) }
         ensures err { OnErr result (self.new ≡ self.old) }
     {
         self.steps.reserve(1)?;
-        tell_changes(
+        notify_changed(
             &self.plan,
             self.values.as_slice(),
-            &touch,
+            touch.pairs(),
+            touch.rows(),
             &mut self.words,
             &mut self.work,
         );
-        write_rows(&self.plan, &mut self.values, &touch);
+        write_rows(&self.plan, &mut self.values, touch.rows());
         let (controls, pairs) = touch.into_parts();
         self.steps.push_reserved(Entry {
             seat,

@@ -9,13 +9,13 @@ use Rattle.device_history.proofs.PresentLemmas.{length_now}
 use Rattle.device_state.proofs.device.Device.accept_list.Goals as goal
 
 -- there is a value for each control
-pub tell_changes-requires-clause-values : goal.tell_changes-requires-clause-values
-tell_changes-requires-clause-values g c =
+pub notify_changed-requires-clause-values : goal.notify_changed-requires-clause-values
+notify_changed-requires-clause-values g c =
     let device = c.self.inside in
     ap length c.as_slice.ensures.value ∙ ap length c.self.invariant.values ∙ length_now g.D.Validates.verdict device.plan (past device.steps.items)
 
-pub write_rows-requires-clause-many : goal.write_rows-requires-clause-many
-write_rows-requires-clause-many g c =
+pub write_rows-requires-clause-values : goal.write_rows-requires-clause-values
+write_rows-requires-clause-values g c =
     let device = c.self.inside in
     ap length c.self.invariant.values ∙ length_now g.D.Validates.verdict device.plan (past device.steps.items)
 
@@ -24,8 +24,8 @@ pub invariant_of-self-2 : goal.invariant_of-self-2
 invariant_of-self-2 g c =
     let device = c.self.inside in
     let with : List Pair → Entry Step = λ pairs. record { seat = c.args.seat; step = Set c.args.fh pairs } in
-    kept_set g.D.Validates.verdict g.D.Notifies.told device.plan device.steps.items _ _ _ _ c.args.seat c.args.fh c.args.which c.args.list.now c.args.touch c.self.invariant (rw (← c.self.view_is) at c.requires)
+    kept_set g.D.Validates.verdict g.D.Notifies.told device.plan device.steps.items _ _ _ _ c.args.seat c.args.fh c.args.which c.args.list.now c.args.touch c.self.invariant (rw (← c.self.view_is) at c.requires.settable)
     (c.push_reserved.ensures.items
     ∙ ap (λ (s : List (Entry Step)). s ++ with c.from_vec.result ∷ []) c.reserve.ensures.items
     ∙ ap (λ (pairs : List Pair). device.steps.items ++ with pairs ∷ []) (c.from_vec.ensures ∙ c.into_parts-controls.ensures.pairs))
-    c.write_rows.ensures (rw c.as_slice.ensures.value at c.tell_changes.ensures.words)
+    c.write_rows.ensures (rw c.as_slice.ensures.value at c.notify_changed.ensures.words)

@@ -1,7 +1,7 @@
 use Rattle.std.proofs.Common.{ap}
 use Rattle.history.specs.Past.{past}
 use Rattle.device_state.specs.Device.{DeviceData}
-use Rattle.device_state.proofs.HandleLemmas.{handles_asked, taken_try}
+use Rattle.device_state.proofs.HandleLemmas.{handles_asked, taken_try, tried_all}
 use Rattle.device_state.proofs.device.Device.try_set.Goals as goal
 
 -- a try adds no step
@@ -9,5 +9,5 @@ pub returns : goal.returns
 returns g c = λ seat.
     let tried = c.try_list-answer in
     handles_asked g.D.Validates.verdict c.args.self.now _ c.new-work.result tried.new.work seat _ _
-    (ap (λ (d : DeviceData). record d { work = tried.new.work }) c.self.view_is) c.new-work.ensures tried.ensures.told tried.ensures.asked
+    (ap (λ (d : DeviceData). record d { work = tried.new.work }) c.self.view_is) c.new-work.ensures tried.ensures.told tried.ensures.at_most (tried_all _ tried.new.work.asked _ c.new-work.result c.new-work.ensures tried.ensures.asked)
     (taken_try c.args.self.now.plan (past c.args.self.now.steps) c.args.fh c.args.which c.args.request c.args.list.now _) (tried.ensures.answers c.args.request)
