@@ -1,3 +1,4 @@
+pub mod GrabLemmas
 pub mod PastLemmas
 pub mod PresentLemmas
 pub mod OverlayLemmas
@@ -5,3 +6,4 @@ pub mod ListLemmas
 pub mod WholeLemmas
 pub mod WordLemmas
 pub mod IndexLemmas
+pub mod LegalLemmas

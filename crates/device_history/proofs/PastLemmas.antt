@@ -18,6 +18,7 @@ use Rattle.device_history.specs.Handles.{opening, ever_opened, closes, is_closed
 use Rattle.device_history.specs.Grabs.{grabbed, grabbed_after}
 use Rattle.device_history.specs.Flags.{flags_under, flags_now}
 use Rattle.device_history.specs.Values.{defaults, now, now_after}
+use Rattle.device_history.proofs.GrabLemmas.{grabbed_start, grabbed_add}
 use Rattle.device_history.specs.Legal.{IsLegal, MayFollow}
 
 -- before the first entry
@@ -38,19 +39,9 @@ pub now_add : (verdicts : Verdicts) (plan : PlanData) (steps : History) (e : Ent
 unfolding now
 now_add verdicts plan steps e = rw (past_add steps e) refl
 
--- the grabs before the first entry, and after one more
-pub grabbed_start : (plan : PlanData) → grabbed plan (past []) ≡ map (λ _. false) plan.controls
-unfolding grabbed
-grabbed_start plan = refl
-
-pub grabbed_add : (plan : PlanData) (steps : History) (e : Entry Step) → grabbed plan (past (steps ++ e ∷ [])) ≡ grabbed_after e.step (grabbed plan (past steps))
-unfolding grabbed
-grabbed_add plan steps e = rw (past_add steps e) refl
-
 -- the flags before the first entry, and after one more
 pub flags_start : (verdicts : Verdicts) (plan : PlanData) (c : ℕ) → flags_now verdicts plan (past []) c ≡ flags_under plan (defaults plan) (map (λ _. false) plan.controls) c
-unfolding now grabbed
-flags_start verdicts plan c = refl
+flags_start verdicts plan c = rw (now_start verdicts plan, grabbed_start plan) refl
 
 pub flags_add : (verdicts : Verdicts) (plan : PlanData) (steps : History) (e : Entry Step) (c : ℕ) → flags_now verdicts plan (past (steps ++ e ∷ [])) c
     ≡ flags_under plan (now_after verdicts plan (grabbed plan (past steps)) e.step (now verdicts plan (past steps))) (grabbed_after e.step (grabbed plan (past steps))) c

@@ -1,6 +1,8 @@
 -- There is a present value, and a grab, for each control.
 use Rattle.std.proofs.Common.{◌≡◌, ℕ, zero, suc, ℤ, Bool, true, false, cond, List, [], ◌∷◌, length, slice_set, Result, Ok, Err, refl, ◌∙◌}
+use Rattle.std.specs.List.{range_with_len}
 use Rattle.std.proofs.lemmas.List.{length-map, length-set}
+use Rattle.std.proofs.lemmas.List.FromFn.{length-range_with_len}
 use Rattle.ctrl_types.specs.declared.errno.Errno.{Errno}
 use Rattle.ctrl_types.specs.declared.ids.Pair.{Pair}
 use Rattle.ctrl_calls.specs.Meanings.{Verdicts}
@@ -9,7 +11,7 @@ use Rattle.device_history.specs.declared.ask.Step.TheVariants.{OpenFh, CloseFh, 
 use Rattle.ctrl_handlers.specs.Plan.{PlanData, members}
 use Rattle.device_history.specs.Steps.{Past}
 use Rattle.ctrl_clusters.specs.Rows.{Grabs, Values}
-use Rattle.device_history.specs.Grabs.{grabbed, grabbed_after}
+use Rattle.device_history.specs.Grabs.{grabbed}
 use Rattle.device_history.specs.Overlay.{is_touched, laid, with_row, with_laid, overlaid}
 use Rattle.device_history.specs.Values.{now, now_after}
 
@@ -48,15 +50,7 @@ unfolding now
 length_now verdicts plan [] = length-map plan.controls _
 length_now verdicts plan (e ∷ older) = length_now_after verdicts plan (grabbed plan older) e.step (now verdicts plan older) ∙ length_now verdicts plan older
 
--- a step leaves as many grabs
-length_grabbed_after : (step : Step) (grabs : Grabs) → length (grabbed_after step grabs) ≡ length grabs
-length_grabbed_after (Grab c on) grabs = length-set grabs c on
-length_grabbed_after (Set fh pairs) grabs = refl
-length_grabbed_after (OpenFh handler) grabs = refl
-length_grabbed_after (CloseFh fh) grabs = refl
-
 -- for each control of the plan it is said whether it is grabbed
 pub length_grabbed : (plan : PlanData) (past : Past) → length (grabbed plan past) ≡ length plan.controls
 unfolding grabbed
-length_grabbed plan [] = length-map plan.controls _
-length_grabbed plan (e ∷ older) = length_grabbed_after e.step (grabbed plan older) ∙ length_grabbed plan older
+length_grabbed plan past = length-map (range_with_len 0 (length plan.controls)) _ ∙ length-range_with_len 0 (length plan.controls)

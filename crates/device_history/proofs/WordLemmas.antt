@@ -1,5 +1,5 @@
 -- Words stay such as clusters may have been told, where those don't change.
-use Rattle.std.proofs.Common.{◌≡◌, ℕ, suc, ℤ, ◌<◌, ◌&&◌, ◌||◌, not, Bool, true, false, List, [], ◌∷◌, length, refl, sym, ap, ◌∙◌, arith, ◌++◌}
+use Rattle.std.proofs.Common.{◌≡◌, ℕ, suc, ℤ, ◌&&◌, ◌||◌, not, Bool, true, false, List, [], ◌∷◌, length, refl, sym, ap, ◌∙◌, arith, ◌++◌}
 use Rattle.std.specs.List.{list_any}
 use Rattle.std.specs.Ordering.{int_eq}
 use Rattle.std.proofs.lemmas.Bool.Decides.{Decides-int_eq}
@@ -10,7 +10,7 @@ use Rattle.ctrl_types.specs.declared.ids.FhId.{FhId}
 use Rattle.ctrl_types.specs.declared.ids.Pair.{Pair}
 use Rattle.device_history.specs.declared.ask.Step.{Step}
 use Rattle.device_history.specs.declared.ask.Step.TheVariants.{OpenFh, CloseFh, Set, Grab}
-use Rattle.ctrl_handlers.specs.Plan.{PlanData, control, members}
+use Rattle.ctrl_handlers.specs.Plan.{PlanData, calls_of, control, members}
 use Rattle.device_history.specs.Grabs.{grabbed}
 use Rattle.device_history.specs.Overlay.{is_asked, overlay}
 use Rattle.ctrl_clusters.specs.Rows.{Values, value_at, row_of}
@@ -18,7 +18,7 @@ use Rattle.device_history.specs.Values.{now, now_after}
 use Rattle.device_history.specs.Steps.{History}
 use Rattle.history.specs.declared.entry.Entry.{Entry}
 use Rattle.history.specs.Past.{past}
-use Rattle.device_history.specs.Words.{AreTold, is_changed, row_changes, changes}
+use Rattle.device_history.specs.Words.{MayBeTold, is_changed, row_changes, changes}
 use Rattle.ctrl_handlers.proofs.ClusterLemmas.{or_false, or_false_right}
 use Rattle.device_history.proofs.PastLemmas.{now_add}
 
@@ -62,14 +62,9 @@ row_stays verdicts plan steps (Set fh pairs) cs h =
     long [] = refl
     long (c ∷ cs) = ap suc (long cs)
 
--- words stay such as may have been told, as long as no cluster changes
-pub told_unchanged : (told : Words) (verdicts : Verdicts) (plan : PlanData) (steps : History) (e : Entry Step) (words : List ℕ) → AreTold told plan (now verdicts plan (past steps)) words
-    → ((k : ℕ) → k < length plan.clusters
-    → list_any (changes plan (now verdicts plan (past steps)) (now_after verdicts plan (grabbed plan (past steps)) e.step (now verdicts plan (past steps))) e.step) (members plan k) ≡ false)
-    → AreTold told plan (now verdicts plan (past (steps ++ e ∷ []))) words
-told_unchanged told verdicts plan steps e words are same =
-    rw (now_add verdicts plan steps e)
-    (record {
-      each = are.each;
-      allowed = λ k lt. rw (row_stays verdicts plan steps e.step (members plan k) (same k lt)) (are.allowed k lt);
-    })
+-- a cluster of which no member changes keeps a word that it may have been told
+pub word_stays : (told : Words) (verdicts : Verdicts) (plan : PlanData) (steps : History) (e : Entry Step) (k word : ℕ)
+    → list_any (changes plan (now verdicts plan (past steps)) (now_after verdicts plan (grabbed plan (past steps)) e.step (now verdicts plan (past steps))) e.step) (members plan k) ≡ false
+    → MayBeTold told (calls_of plan k).notifier (row_of (now verdicts plan (past steps)) (members plan k)) word
+    → MayBeTold told (calls_of plan k).notifier (row_of (now verdicts plan (past (steps ++ e ∷ []))) (members plan k)) word
+word_stays told verdicts plan steps e k word same may = rw (now_add verdicts plan steps e, row_stays verdicts plan steps e.step (members plan k) same) may

@@ -1,7 +1,8 @@
 -- What each ask is answered after a history, and the step that it adds (of this project; the rules stand with each family of asks).
-use Rattle.std.specs.Prelude.{◌≡◌, ℕ, Bool, true, false, List, length, Option, None, Some, is_some, Ok, Err, IsOk, ◌⊎◌}
+use Rattle.std.specs.Prelude.{◌≡◌, ℕ, Bool, true, false, List, [], length, Option, None, Some, is_some, Ok, Err, IsOk, ◌⊎◌}
 use Rattle.std.specs.Option.{option_map}
 use Rattle.ctrl_types.specs.declared.errno.Errno.TheVariants.{ENOMEM}
+use Rattle.ctrl_types.specs.declared.errno.Fault.{Fault}
 use Rattle.ctrl_types.specs.declared.ids.ExtControl.{ExtControl}
 use Rattle.device_history.specs.declared.ask.Ask.{Ask}
 use Rattle.device_history.specs.declared.ask.Ask.TheVariants as asks
@@ -10,7 +11,7 @@ use Rattle.device_history.specs.declared.ask.Step.TheVariants as steps
 use Rattle.ctrl_handlers.specs.Plan.{PlanData}
 use Rattle.ctrl_calls.specs.Meanings.{Verdicts}
 use Rattle.device_history.specs.Steps.{Past}
-use Rattle.device_history.specs.Refusals.{Answer}
+use Rattle.device_history.specs.Refusals.{Answer, fault_of}
 use Rattle.device_history.specs.Handles.{open_answer, close_answer}
 use Rattle.device_history.specs.Grabs.{grab_answer}
 use Rattle.device_history.specs.Lists.{get_list, set_list, try_list, list_view, list_pairs, MayLackList, MayLackSet}
@@ -28,6 +29,11 @@ answer_of verdicts plan past words (asks.Query fh id) = query_answer verdicts pl
 answer_of verdicts plan past words (asks.NextId fh id) = next_answer plan past fh id
 answer_of verdicts plan past words (asks.MenuItem fh id index) = item_answer plan past fh id index
 answer_of verdicts plan past words (asks.Told cluster) = told_answer plan words cluster
+
+-- Why an ask is refused where memory suffices; none where nothing refuses it. As the law `refusals` says, the words that were told
+-- don't matter to it.
+abbrev pub refusal : Verdicts → PlanData → Past → Ask → Option Fault
+refusal verdicts plan past ask = fault_of (answer_of verdicts plan past [] ask)
 
 -- ENOMEM may take the place of an accepted opening, close or grab and of an item of a menu; for a list with entries, and not too
 -- many, that of every answer after the checks of the file handle and of `which`; and that of every accepted set.

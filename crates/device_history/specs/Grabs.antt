@@ -1,6 +1,8 @@
 -- Grabs: which controls are grabbed after a history, and what grabbing is answered (Linux driver API, "V4L2 Controls",
 -- `v4l2_ctrl_grab`).
-use Rattle.std.specs.Prelude.{ℕ, false, nat_le, map, slice_set, if◌then◌else◌, [], ◌∷◌, length, Ok}
+use Rattle.std.specs.Prelude.{ℕ, Bool, false, nat_eq, nat_le, map, slice_set, if◌then◌else◌, List, length, Option, None, Some, unwrap_or, Ok}
+use Rattle.std.specs.List.{filter_map, range_with_len}
+use Rattle.std.specs.Map.{lookup}
 use Rattle.ctrl_types.specs.declared.errno.Errno.TheVariants.{EINVAL, ENOSPC}
 use Rattle.ctrl_clusters.specs.Rows.{Grabs}
 use Rattle.device_history.specs.declared.ask.Reply.TheVariants.{Done}
@@ -10,15 +12,27 @@ use Rattle.device_history.specs.declared.ask.Step.TheVariants.{Grab}
 use Rattle.ctrl_handlers.specs.Plan.{PlanData}
 use Rattle.device_history.specs.Steps.{Past}
 
--- a grab holds one control, or lets it go
+-- the control that a step grabs or lets go, and whether it grabs it
+abbrev pub grab_made : Step → Option (ℕ × Bool)
+grab_made (Grab c on) = Some (c, on)
+grab_made _ = None
+
+-- the grabs of a history, newest first
+unfoldable pub grabs_made : Past → List (ℕ × Bool)
+grabs_made past = filter_map (λ e. grab_made e.step) past
+
+-- the last grab of a control holds it
+abbrev pub holds : Past → ℕ → Bool
+holds past c = unwrap_or (lookup (nat_eq c) (grabs_made past)) false
+
+-- For each control of the plan, whether its last grab holds it.
+unfoldable pub grabbed : PlanData → Past → Grabs
+grabbed plan past = map (holds past) (range_with_len 0 (length plan.controls))
+
+-- what a step makes of the grabs, as the law `grabbed_controls` says: a grab holds one control, or lets it go
 abbrev pub grabbed_after : Step → Grabs → Grabs
 grabbed_after (Grab c on) grabs = slice_set grabs c on
 grabbed_after _ grabs = grabs
-
--- The controls whose last grab holds them; at first there is none.
-unfoldable pub grabbed : PlanData → Past → Grabs
-grabbed plan [] = map (λ _. false) plan.controls
-grabbed plan (e ∷ older) = grabbed_after e.step (grabbed plan older)
 
 -- Grabbing a control, or letting it go: EINVAL where there is no such control; ENOSPC where no further step is kept. Any control
 -- can be grabbed, and a grab that holds already is accepted.

@@ -1,5 +1,5 @@
 -- Answers, and the refusals that asks of each family share (of this project).
-use Rattle.std.specs.Prelude.{ℕ, Bool, nat_le, length, None, Some, Result, Err}
+use Rattle.std.specs.Prelude.{ℕ, Bool, nat_le, length, Option, None, Some, Result, Ok, Err}
 use Rattle.ctrl_types.specs.declared.errno.Errno.{Errno}
 use Rattle.ctrl_types.specs.declared.errno.Fault.{Fault}
 use Rattle.device_history.specs.declared.ask.Reply.{Reply}
@@ -17,6 +17,11 @@ refused errno = Err (record { errno = errno; index = None })
 -- a refusal of a list, with the index that it answers
 abbrev pub refused_at : Errno → ℕ → Answer
 refused_at errno index = Err (record { errno = errno; index = Some index })
+
+-- the fault of an answer, where it is a refusal
+abbrev pub fault_of : Answer → Option Fault
+fault_of (Ok reply) = None
+fault_of (Err fault) = Some fault
 
 -- no further step is kept
 abbrev pub is_full : Past → Bool

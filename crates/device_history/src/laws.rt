@@ -14,19 +14,20 @@ ghost use Rattle.device_history.specs.declared.ask.Ask.{Ask};
 ghost use Rattle.device_history.specs.declared.ask.Reply.TheVariants.{Controls};
 ghost use Rattle.device_history.specs.declared.ask.Step.{Step};
 ghost use Rattle.device_history.specs.declared.ask.Step.TheVariants.{CloseFh};
-ghost use Rattle.ctrl_handlers.specs.Plan.{PlanData, IsPlan, control, members};
+ghost use Rattle.ctrl_handlers.specs.Plan.{PlanData, IsPlan, calls_of, control, members};
 ghost use Rattle.ctrl_clusters.specs.Judging.{becomes};
 ghost use Rattle.ctrl_clusters.specs.Rows.{Grabs, Values, value_at, row_of};
 ghost use Rattle.device_history.specs.Grabs.{grabbed, grabbed_after};
 ghost use Rattle.device_history.specs.Overlay.{is_touched, overlay, row_laid};
 ghost use Rattle.device_history.specs.Flags.{flags_under, flags_now};
 ghost use Rattle.device_history.specs.Steps.{History, Past};
+ghost use Rattle.device_history.specs.Refusals.{fault_of};
 ghost use Rattle.device_history.specs.Handles.{opened, opened_after, handler_of};
 ghost use Rattle.device_history.specs.Values.{defaults, now, now_after};
-ghost use Rattle.device_history.specs.Answers.{MayAnswer, is_list};
+ghost use Rattle.device_history.specs.Answers.{MayAnswer, answer_of, is_list, refusal};
 ghost use Rattle.device_history.specs.Lists.{list_pairs, set_list, values_set};
 ghost use Rattle.device_history.specs.Legal.{IsLegal, MayFollow};
-ghost use Rattle.device_history.specs.Words.{AreTold, changes};
+ghost use Rattle.device_history.specs.Words.{MayBeTold, changes};
 
 use ctrl_calls::Driver;
 
@@ -72,7 +73,7 @@ pub fn whole_sets()
 {}
 
 /// At first no control is grabbed; one more entry makes of the grabs what its step makes of them.
-#[tactic(auto, using(crate::proofs::PastLemmas::grabbed_start, crate::proofs::PastLemmas::grabbed_add))]
+#[tactic(auto, using(crate::proofs::GrabLemmas::grabbed_start, crate::proofs::GrabLemmas::grabbed_add))]
 pub fn grabbed_controls()
     ensures start { (plan : PlanData) → grabbed plan (past []) ≡ map (λ _. false) plan.controls }
     ensures one_more { (plan : PlanData) (steps : History) (e : Entry Step) → grabbed plan (past (steps ++ e ∷ [])) ≡ grabbed_after e.step (grabbed plan (past steps)) }
@@ -87,18 +88,19 @@ pub fn present_flags()
         ≡ flags_under plan (now_after verdicts plan (grabbed plan (past steps)) e.step (now verdicts plan (past steps))) (grabbed_after e.step (grabbed plan (past steps))) c }
 {}
 
-/// The words that a driver's clusters were told stay such as they may have been told, as long as no cluster changes.
+/// A cluster of a driver of which no member changes keeps a word that it may have been told, also where other clusters change.
 pub fn told_words<D: Driver>()
-    ensures { (verdicts : Verdicts) (plan : PlanData) (steps : History) (e : Entry Step) (words : List ℕ) → AreTold D.told plan (now verdicts plan (past steps)) words
-        → ((k : ℕ) → k < length plan.clusters
-        → list_any (changes plan (now verdicts plan (past steps)) (now_after verdicts plan (grabbed plan (past steps)) e.step (now verdicts plan (past steps))) e.step) (members plan k) ≡ false)
-        → AreTold D.told plan (now verdicts plan (past (steps ++ e ∷ []))) words }
+    ensures { (verdicts : Verdicts) (plan : PlanData) (steps : History) (e : Entry Step) (k word : ℕ)
+        → list_any (changes plan (now verdicts plan (past steps)) (now_after verdicts plan (grabbed plan (past steps)) e.step (now verdicts plan (past steps))) e.step) (members plan k) ≡ false
+        → MayBeTold D.told (calls_of plan k).notifier (row_of (now verdicts plan (past steps)) (members plan k)) word
+        → MayBeTold D.told (calls_of plan k).notifier (row_of (now verdicts plan (past (steps ++ e ∷ []))) (members plan k)) word }
 {}
 
-/// A refusal has an index exactly where the ask is one about a list.
-#[tactic(auto, using(crate::proofs::IndexLemmas::index_of_lists))]
+/// A refusal has an index exactly where the ask is one about a list. The words that were told don't matter to it.
+#[tactic(auto, using(crate::proofs::IndexLemmas::index_of_lists, crate::proofs::LegalLemmas::refusal_of))]
 pub fn refusals()
     ensures index { (verdicts : Verdicts) (plan : PlanData) (older : Past) (words : List ℕ) (ask : Ask) (fault : Fault) → MayAnswer verdicts plan older words ask (Err fault) → is_some fault.index ≡ is_list ask }
+    ensures words { (verdicts : Verdicts) (plan : PlanData) (older : Past) (words : List ℕ) (ask : Ask) → fault_of (answer_of verdicts plan older words ask) ≡ refusal verdicts plan older ask }
 {}
 
 /// The empty history is legal; one more entry keeps it so where its step may follow. What a legal history begins with is legal.

@@ -3,3 +3,4 @@ pub mod TellLemmas
 pub mod SettingLemmas
 pub mod KeptLemmas
 pub mod HandleLemmas
+pub mod RunLemmas

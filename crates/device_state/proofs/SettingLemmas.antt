@@ -9,7 +9,7 @@ use Rattle.ctrl_types.specs.declared.ids.FhId.{FhId}
 use Rattle.ctrl_types.specs.declared.ids.Pair.{Pair}
 use Rattle.ctrl_types.specs.declared.ids.RequestId.{RequestId}
 use Rattle.ctrl_calls.specs.Meanings.{Verdicts}
-use Rattle.ctrl_handlers.specs.Plan.{PlanData, IsPlan, control}
+use Rattle.ctrl_handlers.specs.Plan.{PlanData, IsPlan}
 use Rattle.ctrl_lists.specs.View.{ViewData, pairs_of}
 use Rattle.ctrl_lists.specs.Touched.{TouchedData, AreJudged, IsTouched}
 use Rattle.ctrl_lists.specs.Answers.{set_answer}

@@ -33,3 +33,4 @@ pub use Rattle.device_history.specs.Written
 pub mod Device
 pub mod Setting
 pub mod Kept
+pub mod Runs

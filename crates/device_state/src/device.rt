@@ -58,7 +58,7 @@ impl<D: Driver> Model for Device<D> {
 
     ghost view = { λ d. record { plan = d.plan; steps = d.steps.items; words = d.words.items; work = d.work } };
 
-    ghost invariant = { λ d. IsKept D.verdict D.told d.plan d.steps.items d.file_handles.entries d.grabs.items d.values.items d.words.items };
+    ghost invariant = { λ d. IsKept D.verdict D.told d.plan d.steps.items (record { file_handles = d.file_handles.entries; grabs = d.grabs.items; values = d.values.items; words = d.words.items }) };
 }
 
 impl<D: Driver> Drop for Device<D> {
@@ -125,6 +125,57 @@ impl<D: Driver> Device<D> {
         ensures told { AreTold D.told self.now.plan (now D.verdict self.now.plan (past self.now.steps)) self.now.words }
     {
         self.steps.as_slice()
+    }
+
+    /// The present values, for a driver's own use (Linux driver API, "V4L2 Controls", "Getting and Setting Control Values"): one
+    /// for each control, in the order of the plan's numbers. They are what the accepted steps make of the defaults. It takes no
+    /// memory.
+    #[tactic(auto, using(device_history::proofs::PresentLemmas::length_now))]
+    pub fn values(&self) -> &[i64]
+        ensures values { result.now ≡ now D.verdict self.now.plan (past self.now.steps) }
+        ensures long { length result.now ≡ length self.now.plan.controls }
+    {
+        self.values.as_slice()
+    }
+
+    /// The present flags of a control, for a driver's own use (Linux userspace API, "Control Flags"): those of the plan, GRABBED
+    /// where it is grabbed, and INACTIVE where its auto cluster makes it so, as `query` tells them. It takes no memory.
+    ///
+    /// - `control`: the control's number, below the number of the plan's controls.
+    pub fn flags(&self, control: u32) -> Flags
+        requires { control < length self.now.plan.controls }
+        ensures { result ≡ flags_now D.verdict self.now.plan (past self.now.steps) control }
+    {
+        let mut flags = self.plan.flags(control);
+        if self.is_grabbed(control) {
+            flags = flags.union(Flags::GRABBED);
+        }
+        if inactive(&self.plan, self.values(), control) {
+            flags = flags.union(Flags::INACTIVE);
+        }
+        flags
+    }
+
+    /// Whether a control is grabbed, for a driver's own use (Linux driver API, `v4l2_ctrl_grab`): its last accepted grab holds
+    /// it. It takes no memory.
+    ///
+    /// - `control`: the control's number, below the number of the plan's controls.
+    #[tactic(auto, using(device_history::proofs::PresentLemmas::length_grabbed))]
+    pub fn is_grabbed(&self, control: u32) -> bool
+        requires { control < length self.now.plan.controls }
+        ensures { result ≡ is_grabbed (grabbed self.now.plan (past self.now.steps)) control }
+    {
+        self.grabs[control as usize]
+    }
+
+    /// The number of the handler that a file handle is open on, for a driver's own use (of this project); none where it isn't
+    /// open. It takes no memory.
+    ///
+    /// - `fh`: any file handle, open or not.
+    pub fn handler_of(&self, fh: FhId) -> Option<u32>
+        ensures { result ≡ handler_of (past self.now.steps) fh }
+    {
+        self.file_handles.get(&fh.0).copied()
     }
 
     /// How often the last call of `handle` or of a short form asked validators and told notifiers; zeros before the first.
@@ -373,13 +424,6 @@ impl<D: Driver> Device<D> {
         Ok(())
     }
 
-    // The handler of a file handle, if it is open.
-    fn handler_of(&self, fh: FhId) -> Option<u32>
-        ensures { result ≡ handler_of (past self.now.steps) fh }
-    {
-        self.file_handles.get(&fh.0).copied()
-    }
-
     fn are_all_open(&self) -> bool
         ensures { result ≡ are_all_open (past self.now.steps) }
     {
@@ -401,15 +445,6 @@ impl<D: Driver> Device<D> {
         self.plan.find(handler, id).ok()
     }
 
-    // The present values.
-    #[tactic(auto, using(device_history::proofs::PresentLemmas::length_now))]
-    fn present(&self) -> &[i64]
-        ensures values { result.now ≡ now D.verdict self.now.plan (past self.now.steps) }
-        ensures long { length result.now ≡ length self.now.plan.controls }
-    {
-        self.values.as_slice()
-    }
-
     // Whether each control is grabbed.
     #[tactic(auto, using(device_history::proofs::PresentLemmas::length_grabbed))]
     fn grabs(&self) -> &[bool]
@@ -417,30 +452,6 @@ impl<D: Driver> Device<D> {
         ensures long { length result.now ≡ length self.now.plan.controls }
     {
         self.grabs.as_slice()
-    }
-
-    // Whether a control is grabbed.
-    #[tactic(auto, using(device_history::proofs::PresentLemmas::length_grabbed))]
-    fn is_grabbed(&self, number: u32) -> bool
-        requires { number < length self.now.plan.controls }
-        ensures { result ≡ is_grabbed (grabbed self.now.plan (past self.now.steps)) number }
-    {
-        self.grabs[number as usize]
-    }
-
-    // The present flags of a control.
-    fn flags(&self, number: u32) -> Flags
-        requires { number < length self.now.plan.controls }
-        ensures { result ≡ flags_now D.verdict self.now.plan (past self.now.steps) number }
-    {
-        let mut flags = self.plan.flags(number);
-        if self.is_grabbed(number) {
-            flags = flags.union(Flags::GRABBED);
-        }
-        if inactive(&self.plan, self.present(), number) {
-            flags = flags.union(Flags::INACTIVE);
-        }
-        flags
     }
 
     // What the control that is shown to a file handle under an id is like.

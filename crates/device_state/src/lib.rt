@@ -3,6 +3,7 @@
 
 mod change;
 mod device;
+pub mod laws;
 mod row;
 mod serve;
 mod start;

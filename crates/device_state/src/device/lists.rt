@@ -135,7 +135,7 @@ impl<D: Driver> Device<D> {
         if is_refused(writes, which) {
             return Err(Errno::EINVAL);
         }
-        Ok(View::new(handler, which, self.present(), self.grabs(), &[]))
+        Ok(View::new(handler, which, self.values(), self.grabs(), &[]))
     }
 
     // Gets the controls of a list.

@@ -5,7 +5,7 @@ use Rattle.device_history.specs.declared.ask.Step.{Step}
 use Rattle.device_history.specs.declared.ask.Step.TheVariants.{Grab}
 use Rattle.device_history.specs.Grabs.{grab_answer}
 use Rattle.device_state.specs.Device.{DeviceData}
-use Rattle.device_state.proofs.KeptLemmas.{kept_grab, kept_same, grab_known}
+use Rattle.device_state.proofs.KeptLemmas.{kept_grab, grab_known}
 use Rattle.device_history.proofs.PresentLemmas.{length_grabbed}
 use Rattle.device_state.proofs.device.Device.accept_grab.Goals as goal
 
@@ -16,10 +16,9 @@ invariant_of-self-2 g c =
     let entry : Entry Step = record { seat = c.args.seat; step = Grab c.args.control c.args.on } in
     let accepted : IsOk (grab_answer device.plan (past device.steps.items) c.args.control) =
     subst (λ (d : DeviceData). IsOk (grab_answer d.plan (past d.steps) c.args.control)) (sym c.self.view_is) c.requires in
-    kept_same _ _ _ _ _ _ _ _ _ _ _ _ _
+    kept_grab _ _ device.plan device.steps.items _ _ _ c.args.seat c.args.control c.args.on c.self.invariant accepted
     (c.push_reserved.ensures.items ∙ ap (λ (s : List (Entry Step)). s ++ entry ∷ []) c.reserve.ensures.items)
-    refl refl refl refl
-    (kept_grab _ _ device.plan device.steps.items device.file_handles.entries device.grabs.items device.values.items device.words.items c.args.seat c.args.control c.args.on c.self.invariant accepted)
+    refl
 
 -- the control is there
 pub index_mut-requires : goal.index_mut-requires
@@ -27,5 +26,5 @@ index_mut-requires g c =
     let device = c.self.inside in
     let known : c.args.control < length device.plan.controls =
     grab_known device.plan device.steps.items c.args.control (subst (λ (d : DeviceData). IsOk (grab_answer d.plan (past d.steps) c.args.control)) (sym c.self.view_is) c.requires) in
-    let many : length device.grabs.items ≡ length device.plan.controls = ap length c.self.invariant.are_grabbed ∙ length_grabbed device.plan (past device.steps.items) in
+    let many : length device.grabs.items ≡ length device.plan.controls = ap length c.self.invariant.grabs ∙ length_grabbed device.plan (past device.steps.items) in
     omega (arith, known, many, device.grabs.ok.0)

@@ -1,4 +1,4 @@
-use Rattle.std.proofs.Common.{◌≡◌, ℕ, List, [], ◌∷◌, ◌++◌, length, None, IsOk, refl, sym, ap, subst, ◌∙◌, nat_eq, arith}
+use Rattle.std.proofs.Common.{◌≡◌, ℕ, List, [], ◌∷◌, ◌++◌, length, None, IsOk, sym, ap, subst, ◌∙◌, nat_eq, arith}
 use Rattle.std.specs.Map.{lookup}
 use Rattle.history.specs.declared.entry.Entry.{Entry}
 use Rattle.history.specs.Past.{past}
@@ -7,7 +7,7 @@ use Rattle.device_history.specs.declared.ask.Step.{Step}
 use Rattle.device_history.specs.declared.ask.Step.TheVariants.{OpenFh}
 use Rattle.device_history.specs.Handles.{open_answer}
 use Rattle.device_state.specs.Device.{DeviceData}
-use Rattle.device_state.proofs.KeptLemmas.{kept_open, kept_same, kept_fresh}
+use Rattle.device_state.proofs.KeptLemmas.{kept_open, kept_fresh}
 use Rattle.device_state.proofs.device.Device.accept_open.Goals as goal
 
 -- one more file handle is open, whose id is new
@@ -17,12 +17,11 @@ invariant_of-self-2 g c =
     let entry : Entry Step = record { seat = c.args.seat; step = OpenFh c.args.handler } in
     let number : c.len-number.result ≡ length device.steps.items = omega (arith, c.len-number.ensures, device.steps.ok.0) in
     let is_new : lookup (nat_eq c.len-number.result) device.file_handles.entries ≡ None =
-    ap (λ (n : ℕ). lookup (nat_eq n) device.file_handles.entries) number ∙ kept_fresh _ _ device.plan device.steps.items device.file_handles.entries device.grabs.items device.values.items device.words.items c.self.invariant in
+    ap (λ (n : ℕ). lookup (nat_eq n) device.file_handles.entries) number ∙ kept_fresh _ _ device.plan device.steps.items _ c.self.invariant in
     let accepted : IsOk (open_answer device.plan (past device.steps.items) c.args.handler) =
     subst (λ (d : DeviceData). IsOk (open_answer d.plan (past d.steps) c.args.handler)) (sym c.self.view_is) c.requires in
-    kept_same _ _ _ _ _ _ _ _ _ _ _ _ _
+    kept_open _ _ device.plan device.steps.items _ _ _ c.args.seat c.args.handler c.self.invariant accepted
     (c.push_reserved.ensures.items ∙ ap (λ (s : List (Entry Step)). s ++ entry ∷ []) c.reserve.ensures.items)
     (c.in_ok-insert.ensures.entries
     ∙ insert_entry-new nat_eq device.file_handles c.len-number.result c.args.handler is_new
     ∙ ap (λ (n : ℕ). device.file_handles.entries ++ (n, c.args.handler) ∷ []) number)
-    refl refl refl (kept_open _ _ device.plan device.steps.items device.file_handles.entries device.grabs.items device.values.items device.words.items c.args.seat c.args.handler c.self.invariant accepted)

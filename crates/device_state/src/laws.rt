@@ -1,0 +1,20 @@
+//! What calls, one after another, make of a device. Each function is a law that its contract states; none has anything to do.
+
+ghost use Rattle.std.specs.Prelude.{◌≡◌, ◌∷◌, ◌++◌, List, IsErr};
+ghost use Rattle.history.specs.Past.{past};
+ghost use Rattle.ctrl_calls.specs.Meanings.{Verdicts};
+ghost use Rattle.device_history.specs.Legal.{IsLegal};
+ghost use Rattle.device_state.specs.Device.{DeviceData};
+ghost use Rattle.device_state.specs.Runs.{Call, IsRun, entries_of};
+
+/// Calls, each of which does what the contract of `handle` says, keep the plan; the last steps are the first ones, and behind them
+/// exactly the entries of the accepted calls, in their order; a legal history stays legal; and a refused call, wherever it stands,
+/// leaves all but the counts of `work`.
+#[tactic(auto, using(crate::proofs::RunLemmas::run_plan, crate::proofs::RunLemmas::run_steps, crate::proofs::RunLemmas::run_legal, crate::proofs::RunLemmas::run_refused))]
+pub fn whole_runs()
+    ensures plan { (verdicts : Verdicts) (calls : List Call) (first last : DeviceData) → IsRun verdicts first calls last → last.plan ≡ first.plan }
+    ensures steps { (verdicts : Verdicts) (calls : List Call) (first last : DeviceData) → IsRun verdicts first calls last → last.steps ≡ first.steps ++ entries_of first.plan first.steps calls }
+    ensures legal { (verdicts : Verdicts) (calls : List Call) (first last : DeviceData) → IsRun verdicts first calls last → IsLegal verdicts first.plan (past first.steps) → IsLegal verdicts last.plan (past last.steps) }
+    ensures refused { (verdicts : Verdicts) (before behind : List Call) (call : Call) (first last : DeviceData) → IsRun verdicts first (before ++ call ∷ behind) last → IsErr call.answer
+        → (old : DeviceData) × (new : DeviceData) × IsRun verdicts first before old × (new ≡ record old { work = new.work }) × IsRun verdicts new behind last }
+{}
