@@ -3,8 +3,8 @@ use Rattle.std.proofs.Common.{ℕ, [], ◌++◌, refl, append_assoc, ◌∙◌, 
 use Rattle.std.proofs.lemmas.Grind.{common_steps}
 use Rattle.ctrl_calls.specs.Meanings.{Verdicts}
 use Rattle.device_state.specs.Device.{DeviceData, Handles}
-use Rattle.device_state.specs.Answers.{Answer}
-use Rattle.device_state.specs.declared.ask.Ask.{Ask}
+use Rattle.device_history.specs.Refusals.{Answer}
+use Rattle.device_history.specs.declared.ask.Ask.{Ask}
 use Rattle.ctl_script.specs.Run.{GoesOn}
 
 pub still : (d : DeviceData) → GoesOn d d

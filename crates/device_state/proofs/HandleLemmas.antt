@@ -12,22 +12,28 @@ use Rattle.ctrl_types.specs.declared.ids.ExtControl.{ExtControl}
 use Rattle.ctrl_types.specs.declared.ids.FhId.{FhId}
 use Rattle.ctrl_types.specs.declared.ids.Pair.{Pair}
 use Rattle.ctrl_types.specs.declared.ids.RequestId.{RequestId}
-use Rattle.device_state.specs.declared.ask.Ask.{Ask}
-use Rattle.device_state.specs.declared.ask.Ask.TheVariants as asks
-use Rattle.device_state.specs.declared.ask.Reply.{Reply}
-use Rattle.device_state.specs.declared.ask.Reply.TheVariants.{Fh, Done, Controls}
-use Rattle.device_state.specs.declared.ask.Step.TheVariants.{OpenFh, CloseFh, Set, Grab}
+use Rattle.device_history.specs.declared.ask.Ask.{Ask}
+use Rattle.device_history.specs.declared.ask.Ask.TheVariants as asks
+use Rattle.device_history.specs.declared.ask.Reply.{Reply}
+use Rattle.device_history.specs.declared.ask.Reply.TheVariants.{Fh, Done, Controls}
+use Rattle.device_history.specs.declared.ask.Step.TheVariants.{OpenFh, CloseFh, Set, Grab}
 use Rattle.ctrl_handlers.specs.Plan.{PlanData, members}
 use Rattle.ctrl_lists.specs.Touched.{TouchedData, touched}
-use Rattle.device_state.specs.Grabs.{grabbed}
-use Rattle.device_state.specs.Steps.{Past}
-use Rattle.device_state.specs.Values.{Values, now}
-use Rattle.device_state.specs.Told.{changes}
-use Rattle.device_state.specs.Answers.{Answer, open_answer, close_answer, grab_answer, query_answer, next_answer, list_pairs, told_answer, MayAnswer, taken}
+use Rattle.device_history.specs.Grabs.{grabbed, grab_answer}
+use Rattle.device_history.specs.Steps.{Past}
+use Rattle.ctrl_clusters.specs.Rows.{Values}
+use Rattle.device_history.specs.Values.{now}
+use Rattle.device_history.specs.Words.{changes}
+use Rattle.device_history.specs.Refusals.{Answer}
+use Rattle.device_history.specs.Handles.{open_answer, close_answer}
+use Rattle.device_history.specs.Queries.{query_answer, next_answer, told_answer}
+use Rattle.device_history.specs.Lists.{list_pairs}
+use Rattle.device_history.specs.Answers.{MayAnswer, taken}
 use Rattle.device_state.specs.Device.{DeviceData, Handles, may_ask, with_step, step_changes}
-use Rattle.device_state.specs.Setting.{IsSettable, SetsAll, cluster_changes, row_given, told_below}
-use Rattle.device_state.proofs.PresentLemmas.{length_now}
-use Rattle.device_state.proofs.OverlayLemmas.{overlaid_rows, rows_given}
+use Rattle.device_state.specs.Setting.{IsSettable, SetsAll}
+use Rattle.device_history.specs.Written.{cluster_changes, row_given, told_below}
+use Rattle.device_history.proofs.PresentLemmas.{length_now}
+use Rattle.device_history.proofs.OverlayLemmas.{overlaid_rows, rows_given}
 use Rattle.device_state.proofs.TellLemmas.{changes_written, told_none, told_all}
 
 -- no call yet

@@ -10,25 +10,30 @@ use Rattle.ctrl_types.specs.declared.ids.ExtControl.{ExtControl}
 use Rattle.ctrl_types.specs.declared.ids.FhId.{FhId}
 use Rattle.ctrl_types.specs.declared.ids.Pair.{Pair}
 use Rattle.ctrl_calls.specs.Meanings.{Verdicts, Words}
-use Rattle.device_state.specs.declared.limits.TheConstants.{MAX_STEPS}
-use Rattle.device_state.specs.declared.ask.Ask.TheVariants as asks
-use Rattle.device_state.specs.declared.ask.Reply.{Reply}
-use Rattle.device_state.specs.declared.ask.Reply.TheVariants.{Controls}
-use Rattle.device_state.specs.declared.ask.Step.{Step}
-use Rattle.device_state.specs.declared.ask.Step.TheVariants.{OpenFh, CloseFh, Set, Grab}
+use Rattle.device_history.specs.declared.limits.TheConstants.{MAX_STEPS}
+use Rattle.device_history.specs.declared.ask.Ask.TheVariants as asks
+use Rattle.device_history.specs.declared.ask.Reply.{Reply}
+use Rattle.device_history.specs.declared.ask.Reply.TheVariants.{Controls}
+use Rattle.device_history.specs.declared.ask.Step.{Step}
+use Rattle.device_history.specs.declared.ask.Step.TheVariants.{OpenFh, CloseFh, Set, Grab}
 use Rattle.ctrl_handlers.specs.Plan.{PlanData}
 use Rattle.ctrl_lists.specs.Touched.{TouchedData, AreJudged}
-use Rattle.device_state.specs.Steps.{History, opened, ever_opened}
-use Rattle.device_state.specs.Grabs.{Grabs, grabbed}
-use Rattle.device_state.specs.Values.{Values, now, defaults}
-use Rattle.device_state.specs.Told.{AreTold}
-use Rattle.device_state.specs.Answers.{Answer, open_answer, close_answer, grab_answer, is_full, set_list, step_of}
-use Rattle.device_state.specs.Legal.{IsLegal, MayFollow}
+use Rattle.device_history.specs.Steps.{History}
+use Rattle.device_history.specs.Handles.{opened, ever_opened, open_answer, close_answer}
+use Rattle.ctrl_clusters.specs.Rows.{Grabs, Values}
+use Rattle.device_history.specs.Grabs.{grabbed, grab_answer}
+use Rattle.device_history.specs.Values.{now, defaults}
+use Rattle.device_history.specs.Words.{AreTold}
+use Rattle.device_history.specs.Refusals.{Answer, is_full}
+use Rattle.device_history.specs.Lists.{set_list}
+use Rattle.device_history.specs.Answers.{step_of}
+use Rattle.device_history.specs.Legal.{IsLegal, MayFollow}
 use Rattle.device_state.specs.Kept.{IsKept}
-use Rattle.device_state.specs.Setting.{AreRetold, IsSettable, cluster_changes, row_given, written}
-use Rattle.device_state.proofs.PastLemmas.{opened_add, opened_fresh, opened_rising, drops_one, now_add, grabbed_add, legal_add}
-use Rattle.device_state.proofs.PresentLemmas.{length_now}
-use Rattle.device_state.proofs.OverlayLemmas.{overlaid_rows, rows_given}
+use Rattle.device_history.specs.Written.{AreRetold, cluster_changes, row_given, written}
+use Rattle.device_state.specs.Setting.{IsSettable}
+use Rattle.device_history.proofs.PastLemmas.{opened_add, opened_fresh, opened_rising, drops_one, now_add, grabbed_add, legal_add}
+use Rattle.device_history.proofs.PresentLemmas.{length_now}
+use Rattle.device_history.proofs.OverlayLemmas.{overlaid_rows, rows_given}
 use Rattle.device_state.proofs.TellLemmas.{told_after}
 
 -- a device without steps

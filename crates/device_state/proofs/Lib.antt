@@ -1,10 +1,5 @@
-pub mod PastLemmas
-pub mod PresentLemmas
 pub mod RowLemmas
-pub mod OverlayLemmas
 pub mod TellLemmas
+pub mod SettingLemmas
 pub mod KeptLemmas
 pub mod HandleLemmas
-pub mod ListLemmas
-pub mod WholeLemmas
-pub mod IndexLemmas

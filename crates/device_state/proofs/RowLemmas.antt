@@ -7,10 +7,10 @@ use Rattle.ctrl_handlers.specs.Plan.{PlanData, members}
 use Rattle.ctrl_lists.specs.declared.touched.TouchedRow.{TouchedRow}
 use Rattle.ctrl_lists.specs.Touched.{row_among}
 use Rattle.ctrl_lists.proofs.TouchLemmas.{row_met}
-use Rattle.device_state.specs.Overlay.{with_row}
-use Rattle.device_state.specs.Values.{Values, value_at}
-use Rattle.device_state.specs.Told.{is_changed, row_changes}
-use Rattle.device_state.specs.Setting.{row_given}
+use Rattle.device_history.specs.Overlay.{with_row}
+use Rattle.ctrl_clusters.specs.Rows.{Values, value_at}
+use Rattle.device_history.specs.Words.{is_changed, row_changes}
+use Rattle.device_history.specs.Written.{row_given}
 
 -- the next member gets its value, and then the others
 pub write_next : (values : Values) (members : List ℕ) (row : List ℤ) (i : ℕ) → i < length members → i < length row

@@ -3,17 +3,19 @@ use Rattle.std.specs.Prelude.{◌≡◌, ℕ, Bool, false, ◌≤◌, [], ◌∷
 use Rattle.std.specs.List.{list_any}
 use Rattle.history.specs.Past.{past, entered}
 use Rattle.ctrl_calls.specs.declared.work.Work.{Work}
-use Rattle.device_state.specs.declared.ask.Ask.{Ask}
-use Rattle.device_state.specs.declared.ask.Ask.TheVariants as asks
-use Rattle.device_state.specs.declared.ask.Step.{Step}
+use Rattle.device_history.specs.declared.ask.Ask.{Ask}
+use Rattle.device_history.specs.declared.ask.Ask.TheVariants as asks
+use Rattle.device_history.specs.declared.ask.Step.{Step}
 use Rattle.ctrl_handlers.specs.Plan.{PlanData, members}
 use Rattle.ctrl_calls.specs.Meanings.{Verdicts}
 use Rattle.ctrl_lists.specs.Touched.{touched}
-use Rattle.device_state.specs.Steps.{History, Past}
-use Rattle.device_state.specs.Grabs.{grabbed}
-use Rattle.device_state.specs.Values.{now, now_after}
-use Rattle.device_state.specs.Told.{changes, told_count}
-use Rattle.device_state.specs.Answers.{Answer, MayAnswer, list_pairs, taken}
+use Rattle.device_history.specs.Steps.{History, Past}
+use Rattle.device_history.specs.Grabs.{grabbed}
+use Rattle.device_history.specs.Values.{now, now_after}
+use Rattle.device_history.specs.Words.{changes, told_count}
+use Rattle.device_history.specs.Refusals.{Answer}
+use Rattle.device_history.specs.Answers.{MayAnswer, taken}
+use Rattle.device_history.specs.Lists.{list_pairs}
 
 -- A device: what it was built of, the steps that it accepted, the words that its clusters were told last, and how often
 -- the last call asked validators and told notifiers.

@@ -1,6 +1,6 @@
 pub use Rattle.history.specs.Past
 pub use Rattle.ctrl_types.specs.Classes
-pub use Rattle.ctrl_types.specs.Flags
+pub use Rattle.ctrl_types.specs.Flags as TypeFlags
 pub use Rattle.ctrl_calls.specs.Counts
 pub use Rattle.ctrl_calls.specs.Meanings
 pub use Rattle.ctrl_settle.specs.Control
@@ -17,15 +17,19 @@ pub use Rattle.ctrl_lists.specs.View
 pub use Rattle.ctrl_lists.specs.Checks
 pub use Rattle.ctrl_lists.specs.Touched
 pub use Rattle.ctrl_lists.specs.Answers as ListAnswers
-pub mod Steps
-pub mod Grabs
-pub mod Overlay
-pub mod Values
-pub mod Marks
-pub mod Told
-pub mod Info
-pub mod Answers
-pub mod Legal
+pub use Rattle.device_history.specs.Steps
+pub use Rattle.device_history.specs.Refusals
+pub use Rattle.device_history.specs.Handles
+pub use Rattle.device_history.specs.Grabs
+pub use Rattle.device_history.specs.Overlay
+pub use Rattle.device_history.specs.Values
+pub use Rattle.device_history.specs.Flags
+pub use Rattle.device_history.specs.Words
+pub use Rattle.device_history.specs.Lists
+pub use Rattle.device_history.specs.Queries
+pub use Rattle.device_history.specs.Answers
+pub use Rattle.device_history.specs.Legal
+pub use Rattle.device_history.specs.Written
 pub mod Device
 pub mod Setting
 pub mod Kept

@@ -3,9 +3,9 @@
 ghost use Rattle.std.specs.Prelude.{◌≡◌, ◌<◌, ◌^◌, length, IfOk};
 ghost use Rattle.std.specs.List.{All};
 ghost use Rattle.ctrl_handlers.specs.Plan.{calls_of, members};
-ghost use Rattle.device_state.specs.Values.{row_of};
-ghost use Rattle.device_state.specs.Told.{AreTold, IsTold, MayBeTold, told_by, told_of};
-ghost use Rattle.device_state.specs.Setting.{AreRetold, cluster_changes, row_given, told_below};
+ghost use Rattle.ctrl_clusters.specs.Rows.{row_of};
+ghost use Rattle.device_history.specs.Words.{AreTold, IsTold, MayBeTold, told_by, told_of};
+ghost use Rattle.device_history.specs.Written.{AreRetold, cluster_changes, row_given, told_below};
 
 use crate::row::{present_row, row_changes};
 use ctrl_calls::{ClusterRow, Driver, Work};

@@ -1,30 +1,31 @@
 ghost use Rattle.std.specs.Prelude.{◌≡◌, ◌<◌, ◌≤◌, ℕ, [], length, Ok, Err, IsOk, IfOk, IfErr, IfSome, OnOk, OnErr};
 ghost use Rattle.history.specs.Past.{past};
 ghost use Rattle.ctrl_types.specs.declared.errno.Errno.TheVariants.{ENOMEM};
-ghost use Rattle.device_state.specs.declared.ask.Ask.TheVariants as asks;
-ghost use Rattle.device_state.specs.declared.ask.Reply.TheVariants as replies;
-ghost use Rattle.device_state.specs.declared.ask.Step.TheVariants as steps;
-ghost use Rattle.device_state.specs.Grabs.{is_grabbed, grabbed};
-ghost use Rattle.device_state.specs.Marks.{flags_now};
-ghost use Rattle.device_state.specs.Steps.{opened, handler_of, shown};
-ghost use Rattle.device_state.specs.Values.{defaults, now};
-ghost use Rattle.device_state.specs.Told.{AreTold};
-ghost use Rattle.device_state.specs.Answers.{refused, are_all_open, is_full, open_answer, close_answer, grab_answer, query_answer, next_answer, told_answer, MayAnswer};
-ghost use Rattle.device_state.specs.Legal.{IsLegal};
+ghost use Rattle.device_history.specs.declared.ask.Ask.TheVariants as asks;
+ghost use Rattle.device_history.specs.declared.ask.Reply.TheVariants as replies;
+ghost use Rattle.device_history.specs.declared.ask.Step.TheVariants as steps;
+ghost use Rattle.ctrl_clusters.specs.Rows.{is_grabbed};
+ghost use Rattle.device_history.specs.Grabs.{grabbed, grab_answer};
+ghost use Rattle.device_history.specs.Flags.{flags_now};
+ghost use Rattle.device_history.specs.Handles.{handler_of, shown, are_all_open, open_answer, close_answer};
+ghost use Rattle.device_history.specs.Values.{defaults, now};
+ghost use Rattle.device_history.specs.Words.{AreTold};
+ghost use Rattle.device_history.specs.Refusals.{refused, is_full};
+ghost use Rattle.device_history.specs.Queries.{query_answer, next_answer, told_answer};
+ghost use Rattle.device_history.specs.Answers.{MayAnswer};
+ghost use Rattle.device_history.specs.Legal.{IsLegal};
 ghost use Rattle.device_state.specs.Device.{Handles, with_step};
 
 mod lists;
 
-use crate::ask::{Ask, Reply, Step};
 use crate::change::first_words;
-use crate::info::CtrlInfo;
-use crate::limits::{MAX_FILE_HANDLES, MAX_STEPS};
 use crate::start::{first_values, no_grabs};
 use bitflags::Flags as FlagSet;
 use ctrl_calls::{Driver, Work};
 use ctrl_clusters::inactive;
 use ctrl_handlers::Plan;
 use ctrl_types::{CtrlId, Errno, Fault, FhId, Flags};
+use device_history::{Ask, CtrlInfo, MAX_FILE_HANDLES, MAX_STEPS, Reply, Step};
 use history::Entry;
 use indexmap::IndexMap;
 use std::alloc::{AllocError, Global};
@@ -401,7 +402,7 @@ impl<D: Driver> Device<D> {
     }
 
     // The present values.
-    #[tactic(auto, using(crate::proofs::PresentLemmas::length_now))]
+    #[tactic(auto, using(device_history::proofs::PresentLemmas::length_now))]
     fn present(&self) -> &[i64]
         ensures values { result.now ≡ now D.verdict self.now.plan (past self.now.steps) }
         ensures long { length result.now ≡ length self.now.plan.controls }
@@ -410,7 +411,7 @@ impl<D: Driver> Device<D> {
     }
 
     // Whether each control is grabbed.
-    #[tactic(auto, using(crate::proofs::PresentLemmas::length_grabbed))]
+    #[tactic(auto, using(device_history::proofs::PresentLemmas::length_grabbed))]
     fn grabs(&self) -> &[bool]
         ensures grabs { result.now ≡ grabbed self.now.plan (past self.now.steps) }
         ensures long { length result.now ≡ length self.now.plan.controls }
@@ -419,7 +420,7 @@ impl<D: Driver> Device<D> {
     }
 
     // Whether a control is grabbed.
-    #[tactic(auto, using(crate::proofs::PresentLemmas::length_grabbed))]
+    #[tactic(auto, using(device_history::proofs::PresentLemmas::length_grabbed))]
     fn is_grabbed(&self, number: u32) -> bool
         requires { number < length self.now.plan.controls }
         ensures { result ≡ is_grabbed (grabbed self.now.plan (past self.now.steps)) number }

@@ -4,10 +4,10 @@ ghost use Rattle.std.specs.Prelude.{◌≡◌, ◌<◌, ◌≤◌, length, slice
 ghost use Rattle.std.specs.List.{All};
 ghost use Rattle.ctrl_calls.specs.declared.row.TheConstants.{MAX_MEMBERS};
 ghost use Rattle.ctrl_handlers.specs.Plan.{members};
-ghost use Rattle.device_state.specs.Overlay.{is_asked, with_row};
-ghost use Rattle.device_state.specs.Values.{value_at, row_of};
-ghost use Rattle.device_state.specs.Told.{is_changed, row_changes};
-ghost use Rattle.device_state.specs.Setting.{row_given, written};
+ghost use Rattle.device_history.specs.Overlay.{is_asked, with_row};
+ghost use Rattle.ctrl_clusters.specs.Rows.{value_at, row_of};
+ghost use Rattle.device_history.specs.Words.{is_changed, row_changes};
+ghost use Rattle.device_history.specs.Written.{row_given, written};
 
 use bitflags::Flags as FlagSet;
 use ctrl_calls::{ClusterRow, Driver, MAX_MEMBERS};
@@ -50,7 +50,7 @@ fn write_at(values: &mut Vec<i64>, member: u32, row: &ClusterRow, place: usize)
 }
 
 /// Gives the clusters that a list touches the rows that they get.
-#[tactic(auto, using(crate::proofs::OverlayLemmas::written_next, crate::proofs::OverlayLemmas::written_start, crate::proofs::PresentLemmas::length_with_row))]
+#[tactic(auto, using(device_history::proofs::OverlayLemmas::written_next, device_history::proofs::OverlayLemmas::written_start, device_history::proofs::PresentLemmas::length_with_row))]
 pub(crate) fn write_rows<D: Driver>(plan: &Plan<D>, values: &mut Vec<i64>, touch: &Touched)
     requires many { length values.old.items ≡ length plan.now.controls }
     requires long { All (λ r. length r.row ≡ length (members plan.now r.cluster)) touch.now.rows }

@@ -1,19 +1,17 @@
-ghost use Rattle.std.specs.Prelude.{◌≡◌};
-
-use crate::ask::{Ask, Reply, Step};
 use crate::device::Device;
 use ctrl_calls::Driver;
 use ctrl_handlers::Plan;
 use ctrl_types::Fault;
+use device_history::{Ask, Reply, Step};
 use history::Served;
 
 impl<D: Driver> Served for Device<D> {
     ghost use Rattle.std.specs.Prelude.{ℕ, List};
     ghost use Rattle.history.specs.Past.{past};
-    ghost use Rattle.device_state.specs.Answers.{MayAnswer, taken as step_taken};
-    ghost use Rattle.device_state.specs.Legal.{IsLegal, IsLegal-start};
-    ghost use Rattle.device_state.specs.Told.{AreTold};
-    ghost use Rattle.device_state.specs.Values.{now};
+    ghost use Rattle.device_history.specs.Answers.{MayAnswer, taken as step_taken};
+    ghost use Rattle.device_history.specs.Legal.{IsLegal, IsLegal-start};
+    ghost use Rattle.device_history.specs.Words.{AreTold};
+    ghost use Rattle.device_history.specs.Values.{now};
 
     type Plan = Plan<D>;
 

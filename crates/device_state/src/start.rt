@@ -1,7 +1,7 @@
 //! What a device starts with.
 
 ghost use Rattle.std.specs.Prelude.{◌≡◌, false, map, IfOk};
-ghost use Rattle.device_state.specs.Values.{defaults};
+ghost use Rattle.device_history.specs.Values.{defaults};
 
 use ctrl_calls::Driver;
 use ctrl_handlers::Plan;

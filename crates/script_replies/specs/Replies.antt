@@ -9,9 +9,9 @@ use Rattle.ctrl_types.specs.declared.ids.CtrlId.{CtrlId}
 use Rattle.ctrl_types.specs.declared.ids.ExtControl.{ExtControl}
 use Rattle.ctrl_handlers.specs.declared.menu.MenuItem.{MenuItem}
 use Rattle.ctrl_handlers.specs.declared.menu.MenuItem.TheVariants.{Name, Number}
-use Rattle.device_state.specs.declared.info.CtrlInfo.{CtrlInfo}
-use Rattle.device_state.specs.declared.ask.Reply.{Reply}
-use Rattle.device_state.specs.declared.ask.Reply.TheVariants.{Fh, Done, Controls, Info, Id, Item, Word}
+use Rattle.device_history.specs.declared.info.CtrlInfo.{CtrlInfo}
+use Rattle.device_history.specs.declared.ask.Reply.{Reply}
+use Rattle.device_history.specs.declared.ask.Reply.TheVariants.{Fh, Done, Controls, Info, Id, Item, Word}
 use Rattle.script_replies.specs.declared.outcome.Outcome.{Outcome}
 use Rattle.script_replies.specs.declared.outcome.Outcome.TheVariants.{Finished, BadLine, TooLong, ReadFault, WriteFault, NoSecond, Memory}
 

@@ -8,7 +8,7 @@ use crate::outcome::Outcome;
 use bitflags::Flags as FlagSet;
 use ctrl_handlers::MenuItem;
 use ctrl_types::{CtrlId, ExtControl, Fault, Flags};
-use device_state::{CtrlInfo, Reply};
+use device_history::{CtrlInfo, Reply};
 use std::io;
 use std::io::Write;
 

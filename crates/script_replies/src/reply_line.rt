@@ -7,7 +7,7 @@ use crate::outcome::Outcome;
 use crate::reply::{print_answer, print_outcome};
 use ctrl_handlers::MAX_CONTROLS;
 use ctrl_types::Fault;
-use device_state::Reply;
+use device_history::Reply;
 use std::alloc::{AllocError, Global};
 use std::io;
 use std::io::{ErrorKind, Write};

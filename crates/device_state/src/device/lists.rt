@@ -5,21 +5,21 @@ ghost use Rattle.history.specs.Past.{past};
 ghost use Rattle.ctrl_types.specs.declared.ids.RequestId.{RequestId as RequestIdOf};
 ghost use Rattle.ctrl_types.specs.declared.which.Which.TheVariants.{Defaults};
 ghost use Rattle.ctrl_lists.specs.Touched.{touched};
-ghost use Rattle.device_state.specs.declared.ask.Ask.TheVariants as asks;
-ghost use Rattle.device_state.specs.Values.{now};
-ghost use Rattle.device_state.specs.Told.{AreTold};
-ghost use Rattle.device_state.specs.Answers.{refused_at, is_refused, list_pairs, list_view, MayAnswer};
+ghost use Rattle.device_history.specs.declared.ask.Ask.TheVariants as asks;
+ghost use Rattle.device_history.specs.Values.{now};
+ghost use Rattle.device_history.specs.Words.{AreTold};
+ghost use Rattle.device_history.specs.Lists.{is_refused, list_pairs, list_view};
+ghost use Rattle.device_history.specs.Answers.{MayAnswer};
 ghost use Rattle.device_state.specs.Device.{Handles};
 ghost use Rattle.device_state.specs.Setting.{IsSettable, SetsAll};
 
 use super::Device;
-use crate::ask::{Reply, Step};
 use crate::change::tell_changes;
-use crate::pair_list::PairList;
 use crate::row::write_rows;
 use ctrl_calls::{Driver, Work};
 use ctrl_lists::{ControlList, Touched, View, plan_set, read_list, try_list};
 use ctrl_types::{Errno, Fault, FhId, RequestId, Which};
+use device_history::{PairList, Reply, Step};
 use history::Entry;
 use std::alloc::AllocError;
 

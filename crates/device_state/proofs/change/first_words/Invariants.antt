@@ -1,7 +1,7 @@
 use Rattle.std.proofs.Common.{◌≡◌, ℕ, ◌<◌, ◌≤◌, length, vec_capacity, slice_index}
 use Rattle.ctrl_handlers.specs.Plan.{members, calls_of}
-use Rattle.device_state.specs.Values.{row_of}
-use Rattle.device_state.specs.Told.{MayBeTold}
+use Rattle.ctrl_clusters.specs.Rows.{row_of}
+use Rattle.device_history.specs.Words.{MayBeTold}
 use Rattle.device_state.proofs.change.first_words.Given as goal
 
 -- the clusters so far have their words

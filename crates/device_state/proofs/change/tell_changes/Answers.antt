@@ -1,4 +1,4 @@
-use Rattle.device_state.specs.Setting.{cluster_changes, row_given}
+use Rattle.device_history.specs.Written.{cluster_changes, row_given}
 use Rattle.device_state.proofs.TellLemmas.{retold_start, retold_next, work_start, work_next}
 use Rattle.device_state.proofs.change.tell_changes.Goals as goal
 

@@ -1,5 +1,5 @@
 use Rattle.std.proofs.Common.{◌≡◌}
-use Rattle.device_state.specs.Setting.{AreRetold, cluster_changes, row_given, told_below}
+use Rattle.device_history.specs.Written.{AreRetold, cluster_changes, row_given, told_below}
 use Rattle.device_state.proofs.change.tell_changes.Given as goal
 
 -- the clusters so far were told

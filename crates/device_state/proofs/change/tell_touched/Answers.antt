@@ -1,5 +1,5 @@
 use Rattle.std.proofs.Common.{◌≡◌, false, refl, sym, ◌∙◌}
-use Rattle.device_state.specs.Setting.{cluster_changes, row_given}
+use Rattle.device_history.specs.Written.{cluster_changes, row_given}
 use Rattle.device_state.proofs.RowLemmas.{given_long}
 use Rattle.device_state.proofs.TellLemmas.{changes_not, told_not, count_not}
 use Rattle.device_state.proofs.change.tell_touched.Goals as goal

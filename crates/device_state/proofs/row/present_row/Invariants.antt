@@ -1,5 +1,5 @@
 use Rattle.std.proofs.Common.{◌≡◌, take, length}
-use Rattle.device_state.specs.Values.{row_of}
+use Rattle.ctrl_clusters.specs.Rows.{row_of}
 use Rattle.device_state.proofs.row.present_row.Given as goal
 
 -- the values so far

@@ -1,5 +1,5 @@
 use Rattle.std.proofs.Common.{◌≡◌, drop}
-use Rattle.device_state.specs.Told.{row_changes}
+use Rattle.device_history.specs.Words.{row_changes}
 use Rattle.device_state.proofs.row.row_changes.Given as goal
 
 -- the answer stands among the members that are left

@@ -1,5 +1,5 @@
 use Rattle.std.proofs.Common.{◌≡◌, drop, length}
-use Rattle.device_state.specs.Overlay.{with_row}
+use Rattle.device_history.specs.Overlay.{with_row}
 use Rattle.device_state.proofs.row.write_row.Given as goal
 
 -- what is left to write gives the whole

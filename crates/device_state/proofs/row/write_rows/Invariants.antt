@@ -1,5 +1,5 @@
 use Rattle.std.proofs.Common.{◌≡◌, length}
-use Rattle.device_state.specs.Setting.{row_given, written}
+use Rattle.device_history.specs.Written.{row_given, written}
 use Rattle.device_state.proofs.row.write_rows.Given as goal
 
 -- the clusters so far have their rows

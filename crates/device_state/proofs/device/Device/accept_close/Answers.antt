@@ -1,9 +1,9 @@
 use Rattle.std.proofs.Common.{List, [], ◌∷◌, ◌++◌, IsOk, refl, sym, ap, subst, ◌∙◌}
 use Rattle.history.specs.declared.entry.Entry.{Entry}
 use Rattle.history.specs.Past.{past}
-use Rattle.device_state.specs.declared.ask.Step.{Step}
-use Rattle.device_state.specs.declared.ask.Step.TheVariants.{CloseFh}
-use Rattle.device_state.specs.Answers.{close_answer}
+use Rattle.device_history.specs.declared.ask.Step.{Step}
+use Rattle.device_history.specs.declared.ask.Step.TheVariants.{CloseFh}
+use Rattle.device_history.specs.Handles.{close_answer}
 use Rattle.device_state.specs.Device.{DeviceData}
 use Rattle.device_state.proofs.KeptLemmas.{kept_close, kept_same}
 use Rattle.device_state.proofs.device.Device.accept_close.Goals as goal

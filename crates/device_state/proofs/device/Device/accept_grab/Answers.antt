@@ -1,12 +1,12 @@
 use Rattle.std.proofs.Common.{List, [], ◌∷◌, ◌++◌, ◌≡◌, ◌<◌, length, IsOk, refl, sym, ap, subst, ◌∙◌, arith}
 use Rattle.history.specs.declared.entry.Entry.{Entry}
 use Rattle.history.specs.Past.{past}
-use Rattle.device_state.specs.declared.ask.Step.{Step}
-use Rattle.device_state.specs.declared.ask.Step.TheVariants.{Grab}
-use Rattle.device_state.specs.Answers.{grab_answer}
+use Rattle.device_history.specs.declared.ask.Step.{Step}
+use Rattle.device_history.specs.declared.ask.Step.TheVariants.{Grab}
+use Rattle.device_history.specs.Grabs.{grab_answer}
 use Rattle.device_state.specs.Device.{DeviceData}
 use Rattle.device_state.proofs.KeptLemmas.{kept_grab, kept_same, grab_known}
-use Rattle.device_state.proofs.PresentLemmas.{length_grabbed}
+use Rattle.device_history.proofs.PresentLemmas.{length_grabbed}
 use Rattle.device_state.proofs.device.Device.accept_grab.Goals as goal
 
 -- the control is grabbed now, or let go

@@ -2,10 +2,10 @@ use Rattle.std.proofs.Common.{List, [], ◌∷◌, ◌++◌, length, refl, ap, �
 use Rattle.history.specs.declared.entry.Entry.{Entry}
 use Rattle.history.specs.Past.{past}
 use Rattle.ctrl_types.specs.declared.ids.Pair.{Pair}
-use Rattle.device_state.specs.declared.ask.Step.{Step}
-use Rattle.device_state.specs.declared.ask.Step.TheVariants.{Set}
+use Rattle.device_history.specs.declared.ask.Step.{Step}
+use Rattle.device_history.specs.declared.ask.Step.TheVariants.{Set}
 use Rattle.device_state.proofs.KeptLemmas.{kept_set, kept_same}
-use Rattle.device_state.proofs.PresentLemmas.{length_now}
+use Rattle.device_history.proofs.PresentLemmas.{length_now}
 use Rattle.device_state.proofs.device.Device.accept_list.Goals as goal
 
 -- there is a value for each control

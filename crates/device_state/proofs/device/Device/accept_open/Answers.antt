@@ -3,9 +3,9 @@ use Rattle.std.specs.Map.{lookup}
 use Rattle.history.specs.declared.entry.Entry.{Entry}
 use Rattle.history.specs.Past.{past}
 use Rattle.indexmap.proofs.CallerLemmas.{insert_entry-new}
-use Rattle.device_state.specs.declared.ask.Step.{Step}
-use Rattle.device_state.specs.declared.ask.Step.TheVariants.{OpenFh}
-use Rattle.device_state.specs.Answers.{open_answer}
+use Rattle.device_history.specs.declared.ask.Step.{Step}
+use Rattle.device_history.specs.declared.ask.Step.TheVariants.{OpenFh}
+use Rattle.device_history.specs.Handles.{open_answer}
 use Rattle.device_state.specs.Device.{DeviceData}
 use Rattle.device_state.proofs.KeptLemmas.{kept_open, kept_same, kept_fresh}
 use Rattle.device_state.proofs.device.Device.accept_open.Goals as goal

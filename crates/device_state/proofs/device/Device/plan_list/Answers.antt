@@ -1,6 +1,6 @@
 use Rattle.std.proofs.Common.{sym, ◌∙◌}
 use Rattle.history.specs.Past.{past}
-use Rattle.device_state.proofs.ListLemmas.{settable}
+use Rattle.device_state.proofs.SettingLemmas.{settable}
 use Rattle.device_state.proofs.device.Device.plan_list.Goals as goal
 
 -- what isn't refused can be set

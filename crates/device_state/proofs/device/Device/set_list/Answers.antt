@@ -2,7 +2,7 @@ use Rattle.std.proofs.Common.{refl, ap, ◌∙◌}
 use Rattle.history.specs.Past.{past}
 use Rattle.device_state.specs.Device.{DeviceData}
 use Rattle.device_state.proofs.HandleLemmas.{handles_asked, handles_set}
-use Rattle.device_state.proofs.ListLemmas.{set_lacks}
+use Rattle.device_state.proofs.SettingLemmas.{set_lacks}
 use Rattle.device_state.proofs.device.Device.set_list.Goals as goal
 
 pub returns-in-Err : goal.returns-in-Err

@@ -1,0 +1,75 @@
+-- What each ask is answered after a history, and the step that it adds (of this project; the rules stand with each family of asks).
+use Rattle.std.specs.Prelude.{◌≡◌, ℕ, Bool, true, false, List, length, Option, None, Some, is_some, Ok, Err, IsOk, ◌⊎◌}
+use Rattle.std.specs.Option.{option_map}
+use Rattle.ctrl_types.specs.declared.errno.Errno.TheVariants.{ENOMEM}
+use Rattle.ctrl_types.specs.declared.ids.ExtControl.{ExtControl}
+use Rattle.device_history.specs.declared.ask.Ask.{Ask}
+use Rattle.device_history.specs.declared.ask.Ask.TheVariants as asks
+use Rattle.device_history.specs.declared.ask.Step.{Step}
+use Rattle.device_history.specs.declared.ask.Step.TheVariants as steps
+use Rattle.ctrl_handlers.specs.Plan.{PlanData}
+use Rattle.ctrl_calls.specs.Meanings.{Verdicts}
+use Rattle.device_history.specs.Steps.{Past}
+use Rattle.device_history.specs.Refusals.{Answer}
+use Rattle.device_history.specs.Handles.{open_answer, close_answer}
+use Rattle.device_history.specs.Grabs.{grab_answer}
+use Rattle.device_history.specs.Lists.{get_list, set_list, try_list, list_view, list_pairs, MayLackList, MayLackSet}
+use Rattle.device_history.specs.Queries.{query_answer, next_answer, item_answer, told_answer}
+
+-- the answer where memory suffices, where these words were told
+abbrev pub answer_of : Verdicts → PlanData → Past → List ℕ → Ask → Answer
+answer_of verdicts plan past words (asks.OpenFh handler) = open_answer plan past handler
+answer_of verdicts plan past words (asks.CloseFh fh) = close_answer past fh
+answer_of verdicts plan past words (asks.GetCtrls fh which request list) = get_list verdicts plan past fh which list
+answer_of verdicts plan past words (asks.SetCtrls fh which request list) = set_list verdicts plan past fh which list
+answer_of verdicts plan past words (asks.TryCtrls fh which request list) = try_list verdicts plan past fh which list
+answer_of verdicts plan past words (asks.Grab c on) = grab_answer plan past c
+answer_of verdicts plan past words (asks.Query fh id) = query_answer verdicts plan past fh id
+answer_of verdicts plan past words (asks.NextId fh id) = next_answer plan past fh id
+answer_of verdicts plan past words (asks.MenuItem fh id index) = item_answer plan past fh id index
+answer_of verdicts plan past words (asks.Told cluster) = told_answer plan words cluster
+
+-- ENOMEM may take the place of an accepted opening, close or grab and of an item of a menu; for a list with entries, and not too
+-- many, that of every answer after the checks of the file handle and of `which`; and that of every accepted set.
+abbrev pub MayLackMemory : Verdicts → PlanData → Past → Ask → Type 0
+MayLackMemory verdicts plan past (asks.OpenFh handler) = IsOk (open_answer plan past handler)
+MayLackMemory verdicts plan past (asks.CloseFh fh) = IsOk (close_answer past fh)
+MayLackMemory verdicts plan past (asks.GetCtrls fh which request list) = MayLackList (list_view verdicts plan past fh which false) list
+MayLackMemory verdicts plan past (asks.SetCtrls fh which request list) = MayLackSet (list_view verdicts plan past fh which true) list (set_list verdicts plan past fh which list)
+MayLackMemory verdicts plan past (asks.TryCtrls fh which request list) = MayLackList (list_view verdicts plan past fh which true) list
+MayLackMemory verdicts plan past (asks.Grab c on) = IsOk (grab_answer plan past c)
+MayLackMemory verdicts plan past (asks.MenuItem fh id index) = IsOk (item_answer plan past fh id index)
+MayLackMemory verdicts plan past _ = ⊥
+
+-- the entries of an ask that is one about a list
+abbrev pub list_of : Ask → Option (List ExtControl)
+list_of (asks.GetCtrls fh which request list) = Some list
+list_of (asks.SetCtrls fh which request list) = Some list
+list_of (asks.TryCtrls fh which request list) = Some list
+list_of _ = None
+
+-- whether it is one
+abbrev pub is_list : Ask → Bool
+is_list ask = is_some (list_of ask)
+
+-- want of memory, with the number of entries as the index of a list
+abbrev pub no_memory : Ask → Answer
+no_memory ask = Err (record { errno = ENOMEM; index = option_map length (list_of ask) })
+
+-- an answer that the ask may get after this past
+abbrev pub MayAnswer : Verdicts → PlanData → Past → List ℕ → Ask → Answer → Type 0
+MayAnswer verdicts plan past words ask answer =
+    (answer ≡ answer_of verdicts plan past words ask) ⊎ (MayLackMemory verdicts plan past ask × (answer ≡ no_memory ask))
+
+-- the step that an ask adds where it is accepted
+abbrev pub step_of : PlanData → Past → Ask → Option Step
+step_of plan past (asks.OpenFh handler) = Some (steps.OpenFh handler)
+step_of plan past (asks.CloseFh fh) = Some (steps.CloseFh fh)
+step_of plan past (asks.SetCtrls fh which request list) = Some (steps.Set fh (list_pairs plan past fh which list))
+step_of plan past (asks.Grab c on) = Some (steps.Grab c on)
+step_of plan past _ = None
+
+-- the step that it adds where this is its answer
+abbrev pub taken : PlanData → Past → Ask → Answer → Option Step
+taken plan past ask (Ok reply) = step_of plan past ask
+taken plan past ask (Err fault) = None

@@ -1,0 +1,32 @@
+pub use Rattle.history.specs.Past
+pub use Rattle.ctrl_types.specs.Classes
+pub use Rattle.ctrl_types.specs.Flags as TypeFlags
+pub use Rattle.ctrl_calls.specs.Counts
+pub use Rattle.ctrl_calls.specs.Meanings
+pub use Rattle.ctrl_settle.specs.Control
+pub use Rattle.ctrl_settle.specs.Settle
+pub use Rattle.ctrl_handlers.specs.HandlerData
+pub use Rattle.ctrl_handlers.specs.ClusterData
+pub use Rattle.ctrl_handlers.specs.Plan
+pub use Rattle.ctrl_handlers.specs.Visible
+pub use Rattle.ctrl_handlers.specs.Builder
+pub use Rattle.ctrl_clusters.specs.Rows
+pub use Rattle.ctrl_clusters.specs.Judging
+pub use Rattle.ctrl_clusters.specs.AutoClusters
+pub use Rattle.ctrl_lists.specs.View
+pub use Rattle.ctrl_lists.specs.Checks
+pub use Rattle.ctrl_lists.specs.Touched
+pub use Rattle.ctrl_lists.specs.Answers as ListAnswers
+pub mod Steps
+pub mod Refusals
+pub mod Handles
+pub mod Grabs
+pub mod Overlay
+pub mod Values
+pub mod Flags
+pub mod Words
+pub mod Lists
+pub mod Queries
+pub mod Answers
+pub mod Legal
+pub mod Written

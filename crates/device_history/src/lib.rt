@@ -1,0 +1,14 @@
+//! The history of a device: what is asked, what is answered, the steps that are accepted, and what they make of file handles,
+//! grabs, values, flags and words.
+#![tactic(auto)]
+
+mod ask;
+mod info;
+pub mod laws;
+mod limits;
+mod pair_list;
+
+pub use ask::{Ask, Reply, Step};
+pub use info::CtrlInfo;
+pub use limits::{MAX_FILE_HANDLES, MAX_STEPS};
+pub use pair_list::PairList;
