@@ -1,6 +1,6 @@
 -- What the commands of a script bind (of this project).
 use Rattle.script_lines.specs.declared.command.Command.{Command}
-use Rattle.script_lines.specs.declared.command.Command.TheVariants.{Open, Close, Get, Set, Try, Grab, Query, Next, Menu, Told}
+use Rattle.script_lines.specs.declared.command.Command.TheVariants.{Open}
 use Rattle.ctl_script.specs.declared.binding.Binding.{Binding}
 use Rattle.ctl_script.specs.declared.binding.Binding.TheVariants.{None, FileHandle}
 

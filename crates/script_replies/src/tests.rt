@@ -2,8 +2,9 @@
 
 use crate::outcome::Outcome;
 use crate::reply_line::{ReplyLine, write_answer, write_no_memory, write_outcome};
+use ctrl_lists::ControlList;
 use ctrl_types::{CtrlId, Errno, ExtControl, Fault};
-use device_history::{ControlList, Reply};
+use device_history::Reply;
 use std::alloc::Global;
 use std::io;
 use std::io::{ErrorKind, Write};
@@ -35,6 +36,8 @@ impl Write for Sink {
     }
 }
 
+const ALL: usize = usize::MAX;
+
 // What a line is of.
 #[derive(Clone, Copy, Debug)]
 enum Line {
@@ -48,70 +51,41 @@ enum Line {
     NoMemory,
 }
 
-// A line, how many bytes the writer takes a write, and which write fails; what the writer then has, in how many
-// writes, and whether the line was written.
 #[derive(Clone, Copy, Debug)]
-struct Case {
-    line: Line,
-    most: usize,
-    fails_at: u32,
-    text: &'static [u8],
-    writes: u32,
-    is_written: bool,
+enum Case {
+    // A line that goes out at once.
+    Whole(Line, &'static [u8]),
+    // The line `ok -64 250` on a writer that takes so many bytes a write and fails at the write of this number: what the writer has
+    // then, and after how many writes.
+    Cut(usize, u32, &'static [u8], u32),
+    // An outcome without a line.
+    Silent(Outcome),
 }
 
-const ALL: usize = usize::MAX;
-
-const VALUES: Line = Line::Values(-64, 250);
-
-// A line that goes out at once.
-const fn whole(line: Line, text: &'static [u8]) -> Case {
-    Case {
-        line,
-        most: ALL,
-        fails_at: 0,
-        text,
-        writes: 1,
-        is_written: true,
-    }
-}
-
-// The line `ok -64 250` on a writer that takes `most` bytes a write, and fails at one write.
-const fn cut(most: usize, fails_at: u32, text: &'static [u8], writes: u32) -> Case {
-    Case {
-        line: VALUES,
-        most,
-        fails_at,
-        text,
-        writes,
-        is_written: text.len() == 11,
-    }
-}
+const CUT: Line = Line::Values(-64, 250);
 
 const CASES: &[Case] = &[
-    whole(Line::Done, b"ok\n"),
-    whole(VALUES, b"ok -64 250\n"),
-    whole(Line::NoValues, b"ok\n"),
-    whole(Line::Next(0x0098_0900), b"ok 0x00980900\n"),
-    whole(Line::Word(u64::MAX), b"ok 18446744073709551615\n"),
-    whole(Line::Refused(Errno::ENOENT, None), b"error 2\n"),
-    whole(Line::Refused(Errno::EINVAL, Some(3)), b"error 22 index 3\n"),
-    whole(Line::Ended(Outcome::BadLine(7)), b"line 7: not a command\n"),
-    whole(Line::Ended(Outcome::TooLong), b"input too long\n"),
-    whole(Line::Ended(Outcome::ReadFault), b"read fault\n"),
-    whole(Line::Ended(Outcome::Memory), b"no memory\n"),
-    // an outcome without a line
-    Case {
-        writes: 0,
-        ..whole(Line::Ended(Outcome::Finished), b"")
-    },
-    whole(Line::NoMemory, b"no memory\n"),
-    cut(4, 0, b"ok -64 250\n", 3),
-    cut(10, 0, b"ok -64 250\n", 2),
-    cut(ALL, 1, b"", 1),
-    cut(4, 2, b"ok -", 2),
-    cut(4, 3, b"ok -64 2", 3),
-    cut(0, 0, b"", 1),
+    Case::Whole(Line::Done, b"ok\n"),
+    Case::Whole(CUT, b"ok -64 250\n"),
+    Case::Whole(Line::NoValues, b"ok\n"),
+    Case::Whole(Line::Next(0x0098_0900), b"ok 0x00980900\n"),
+    Case::Whole(Line::Word(u64::MAX), b"ok 18446744073709551615\n"),
+    Case::Whole(Line::Refused(Errno::ENOENT, None), b"error 2\n"),
+    Case::Whole(Line::Refused(Errno::EINVAL, Some(3)), b"error 22 index 3\n"),
+    Case::Whole(Line::Ended(Outcome::BadLine(7)), b"line 7: not a command\n"),
+    Case::Whole(Line::Ended(Outcome::TooLong), b"input too long\n"),
+    Case::Whole(Line::Ended(Outcome::ReadFault), b"read fault\n"),
+    Case::Whole(Line::Ended(Outcome::NoSecond), b"no second script\n"),
+    Case::Whole(Line::Ended(Outcome::Memory), b"no memory\n"),
+    Case::Whole(Line::NoMemory, b"no memory\n"),
+    Case::Silent(Outcome::Finished),
+    Case::Silent(Outcome::WriteFault),
+    Case::Cut(4, 0, b"ok -64 250\n", 3),
+    Case::Cut(10, 0, b"ok -64 250\n", 2),
+    Case::Cut(ALL, 1, b"", 1),
+    Case::Cut(4, 2, b"ok -", 2),
+    Case::Cut(4, 3, b"ok -64 2", 3),
+    Case::Cut(0, 0, b"", 1),
 ];
 
 fn write_line(
@@ -144,17 +118,21 @@ fn entry(value: i64) -> ExtControl {
 }
 
 fn expect<R: AllocGlobal + Abort>(rt: &R, case: Case) -> Result<(), Fail> {
+    let (line, most, fails_at, text, writes) = match case {
+        Case::Whole(line, text) => (line, ALL, 0, text, 1),
+        Case::Cut(most, fails_at, text, writes) => (CUT, most, fails_at, text, writes),
+        Case::Silent(outcome) => (Line::Ended(outcome), ALL, 0, b"".as_slice(), 0),
+    };
     let mut sink = Sink {
         bytes: Vec::new(rt.alloc()),
-        most: case.most,
-        fails_at: case.fails_at,
+        most,
+        fails_at,
         writes: 0,
     };
     let mut reply = ReplyLine::new(rt.alloc())?;
-    let is_written = write_line(rt.alloc(), &mut sink, &mut reply, case.line)?.is_ok();
-    let is_so = sink.bytes.as_slice() == case.text
-        && sink.writes == case.writes
-        && is_written == case.is_written;
+    let is_written = write_line(rt.alloc(), &mut sink, &mut reply, line)?.is_ok();
+    let is_whole = most == ALL && fails_at == 0 || text.len() == 11;
+    let is_so = sink.bytes.as_slice() == text && sink.writes == writes && is_written == is_whole;
     assert!(rt; is_so, "{case:?}");
     Ok(())
 }
