@@ -205,7 +205,9 @@ fn stands_refusals(alloc: Global, script: &Script, refused: &mut u32) -> Result<
     }
     *refused = refused.saturating_add(1);
     let (start, lines) = alike(ran.bytes.as_slice(), reply.as_slice());
-    let (same, rest) = ran.bytes.as_slice().split_at(start);
+    let Some((same, rest)) = ran.bytes.as_slice().split_at_checked(start) else {
+        return Ok(false);
+    };
     if ran.outcome == Outcome::Memory {
         return Ok(rest == b"no memory\n".as_slice() && ran.steps == script.steps(lines));
     }
@@ -237,7 +239,7 @@ fn alike(a: &[u8], b: &[u8]) -> (usize, usize) {
             lines = lines.saturating_add(1);
         }
     }
-    (end.min(a.len()), lines)
+    (end, lines)
 }
 
 #[test]
