@@ -150,58 +150,45 @@ fn readers_fail_at_each_read(rt: HostRuntime) -> Result<(), AllocError> {
     Ok(())
 }
 
-// What a run of an input prints on the sample device, which gets no step, and how many reads it takes.
-fn ends(
-    alloc: Global,
-    text: &[u8],
-    fault: Option<(u32, ErrorKind)>,
-    printed: &str,
-    outcome: Outcome,
-) -> Result<Option<u32>, AllocError> {
-    let streams = Streams {
-        read_fault: fault,
-        ..WHOLE
-    };
-    let ran = run(alloc, Kept::Sample, text, streams)?;
-    if is_run(&ran, printed.as_bytes(), outcome, 0) {
-        Ok(Some(ran.reads))
-    } else {
-        Ok(None)
-    }
-}
+// How many bytes an input has, which of its reads fails, what it prints, how it ends, and how many reads there are.
+type Input = (usize, Option<(u32, ErrorKind)>, &'static str, Outcome, u32);
 
 // Every read is interrupted; an input has the most bytes, and one more.
+const INPUTS: &[Input] = &[
+    (
+        0,
+        Some((0, ErrorKind::Interrupted)),
+        "read fault\n",
+        Outcome::ReadFault,
+        MAX_READS,
+    ),
+    (0, None, "", Outcome::Finished, 1),
+    (MAX_INPUT, None, "", Outcome::Finished, 257),
+    (
+        MAX_INPUT,
+        Some((257, ErrorKind::Other)),
+        "read fault\n",
+        Outcome::ReadFault,
+        257,
+    ),
+    (1_048_577, None, "input too long\n", Outcome::TooLong, 257),
+];
+
+// A run of an input without commands prints that on the sample device, which gets no step.
+fn ends(alloc: Global, input: &Input) -> Result<bool, AllocError> {
+    let text = vec![in alloc; b'#'; input.0]?;
+    let streams = Streams {
+        read_fault: input.1,
+        ..WHOLE
+    };
+    let ran = run(alloc, Kept::Sample, text.as_slice(), streams)?;
+    Ok(is_run(&ran, input.2.as_bytes(), input.3, 0) && ran.reads == input.4)
+}
+
 #[test]
 fn inputs_at_the_limits(rt: HostRuntime) -> Result<(), AllocError> {
-    let text = vec![in rt.alloc(); b'#'; MAX_INPUT + 1]?;
-    let most = &text.as_slice()[..MAX_INPUT];
-    let cases = [
-        (
-            most,
-            Some((0, ErrorKind::Interrupted)),
-            "read fault\n",
-            Outcome::ReadFault,
-            MAX_READS,
-        ),
-        (most, None, "", Outcome::Finished, 257),
-        (
-            most,
-            Some((257, ErrorKind::Other)),
-            "read fault\n",
-            Outcome::ReadFault,
-            257,
-        ),
-        (
-            text.as_slice(),
-            None,
-            "input too long\n",
-            Outcome::TooLong,
-            257,
-        ),
-    ];
-    for (text, fault, printed, outcome, reads) in cases {
-        let ended = ends(rt.alloc(), text, fault, printed, outcome)?;
-        assert!(rt; ended == Some(reads), "{outcome:?} {ended:?}");
+    for (number, input) in INPUTS.iter().enumerate() {
+        assert!(rt; ends(rt.alloc(), input)?, "{number}");
     }
     Ok(())
 }
@@ -218,26 +205,26 @@ fn stands_refusals(alloc: Global, script: &Script, refused: &mut u32) -> Result<
     }
     *refused = refused.saturating_add(1);
     let (start, lines) = alike(ran.bytes.as_slice(), reply.as_slice());
-    let rest = &ran.bytes.as_slice()[start..];
+    let Some((same, rest)) = ran.bytes.as_slice().split_at_checked(start) else {
+        return Ok(false);
+    };
     if ran.outcome == Outcome::Memory {
         return Ok(rest == b"no memory\n".as_slice() && ran.steps == script.steps(lines));
     }
     let text = script.text(alloc, Some(lines))?;
     let without = run(alloc, script.kept, text.as_slice(), WHOLE)?;
-    let behind = match rest.iter().position(|byte| *byte == b'\n') {
-        Some(at) => &rest[at + 1..],
-        None => rest,
-    };
-    let is_same = match without
-        .bytes
-        .as_slice()
-        .strip_prefix(&ran.bytes.as_slice()[..start])
-    {
-        Some(lines) => lines == behind,
-        None => false,
-    };
     let is_as_without = without.outcome == ran.outcome && without.steps == ran.steps;
-    Ok(rest.starts_with(b"error 12") && is_same && is_as_without)
+    Ok(is_as_without && is_refused_line(same, rest, without.bytes.as_slice()))
+}
+
+// Whether a text is another with a line put in behind `same`, which says error 12; `rest` begins with this line.
+fn is_refused_line(same: &[u8], rest: &[u8], without: &[u8]) -> bool {
+    let Some(behind) = without.strip_prefix(same) else {
+        return false;
+    };
+    rest.starts_with(b"error 12")
+        && rest.ends_with(behind)
+        && lines_in(rest) == lines_in(behind).saturating_add(1)
 }
 
 // How many bytes two texts begin with alike, up to the end of a line, and how many lines these are.
@@ -252,7 +239,7 @@ fn alike(a: &[u8], b: &[u8]) -> (usize, usize) {
             lines = lines.saturating_add(1);
         }
     }
-    (end.min(a.len()), lines)
+    (end, lines)
 }
 
 #[test]
