@@ -12,7 +12,7 @@ use Rattle.ctrl_calls.specs.Meanings.{Verdicts}
 use Rattle.ctrl_settle.specs.Control.{Control}
 use Rattle.ctrl_handlers.specs.Plan.{PlanData, IsPlan}
 use Rattle.ctrl_lists.specs.View.{ViewData, pairs_of}
-use Rattle.ctrl_lists.specs.Touched.{TouchedData, AreJudged, IsTouched}
+use Rattle.ctrl_lists.specs.Touched.{TouchedData, AreJudged, IsTouched, touched, judged_count, with_calls}
 use Rattle.ctrl_lists.specs.Answers.{set_answer}
 use Rattle.device_history.specs.declared.ask.Ask.TheVariants as asks
 use Rattle.device_history.specs.declared.ask.Reply.TheVariants.{Controls}
@@ -22,7 +22,7 @@ use Rattle.ctrl_clusters.specs.Rows.{Grabs, is_grabbed, Values}
 use Rattle.device_history.specs.Grabs.{grabbed}
 use Rattle.device_history.specs.Values.{now}
 use Rattle.device_history.specs.Refusals.{is_full, refused_at}
-use Rattle.device_history.specs.Lists.{list_view, list_answer, kept_controls}
+use Rattle.device_history.specs.Lists.{list_view, list_answer, list_pairs, kept_controls}
 use Rattle.device_history.specs.Answers.{MayAnswer}
 use Rattle.device_state.specs.Setting.{IsSettable}
 use Rattle.device_history.proofs.ListLemmas.{Reads, reads, read_as, accepted_free}
@@ -63,3 +63,11 @@ settable verdicts plan older fh which list view touch plans read is touching roo
     by : (b : Bool) → b ≡ false → kept_controls b (length list) (Ok touch.answers) ≡ Ok (Controls touch.answers)
     by true h = cc
     by false h = refl
+
+-- the pairs that an accepted list touches clusters with are those of its step
+pub read_asked : (verdicts : Verdicts) (plan : PlanData) (older : Past) (fh : FhId) (which : ℕ) (list : List ExtControl) (view : ViewData) (asked before : ℕ) → list_view verdicts plan older fh which true ≡ Ok view
+    → asked ≡ with_calls (judged_count plan (touched plan (pairs_of plan view.handler view.which list))) before → asked ≡ with_calls (judged_count plan (touched plan (list_pairs plan older fh which list))) before
+read_asked verdicts plan older fh which list view asked before read is =
+    let it : Reads plan (now verdicts plan older) (grabbed plan older) list (handler_of older fh) (which_of which) view =
+    reads plan (now verdicts plan older) (grabbed plan older) true list (handler_of older fh) (which_of which) view read in
+    is ∙ ap (λ (pairs : List Pair). with_calls (judged_count plan (touched plan pairs)) before) (sym it.same_pairs)

@@ -1,0 +1,5 @@
+use Rattle.device_history.proofs.WholeLemmas.{all_rows}
+use Rattle.device_history.proofs.laws.whole_sets.Goals as goal
+
+pub returns-clause-rows : goal.returns-clause-rows
+returns-clause-rows c = all_rows
