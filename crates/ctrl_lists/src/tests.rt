@@ -1,6 +1,7 @@
-ghost use Rattle.std.specs.Prelude.{⊤, ◌≡◌, ◌==◌, ◌<◌, ◌^◌, length, if◌then◌else◌};
+ghost use Rattle.std.specs.Prelude.{⊤, ◌≡◌, ◌==◌, ◌<◌, length, if◌then◌else◌, IsTrue};
 ghost use Rattle.ctrl_calls.specs.declared.verdict.Verdict.TheVariants.{Accept, Refuse};
 ghost use Rattle.ctrl_types.specs.declared.errno.Errno.TheVariants.{EBUSY};
+ghost use Rattle.ctrl_clusters.specs.Rows.{AreControlsOf};
 
 use super::*;
 use bitflags::Flags as FlagSet;
@@ -9,7 +10,7 @@ use ctrl_calls::{
 };
 use ctrl_handlers::{Plan, PlanBuilder};
 use ctrl_settle::Ctrl;
-use ctrl_types::{CtrlId, Errno, ExtControl, Fault, Flags, Kind, Pair, Which};
+use ctrl_types::{CtrlId, CtrlValue, Errno, ExtControl, Fault, Flags, Kind, Pair, Which};
 use std::alloc::Global;
 use std::process::Abort;
 use std::test::Fail;
@@ -73,23 +74,43 @@ fn validated(number: u32) -> Calls<Strict> {
     }
 }
 
-fn add(builder: &mut PlanBuilder<Strict>, id: u32, flags: Flags) -> Result<(), Fail> {
-    let made = Ctrl::new(CtrlId(id), Kind::Integer, 0, 255, 1, 7, 0, flags, false);
-    match made {
-        Ok(ctrl) => {
-            builder.control(0, ctrl)?;
-            Ok(())
-        }
-        Err(_) => Err(Fail::new("a control")),
+// A control of 0 to 255: its id, its default and its flags.
+type Made = (u32, CtrlValue, u32);
+
+// A plan of one handler with these controls. Controls 0 and 1 are a cluster that takes each row; where there are more, 2 is one that takes
+// none, and no other has a validator.
+fn plan_of(alloc: Global, made: &[Made]) -> Result<Plan<Strict>, Fail> {
+    let mut builder = PlanBuilder::new(alloc);
+    let handler = builder.handler()?;
+    for &(id, default, bits) in made {
+        let flags = Flags::from_bits_retain(bits);
+        match Ctrl::new(
+            CtrlId(id),
+            Kind::Integer,
+            0,
+            255,
+            1,
+            default,
+            0,
+            flags,
+            false,
+        ) {
+            Ok(ctrl) => builder.control(handler, ctrl)?,
+            Err(_) => return Err(Fail::new("a control")),
+        };
+    }
+    name(&mut builder, &[0, 1], 0)?;
+    if made.len() > 2 {
+        name(&mut builder, &[2], 1)?;
+    }
+    match builder.finish() {
+        Ok(plan) => Ok(plan),
+        Err(_) => Err(Fail::new("the plan")),
     }
 }
 
-fn name(
-    builder: &mut PlanBuilder<Strict>,
-    members: &[u32],
-    calls: Calls<Strict>,
-) -> Result<(), Fail> {
-    match builder.cluster(members, calls) {
+fn name(builder: &mut PlanBuilder<Strict>, members: &[u32], number: u32) -> Result<(), Fail> {
+    match builder.cluster(members, validated(number)) {
         Ok(_) => Ok(()),
         Err(_) => Err(Fail::new("a cluster")),
     }
@@ -99,253 +120,493 @@ const FIRST: u32 = 0x0098_0900;
 
 const CAMERA: u32 = 0x009a_0900;
 
-// Controls 0 to 2 have no flags, 3 is READ_ONLY, 4 WRITE_ONLY, and 5, of the camera class, DISABLED. Controls 0 and 1 are a cluster
-// that takes each row, and 2 is one that takes none.
-fn plan(alloc: Global) -> Result<Plan<Strict>, Fail> {
-    let mut builder = PlanBuilder::new(alloc);
-    builder.handler()?;
-    for id in FIRST..FIRST + 3 {
-        add(&mut builder, id, Flags::empty())?;
-    }
-    add(&mut builder, FIRST + 3, Flags::READ_ONLY)?;
-    add(&mut builder, FIRST + 4, Flags::WRITE_ONLY)?;
-    add(&mut builder, CAMERA, Flags::DISABLED)?;
-    name(&mut builder, &[0, 1], validated(0))?;
-    name(&mut builder, &[2], validated(1))?;
-    match builder.finish() {
-        Ok(plan) => Ok(plan),
-        Err(_) => Err(Fail::new("the plan")),
-    }
+// 3 is READ_ONLY, 4 WRITE_ONLY, and 5, of the camera class, DISABLED.
+const SIX: &[Made] = &[
+    (FIRST, 7, 0),
+    (FIRST + 1, 7, 0),
+    (FIRST + 2, 7, 0),
+    (FIRST + 3, 7, 0x4),
+    (FIRST + 4, 7, 0x40),
+    (CAMERA, 7, 0x1),
+];
+
+const VALUES: [CtrlValue; 6] = [10, 11, 12, 13, 14, 15];
+
+// control 0 is grabbed
+const GRABS: [bool; 6] = [true, false, false, false, false, false];
+
+// An id and a value.
+type Entry = (u32, CtrlValue);
+
+type Answer = Result<&'static [Entry], (Errno, u32)>;
+
+#[derive(Clone, Copy, Debug, PartialEq, Eq)]
+enum Call {
+    Read,
+    Set,
+    Try,
 }
 
-const VALUES: [i64; 6] = [10, 11, 12, 13, 14, 15];
+// A call, what it speaks of, the pairs from before and the entries; what it is answered, and how many validators are asked.
+type Case = (
+    Call,
+    Which,
+    &'static [(u32, CtrlValue)],
+    &'static [Entry],
+    Answer,
+    u64,
+);
 
-const NO_GRABS: [bool; 6] = [false; 6];
-
-const ONE_GRAB: [bool; 6] = [true, false, false, false, false, false];
-
-fn entry(id: u32, value: i64) -> ExtControl {
-    ExtControl {
-        id: CtrlId(id),
-        value,
-    }
-}
-
-fn list(alloc: Global, entries: &[ExtControl]) -> Result<ControlList, Fail>
-    requires { length entries.now < 2 ^ 32 }
-{
+fn list_of(alloc: Global, entries: &[Entry]) -> Result<ControlList, Fail> {
     let mut items = Vec::new(alloc);
-    items.extend_from_slice(entries)?;
+    for &(id, value) in entries {
+        let id = CtrlId(id);
+        items.push(ExtControl { id, value })?;
+    }
+    if items.len() > 100 {
+        return Err(Fail::new("a short list"));
+    }
     Ok(ControlList::from_vec(items))
 }
 
-fn fault(errno: Errno, index: u32) -> Fault {
-    Fault {
-        errno,
-        index: Some(index),
+fn pairs_of(alloc: Global, asked: &[(u32, CtrlValue)]) -> Result<Vec<Pair>, Fail> {
+    let mut pairs = Vec::new(alloc);
+    for &(control, value) in asked {
+        pairs.push(Pair { control, value })?;
     }
+    Ok(pairs)
 }
 
-// What is read is this.
-fn reads(
-    rt: &impl Abort,
+// What the call is answered; the defaults can only be read.
+fn answer(
     alloc: Global,
-    which: Which,
-    entries: &[ExtControl],
-    want: Result<&[ExtControl], Fault>,
-) -> Result<(), Fail>
-    requires { length entries.now < 2 ^ 32 }
+    plan: &Plan<Strict>,
+    view: &View<'_>,
+    call: Call,
+    list: &ControlList,
+    work: &mut Work,
+) -> Result<ControlList, Fault>
+    requires controls { AreControlsOf plan.now view.now.controls }
+    requires values { length view.now.values ≡ length plan.now.controls }
+    requires grabs { length view.now.grabs ≡ length plan.now.controls }
 {
-    let plan = plan(alloc)?;
-    assert!(rt; plan.control_count() == 6);
-    let view = View::new(0, which, &VALUES, &NO_GRABS, &[]);
-    let list = list(alloc, entries)?;
-    match read_list(alloc, &plan, &view, &list) {
-        Ok(answers) => {
-            assert!(rt; want == Ok(answers.as_slice()));
-        }
-        Err(fault) => {
-            assert!(rt; want == Err(fault));
-        }
+    if call == Call::Read || view.which == Which::Defaults {
+        return read_list(alloc, plan, view, list);
     }
-    Ok(())
-}
-
-#[test]
-fn reading(rt: HostRuntime) -> Result<(), Fail> {
-    let alloc = rt.alloc();
-    let both = [entry(FIRST + 1, 99), entry(FIRST, -1)];
-    reads(
-        &rt,
-        alloc,
-        Which::Current,
-        &both,
-        Ok(&[entry(FIRST + 1, 11), entry(FIRST, 10)]),
-    )?;
-    reads(
-        &rt,
-        alloc,
-        Which::Defaults,
-        &both,
-        Ok(&[entry(FIRST + 1, 7), entry(FIRST, 7)]),
-    )?;
-    reads(
-        &rt,
-        alloc,
-        Which::Class(0x0098_0000),
-        &both[..1],
-        Ok(&[entry(FIRST + 1, 11)]),
-    )?;
-    reads(&rt, alloc, Which::Class(0x009a_0000), &[], Ok(&[]))?;
-    reads(
-        &rt,
-        alloc,
-        Which::Class(0x009b_0000),
-        &[],
-        Err(fault(Errno::EINVAL, 0)),
-    )?;
-    let hidden = [entry(FIRST + 4, 0), entry(FIRST, 0)];
-    reads(
-        &rt,
-        alloc,
-        Which::Defaults,
-        &hidden,
-        Err(fault(Errno::EACCES, 2)),
-    )?;
-    reads(
-        &rt,
-        alloc,
-        Which::Current,
-        &[entry(CAMERA, 0)],
-        Err(fault(Errno::EINVAL, 1)),
-    )?;
-    reads(
-        &rt,
-        alloc,
-        Which::Current,
-        &[entry(FIRST, 0); 64],
-        Ok(&[entry(FIRST, 10); 64]),
-    )?;
-    reads(
-        &rt,
-        alloc,
-        Which::Current,
-        &[entry(FIRST, 0); 65],
-        Err(fault(Errno::EINVAL, 65)),
-    )
-}
-
-// What a list that writes is answered is this; it answers how many validators were asked.
-fn writes(
-    rt: &impl Abort,
-    alloc: Global,
-    is_set: bool,
-    asked: &[Pair],
-    entries: &[ExtControl],
-    want: Result<&[ExtControl], Fault>,
-) -> Result<u64, Fail>
-    requires { length entries.now < 2 ^ 32 }
-{
-    let plan = plan(alloc)?;
-    assert!(rt; plan.control_count() == 6);
-    let view = View::new(0, Which::Request, &VALUES, &ONE_GRAB, asked);
-    let list = list(alloc, entries)?;
-    let mut work = Work::new();
-    let judged = if is_set {
-        plan_set(alloc, &plan, &view, &list, &mut work)
+    let judged = if call == Call::Set {
+        plan_set(alloc, plan, view, list, work)
     } else {
-        try_list(alloc, &plan, &view, &list, &mut work)
+        try_list(alloc, plan, view, list, work)
     };
     match judged {
         Ok(touched) => {
-            assert!(rt; want == Ok(touched.answers()));
+            let (answers, _) = touched.into_parts();
+            Ok(answers)
         }
-        Err(fault) => {
-            assert!(rt; want == Err(fault));
+        Err(fault) => Err(fault),
+    }
+}
+
+fn are_entries(answers: &[ExtControl], want: &[Entry]) -> bool {
+    for (answer, &(id, value)) in answers.iter().zip(want) {
+        if answer.id.0 != id || answer.value != value {
+            return false;
         }
     }
-    assert_eq!(rt; work.told, 0);
-    Ok(work.asked)
+    answers.len() == want.len()
 }
+
+fn is_answer(answer: &Result<ControlList, Fault>, want: Answer) -> bool {
+    match (answer, want) {
+        (Ok(list), Ok(entries)) => are_entries(list.as_slice(), entries),
+        (Err(fault), Err((errno, index))) => fault.errno == errno && fault.index == Some(index),
+        _ => false,
+    }
+}
+
+// Whether the call is answered so, where a plan's controls are these.
+fn shows(alloc: Global, plan: &Plan<Strict>, controls: &[Ctrl], case: Case) -> Result<bool, Fail>
+    requires controls { AreControlsOf plan.now controls.now }
+{
+    let (call, which, before, entries, want, asked) = case;
+    let count = plan.controls().len();
+    if count > 6 {
+        return Ok(false);
+    }
+    let pairs = pairs_of(alloc, before)?;
+    let (values, grabs) = (&VALUES[..count], &GRABS[..count]);
+    let view = View::new(0, which, controls, values, grabs, pairs.as_slice());
+    let list = list_of(alloc, entries)?;
+    let mut work = Work::new();
+    let got = answer(alloc, plan, &view, call, &list, &mut work);
+    Ok(is_answer(&got, want) && work.asked == asked && work.told == 0)
+}
+
+// The plan of six answers these.
+fn holds(rt: &impl Abort, alloc: Global, cases: &[Case]) -> Result<(), Fail> {
+    let plan = plan_of(alloc, SIX)?;
+    for &case in cases {
+        let is_shown = shows(alloc, &plan, plan.controls(), case)?;
+        assert!(rt; is_shown, "{case:?}");
+    }
+    Ok(())
+}
+
+const USER: Which = Which::Class(0x0098_0000);
+
+const BOTH: &[Entry] = &[(FIRST + 1, 99), (FIRST, -1)];
+
+const READING: &[Case] = &[
+    (
+        Call::Read,
+        Which::Current,
+        &[],
+        BOTH,
+        Ok(&[(FIRST + 1, 11), (FIRST, 10)]),
+        0,
+    ),
+    (
+        Call::Read,
+        Which::Request,
+        &[(0, 9)],
+        BOTH,
+        Ok(&[(FIRST + 1, 11), (FIRST, 10)]),
+        0,
+    ),
+    (
+        Call::Read,
+        Which::Defaults,
+        &[],
+        BOTH,
+        Ok(&[(FIRST + 1, 7), (FIRST, 7)]),
+        0,
+    ),
+    (
+        Call::Read,
+        USER,
+        &[],
+        &[(FIRST + 1, 99)],
+        Ok(&[(FIRST + 1, 11)]),
+        0,
+    ),
+    (Call::Read, Which::Class(0x009a_0000), &[], &[], Ok(&[]), 0),
+    (
+        Call::Read,
+        Which::Class(0x009b_0000),
+        &[],
+        &[],
+        Err((Errno::EINVAL, 0)),
+        0,
+    ),
+    (
+        Call::Read,
+        Which::Class(0x009a_0000),
+        &[],
+        BOTH,
+        Err((Errno::EINVAL, 2)),
+        0,
+    ),
+    (
+        Call::Read,
+        Which::Defaults,
+        &[],
+        &[(FIRST + 4, 0), (FIRST, 0)],
+        Err((Errno::EACCES, 2)),
+        0,
+    ),
+    (
+        Call::Read,
+        Which::Current,
+        &[],
+        &[(FIRST + 4, 0)],
+        Err((Errno::EACCES, 1)),
+        0,
+    ),
+    (
+        Call::Read,
+        Which::Current,
+        &[],
+        &[(CAMERA, 0)],
+        Err((Errno::EINVAL, 1)),
+        0,
+    ),
+    (
+        Call::Read,
+        Which::Current,
+        &[],
+        &[(FIRST, 0); 64],
+        Ok(&[(FIRST, 10); 64]),
+        0,
+    ),
+    (
+        Call::Read,
+        Which::Current,
+        &[],
+        &[(FIRST, 0); 65],
+        Err((Errno::EINVAL, 65)),
+        0,
+    ),
+];
+
+#[test]
+fn reading(rt: HostRuntime) -> Result<(), Fail> {
+    holds(&rt, rt.alloc(), READING)
+}
+
+const THRICE: &[Entry] = &[(FIRST + 1, 300), (FIRST, 5), (FIRST + 1, 21)];
+
+const TRYING: &[Case] = &[
+    // all are of one cluster, which is judged once; a grabbed control may be tried
+    (
+        Call::Try,
+        Which::Request,
+        &[],
+        THRICE,
+        Ok(&[(FIRST + 1, 21), (FIRST, 5), (FIRST + 1, 21)]),
+        1,
+    ),
+    // the first entry of the cluster that is refused
+    (
+        Call::Try,
+        Which::Request,
+        &[],
+        &[(FIRST, 1), (FIRST + 2, 1), (FIRST + 2, 2)],
+        Err((Errno::EBUSY, 1)),
+        2,
+    ),
+    // no flag is looked at before the ids are all known
+    (
+        Call::Try,
+        Which::Request,
+        &[],
+        &[(FIRST + 3, 1), (FIRST + 9, 1)],
+        Err((Errno::EINVAL, 1)),
+        0,
+    ),
+    (
+        Call::Try,
+        Which::Request,
+        &[],
+        &[(FIRST + 4, 1), (FIRST + 3, 1)],
+        Err((Errno::EACCES, 1)),
+        0,
+    ),
+    (Call::Try, Which::Request, &[], &[], Ok(&[]), 0),
+    (
+        Call::Try,
+        Which::Request,
+        &[],
+        &[(FIRST, 1); 65],
+        Err((Errno::EINVAL, 65)),
+        0,
+    ),
+    (
+        Call::Try,
+        Which::Class(0x009b_0000),
+        &[],
+        &[],
+        Err((Errno::EINVAL, 0)),
+        0,
+    ),
+    // of two clusters one has a validator
+    (
+        Call::Try,
+        USER,
+        &[],
+        &[(FIRST + 4, 1), (FIRST + 1, 2)],
+        Ok(&[(FIRST + 4, 1), (FIRST + 1, 2)]),
+        1,
+    ),
+];
 
 #[test]
 fn trying(rt: HostRuntime) -> Result<(), Fail> {
-    let alloc = rt.alloc();
-    // both are of one cluster, which is judged once; a grabbed control may be tried
-    let both = [entry(FIRST + 1, 300), entry(FIRST, 5), entry(FIRST + 1, 21)];
-    let taken = [entry(FIRST + 1, 21), entry(FIRST, 5), entry(FIRST + 1, 21)];
-    assert_eq!(rt; writes(&rt, alloc, false, &[], &both, Ok(&taken))?, 1);
-    // the first entry of the cluster that is refused
-    let refused = [entry(FIRST, 1), entry(FIRST + 2, 1), entry(FIRST + 2, 2)];
-    let busy = Err(fault(Errno::EBUSY, 1));
-    assert_eq!(rt; writes(&rt, alloc, false, &[], &refused, busy)?, 2);
-    // no flag is looked at before the ids are all known
-    let unknown = [entry(FIRST + 3, 1), entry(FIRST + 9, 1)];
-    let invalid = Err(fault(Errno::EINVAL, 1));
-    assert_eq!(rt; writes(&rt, alloc, false, &[], &unknown, invalid)?, 0);
-    let read_only = [entry(FIRST + 4, 1), entry(FIRST + 3, 1)];
-    let denied = Err(fault(Errno::EACCES, 1));
-    assert_eq!(rt; writes(&rt, alloc, false, &[], &read_only, denied)?, 0);
-    assert_eq!(rt; writes(&rt, alloc, false, &[], &[], Ok(&[]))?, 0);
-    Ok(())
+    holds(&rt, rt.alloc(), TRYING)
 }
+
+const SETTING: &[Case] = &[
+    // what was asked before is laid first
+    (
+        Call::Set,
+        Which::Request,
+        &[(0, 30), (1, 31)],
+        &[(FIRST + 1, 32)],
+        Ok(&[(FIRST + 1, 32)]),
+        1,
+    ),
+    (
+        Call::Set,
+        Which::Request,
+        &[],
+        &[(FIRST + 4, 3)],
+        Ok(&[(FIRST + 4, 3)]),
+        0,
+    ),
+    // of two clusters one has a validator; each control of a cluster counts once
+    (
+        Call::Set,
+        Which::Current,
+        &[],
+        &[(FIRST + 1, 2), (FIRST + 4, 300)],
+        Ok(&[(FIRST + 1, 2), (FIRST + 4, 255)]),
+        1,
+    ),
+    (
+        Call::Set,
+        Which::Current,
+        &[],
+        &[(FIRST + 1, 2), (FIRST + 1, 3)],
+        Ok(&[(FIRST + 1, 3), (FIRST + 1, 3)]),
+        1,
+    ),
+    // the index is the number of entries
+    (
+        Call::Set,
+        Which::Request,
+        &[],
+        &[(FIRST, 1), (FIRST + 1, 1)],
+        Err((Errno::EBUSY, 2)),
+        0,
+    ),
+    (
+        Call::Set,
+        Which::Request,
+        &[],
+        &[(FIRST + 1, 1), (FIRST + 2, 1)],
+        Err((Errno::EBUSY, 2)),
+        2,
+    ),
+    (
+        Call::Set,
+        Which::Request,
+        &[],
+        &[(FIRST + 3, 1), (CAMERA, 1)],
+        Err((Errno::EINVAL, 2)),
+        0,
+    ),
+    (
+        Call::Set,
+        Which::Request,
+        &[],
+        &[(FIRST + 3, 1), (FIRST, 1)],
+        Err((Errno::EACCES, 2)),
+        0,
+    ),
+    (Call::Set, Which::Request, &[], &[], Ok(&[]), 0),
+];
 
 #[test]
 fn setting(rt: HostRuntime) -> Result<(), Fail> {
-    let alloc = rt.alloc();
-    // what was asked before is laid first
-    let asked = [
-        Pair {
-            control: 0,
-            value: 30,
-        },
-        Pair {
-            control: 1,
-            value: 31,
-        },
-    ];
-    let one = [entry(FIRST + 1, 32)];
-    assert_eq!(rt; writes(&rt, alloc, true, &asked, &one, Ok(&one))?, 1);
-    assert_eq!(rt;
-        writes(
-            &rt,
-            alloc,
-            true,
-            &[],
-            &[entry(FIRST + 4, 3)],
-            Ok(&[entry(FIRST + 4, 3)])
-        )?,
-        0
-    );
-    // the index is the number of entries
-    let grabbed = [entry(FIRST, 1), entry(FIRST + 1, 1)];
-    let busy = Err(fault(Errno::EBUSY, 2));
-    assert_eq!(rt; writes(&rt, alloc, true, &[], &grabbed, busy)?, 0);
-    let refused = [entry(FIRST + 1, 1), entry(FIRST + 2, 1)];
-    assert_eq!(rt; writes(&rt, alloc, true, &[], &refused, busy)?, 2);
-    assert_eq!(rt; writes(&rt, alloc, true, &[], &[], Ok(&[]))?, 0);
-    Ok(())
+    holds(&rt, rt.alloc(), SETTING)
+}
+
+// The clusters that a set gives rows, each with its row; its answers and its pairs.
+const ROWS: &[(u32, &[CtrlValue])] = &[(3, &[1]), (0, &[10, 2])];
+
+fn are_rows(touched: &Touched, rows: &[(u32, &[CtrlValue])]) -> bool {
+    for (new, &(cluster, values)) in touched.rows().iter().zip(rows) {
+        let row = ClusterRow::from_slice(values);
+        if new.cluster != cluster || Some(new.row) != row || touched.row_of(cluster) != row {
+            return false;
+        }
+    }
+    touched.rows().len() == rows.len() && touched.row_of(1).is_none()
+}
+
+fn are_pairs(pairs: &[Pair], want: &[(u32, CtrlValue)]) -> bool {
+    for (pair, &(control, value)) in pairs.iter().zip(want) {
+        if pair.control != control || pair.value != value {
+            return false;
+        }
+    }
+    pairs.len() == want.len()
+}
+
+fn is_touched(touched: Touched) -> bool {
+    let answers = &[(FIRST + 4, 1), (FIRST + 1, 2)];
+    let pairs = &[(4, 1), (1, 2)];
+    let are_shown = are_rows(&touched, ROWS)
+        && are_entries(touched.answers(), answers)
+        && are_pairs(touched.pairs(), pairs);
+    let (list, kept) = touched.into_parts();
+    are_shown && are_entries(list.as_slice(), answers) && are_pairs(kept.as_slice(), pairs)
 }
 
 #[test]
 fn rows_of_a_set(rt: HostRuntime) -> Result<(), Fail> {
     let alloc = rt.alloc();
-    let plan = plan(alloc)?;
-    assert!(rt; plan.control_count() == 6);
-    let view = View::new(0, Which::Current, &VALUES, &NO_GRABS, &[]);
-    let list = list(alloc, &[entry(FIRST + 4, 1), entry(FIRST + 1, 2)])?;
-    let mut work = Work::new();
-    match plan_set(alloc, &plan, &view, &list, &mut work) {
+    let plan = plan_of(alloc, SIX)?;
+    if plan.controls().len() != 6 {
+        return Err(Fail::new("six controls"));
+    }
+    let view = View::new(
+        0,
+        Which::Current,
+        plan.controls(),
+        &VALUES,
+        &[false; 6],
+        &[],
+    );
+    let list = list_of(alloc, &[(FIRST + 4, 1), (FIRST + 1, 2)])?;
+    match plan_set(alloc, &plan, &view, &list, &mut Work::new()) {
         Ok(touched) => {
-            assert_eq!(rt; touched.rows().len(), 2);
-            assert!(rt; touched.row_of(0) == ClusterRow::from_slice(&[10, 2]));
-            assert!(rt; touched.row_of(1).is_none());
-            assert_eq!(rt; touched.pairs().len(), 2);
-            let (answers, pairs) = touched.into_parts();
-            assert_eq!(rt; answers.len(), 2);
-            assert_eq!(rt; pairs.len(), 2);
+            assert!(rt; is_touched(touched));
             Ok(())
         }
         Err(_) => Err(Fail::new("a set")),
     }
+}
+
+// Whether these are the two controls of a plan, maybe with other defaults.
+fn are_of(plan: &Plan<Strict>, controls: &[Ctrl]) -> bool
+    ensures { IsTrue result → AreControlsOf plan.now controls.now }
+{
+    match (plan.controls(), controls) {
+        ([first, second], [one, other]) => is_alike(first, one) && is_alike(second, other),
+        _ => false,
+    }
+}
+
+fn is_alike(own: &Ctrl, other: &Ctrl) -> bool
+    ensures { IsTrue result → (own.now.id ≡ other.now.id) × (own.now.kind ≡ other.now.kind) × (own.now.flags ≡ other.now.flags) × (own.now.skip ≡ other.now.skip) }
+{
+    own.id() == other.id()
+        && own.kind() == other.kind()
+        && own.flags() == other.flags()
+        && own.skip() == other.skip()
+}
+
+const DEFAULTS: &[Case] = &[
+    (
+        Call::Read,
+        Which::Defaults,
+        &[],
+        BOTH,
+        Ok(&[(FIRST + 1, 41), (FIRST, 40)]),
+        0,
+    ),
+    (
+        Call::Read,
+        Which::Current,
+        &[],
+        BOTH,
+        Ok(&[(FIRST + 1, 11), (FIRST, 10)]),
+        0,
+    ),
+];
+
+// The defaults are those of the controls that are handed in, and not the plan's.
+#[test]
+fn other_defaults(rt: HostRuntime) -> Result<(), Fail> {
+    let alloc = rt.alloc();
+    let plan = plan_of(alloc, &[(FIRST, 7, 0), (FIRST + 1, 7, 0)])?;
+    let other = plan_of(alloc, &[(FIRST, 40, 0), (FIRST + 1, 41, 0)])?;
+    if !are_of(&plan, other.controls()) {
+        return Err(Fail::new("two controls"));
+    }
+    for &case in DEFAULTS {
+        let is_shown = shows(alloc, &plan, other.controls(), case)?;
+        assert!(rt; is_shown, "{case:?}");
+    }
+    Ok(())
 }
