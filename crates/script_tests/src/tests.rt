@@ -5,9 +5,6 @@ use ctl_script::{MAX_INPUT, MAX_READS, Outcome};
 use std::alloc::{AllocError, Global};
 use std::io::ErrorKind;
 
-// Whether a reply line is one write, where the writer takes it whole. Else a line may take several.
-const ONE_WRITE_A_LINE: bool = false;
-
 // How many bytes the writers take at once.
 const MOST: [usize; 3] = [1, 7, 4096];
 
@@ -28,7 +25,8 @@ fn prints(alloc: Global, script: &Script, most: usize) -> Result<bool, AllocErro
     let ran = run(alloc, script.kept, text.as_slice(), streams)?;
     let lines = script.lines.len();
     let fewest = if most == 1 { reply.len() } else { lines };
-    let is_few = !ONE_WRITE_A_LINE || most < 4096 || ran.writes as usize == lines;
+    // a writer that takes a line whole takes it in one write
+    let is_few = most < 4096 || ran.writes as usize == lines;
     let has_run = is_run(&ran, reply.as_slice(), script.outcome, script.steps(lines));
     Ok(has_run && ran.writes as usize >= fewest && is_few)
 }
