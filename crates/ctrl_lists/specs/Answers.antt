@@ -44,10 +44,13 @@ value_read controls values _ c = value_at values c
 abbrev pub entry_read : PlanData → ViewData → Pair → ExtControl
 entry_read plan view p = record { id = (control plan p.control).id; value = value_read view.controls view.values view.which p.control }
 
+-- the entries that a list that reads is answered
+abbrev pub entries_read : PlanData → ViewData → List ExtControl → List ExtControl
+entries_read plan view list = map (entry_read plan view) (pairs_of plan view.handler view.which list)
+
 -- What a get is answered, memory aside.
 unfoldable pub get_answer : PlanData → ViewData → List ExtControl → ListAnswer
-get_answer plan view list =
-    answered (fault_at_count (length list)) (first_refusal (read_checks plan view list)) (map (entry_read plan view) (pairs_of plan view.handler view.which list))
+get_answer plan view list = answered (fault_at_count (length list)) (first_refusal (read_checks plan view list)) (entries_read plan view list)
 
 -- The value that a control has once its cluster was judged.
 abbrev pub value_judged : Verdicts → PlanData → ViewData → List Pair → ℕ → CtrlValue

@@ -1,5 +1,5 @@
 -- A refusal has an index exactly where the ask is one about a list.
-use Rattle.std.proofs.Common.{◌≡◌, ℕ, Bool, true, false, if◌then◌else◌, List, length, Option, None, Some, Result, Ok, Err, is_some, refl, sym, subst, inl, inr}
+use Rattle.std.proofs.Common.{◌≡◌, ℕ, Bool, true, false, if◌then◌else◌, List, length, Option, None, Some, Ok, Err, is_some, refl, sym, subst, inl, inr}
 use Rattle.ctrl_types.specs.declared.errno.Errno.{Errno}
 use Rattle.ctrl_types.specs.declared.errno.Fault.{Fault}
 use Rattle.ctrl_types.specs.declared.ids.CtrlId.{CtrlId}
@@ -12,13 +12,12 @@ use Rattle.menu_items.specs.declared.item.MenuItem.{MenuItem}
 use Rattle.ctrl_handlers.specs.Plan.{PlanData, menu_item}
 use Rattle.ctrl_handlers.specs.Visible.{next_id}
 use Rattle.ctrl_lists.specs.declared.refusal.Refusal.{Refusal}
-use Rattle.ctrl_lists.specs.View.{ViewData}
-use Rattle.ctrl_lists.specs.Answers.{ListAnswer, answered, fault_at_count, fault_at_entry, get_answer, set_answer, try_answer}
+use Rattle.ctrl_lists.specs.Answers.{answered, fault_at_count, fault_at_entry}
 use Rattle.device_history.specs.Steps.{Past}
 use Rattle.device_history.specs.Handles.{handler_of}
-use Rattle.device_history.specs.Refusals.{Answer, is_full, refused, refused_at}
+use Rattle.device_history.specs.Refusals.{Answer, refused, refused_at}
 use Rattle.device_history.specs.Answers.{answer_of, is_list, no_memory, MayAnswer}
-use Rattle.device_history.specs.Lists.{list_view, list_answer, controls_of, kept_controls}
+use Rattle.device_history.specs.Lists.{controls_of}
 use Rattle.device_history.specs.Queries.{query_one, next_one, next_of, item_one, item_of}
 
 -- where the answer is a refusal, whether it has an index is b
@@ -54,26 +53,6 @@ at_entry : (count : ℕ) (r : Refusal) → HasIndex true (Err (fault_at_entry co
 unfolding HasIndex
 at_entry count r = refl
 
-got : (plan : PlanData) (view : ViewData) (list : List ExtControl) → HasIndex true (controls_of (get_answer plan view list))
-unfolding get_answer
-got plan view list = faulty (fault_at_count (length list)) _ _ (at_count (length list))
-
-tried : (verdicts : Verdicts) (plan : PlanData) (view : ViewData) (list : List ExtControl) → HasIndex true (controls_of (try_answer verdicts plan view list))
-unfolding try_answer
-tried verdicts plan view list = faulty (fault_at_entry (length list)) _ _ (at_entry (length list))
-
-kept : (full : Bool) (count : ℕ) (answer : ListAnswer) → HasIndex true (controls_of answer) → HasIndex true (kept_controls full count answer)
-kept full count (Ok entries) h = either true full _ _ (at _ _) h
-kept full count (Err fault) h = h
-
-put : (verdicts : Verdicts) (plan : PlanData) (view : ViewData) (list : List ExtControl) → HasIndex true (controls_of (set_answer verdicts plan view list))
-unfolding set_answer
-put verdicts plan view list = faulty (fault_at_count (length list)) _ _ (at_count (length list))
-
-listed : (count : ℕ) (view : Result ViewData Errno) (of : ViewData → Answer) → ((v : ViewData) → HasIndex true (of v)) → HasIndex true (list_answer count view of)
-listed count (Err errno) of h = at _ _
-listed count (Ok view) of h = h view
-
 queried : (verdicts : Verdicts) (plan : PlanData) (past : Past) (found : Option ℕ) → HasIndex false (query_one verdicts plan past found)
 queried verdicts plan past None = plain _
 queried verdicts plan past (Some c) = accepted false _
@@ -97,10 +76,9 @@ item plan index (Some c) = item_found (menu_item plan c index)
 told_so : (verdicts : Verdicts) (plan : PlanData) (past : Past) (words : List ℕ) (ask : Ask) → HasIndex (is_list ask) (answer_of verdicts plan past words ask)
 told_so verdicts plan past words (asks.OpenFh handler) = search (either, plain, accepted)
 told_so verdicts plan past words (asks.CloseFh fh) = search (either, plain, accepted)
-told_so verdicts plan past words (asks.GetCtrls fh which request list) = listed (length list) (list_view verdicts plan past fh which false) _ (λ view. got plan view list)
-told_so verdicts plan past words (asks.SetCtrls fh which request list) =
-    listed (length list) (list_view verdicts plan past fh which true) _ (λ view. kept (is_full past) (length list) (set_answer verdicts plan view list) (put verdicts plan view list))
-told_so verdicts plan past words (asks.TryCtrls fh which request list) = listed (length list) (list_view verdicts plan past fh which true) _ (λ view. tried verdicts plan view list)
+told_so verdicts plan past words (asks.GetCtrls fh which request list) = faulty (fault_at_count (length list)) _ _ (at_count (length list))
+told_so verdicts plan past words (asks.SetCtrls fh which request list) = faulty (fault_at_count (length list)) _ _ (at_count (length list))
+told_so verdicts plan past words (asks.TryCtrls fh which request list) = faulty (fault_at_entry (length list)) _ _ (at_entry (length list))
 told_so verdicts plan past words (asks.Grab c on) = search (either, plain, accepted)
 told_so verdicts plan past words (asks.Query fh id) = search (either, plain, queried)
 told_so verdicts plan past words (asks.NextId fh id) = next plan id (handler_of past fh)

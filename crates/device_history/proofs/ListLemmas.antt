@@ -1,63 +1,141 @@
 -- What a list that is read, or accepted, says of its checks.
-use Rattle.std.proofs.Common.{◌≡◌, ℕ, Bool, true, false, cond, ◌&&◌, ◌+◌, List, [], ◌∷◌, length, Option, None, Some, Result, Ok, Err, refl, ap, subst}
+use Rattle.std.proofs.Common.{◌≡◌, ℕ, Bool, true, false, cond, if◌then◌else◌, ◌&&◌, ◌+◌, List, [], ◌∷◌, ◌++◌, length, Option, None, Some, Ok, Err, refl, ap}
 use Rattle.std.specs.List.{list_any}
 use Rattle.ctrl_types.specs.Flags.{contains}
 use Rattle.ctrl_types.specs.declared.errno.Errno.{Errno}
-use Rattle.ctrl_types.specs.declared.errno.Errno.TheVariants.{EACCES, EBUSY, EINVAL}
+use Rattle.ctrl_types.specs.declared.errno.Errno.TheVariants.{EACCES, EBUSY, EINVAL, ENOSPC}
 use Rattle.ctrl_types.specs.declared.errno.Fault.{Fault}
 use Rattle.ctrl_types.specs.declared.flags.TheConstants.Flags.{READ_ONLY}
 use Rattle.ctrl_types.specs.declared.ids.ExtControl.{ExtControl}
+use Rattle.ctrl_types.specs.declared.ids.FhId.{FhId}
 use Rattle.ctrl_types.specs.declared.ids.Pair.{Pair}
-use Rattle.ctrl_types.specs.declared.which.Which.{Which}
 use Rattle.ctrl_calls.specs.Meanings.{Verdicts}
 use Rattle.ctrl_settle.specs.Settle.{settle}
 use Rattle.ctrl_handlers.specs.Plan.{PlanData, control, control_in}
 use Rattle.ctrl_lists.specs.declared.refusal.Refusal.{Refusal}
 use Rattle.ctrl_lists.specs.View.{ViewData, pairs_of}
-use Rattle.ctrl_lists.specs.Checks.{at_first, errno_of, first_from, first_refusal, found_at, is_long, is_of_no_class, laid_pairs, refused_if, judging_refusal, naming_refusal, writing_refusal, write_checks}
-use Rattle.ctrl_lists.specs.Answers.{answered, entries_judged, fault_at_count, set_answer}
-use Rattle.ctrl_clusters.specs.Rows.{Grabs, is_grabbed, Values}
-use Rattle.device_history.specs.Refusals.{Answer}
-use Rattle.device_history.specs.Lists.{is_refused, view_by, list_answer, pairs_by}
+use Rattle.ctrl_lists.specs.Checks.{at_first, errno_of, first_from, first_refusal, found_at, is_long, is_of_no_class, laid_pairs, refused_if, judging_refusal, naming_refusal, writing_refusal, read_checks, write_checks}
+use Rattle.ctrl_lists.specs.Answers.{answered, entries_judged, fault_at_count, get_answer, set_answer, try_answer}
+use Rattle.ctrl_clusters.specs.Rows.{is_grabbed}
+use Rattle.device_history.specs.declared.ask.Reply.TheVariants.{Controls}
+use Rattle.device_history.specs.Steps.{Past}
+use Rattle.device_history.specs.Refusals.{refused_at, is_full}
+use Rattle.device_history.specs.Lists.{list_view, opening_checks, set_checks, controls_of, get_list, set_list, try_list}
 
-pub read_as : (count : ℕ) (read : Result ViewData Errno) (of : ViewData → Answer) (view : ViewData) → read ≡ Ok view → list_answer count read of ≡ of view
-read_as count read of view is = ap (λ (r : Result ViewData Errno). list_answer count r of) is
+-- where the checks before pass, the first refusal stands behind them
+pub first_behind : (before behind : List (Option Refusal)) → first_refusal before ≡ None → first_refusal (before ++ behind) ≡ first_refusal behind
+first_behind [] behind h = refl
+first_behind (None ∷ before) behind h = first_behind before behind h
+first_behind (Some refusal ∷ before) behind h = cc
 
--- What a list is read against has the values and grabs, and no pairs from before; the pairs of the list are those that it reads.
-pub record Reads (plan : PlanData) (values : Values) (grabs : Grabs) (list : List ExtControl) (handler : Option ℕ) (which : Result Which Errno) (view : ViewData) : Type 0 where
-  pub same_controls : view.controls ≡ plan.controls
-  pub same_values : view.values ≡ values
-  pub same_grabs : view.grabs ≡ grabs
-  pub none_asked : view.asked ≡ []
-  pub same_pairs : pairs_by plan list handler which ≡ pairs_of plan view.handler view.which list
+-- where one of them refuses, it is theirs
+pub first_before : (before behind : List (Option Refusal)) (refusal : Refusal) → first_refusal before ≡ Some refusal → first_refusal (before ++ behind) ≡ Some refusal
+first_before [] behind refusal h = cc
+first_before (None ∷ before) behind refusal h = first_before before behind refusal h
+first_before (Some other ∷ before) behind refusal h = h
 
-pub reads : (plan : PlanData) (values : Values) (grabs : Grabs) (writes : Bool) (list : List ExtControl) (handler : Option ℕ) (which : Result Which Errno) (view : ViewData)
-    → view_by plan values grabs writes handler which ≡ Ok view → Reads plan values grabs list handler which view
-reads plan values grabs writes list None which view is = absurd (differ is)
+-- where nothing refuses, nothing before refuses, and nothing behind
+pub none_of_both : (before behind : List (Option Refusal)) → first_refusal (before ++ behind) ≡ None → (first_refusal before ≡ None) × (first_refusal behind ≡ None)
+none_of_both [] behind h = (refl, h)
+none_of_both (None ∷ before) behind h = none_of_both before behind h
+none_of_both (Some refusal ∷ before) behind h = cc
+
+-- a list whose first checks refuse it
+pub get_unopened : (verdicts : Verdicts) (plan : PlanData) (past : Past) (fh : FhId) (which : ℕ) (list : List ExtControl) (errno : Errno)
+    → first_refusal (opening_checks past fh which false) ≡ Some (record { errno = errno; place = None }) → get_list verdicts plan past fh which list ≡ refused_at errno (length list)
+get_unopened verdicts plan past fh which list errno h = rw (first_before (opening_checks past fh which false) (read_checks plan (list_view verdicts plan past fh which) list) _ h) refl
+
+pub set_unopened : (verdicts : Verdicts) (plan : PlanData) (past : Past) (fh : FhId) (which : ℕ) (list : List ExtControl) (errno : Errno)
+    → first_refusal (opening_checks past fh which true) ≡ Some (record { errno = errno; place = None }) → set_list verdicts plan past fh which list ≡ refused_at errno (length list)
+set_unopened verdicts plan past fh which list errno h =
+    rw (first_before (opening_checks past fh which true) (write_checks verdicts plan (list_view verdicts plan past fh which) true list ++ refused_if (is_full past) ENOSPC ∷ []) _ h) refl
+
+pub try_unopened : (verdicts : Verdicts) (plan : PlanData) (past : Past) (fh : FhId) (which : ℕ) (list : List ExtControl) (errno : Errno)
+    → first_refusal (opening_checks past fh which true) ≡ Some (record { errno = errno; place = None }) → try_list verdicts plan past fh which list ≡ refused_at errno (length list)
+try_unopened verdicts plan past fh which list errno h = rw (first_before (opening_checks past fh which true) (write_checks verdicts plan (list_view verdicts plan past fh which) false list) _ h) refl
+
+-- a list whose first checks pass is answered as the list is
+pub get_opened : (verdicts : Verdicts) (plan : PlanData) (past : Past) (fh : FhId) (which : ℕ) (list : List ExtControl) → first_refusal (opening_checks past fh which false) ≡ None
+    → get_list verdicts plan past fh which list ≡ controls_of (get_answer plan (list_view verdicts plan past fh which) list)
+unfolding get_answer
+get_opened verdicts plan past fh which list h = rw (first_behind (opening_checks past fh which false) (read_checks plan (list_view verdicts plan past fh which) list) h) refl
+
+pub try_opened : (verdicts : Verdicts) (plan : PlanData) (past : Past) (fh : FhId) (which : ℕ) (list : List ExtControl) → first_refusal (opening_checks past fh which true) ≡ None
+    → try_list verdicts plan past fh which list ≡ controls_of (try_answer verdicts plan (list_view verdicts plan past fh which) list)
+unfolding try_answer
+try_opened verdicts plan past fh which list h = rw (first_behind (opening_checks past fh which true) (write_checks verdicts plan (list_view verdicts plan past fh which) false list) h) refl
+
+-- a set that the list's own checks refuse
+pub set_refused : (verdicts : Verdicts) (plan : PlanData) (past : Past) (fh : FhId) (which : ℕ) (list : List ExtControl) (fault : Fault) → first_refusal (opening_checks past fh which true) ≡ None
+    → set_answer verdicts plan (list_view verdicts plan past fh which) list ≡ Err fault → set_list verdicts plan past fh which list ≡ Err fault
+unfolding set_answer
+set_refused verdicts plan past fh which list fault opens is = rw (first_behind (opening_checks past fh which true) (own ++ limit) opens) (by (first_refusal own) refl is)
   where
-    differ : view_by plan values grabs writes None which ≡ Ok view → ⊥
-    differ e = cc
-reads plan values grabs writes list (Some h) (Err errno) view is = absurd (differ is)
+    own : List (Option Refusal)
+    own = write_checks verdicts plan (list_view verdicts plan past fh which) true list
+
+    limit : List (Option Refusal)
+    limit = refused_if (is_full past) ENOSPC ∷ []
+
+    entries : List ExtControl
+    entries = entries_judged verdicts plan (list_view verdicts plan past fh which) list
+
+    by : (first : Option Refusal) → first_refusal own ≡ first → answered (fault_at_count (length list)) first entries ≡ Err fault
+        → controls_of (answered (fault_at_count (length list)) (first_refusal (own ++ limit)) entries) ≡ Err fault
+    by None e h = cc
+    by (Some refusal) e h = rw (first_before own limit refusal e) (ap controls_of h)
+
+-- a set that they don't refuse: the limit of steps decides
+pub set_limited : (verdicts : Verdicts) (plan : PlanData) (past : Past) (fh : FhId) (which : ℕ) (list answers : List ExtControl) → first_refusal (opening_checks past fh which true) ≡ None
+    → set_answer verdicts plan (list_view verdicts plan past fh which) list ≡ Ok answers → set_list verdicts plan past fh which list ≡ (if is_full past then refused_at ENOSPC (length list) else Ok (Controls answers))
+unfolding set_answer
+set_limited verdicts plan past fh which list answers opens is = rw (first_behind (opening_checks past fh which true) (own ++ limit) opens) (by (first_refusal own) refl is)
   where
-    differ : view_by plan values grabs writes (Some h) (Err errno) ≡ Ok view → ⊥
-    differ e = cc
-reads plan values grabs writes list (Some h) (Ok which) view is = by (is_refused writes which) is
+    own : List (Option Refusal)
+    own = write_checks verdicts plan (list_view verdicts plan past fh which) true list
+
+    limit : List (Option Refusal)
+    limit = refused_if (is_full past) ENOSPC ∷ []
+
+    entries : List ExtControl
+    entries = entries_judged verdicts plan (list_view verdicts plan past fh which) list
+
+    full : (b : Bool) → answered (fault_at_count (length list)) None entries ≡ Ok answers
+        → controls_of (answered (fault_at_count (length list)) (first_refusal (refused_if b ENOSPC ∷ [])) entries) ≡ (if b then refused_at ENOSPC (length list) else Ok (Controls answers))
+    full true h = refl
+    full false h = ap controls_of h
+
+    by : (first : Option Refusal) → first_refusal own ≡ first → answered (fault_at_count (length list)) first entries ≡ Ok answers
+        → controls_of (answered (fault_at_count (length list)) (first_refusal (own ++ limit)) entries) ≡ (if is_full past then refused_at ENOSPC (length list) else Ok (Controls answers))
+    by None e h = rw (first_behind own limit e) (full (is_full past) h)
+    by (Some refusal) e h = cc
+
+-- a set that is accepted passes the first checks, and the list's own
+pub set_passes : (verdicts : Verdicts) (plan : PlanData) (past : Past) (fh : FhId) (which : ℕ) (list answers : List ExtControl) → set_list verdicts plan past fh which list ≡ Ok (Controls answers)
+    → (first_refusal (opening_checks past fh which true) ≡ None) × (set_answer verdicts plan (list_view verdicts plan past fh which) list ≡ Ok answers)
+unfolding set_answer
+set_passes verdicts plan past fh which list answers is =
+    let all : first_refusal (set_checks verdicts plan past fh which list) ≡ None = none (first_refusal (set_checks verdicts plan past fh which list)) is in
+    let parts = none_of_both (opening_checks past fh which true) (own ++ limit) all in
+    let passed = none_of_both own limit parts.1 in
+    (parts.0, rw passed.0 (same (first_refusal (set_checks verdicts plan past fh which list)) all is))
   where
-    made : ViewData
-    made = record { handler = h; which = which; controls = plan.controls; values = values; grabs = grabs; asked = [] }
+    own : List (Option Refusal)
+    own = write_checks verdicts plan (list_view verdicts plan past fh which) true list
 
-    found : Result ViewData Errno
-    found = Ok made
+    limit : List (Option Refusal)
+    limit = refused_if (is_full past) ENOSPC ∷ []
 
-    same : found ≡ Ok view → made ≡ view
-    same e = cc
+    entries : List ExtControl
+    entries = entries_judged verdicts plan (list_view verdicts plan past fh which) list
 
-    by : (b : Bool) → cond b (Err EINVAL) found ≡ Ok view → Reads plan values grabs list (Some h) (Ok which) view
-    by true e = absurd (differ e)
-      where
-        differ : cond true (Err EINVAL) found ≡ Ok view → ⊥
-        differ e = cc
-    by false e = subst (λ (v : ViewData). Reads plan values grabs list (Some h) (Ok which) v) (same e) (record { same_controls = refl; same_values = refl; same_grabs = refl; none_asked = refl; same_pairs = refl })
+    none : (first : Option Refusal) → controls_of (answered (fault_at_count (length list)) first entries) ≡ Ok (Controls answers) → first ≡ None
+    none None h = refl
+    none (Some refusal) h = cc
+
+    same : (first : Option Refusal) → first ≡ None → controls_of (answered (fault_at_count (length list)) first entries) ≡ Ok (Controls answers) → answered (fault_at_count (length list)) None entries ≡ Ok answers
+    same None e h = cc
+    same (Some refusal) e h = cc
 
 -- what passes each check passes the first
 pub passes : (check : Option Refusal) (checks : List (Option Refusal)) → first_refusal (check ∷ checks) ≡ None → (check ≡ None) × (first_refusal checks ≡ None)

@@ -2,7 +2,6 @@
 use Rattle.std.proofs.Common.{◌≡◌, ℕ, Bool, true, false, not, cond, ◌||◌, ◌+◌, ◌<◌, List, [], ◌∷◌, ◌++◌, length, map, nat_eq, unwrap_or, Option, None, Some, Result, Ok, Err, refl, ap, sym, subst, ◌∙◌, ◌==◌, ◌≢◌, ◌⊎◌, inl, inr, eq-eqb}
 use Rattle.std.specs.List.{list_any}
 use Rattle.std.proofs.lemmas.Bool.Decides.{eqb_tells}
-use Rattle.ctrl_types.specs.Classes.{which_of}
 use Rattle.ctrl_types.specs.Values.{CtrlValue}
 use Rattle.ctrl_types.specs.declared.errno.Errno.{Errno}
 use Rattle.ctrl_types.specs.declared.errno.Errno.TheVariants.{EBUSY, EINVAL}
@@ -20,17 +19,15 @@ use Rattle.ctrl_clusters.proofs.OverlayLemmas.{held_none, held_not, overlaid_row
 use Rattle.ctrl_lists.specs.declared.refusal.Refusal.{Refusal}
 use Rattle.ctrl_lists.specs.View.{ViewData, pairs_of}
 use Rattle.ctrl_lists.specs.Checks.{at_first, errno_of, first_from, first_refusal, is_long, is_of_no_class, laid_pairs, refused_if, row_laid, judging_refusal, naming_refusal, writing_refusal, write_checks}
-use Rattle.ctrl_lists.specs.Answers.{ListAnswer, answered, entries_judged, entry_judged, fault_at_count, set_answer, value_judged}
+use Rattle.ctrl_lists.specs.Answers.{answered, entries_judged, entry_judged, fault_at_count, set_answer, value_judged}
 use Rattle.ctrl_lists.proofs.TouchedLemmas.{is_at, touched_members}
 use Rattle.device_history.specs.declared.ask.Reply.TheVariants.{Controls}
 use Rattle.device_history.specs.Steps.{Past}
-use Rattle.device_history.specs.Handles.{handler_of}
 use Rattle.device_history.specs.Grabs.{grabbed}
 use Rattle.device_history.specs.Values.{now}
-use Rattle.device_history.specs.Refusals.{is_full}
-use Rattle.device_history.specs.Lists.{kept_controls, list_answer, list_pairs, list_view, set_list, values_set}
+use Rattle.device_history.specs.Lists.{list_pairs, list_view, set_list, values_set}
 use Rattle.device_history.proofs.PresentLemmas.{length_now}
-use Rattle.device_history.proofs.ListLemmas.{Reads, reads, passes, none_found, not_refused, accepted_free}
+use Rattle.device_history.proofs.ListLemmas.{passes, none_found, not_refused, accepted_free, set_passes}
 
 -- the pairs have one of a control in this cluster
 abbrev some_in : PlanData → List Pair → ℕ → Bool
@@ -79,10 +76,8 @@ row_made verdicts plan controls values grabs pairs k is many lt fine = by (row_a
     by (Err errno) e h = cc
 
 -- What an accepted set is made of: none of its controls is grabbed, each passes judging, and it is answered so.
-record IsWhole (verdicts : Verdicts) (plan : PlanData) (values : Values) (grabs : Grabs) (pairs : List Pair) (view : ViewData) (answers : List ExtControl) : Type 0 where
-  same_controls : view.controls ≡ plan.controls
-  same_values : view.values ≡ values
-  free : list_any (λ p. is_grabbed grabs p.control) pairs ≡ false
+record IsWhole (verdicts : Verdicts) (plan : PlanData) (view : ViewData) (pairs : List Pair) (answers : List ExtControl) : Type 0 where
+  free : list_any (λ p. is_grabbed view.grabs p.control) pairs ≡ false
   passed : at_first (judging_refusal verdicts plan view pairs) pairs ≡ None
   answers_are : answers ≡ map (entry_judged verdicts plan view pairs) pairs
 
@@ -112,36 +107,12 @@ accepted_judged verdicts plan view list answers is =
     said (Some refusal) e h = cc
 
 whole : (verdicts : Verdicts) (plan : PlanData) (older : Past) (fh : FhId) (which : ℕ) (list answers : List ExtControl) → set_list verdicts plan older fh which list ≡ Ok (Controls answers)
-    → (view : ViewData) × IsWhole verdicts plan (now verdicts plan older) (grabbed plan older) (list_pairs plan older fh which list) view answers
-whole verdicts plan older fh which list answers is = by (list_view verdicts plan older fh which true) refl is
-  where
-    taken : (full : Bool) (answer : ListAnswer) → kept_controls full (length list) answer ≡ Ok (Controls answers) → answer ≡ Ok answers
-    taken true (Ok entries) h = cc
-    taken false (Ok entries) h = cc
-    taken full (Err fault) h = cc
-
-    by : (read : Result ViewData Errno) → list_view verdicts plan older fh which true ≡ read → list_answer (length list) read (λ view. kept_controls (is_full older) (length list) (set_answer verdicts plan view list)) ≡ Ok (Controls answers)
-        → (view : ViewData) × IsWhole verdicts plan (now verdicts plan older) (grabbed plan older) (list_pairs plan older fh which list) view answers
-    by (Err errno) e h = cc
-    by (Ok view) e h =
-        let it : Reads plan (now verdicts plan older) (grabbed plan older) list (handler_of older fh) (which_of which) view =
-        reads plan (now verdicts plan older) (grabbed plan older) true list (handler_of older fh) (which_of which) view e in
-        let accepted : set_answer verdicts plan view list ≡ Ok answers = taken (is_full older) (set_answer verdicts plan view list) h in
-        let parts = accepted_judged verdicts plan view list answers accepted in
-        let own : List Pair = pairs_of plan view.handler view.which list in
-        let same : list_pairs plan older fh which list ≡ own = it.same_pairs in
-        let over : laid_pairs plan view list ≡ own = ap (λ (asked : List Pair). asked ++ own) it.none_asked in
-        let free : list_any (λ p. is_grabbed (grabbed plan older) p.control) own ≡ false =
-        subst (λ (g : Grabs). list_any (λ p. is_grabbed g p.control) own ≡ false) it.same_grabs (accepted_free verdicts plan view list answers accepted) in (
-          view,
-          record {
-            same_controls = it.same_controls;
-            same_values = it.same_values;
-            free = subst (λ (l : List Pair). list_any (λ p. is_grabbed (grabbed plan older) p.control) l ≡ false) (sym same) free;
-            passed = subst (λ (l : List Pair). at_first (judging_refusal verdicts plan view l) l ≡ None) (sym same) (subst (λ (l : List Pair). at_first (judging_refusal verdicts plan view l) own ≡ None) over parts.0);
-            answers_are = subst (λ (l : List Pair). answers ≡ map (entry_judged verdicts plan view l) l) (sym same) (subst (λ (l : List Pair). answers ≡ map (entry_judged verdicts plan view l) own) over parts.1);
-          },
-        )
+    → IsWhole verdicts plan (list_view verdicts plan older fh which) (list_pairs plan older fh which list) answers
+whole verdicts plan older fh which list answers is =
+    let view : ViewData = list_view verdicts plan older fh which in
+    let accepted : set_answer verdicts plan view list ≡ Ok answers = (set_passes verdicts plan older fh which list answers is).1 in
+    let parts = accepted_judged verdicts plan view list answers accepted in
+    record { free = accepted_free verdicts plan view list answers accepted; passed = parts.0; answers_are = parts.1 }
 
 -- a cluster without a control of the pairs keeps its row
 untouched : (verdicts : Verdicts) (plan : PlanData) (controls : List Control) (values : Values) (grabs : Grabs) (pairs : List Pair) (k : ℕ) → is_touched pairs (members plan k) ≡ false
@@ -149,26 +120,23 @@ untouched : (verdicts : Verdicts) (plan : PlanData) (controls : List Control) (v
 untouched verdicts plan controls values grabs pairs k none = rw none refl
 
 -- no cluster is refused where an accepted set's pairs are laid
-none_refused : (verdicts : Verdicts) (plan : PlanData) (values : Values) (grabs : Grabs) (pairs : List Pair) (view : ViewData) (answers : List ExtControl) (k : ℕ) → IsPlan plan → k < length plan.clusters
-    → IsWhole verdicts plan values grabs pairs view answers → errno_of (row_after verdicts plan plan.controls values grabs pairs k) ≡ None
-none_refused verdicts plan values grabs pairs view answers k is lt whole = by (is_touched pairs (members plan k)) refl
+none_refused : (verdicts : Verdicts) (plan : PlanData) (view : ViewData) (pairs : List Pair) (answers : List ExtControl) (k : ℕ) → IsPlan plan → view.controls ≡ plan.controls → k < length plan.clusters
+    → IsWhole verdicts plan view pairs answers → errno_of (row_after verdicts plan plan.controls view.values view.grabs pairs k) ≡ None
+none_refused verdicts plan view pairs answers k is cs lt whole = by (is_touched pairs (members plan k)) refl
   where
-    laid : some_in plan pairs k ≡ true → errno_of (row_after verdicts plan plan.controls values no_grabs pairs k) ≡ None
-    laid some =
-        subst (λ (v : Values). errno_of (row_after verdicts plan plan.controls v no_grabs pairs k) ≡ None) whole.same_values
-        (subst (λ (cs : List Control). errno_of (row_after verdicts plan cs view.values no_grabs pairs k) ≡ None) whole.same_controls (judged_all verdicts plan view pairs 0 pairs k whole.passed some))
+    laid : some_in plan pairs k ≡ true → errno_of (row_after verdicts plan plan.controls view.values no_grabs pairs k) ≡ None
+    laid some = subst (λ (l : List Control). errno_of (row_after verdicts plan l view.values no_grabs pairs k) ≡ None) cs (judged_all verdicts plan view pairs 0 pairs k whole.passed some)
 
-    by : (b : Bool) → is_touched pairs (members plan k) ≡ b → errno_of (row_after verdicts plan plan.controls values grabs pairs k) ≡ None
-    by true touched = ap errno_of (same_ungrabbed verdicts plan plan.controls values grabs pairs k whole.free) ∙ laid (sym (touched_members plan pairs k is lt) ∙ touched)
-    by false none = untouched verdicts plan plan.controls values grabs pairs k none
+    by : (b : Bool) → is_touched pairs (members plan k) ≡ b → errno_of (row_after verdicts plan plan.controls view.values view.grabs pairs k) ≡ None
+    by true touched = ap errno_of (same_ungrabbed verdicts plan plan.controls view.values view.grabs pairs k whole.free) ∙ laid (sym (touched_members plan pairs k is lt) ∙ touched)
+    by false none = untouched verdicts plan plan.controls view.values view.grabs pairs k none
 
 -- each cluster has the row that an accepted set's pairs make of it
 pub all_rows : (verdicts : Verdicts) (plan : PlanData) (older : Past) (fh : FhId) (which k : ℕ) (list answers : List ExtControl) → IsPlan plan → set_list verdicts plan older fh which list ≡ Ok (Controls answers)
     → k < length plan.clusters → row_after verdicts plan plan.controls (now verdicts plan older) (grabbed plan older) (list_pairs plan older fh which list) k ≡ Ok (row_of (values_set verdicts plan older fh which list) (members plan k))
 all_rows verdicts plan older fh which k list answers is accepted lt =
-    let it = whole verdicts plan older fh which list answers accepted in
     row_made verdicts plan plan.controls (now verdicts plan older) (grabbed plan older) (list_pairs plan older fh which list) k is (length_now verdicts plan older) lt
-    (none_refused verdicts plan (now verdicts plan older) (grabbed plan older) (list_pairs plan older fh which list) it.0 answers k is lt it.1)
+    (none_refused verdicts plan (list_view verdicts plan older fh which) (list_pairs plan older fh which list) answers k is refl lt (whole verdicts plan older fh which list answers accepted))
 
 -- what an entry is answered is the value that its control has then
 entry_made : (verdicts : Verdicts) (plan : PlanData) (values : Values) (grabs : Grabs) (pairs : List Pair) (c : ℕ) (o : Option ℕ) → IsPlan plan → length values ≡ length plan.controls
@@ -207,4 +175,4 @@ pub all_answers : (verdicts : Verdicts) (plan : PlanData) (older : Past) (fh : F
 all_answers verdicts plan older fh which list answers is accepted =
     let it = whole verdicts plan older fh which list answers accepted in
     let pairs : List Pair = list_pairs plan older fh which list in
-    it.1.answers_are ∙ entries_made verdicts plan (now verdicts plan older) (grabbed plan older) it.0 pairs pairs 0 is (length_now verdicts plan older) it.1.same_controls it.1.same_values it.1.free it.1.passed
+    it.answers_are ∙ entries_made verdicts plan (now verdicts plan older) (grabbed plan older) (list_view verdicts plan older fh which) pairs pairs 0 is (length_now verdicts plan older) refl refl it.free it.passed

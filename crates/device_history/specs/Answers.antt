@@ -14,7 +14,7 @@ use Rattle.device_history.specs.Steps.{Past}
 use Rattle.device_history.specs.Refusals.{Answer, fault_of}
 use Rattle.device_history.specs.Handles.{open_answer, close_answer}
 use Rattle.device_history.specs.Grabs.{grab_answer}
-use Rattle.device_history.specs.Lists.{get_list, set_list, try_list, list_view, list_pairs, MayLackList, MayLackSet}
+use Rattle.device_history.specs.Lists.{get_list, set_list, try_list, list_pairs, MayLackList, MayLackSet}
 use Rattle.device_history.specs.Queries.{query_answer, next_answer, item_answer, told_answer}
 
 -- the answer where memory suffices, where these words were told
@@ -36,13 +36,13 @@ abbrev pub refusal : Verdicts → PlanData → Past → Ask → Option Fault
 refusal verdicts plan past ask = fault_of (answer_of verdicts plan past [] ask)
 
 -- ENOMEM may take the place of an accepted opening, close or grab and of an item of a menu; for a list with entries, and not too
--- many, that of every answer after the checks of the file handle and of `which`; and that of every accepted set.
+-- many, that of every answer after the first checks; and that of every accepted set.
 abbrev pub MayLackMemory : Verdicts → PlanData → Past → Ask → Type 0
 MayLackMemory verdicts plan past (asks.OpenFh handler) = IsOk (open_answer plan past handler)
 MayLackMemory verdicts plan past (asks.CloseFh fh) = IsOk (close_answer past fh)
-MayLackMemory verdicts plan past (asks.GetCtrls fh which request list) = MayLackList (list_view verdicts plan past fh which false) list
-MayLackMemory verdicts plan past (asks.SetCtrls fh which request list) = MayLackSet (list_view verdicts plan past fh which true) list (set_list verdicts plan past fh which list)
-MayLackMemory verdicts plan past (asks.TryCtrls fh which request list) = MayLackList (list_view verdicts plan past fh which true) list
+MayLackMemory verdicts plan past (asks.GetCtrls fh which request list) = MayLackList past fh which false list
+MayLackMemory verdicts plan past (asks.SetCtrls fh which request list) = MayLackSet past fh which list (set_list verdicts plan past fh which list)
+MayLackMemory verdicts plan past (asks.TryCtrls fh which request list) = MayLackList past fh which true list
 MayLackMemory verdicts plan past (asks.Grab c on) = IsOk (grab_answer plan past c)
 MayLackMemory verdicts plan past (asks.MenuItem fh id index) = IsOk (item_answer plan past fh id index)
 MayLackMemory verdicts plan past _ = ⊥

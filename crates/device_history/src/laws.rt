@@ -56,7 +56,6 @@ pub fn present_values()
 
 /// A set that is accepted is made whole: no cluster is refused, so that each has the row that its pairs make of it; and each entry is answered
 /// the value that its control has then.
-#[tactic(auto, using(crate::proofs::WholeLemmas::all_rows, crate::proofs::WholeLemmas::all_answers))]
 pub fn whole_sets()
     ensures rows { (verdicts : Verdicts) (plan : PlanData) (older : Past) (fh : FhId) (which k : ℕ) (list answers : List ExtControl) → IsPlan plan → set_list verdicts plan older fh which list ≡ Ok (Controls answers)
         → k < length plan.clusters → row_after verdicts plan plan.controls (now verdicts plan older) (grabbed plan older) (list_pairs plan older fh which list) k ≡ Ok (row_of (values_set verdicts plan older fh which list) (members plan k)) }

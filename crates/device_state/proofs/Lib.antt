@@ -1,4 +1,5 @@
 pub mod SetLemmas
+pub mod AnswerLemmas
 pub mod SettingLemmas
 pub mod KeptLemmas
 pub mod HandleLemmas

@@ -1,7 +1,7 @@
 //! Tests of the device through its public calls. A test is a plan and a table of asks, each with its answer and the closures that it
 //! calls, as data; `play` makes the asks, by the short forms and by `handle`. Each closure counts its calls for itself.
 //!
-//! The tests stand growths that are refused, too (`rt try --test --fail-alloc 1..`, which refuses one in each run): an ask that is
+//! The tests stand growths that are refused, too (`rt try --test --fail-alloc N`, which refuses the Nth growth of each test): an ask that is
 //! refused for want of memory leaves every part of the device as it is in a device that was never asked, tells nobody, and has its
 //! answer when it is asked again.
 #![tactic(auto)]

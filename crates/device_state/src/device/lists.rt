@@ -1,15 +1,16 @@
 //! What a device answers lists of controls: gets, sets and tries.
 
-ghost use Rattle.std.specs.Prelude.{◌≡◌, ◌≢◌, ◌≤◌, ◌+◌, ℕ, true, length, Option, Ok, Err, IfOk, IfErr, OnOk, OnErr};
+ghost use Rattle.std.specs.Prelude.{◌≡◌, ◌≢◌, ◌≤◌, ◌+◌, ℕ, true, length, Option, None, Some, Ok, Err, IfOk, IfErr, OnOk, OnErr};
 ghost use Rattle.history.specs.Past.{past};
 ghost use Rattle.ctrl_types.specs.declared.ids.RequestId.{RequestId as RequestIdOf};
 ghost use Rattle.ctrl_types.specs.declared.which.Which.TheVariants.{Defaults};
 ghost use Rattle.ctrl_clusters.specs.Rows.{AreControlsOf};
+ghost use Rattle.ctrl_lists.specs.Checks.{first_refusal};
 ghost use Rattle.ctrl_lists.specs.Touched.{touched, judged_count, with_calls};
 ghost use Rattle.device_history.specs.declared.ask.Ask.TheVariants as asks;
 ghost use Rattle.device_history.specs.Values.{now};
 ghost use Rattle.ctrl_clusters.specs.Notified.{HaveWords};
-ghost use Rattle.device_history.specs.Lists.{is_refused, list_pairs, list_view};
+ghost use Rattle.device_history.specs.Lists.{is_refused, list_pairs, list_view, opening_checks};
 ghost use Rattle.device_history.specs.Answers.{MayAnswer};
 ghost use Rattle.device_state.specs.Device.{Handles};
 ghost use Rattle.device_state.specs.Setting.{IsSettable, SetsAll};
@@ -121,9 +122,11 @@ impl<D: Driver> Device<D> {
         answer
     }
 
-    // What a list is read against.
+    // What a list is read against, after its first checks.
     fn view(&self, fh: FhId, which: u32, writes: bool) -> Result<View<'_>, Errno>
-        ensures view { result ≡ list_view D.verdict self.now.plan (past self.now.steps) fh which writes }
+        ensures passed { OnOk result (first_refusal (opening_checks (past self.now.steps) fh which writes) ≡ None) }
+        ensures err { IfErr result (λ errno. first_refusal (opening_checks (past self.now.steps) fh which writes) ≡ Some (record { errno = errno; place = None })) }
+        ensures view { IfOk result (λ view. view ≡ list_view D.verdict self.now.plan (past self.now.steps) fh which) }
         ensures which { IfOk result (λ view. writes ≡ true → view.which ≢ Defaults) }
         ensures controls { IfOk result (λ view. AreControlsOf self.now.plan view.controls) }
         ensures values { IfOk result (λ view. length view.values ≡ length self.now.plan.controls) }
@@ -132,7 +135,9 @@ impl<D: Driver> Device<D> {
         let Some(handler) = self.handler_of(fh) else {
             return Err(Errno::EBADF);
         };
-        let which = Which::read(which)?;
+        let Ok(which) = Which::read(which) else {
+            return Err(Errno::EINVAL);
+        };
         if is_refused(writes, which) {
             return Err(Errno::EINVAL);
         }
@@ -224,7 +229,10 @@ impl<D: Driver> Device<D> {
             Ok(view) => view,
             Err(errno) => return Err(at(errno, list.len())),
         };
-        let touch = plan_set(self.alloc, &self.plan, &view, list, work)?;
+        let touch = match plan_set(self.alloc, &self.plan, &view, list, work) {
+            Ok(touch) => touch,
+            Err(refused) => return Err(refused),
+        };
         if self.is_full() {
             return Err(at(Errno::ENOSPC, list.len()));
         }
