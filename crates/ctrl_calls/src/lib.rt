@@ -23,6 +23,3 @@ pub use telling::Telling;
 pub use validator::{Validator, ask};
 pub use verdict::Verdict;
 pub use work::Work;
-
-#[cfg(test)]
-mod tests;

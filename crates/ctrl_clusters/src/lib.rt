@@ -20,6 +20,3 @@ pub use notifying::{first_words, notify_changed};
 pub use present_flags::flags_under;
 pub use rows::value_in;
 pub use writing::{present_row, write_rows};
-
-#[cfg(test)]
-mod tests;

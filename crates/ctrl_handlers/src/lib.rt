@@ -18,6 +18,3 @@ pub use fault::PlanFault;
 pub use limits::{MAX_CONTROLS, MAX_HANDLERS};
 pub use menu_items::{MAX_MENU_NAME, MenuItem, MenuName};
 pub use plan::Plan;
-
-#[cfg(test)]
-mod tests;

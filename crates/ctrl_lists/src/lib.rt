@@ -19,6 +19,3 @@ pub use lists::{plan_set, read_list, try_list};
 pub use refusal::Refusal;
 pub use touched::Touched;
 pub use view::View;
-
-#[cfg(test)]
-mod tests;

@@ -6,8 +6,6 @@ mod control;
 mod description;
 mod fault;
 pub mod laws;
-#[cfg(test)]
-mod tests;
 
 pub use control::{Ctrl, settle};
 pub use fault::CtrlFault;

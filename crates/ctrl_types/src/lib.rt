@@ -5,8 +5,6 @@ mod errno;
 mod flags;
 mod ids;
 mod kind;
-#[cfg(test)]
-mod tests;
 mod which;
 
 pub use errno::{Errno, Fault};

@@ -8,6 +8,3 @@ mod places;
 pub use item::MenuItem;
 pub use name::{MAX_MENU_NAME, MenuName};
 pub use places::{takes_name, takes_number};
-
-#[cfg(test)]
-mod tests;

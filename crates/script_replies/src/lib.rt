@@ -4,8 +4,6 @@
 mod outcome;
 mod reply;
 mod reply_line;
-#[cfg(test)]
-mod tests;
 
 pub use outcome::Outcome;
 pub use reply_line::{MAX_LINE, ReplyLine, write_answer, write_no_memory, write_outcome};

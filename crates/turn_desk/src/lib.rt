@@ -13,6 +13,3 @@ pub use desk::Desk;
 pub use seat::{DeskFault, DeskSeat, MOST_SEATS};
 pub use seats::SeatList;
 pub use workers::{Worker, run_both};
-
-#[cfg(test)]
-mod tests;

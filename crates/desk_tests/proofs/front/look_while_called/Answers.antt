@@ -1,8 +1,8 @@
 use denote.Param.Send.{IsSync, sendable}
 use Rattle.std.proofs.Crossing.{crosses}
-use Rattle.turn_desk.specs.contracts.tests.front.Flags as flags
+use Rattle.desk_tests.specs.contracts.front.Flags as flags
 use Rattle.turn_desk.proofs.Sending.{seat_send, desk_sync}
-use Rattle.turn_desk.proofs.tests.front.look_while_called.Goals as goal
+use Rattle.desk_tests.proofs.front.look_while_called.Goals as goal
 
 flags_sync : IsSync flags.the_row
 flags_sync = search (sendable, crosses) depth 20

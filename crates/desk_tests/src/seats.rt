@@ -1,19 +1,16 @@
+//! Seats that are made, that call and that meet, and desks that are closed.
+
 ghost use Rattle.std.specs.Prelude.{◌≡◌, ◌++◌, All, IfSome, IfOk};
 ghost use Rattle.std.specs.Option.{option_to_list};
 ghost use Rattle.turn_desk.specs.Views.{IsSeatOf};
 
-mod counter;
-mod front;
-mod pairs;
-mod short;
-
-use crate::{Desk, DeskFault, DeskSeat, MOST_SEATS, SeatList};
-use counter::{Answer, Ask, Counter};
+use crate::counter::{Answer, Ask, Counter};
 use history::Served;
 use std::alloc::{AllocError, Allocator, Global};
 use std::process::Abort;
 use std::sync::Wait;
 use std::test::Fail;
+use turn_desk::{Desk, DeskFault, DeskSeat, MOST_SEATS, SeatList};
 
 /// A desk over a new counter, with its first seat.
 pub fn open(rt: &impl Abort, alloc: Global) -> (Desk<Counter>, DeskSeat<Counter>)

@@ -1,5 +1,7 @@
-use crate::{Ctrl, CtrlFault, settle};
+//! Controls that are made or refused, and the values that they take.
+
 use bitflags::Flags as FlagSet;
+use ctrl_settle::{Ctrl, CtrlFault, settle};
 use ctrl_types::{CtrlId, CtrlValue, Errno, Flags, Kind};
 use std::process::Abort;
 

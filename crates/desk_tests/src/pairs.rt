@@ -1,14 +1,15 @@
-// Two clients on two threads.
+//! Two clients on two threads.
+
 ghost use Rattle.std.specs.Prelude.{◌≡◌};
 ghost use Rattle.turn_desk.specs.Views.{IsSeatOf};
 
-use super::counter::{Answer, Ask, Counter};
-use super::{listed, open};
-use crate::{Client, Gate, Party, run_clients};
+use crate::counter::{Answer, Ask, Counter};
+use crate::seats::{listed, open};
 use std::sync::atomic::AtomicU64;
 use std::sync::atomic::Ordering::SeqCst;
 use std::test::Fail;
 use std::thread;
+use turn_desk::{Client, Gate, Party, run_clients};
 
 const MOST_TURNS: u32 = 10_000_000;
 

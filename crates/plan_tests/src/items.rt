@@ -1,4 +1,6 @@
-use super::*;
+//! Items of menus that are copied and printed.
+
+use menu_items::{MenuItem, MenuName};
 use std::test::Fail;
 
 #[test]

@@ -1,10 +1,9 @@
 //! Lines on a writer that takes all that it is given, a few bytes a write, or fails at one of its writes.
 
-use crate::outcome::Outcome;
-use crate::reply_line::{ReplyLine, write_answer, write_no_memory, write_outcome};
 use ctrl_lists::ControlList;
 use ctrl_types::{CtrlId, Errno, ExtControl, Fault};
 use device_history::Reply;
+use script_replies::{Outcome, ReplyLine, write_answer, write_no_memory, write_outcome};
 use std::alloc::Global;
 use std::io;
 use std::io::{ErrorKind, Write};

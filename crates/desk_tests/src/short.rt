@@ -1,11 +1,12 @@
-// Memory runs out at each allocation in turn: a heap of its own is made a little larger each time.
-use super::counter::{Answer, Ask, Counter};
-use super::listed;
-use crate::{Desk, DeskFault};
+//! Memory runs out at each allocation in turn: a heap of its own is made a little larger each time.
+
+use crate::counter::{Answer, Ask, Counter};
+use crate::seats::listed;
 use linked_list_allocator::LocalHeap;
 use std::alloc::{Allocator, Global};
 use std::sync::Wait;
 use std::test::Fail;
+use turn_desk::{Desk, DeskFault};
 
 const ACCEPTED: Option<(Answer, Answer)> = Some((Answer::Sum(1), Answer::Sum(3)));
 

@@ -1,4 +1,5 @@
-// A counter that stands in for the device: it adds up to a limit, refuses what goes past it, and can be read.
+//! A counter that stands in for the device: it adds up to a limit, refuses what goes past it, and can be read.
+
 ghost use Rattle.std.specs.Prelude.{◌≡◌, ◌≤◌, [], sum_by};
 
 use history::{Entry, Served};
@@ -60,8 +61,8 @@ impl<A: Allocator> Served for Counter<A> {
 
     ghost use Rattle.std.specs.Prelude.{◌≡◌, ◌+◌, ◌<◌, ◌≤◌, sum_by, Some, None};
     ghost use Rattle.std.proofs.Common.{zero-le};
-    ghost use Rattle.turn_desk.specs.declared.tests.counter.Ask.TheVariants.{Add, Read};
-    ghost use Rattle.turn_desk.specs.declared.tests.counter.Answer.TheVariants.{Sum, TooMuch, NoMemory};
+    ghost use Rattle.desk_tests.specs.declared.counter.Ask.TheVariants.{Add, Read};
+    ghost use Rattle.desk_tests.specs.declared.counter.Answer.TheVariants.{Sum, TooMuch, NoMemory};
 
     ghost plan = { λ c. c.most };
 

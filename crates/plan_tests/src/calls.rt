@@ -1,9 +1,14 @@
+//! Rows of values, and closures that are called with them.
+
 ghost use Rattle.std.specs.Prelude.{◌≡◌, ◌==◌, ⊤, if◌then◌else◌, length};
 ghost use Rattle.ctrl_types.specs.declared.errno.Errno.TheVariants.{ERANGE};
 ghost use Rattle.ctrl_calls.specs.Meanings.{JudgesBy, TellsBy};
 ghost use Rattle.ctrl_calls.specs.declared.verdict.Verdict.TheVariants.{Accept, Refuse};
 
-use super::*;
+use ctrl_calls::{
+    Calls, ClusterRow, Driver, Judging, Notifier, Notifies, Relation, Relations, Telling,
+    Validates, Validator, Verdict, Work, ask, tell,
+};
 use ctrl_types::{CtrlValue, Errno};
 use std::sync::Arc;
 use std::sync::atomic::{AtomicU64, Ordering};

@@ -1,6 +1,6 @@
 use Rattle.std.proofs.Common.{All}
 use Rattle.turn_desk.specs.Views.{IsSeatOf}
-use Rattle.turn_desk.proofs.tests.make_all.Given as goal
+use Rattle.desk_tests.proofs.seats.make_all.Given as goal
 
 abbrev pub invariant-loop : goal.invariant-loop
 invariant-loop g l = record {

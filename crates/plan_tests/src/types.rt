@@ -1,5 +1,7 @@
-use crate::{CtrlId, Errno, Flags, Kind, Which};
+//! The numbers of errors, kinds, flags and classes.
+
 use bitflags::Flags as FlagSet;
+use ctrl_types::{CtrlId, Errno, Flags, Kind, Which};
 use std::process::Abort;
 
 #[derive(Clone, Copy, Debug)]

@@ -1,8 +1,8 @@
-// A seat looks at the front while another's call is in hand.
+//! A seat looks at the front while another's call is in hand.
+
 ghost use Rattle.std.specs.Prelude.{◌≡◌};
 ghost use Rattle.turn_desk.specs.Views.{IsSeatOf, StaysAt};
 
-use crate::{Desk, DeskSeat, Worker, run_both};
 use history::Served;
 use std::sync::Wait;
 use std::sync::atomic::AtomicU64;
@@ -10,6 +10,7 @@ use std::sync::atomic::Ordering::SeqCst;
 use std::test::Fail;
 use std::thread;
 use std::thread::Threads;
+use turn_desk::{Desk, DeskSeat, Worker, run_both};
 
 const MOST_TURNS: u32 = 10_000_000;
 

@@ -1,0 +1,7 @@
+//! What clusters make of pairs and rows, at the values of a plan.
+
+mod changed;
+mod judged;
+mod looks;
+mod planning;
+mod rows;

@@ -1,0 +1,106 @@
+//! A driver whose validators take a row, take another in its place or refuse, and whose notifiers count their calls.
+ghost use Rattle.std.specs.Prelude.{⊤, ◌≡◌, ◌==◌, pos, ◌∷◌, [], if◌then◌else◌};
+ghost use Rattle.ctrl_calls.specs.declared.verdict.Verdict.TheVariants.{Accept, Refuse};
+ghost use Rattle.ctrl_types.specs.declared.errno.Errno.TheVariants.{ENOENT, EACCES, EBUSY, ERANGE};
+
+use ctrl_calls::{ClusterRow, Judging, Notifies, Relation, Telling, Validates, Verdict};
+use ctrl_types::Errno;
+use std::sync::Arc;
+use std::sync::atomic::{AtomicU64, Ordering};
+
+/// Relation 0 takes each row as it is; 1 to 6 take another row in its place; 7, 8 and 9 refuse with EBUSY, EACCES and ERANGE, and every
+/// other with ENOENT.
+pub enum Strict {}
+
+#[derive(Drop)]
+pub struct Judge {
+    pub number: u32,
+}
+
+impl Judging for Judge {
+    ghost callable = { λ _. ⊤ };
+
+    ghost answers = { λ judge row verdict. verdict ≡ (
+        if judge.number == 0 then Accept row
+        else if judge.number == 1 then Accept (pos 60 ∷ [])
+        else if judge.number == 2 then Accept (pos 7 ∷ pos 8 ∷ [])
+        else if judge.number == 3 then Accept (pos 50 ∷ pos 3 ∷ [])
+        else if judge.number == 4 then Accept (pos 55 ∷ pos 3 ∷ [])
+        else if judge.number == 5 then Accept (pos 50 ∷ pos 2 ∷ [])
+        else if judge.number == 6 then Accept (pos 50 ∷ pos 3 ∷ pos 0 ∷ [])
+        else if judge.number == 7 then Refuse EBUSY
+        else if judge.number == 8 then Refuse EACCES
+        else if judge.number == 9 then Refuse ERANGE
+        else Refuse ENOENT) };
+
+    fn judge(&self, row: ClusterRow) -> Verdict {
+        match self.number {
+            0 => Verdict::Accept(row),
+            1 => Verdict::Accept(ClusterRow::from_slice(&[60]).unwrap()),
+            2 => Verdict::Accept(ClusterRow::from_slice(&[7, 8]).unwrap()),
+            3 => Verdict::Accept(ClusterRow::from_slice(&[50, 3]).unwrap()),
+            4 => Verdict::Accept(ClusterRow::from_slice(&[55, 3]).unwrap()),
+            5 => Verdict::Accept(ClusterRow::from_slice(&[50, 2]).unwrap()),
+            6 => Verdict::Accept(ClusterRow::from_slice(&[50, 3, 0]).unwrap()),
+            7 => Verdict::Refuse(Errno::EBUSY),
+            8 => Verdict::Refuse(Errno::EACCES),
+            9 => Verdict::Refuse(Errno::ERANGE),
+            _ => Verdict::Refuse(Errno::ENOENT),
+        }
+    }
+}
+
+/// A notifier counts its own calls. The word has how many calls of all notifiers came before, and the row.
+#[derive(Drop)]
+pub struct Says {
+    pub own: Arc<AtomicU64>,
+    pub all: Arc<AtomicU64>,
+}
+
+impl Telling for Says {
+    ghost callable = { λ _. ⊤ };
+
+    ghost answers = { λ _ _ _. ⊤ };
+
+    fn tell(&self, row: ClusterRow) -> u64 {
+        self.own.fetch_add(1, Ordering::SeqCst);
+        let mut word = self.all.fetch_add(1, Ordering::SeqCst);
+        for place in 0..row.len() {
+            word = word.wrapping_mul(1000);
+            word = word.wrapping_add(row.value(place).unsigned_abs());
+        }
+        word
+    }
+}
+
+impl Validates for Strict {
+    type Judge = Judge;
+
+    ghost verdict = { λ relation row.
+        if relation.number == 0 then Accept row
+        else if relation.number == 1 then Accept (pos 60 ∷ [])
+        else if relation.number == 2 then Accept (pos 7 ∷ pos 8 ∷ [])
+        else if relation.number == 3 then Accept (pos 50 ∷ pos 3 ∷ [])
+        else if relation.number == 4 then Accept (pos 55 ∷ pos 3 ∷ [])
+        else if relation.number == 5 then Accept (pos 50 ∷ pos 2 ∷ [])
+        else if relation.number == 6 then Accept (pos 50 ∷ pos 3 ∷ pos 0 ∷ [])
+        else if relation.number == 7 then Refuse EBUSY
+        else if relation.number == 8 then Refuse EACCES
+        else if relation.number == 9 then Refuse ERANGE
+        else Refuse ENOENT };
+}
+
+impl Notifies for Strict {
+    type Teller = Says;
+
+    ghost told = { λ _ _ _. ⊤ };
+}
+
+pub fn relation(number: u32) -> Relation
+    ensures { result.number ≡ number }
+{
+    Relation {
+        number,
+        bounds: [0; 4],
+    }
+}

@@ -1,0 +1,63 @@
+// What a set makes of the clusters that it touches.
+use super::listing::{FIRST, SIX, VALUES, are_entries, list_of, plan_of};
+use ctrl_calls::{ClusterRow, Work};
+use ctrl_lists::{Touched, View, plan_set};
+use ctrl_types::{CtrlValue, Pair, Which};
+use std::test::Fail;
+
+// The clusters that a set gives rows, each with its row; its answers and its pairs.
+const ROWS: &[(u32, &[CtrlValue])] = &[(3, &[1]), (0, &[10, 2])];
+
+fn are_rows(touched: &Touched, rows: &[(u32, &[CtrlValue])]) -> bool {
+    for (new, &(cluster, values)) in touched.rows().iter().zip(rows) {
+        let row = ClusterRow::from_slice(values);
+        if new.cluster != cluster || Some(new.row) != row || touched.row_of(cluster) != row {
+            return false;
+        }
+    }
+    touched.rows().len() == rows.len() && touched.row_of(1).is_none()
+}
+
+fn are_pairs(pairs: &[Pair], want: &[(u32, CtrlValue)]) -> bool {
+    for (pair, &(control, value)) in pairs.iter().zip(want) {
+        if pair.control != control || pair.value != value {
+            return false;
+        }
+    }
+    pairs.len() == want.len()
+}
+
+fn is_touched(touched: Touched) -> bool {
+    let answers = &[(FIRST + 4, 1), (FIRST + 1, 2)];
+    let pairs = &[(4, 1), (1, 2)];
+    let are_shown = are_rows(&touched, ROWS)
+        && are_entries(touched.answers(), answers)
+        && are_pairs(touched.pairs(), pairs);
+    let (list, kept) = touched.into_parts();
+    are_shown && are_entries(list.as_slice(), answers) && are_pairs(kept.as_slice(), pairs)
+}
+
+#[test]
+fn rows_of_a_set(rt: HostRuntime) -> Result<(), Fail> {
+    let alloc = rt.alloc();
+    let plan = plan_of(alloc, SIX)?;
+    if plan.controls().len() != 6 {
+        return Err(Fail::new("six controls"));
+    }
+    let view = View::new(
+        0,
+        Which::Current,
+        plan.controls(),
+        &VALUES,
+        &[false; 6],
+        &[],
+    );
+    let list = list_of(alloc, &[(FIRST + 4, 1), (FIRST + 1, 2)])?;
+    match plan_set(alloc, &plan, &view, &list, &mut Work::new()) {
+        Ok(touched) => {
+            assert!(rt; is_touched(touched));
+            Ok(())
+        }
+        Err(_) => Err(Fail::new("a set")),
+    }
+}

@@ -1,0 +1,158 @@
+// A builder's calls as data, and the plans that are built of them.
+use super::closures::{Alike, are, closures};
+use bitflags::Flags as FlagSet;
+use ctrl_handlers::{Plan, PlanBuilder, PlanFault};
+use ctrl_settle::Ctrl;
+use ctrl_types::{CtrlId, Flags, Kind};
+use std::alloc::Global;
+use std::process::Abort;
+use std::sync::Arc;
+use std::sync::atomic::AtomicU64;
+
+/// What a builder is called with.
+#[derive(Clone, Copy, Debug)]
+pub enum Call {
+    Handler,
+    // a control of 0 to 9: its handler and its id, and whether it is private
+    Control(u32, u32, bool),
+    // one that is READ_ONLY and DISABLED
+    Marked(u32, u32),
+    // a menu of the items 0 to 3, of which 2 is skipped
+    Menu(u32, u32, Kind),
+    Add(u32, u32),
+    Name(u32, u32, &'static str),
+    Number(u32, u32, i64),
+    // the closures' number is the master's, and one more
+    Cluster(&'static [u32]),
+    Auto(&'static [u32], i64),
+}
+
+pub const MARKED: u32 = 0x5;
+
+fn number(rt: &impl Abort, id: u32, bits: u32, is_private: bool) -> Ctrl {
+    let flags = Flags::from_bits_retain(bits);
+    let made = Ctrl::new(CtrlId(id), Kind::Integer, 0, 9, 1, 0, 0, flags, is_private);
+    made.expect(rt, "a control")
+}
+
+fn menu(rt: &impl Abort, id: u32, kind: Kind) -> Ctrl {
+    let made = Ctrl::new(CtrlId(id), kind, 0, 3, 1, 0, 4, Flags::empty(), false);
+    made.expect(rt, "a menu")
+}
+
+/// What the call answers: a number, 0 where it has none, or its refusal.
+pub fn answer(
+    rt: &impl Abort,
+    builder: &mut PlanBuilder<Alike>,
+    called: &Arc<AtomicU64>,
+    call: Call,
+) -> Result<u32, PlanFault> {
+    match call {
+        Call::Handler => builder.handler(),
+        Call::Control(handler, id, is_private) => {
+            builder.control(handler, number(rt, id, 0, is_private))
+        }
+        Call::Marked(handler, id) => builder.control(handler, number(rt, id, MARKED, false)),
+        Call::Menu(handler, id, kind) => builder.control(handler, menu(rt, id, kind)),
+        Call::Add(to, added) => done(builder.add_handler(to, added)),
+        Call::Name(control, index, name) => done(builder.menu_name(control, index, name)),
+        Call::Number(control, index, number) => done(builder.menu_number(control, index, number)),
+        Call::Cluster(members) => cluster(rt, builder, called, members, None),
+        Call::Auto(members, manual) => cluster(rt, builder, called, members, Some(manual)),
+    }
+}
+
+fn done(answer: Result<(), PlanFault>) -> Result<u32, PlanFault> {
+    match answer {
+        Ok(()) => Ok(0),
+        Err(fault) => Err(fault),
+    }
+}
+
+// What a cluster call answers. A refusal without the closures is one that no case wants.
+fn cluster(
+    rt: &impl Abort,
+    builder: &mut PlanBuilder<Alike>,
+    called: &Arc<AtomicU64>,
+    members: &[u32],
+    manual: Option<i64>,
+) -> Result<u32, PlanFault> {
+    let number = match members.first() {
+        Some(master) => u64::from(*master) + 1,
+        None => 0,
+    };
+    let calls = closures(rt, called, number);
+    let answer = match manual {
+        Some(manual) => builder.auto_cluster(members, manual, calls),
+        None => builder.cluster(members, calls),
+    };
+    match answer {
+        Ok(cluster) => Ok(cluster),
+        Err((calls, fault)) if are(&calls, called, number) => Err(fault),
+        Err(_) => Ok(u32::MAX),
+    }
+}
+
+/// Makes a call, once more where it was refused memory.
+pub fn make(
+    rt: &impl Abort,
+    builder: &mut PlanBuilder<Alike>,
+    called: &Arc<AtomicU64>,
+    call: Call,
+    want: Result<u32, PlanFault>,
+) {
+    let mut got = answer(rt, builder, called, call);
+    if got == Err(PlanFault::Memory) {
+        got = answer(rt, builder, called, call);
+    }
+    assert!(rt; got == want, "{call:?}");
+}
+
+/// Declares so many controls, the first of the plan.
+pub fn declare(
+    rt: &impl Abort,
+    builder: &mut PlanBuilder<Alike>,
+    called: &Arc<AtomicU64>,
+    handler: u32,
+    count: u32,
+) {
+    for id in 0..count {
+        make(
+            rt,
+            builder,
+            called,
+            Call::Control(handler, id, false),
+            Ok(id),
+        );
+    }
+}
+
+/// A builder after these calls; before them it has a handler of so many controls, where there are any.
+pub fn built(
+    rt: &impl Abort,
+    alloc: Global,
+    called: &Arc<AtomicU64>,
+    count: u32,
+    calls: &[(Call, Result<u32, PlanFault>)],
+) -> PlanBuilder<Alike> {
+    let mut builder = PlanBuilder::new(alloc);
+    if count > 0 {
+        make(rt, &mut builder, called, Call::Handler, Ok(0));
+        declare(rt, &mut builder, called, 0, count);
+    }
+    for &(call, want) in calls {
+        make(rt, &mut builder, called, call, want);
+    }
+    builder
+}
+
+pub fn finished(rt: &impl Abort, builder: PlanBuilder<Alike>) -> Plan<Alike> {
+    let refused = match builder.finish() {
+        Ok(plan) => return plan,
+        Err((builder, _)) => builder,
+    };
+    match refused.finish() {
+        Ok(plan) => plan,
+        Err(_) => panic!(rt; "no plan"),
+    }
+}
