@@ -54,7 +54,7 @@ handles_none verdicts old work seat ask answer told asked all none may = record 
   refused = λ _. refl;
   steps = rw none (sym (append-nil old.steps));
   words = λ k lt same. refl;
-  told = rw none (told ∙ sym (notified_none old.plan (step_changes verdicts old.plan (past old.steps) None) (λ c. refl)));
+  notified = rw none (told ∙ sym (notified_none old.plan (step_changes verdicts old.plan (past old.steps) None) (λ c. refl)));
   asked = asked;
   asked_all = all;
 }
@@ -136,7 +136,7 @@ handles_open verdicts old work seat handler fh rest is number = record {
   refused = λ e. cc;
   steps = refl;
   words = λ k lt same. refl;
-  told = ap (λ (w : Work). w.told) rest ∙ sym (notified_none old.plan (step_changes verdicts old.plan (past old.steps) (Some (OpenFh handler))) (λ c. refl));
+  notified = ap (λ (w : Work). w.told) rest ∙ sym (notified_none old.plan (step_changes verdicts old.plan (past old.steps) (Some (OpenFh handler))) (λ c. refl));
   asked = asked_at_rest work _ rest;
   asked_all = λ _. omega arith;
 }
@@ -151,7 +151,7 @@ handles_close verdicts old work seat fh rest is = record {
   refused = λ e. cc;
   steps = refl;
   words = λ k lt same. refl;
-  told = ap (λ (w : Work). w.told) rest ∙ sym (notified_none old.plan (step_changes verdicts old.plan (past old.steps) (Some (CloseFh fh))) (λ c. refl));
+  notified = ap (λ (w : Work). w.told) rest ∙ sym (notified_none old.plan (step_changes verdicts old.plan (past old.steps) (Some (CloseFh fh))) (λ c. refl));
   asked = asked_at_rest work _ rest;
   asked_all = λ _. omega arith;
 }
@@ -166,7 +166,7 @@ handles_grab verdicts old work seat c on rest is = record {
   refused = λ e. cc;
   steps = refl;
   words = λ k lt same. refl;
-  told = ap (λ (w : Work). w.told) rest ∙ sym (notified_none old.plan (step_changes verdicts old.plan (past old.steps) (Some (Grab c on))) (λ c. refl));
+  notified = ap (λ (w : Work). w.told) rest ∙ sym (notified_none old.plan (step_changes verdicts old.plan (past old.steps) (Some (Grab c on))) (λ c. refl));
   asked = asked_at_rest work _ rest;
   asked_all = λ _. omega arith;
 }
@@ -214,7 +214,7 @@ handles_set verdicts told old between new start work seat fh which request list 
       refused = λ e. cc;
       steps = done.steps ∙ ap (λ (pairs : List Pair). old.steps ++ record { seat = seat; step = Set fh pairs } ∷ []) sets.own_pairs;
       words = λ j lt same. done.words.others j (λ _. sym (changing j lt) ∙ same);
-      told =
+      notified =
           ap (λ (w : Work). w.told) done.work
           ∙ notified_same old.plan (cluster_changes old.plan (now verdicts old.plan (past old.steps)) touch.pairs touch.rows)
           (λ k. list_any (step_changes verdicts old.plan (past old.steps) (taken old.plan (past old.steps) (asks.SetCtrls fh which request list) (Ok (Controls controls)))) (members old.plan k)) (λ j lt. sym (changing j lt));

@@ -120,7 +120,7 @@ impl<D: Driver> Device<D> {
         ensures steps { result.now ≡ self.now.steps }
         ensures legal { IsLegal D.verdict self.now.plan (past self.now.steps) }
         ensures few { length self.now.steps ≤ MAX_STEPS }
-        ensures told { HaveWords D.told self.now.plan (now D.verdict self.now.plan (past self.now.steps)) self.now.words }
+        ensures words { HaveWords D.told self.now.plan (now D.verdict self.now.plan (past self.now.steps)) self.now.words }
     {
         self.steps.as_slice()
     }
@@ -201,7 +201,7 @@ impl<D: Driver> Device<D> {
     /// and with ENOMEM where a growth was refused. Neither changes anything but the counts of `work`.
     pub fn handle(&mut self, seat: u32, ask: &Ask) -> Result<Reply, Fault>
         ensures handles { Handles D.verdict self.old self.new seat ask.now result }
-        ensures told { HaveWords D.told self.new.plan (now D.verdict self.new.plan (past self.new.steps)) self.new.words }
+        ensures words { HaveWords D.told self.new.plan (now D.verdict self.new.plan (past self.new.steps)) self.new.words }
     {
         let answer = self.answer(seat, ask);
         // the words are such as were told, as the contract of `steps` says

@@ -1,5 +1,5 @@
 ghost use Rattle.std.specs.Prelude.{◌≡◌};
-ghost use Rattle.sample_device.specs.Words.{sample_id as sample_id_of, sample_number as sample_number_of};
+ghost use Rattle.sample_device.specs.Words.{id_numbered, sample_id as sample_id_of, sample_number as sample_number_of};
 
 use ctrl_types::CtrlId;
 
@@ -7,17 +7,25 @@ use ctrl_types::CtrlId;
 pub fn sample_id(word: &[u8]) -> Option<CtrlId>
     ensures { result ≡ sample_id_of word.now }
 {
-    let id = match word {
-        b"autogain" => 0x0098_0912,
-        b"gain" => 0x0098_0913,
-        b"hflip" => 0x0098_0914,
-        b"vflip" => 0x0098_0915,
-        b"hue" => 0x0098_0903,
-        b"brightness" => 0x0098_0900,
-        b"power" => 0x0098_0918,
-        b"button" => 0x0098_090d,
-        b"red" => 0x0098_090e,
-        b"blue" => 0x0098_090f,
+    let number = sample_number(word)?;
+    id_numbered(number)
+}
+
+// The id of the control with a number.
+fn id_numbered(number: u32) -> Option<CtrlId>
+    ensures { result ≡ id_numbered number }
+{
+    let id = match number {
+        0 => 0x0098_0912,
+        1 => 0x0098_0913,
+        2 => 0x0098_0914,
+        3 => 0x0098_0915,
+        4 => 0x0098_0903,
+        5 => 0x0098_0900,
+        6 => 0x0098_0918,
+        7 => 0x0098_090d,
+        8 => 0x0098_090e,
+        9 => 0x0098_090f,
         _ => return None,
     };
     Some(CtrlId(id))

@@ -88,7 +88,7 @@ impl<D: Driver> Device<D> {
         list: &ControlList,
     ) -> Result<Reply, Fault>
         ensures handles { Handles D.verdict self.old self.new seat (asks.SetCtrls fh which request list.now) result }
-        ensures told { HaveWords D.told self.new.plan (now D.verdict self.new.plan (past self.new.steps)) self.new.words }
+        ensures words { HaveWords D.told self.new.plan (now D.verdict self.new.plan (past self.new.steps)) self.new.words }
     {
         let answer = self.set_list(seat, fh, which, list);
         // the words are such as were told, as the contract of `steps` says
