@@ -1,7 +1,11 @@
 //! What the row that a cluster gets changes.
 
-ghost use Rattle.std.specs.Prelude.{◌≡◌, ◌<◌, length};
+ghost use Rattle.std.specs.Prelude.{◌≡◌, ◌<◌, not, length};
 ghost use Rattle.std.specs.List.{All};
+ghost use Rattle.std.specs.Ordering.{int_eq};
+ghost use Rattle.ctrl_types.specs.Flags.{contains};
+ghost use Rattle.ctrl_types.specs.declared.flags.TheConstants.Flags.{EXECUTE_ON_WRITE};
+ghost use Rattle.ctrl_handlers.specs.Plan.{control};
 ghost use Rattle.ctrl_clusters.specs.Rows.{value_at};
 ghost use Rattle.ctrl_clusters.specs.Overlay.{is_among};
 ghost use Rattle.ctrl_clusters.specs.Changes.{is_changed, row_changes};
@@ -47,9 +51,27 @@ fn changes_at<D: Driver>(
     requires within { place < length row.now }
     ensures { result ≡ is_changed plan.now values.now pairs.now member (value_at row.now place) }
 {
-    let flags = plan.control(member).flags();
+    has_another(values, member, row, place)
+        || (acts_on_each_write(plan, member) && is_among(pairs, member))
+}
+
+// Whether a member has another value than its one of the row.
+fn has_another(values: &[CtrlValue], member: u32, row: &ClusterRow, place: usize) -> bool
+    requires known { member < length values.now }
+    requires within { place < length row.now }
+    ensures { result ≡ not (int_eq (value_at values.now member) (value_at row.now place)) }
+{
     values[member as usize] != row.value(place)
-        || (flags.contains(Flags::EXECUTE_ON_WRITE) && is_among(pairs, member))
+}
+
+// Whether a member acts on each write, also of the value that it has.
+fn acts_on_each_write<D: Driver>(plan: &Plan<D>, member: u32) -> bool
+    requires { member < length plan.now.controls }
+    ensures { result ≡ contains (control plan.now member).flags EXECUTE_ON_WRITE }
+{
+    plan.control(member)
+        .flags()
+        .contains(Flags::EXECUTE_ON_WRITE)
 }
 
 // Whether a control is among pairs.

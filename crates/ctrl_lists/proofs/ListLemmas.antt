@@ -1,12 +1,12 @@
 -- The loops over a list.
-use Rattle.std.proofs.Common.{◌≡◌, ℕ, ◌<◌, ◌≤◌, ◌+◌, Bool, true, false, cond, nat_eq, eq-eqb, ◌||◌, map, List, [], ◌∷◌, ◌++◌, length, take, drop, get_or, Option, None, Some, arith, refl, sym, ap, ◌∙◌}
+use Rattle.std.proofs.Common.{◌≡◌, ℕ, ◌<◌, ◌≤◌, ◌+◌, Bool, true, false, cond, nat_eq, eq-eqb, ◌||◌, map, List, [], ◌∷◌, ◌++◌, length, take, drop, get_or, Option, None, Some, arith, refl, sym, subst, ap, ◌∙◌}
 use Rattle.std.specs.Option.{option_map}
-use Rattle.std.specs.List.{filter_map, fold, list_any}
+use Rattle.std.specs.List.{All, filter_map, fold, list_any}
 use Rattle.std.proofs.lemmas.List.{length_push, take-append-drop, map-append}
 use Rattle.std.proofs.lemmas.List.Folds.{list_any-append}
 use Rattle.std.proofs.lemmas.List.Sums.{fold-append}
 use Rattle.std.proofs.lemmas.List.{drop_more, take_more}
-use Rattle.std.proofs.lemmas.List.Elements.{filter_map-append}
+use Rattle.std.proofs.lemmas.List.Elements.{filter_map-append, All-push}
 use Rattle.ctrl_types.specs.declared.errno.Errno.{Errno}
 use Rattle.ctrl_types.specs.declared.ids.ExtControl.{ExtControl}
 use Rattle.ctrl_types.specs.declared.ids.Pair.{Pair}
@@ -26,6 +26,15 @@ pub gives_more : {X Y : Type 0} (h : X → Option Y) (xs : List X) (i : ℕ) (d 
     → filter_map h (take (i + 1) xs) ≡ filter_map h (take i xs) ++ y ∷ []
 gives_more h xs i d y within gives =
     ap (filter_map h) (take_more xs i d within) ∙ filter_map-append h (take i xs) (get_or xs i d ∷ []) ∙ rw gives refl
+
+-- the same, where it is pushed behind those so far
+pub gives_pushed : {X Y : Type 0} (h : X → Option Y) (xs : List X) (i : ℕ) (d : X) (y : Y) (ys new : List Y) → i < length xs → ys ≡ filter_map h (take i xs) → new ≡ ys ++ y ∷ [] → h (get_or xs i d) ≡ Some y
+    → new ≡ filter_map h (take (i + 1) xs)
+gives_pushed h xs i d y ys new within so_far pushed gives = pushed ∙ rw so_far (sym (gives_more h xs i d y within gives))
+
+-- what a call gave
+pub gave : {Y : Type 0} (found own : Option Y) (y : Y) → found ≡ own → found ≡ Some y → own ≡ Some y
+gave found own y same is = sym same ∙ is
 
 -- an item that isn't refused is passed over
 pub passes : {X : Type 0} (refused : X → Option Errno) (all : Option Refusal) (xs : List X) (i : ℕ) (d : X) → i < length xs → refused (get_or xs i d) ≡ None
@@ -114,3 +123,32 @@ touched_has plan pairs i d k within found =
 -- what one more item is mapped to
 pub map_more : {X Y : Type 0} (f : X → Y) (xs : List X) (i : ℕ) (d : X) → i < length xs → map f (take (i + 1) xs) ≡ map f (take i xs) ++ f (get_or xs i d) ∷ []
 map_more f xs i d within = ap (map f) (take_more xs i d within) ∙ map-append f (take i xs) (get_or xs i d ∷ [])
+
+-- the same, where it is pushed behind those so far
+pub map_pushed : {X Y : Type 0} (f : X → Y) (xs : List X) (i : ℕ) (d : X) (ys new : List Y) (y : Y) → i < length xs → ys ≡ map f (take i xs) → new ≡ ys ++ y ∷ [] → y ≡ f (get_or xs i d)
+    → new ≡ map f (take (i + 1) xs)
+map_pushed f xs i d ys new y within so_far pushed is = pushed ∙ rw (so_far, is) (sym (map_more f xs i d within))
+
+-- what holds of some items and of one more holds of all of them
+pub all_pushed : {X : Type 0} (P : X → Type 0) (xs new : List X) (x : X) → new ≡ xs ++ x ∷ [] → All P xs → P x → All P new
+all_pushed {X} P xs new x pushed old one = subst (λ (ys : List X). All P ys) (sym pushed) (All-push P xs x old one)
+
+-- one more item
+pub pushed_length : {X : Type 0} (xs new : List X) (x : X) (n : ℕ) → new ≡ xs ++ x ∷ [] → length xs ≡ n → length new ≡ n + 1
+pushed_length xs new x n pushed each = rw (pushed, length_push xs x, each) refl
+
+-- no more than one more
+pub few_more : (old new n : ℕ) → old ≤ n → new ≤ old + 1 → new ≤ n + 1
+few_more old new n few more = omega arith
+
+-- no more are asked than clusters are touched, with the next
+pub asked_more : (clusters new more : List ℕ) (before now after : ℕ) → new ≡ more → now ≤ before + length clusters → after + length clusters ≤ now + length more → after ≤ before + length new
+asked_more clusters new more before now after is old most = omega (arith, ap length is)
+
+-- and no more than all touch
+pub asked_within : (plan : PlanData) (pairs : List Pair) (i : ℕ) (d : Pair) (clusters : List ℕ) (before now after : ℕ) → i < length pairs → clusters ≡ touched plan (take i pairs) → now ≤ before + length clusters
+    → after + length clusters ≤ now + length (with_cluster clusters (cluster_of plan (get_or pairs i d).control)) → after ≤ before + length (touched plan pairs)
+asked_within plan pairs i d clusters before now after within each old most =
+    let next : with_cluster clusters (cluster_of plan (get_or pairs i d).control) ≡ touched plan (take (i + 1) pairs) =
+    ap (λ (ks : List ℕ). with_cluster ks (cluster_of plan (get_or pairs i d).control)) each ∙ sym (touched_next plan pairs i d within) in
+    omega (arith, ap length next, touched_more plan pairs (i + 1))

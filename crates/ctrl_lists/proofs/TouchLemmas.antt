@@ -1,8 +1,7 @@
 -- The rows that clusters get, and how many validators were asked for them.
-use Rattle.std.proofs.Common.{◌≡◌, ◌≢◌, ℕ, ◌<◌, ◌≤◌, ◌+◌, ◌-◌, ◌^◌, ◌==◌, ◌||◌, Bool, true, false, cond, nat_eq, eq-eqb, min, pos, get_or, List, [], ◌∷◌, ◌++◌, length, Option, None, Some, is_some, unwrap_or, Ok, Err, Result, IsTrue, inl, inr, ◌⊎◌, subst, refl, ap, sym, ◌∙◌, arith, count_by}
-use Rattle.std.specs.List.{All, list_any, sum_by}
+use Rattle.std.proofs.Common.{◌≡◌, ℕ, ◌<◌, ◌≤◌, ◌+◌, ◌^◌, ◌==◌, Bool, true, false, cond, nat_eq, eq-eqb, pos, get_or, List, [], ◌∷◌, ◌++◌, length, Option, None, Some, is_some, unwrap_or, Ok, Err, Result, IsTrue, refl, ap, sym, ◌∙◌, arith}
+use Rattle.std.specs.List.{All, list_any}
 use Rattle.std.specs.Option.{option_and_then}
-use Rattle.std.proofs.lemmas.Bool.Decides.{eqb_tells}
 use Rattle.std.proofs.lemmas.List.{length_push, map-append}
 use Rattle.std.proofs.lemmas.List.Folds.{list_any-append, list_any_at}
 use Rattle.std.proofs.lemmas.List.Elements.{All-weaker, All-from_get_or}
@@ -15,13 +14,13 @@ use Rattle.ctrl_calls.specs.Meanings.{Verdicts}
 use Rattle.ctrl_calls.specs.declared.relation.Relation.{Relation}
 use Rattle.ctrl_handlers.specs.Plan.{PlanData, control, cluster_of, calls_of, members}
 use Rattle.ctrl_handlers.proofs.ClusterLemmas.{cluster_of_member}
-use Rattle.ctrl_clusters.specs.Rows.{Values, value_at, value_in}
+use Rattle.ctrl_clusters.specs.Rows.{value_at, value_in}
 use Rattle.ctrl_clusters.specs.Judging.{becomes, after_judging}
-use Rattle.ctrl_clusters.specs.Overlay.{is_among, is_touched, row_after, given_by, given_in, value_after, no_grabs}
+use Rattle.ctrl_clusters.specs.Overlay.{is_among, row_after, given_by, given_in, value_after, no_grabs}
 use Rattle.ctrl_clusters.specs.NewRows.{clusters_of, row_among, value_among, value_written}
 use Rattle.ctrl_clusters.specs.declared.new_row.NewRow.{NewRow}
 use Rattle.ctrl_clusters.proofs.NewRowLemmas.{row_met, has_row}
-use Rattle.ctrl_clusters.proofs.OverlayLemmas.{any_of, row_after_free, held_not, or_true, or_true_right}
+use Rattle.ctrl_clusters.proofs.OverlayLemmas.{any_of, row_after_free, held_not, or_true_right}
 use Rattle.ctrl_lists.specs.View.{ViewData}
 use Rattle.ctrl_lists.specs.Checks.{errno_of, row_laid}
 use Rattle.ctrl_lists.specs.Touched.{with_cluster, entry_in, AreRows, AreJudged, judged_count, with_calls}
@@ -147,3 +146,17 @@ entry_same verdicts plan view laid pairs rows i d judged within among =
   where
     entry_with : PlanData → ℕ → CtrlValue → ExtControl
     entry_with plan c v = record { id = (control plan c).id; value = v }
+
+-- whether a cluster is among the rows, as it was looked up
+pub looked_up : (rows slice : List NewRow) (k : ℕ) (found : Option (List CtrlValue)) (is b : Bool) → slice ≡ rows → found ≡ row_among slice k → is ≡ is_some found → is ≡ b → is_some (row_among rows k) ≡ b
+looked_up rows slice k found is b same given tells at = sym (ap (λ (rs : List NewRow). is_some (row_among rs k)) same) ∙ sym (ap is_some given) ∙ sym tells ∙ at
+
+-- what a row becomes by the parts of a view
+pub becomes_by : (verdicts : Verdicts) (plan : PlanData) (parts view : ViewData) (laid : List Pair) (k : ℕ) (outcome : Result (List CtrlValue) Errno) → outcome ≡ becomes verdicts plan parts.controls parts.values laid k → parts ≡ view
+    → outcome ≡ becomes verdicts plan view.controls view.values laid k
+becomes_by verdicts plan parts view laid k outcome is same = is ∙ ap (λ (v : ViewData). becomes verdicts plan v.controls v.values laid k) same
+
+-- one more validator at most is asked for a cluster without a row
+pub asked_once : (plan : PlanData) (rows : List NewRow) (c k before after : ℕ) → cluster_of plan c ≡ Some k → is_some (row_among rows k) ≡ false → after ≤ before + 1
+    → after + length (clusters_of rows) ≤ before + length (with_cluster (clusters_of rows) (cluster_of plan c))
+asked_once plan rows c k before after found none most = rw found (omega (arith, added_length rows k none))

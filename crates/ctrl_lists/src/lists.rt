@@ -244,7 +244,6 @@ fn judge_list<D: Driver>(
 }
 
 // Judges what the pairs of a list that writes ask for.
-#[tactic(auto, using(crate::proofs::TouchLemmas::own_among))]
 fn judge_pairs<D: Driver>(
     alloc: Global,
     plan: &Plan<D>,
@@ -265,12 +264,7 @@ fn judge_pairs<D: Driver>(
     ensures asked { OnOk result (work.new.asked ≡ with_calls (judged_count plan.now (touched plan.now pairs.items)) work.old.asked) }
     ensures told { work.new.told ≡ work.old.told }
 {
-    let judged = if view.asked.is_empty() {
-        judge_under(alloc, plan, view, pairs.as_slice(), pairs.as_slice(), work)
-    } else {
-        judge_joined(alloc, plan, view, pairs.as_slice(), work)
-    };
-    match judged {
+    match judge_joined(alloc, plan, view, pairs.as_slice(), work) {
         Ok((rows, answers)) => Ok(Touched {
             rows,
             answers,
@@ -280,8 +274,8 @@ fn judge_pairs<D: Driver>(
     }
 }
 
-// The same, where there are pairs from before.
-#[tactic(auto, using(crate::proofs::TouchLemmas::more_among))]
+// The rows and the answers, where the pairs are laid over the values behind those from before.
+#[tactic(auto, using(crate::proofs::TouchLemmas::own_among, crate::proofs::TouchLemmas::more_among))]
 fn judge_joined<D: Driver>(
     alloc: Global,
     plan: &Plan<D>,
@@ -301,6 +295,9 @@ fn judge_joined<D: Driver>(
     ensures asked { OnOk result (work.new.asked ≡ with_calls (judged_count plan.now (touched plan.now pairs.now)) work.old.asked) }
     ensures told { work.new.told ≡ work.old.told }
 {
+    if view.asked.is_empty() {
+        return judge_under(alloc, plan, view, pairs, pairs, work);
+    }
     match joined(alloc, view.asked, pairs) {
         Ok(laid) => judge_under(alloc, plan, view, laid.as_slice(), pairs, work),
         Err(_) => Err(Refusal::of_memory()),

@@ -1,12 +1,11 @@
-use Rattle.std.proofs.Common.{◌≡◌, pos, List, [], ◌∷◌, ◌++◌, get_or, map, take, ap, sym, ◌∙◌, rules, IsTrue}
+use Rattle.std.proofs.Common.{◌≡◌, pos, get_or, ap, ◌∙◌, IsTrue}
 use Rattle.std.proofs.lemmas.List.Elements.{All-get_or}
 use Rattle.ctrl_clusters.specs.Overlay.{is_among}
-use Rattle.ctrl_types.specs.declared.ids.ExtControl.{ExtControl}
 use Rattle.ctrl_types.specs.declared.ids.Pair.{Pair}
 use Rattle.ctrl_lists.specs.View.{ViewData}
 use Rattle.ctrl_lists.specs.Touched.{entry_in}
 use Rattle.ctrl_lists.specs.Answers.{entry_judged}
-use Rattle.ctrl_lists.proofs.ListLemmas.{map_more}
+use Rattle.ctrl_lists.proofs.ListLemmas.{map_pushed}
 use Rattle.ctrl_lists.proofs.TouchLemmas.{entry_same}
 use Rattle.ctrl_lists.proofs.rows.entries_judged.Goals as goal
 
@@ -22,9 +21,7 @@ loop-pair-preserved g c =
     ∙ ap (λ (v : ViewData). entry_in c.args.plan.now v.values c.args.rows.now (get_or pairs i d).control) c.view.view_is
     ∙ entry_same g.D.Validates.verdict c.args.plan.now c.args.view.now c.args.laid.now pairs c.args.rows.now i d c.requires.rows c.loop-pair-test.true (All-get_or (λ (p : Pair). IsTrue (is_among c.args.laid.now p.control)) pairs i d c.loop-pair-test.true c.requires.among) in
     record {
-      so_far = c.push_reserved.ensures.items
-          ∙ ap (λ (es : List ExtControl). es ++ c.entry_judged.result ∷ []) old.so_far
-          ∙ ap (λ (e : ExtControl). map (entry_judged g.D.Validates.verdict c.args.plan.now c.args.view.now c.args.laid.now) (take i pairs) ++ e ∷ []) is
-          ∙ sym (map_more (entry_judged g.D.Validates.verdict c.args.plan.now c.args.view.now c.args.laid.now) pairs i d c.loop-pair-test.true);
-      room = search rules;
+      so_far = map_pushed (entry_judged g.D.Validates.verdict c.args.plan.now c.args.view.now c.args.laid.now) pairs i d c.loop-pair.answers.items c.push_reserved.new.self.items c.entry_judged.result
+          c.loop-pair-test.true old.so_far c.push_reserved.ensures.items is;
+      room = rw c.push_reserved.ensures.capacity old.room;
     }

@@ -1,9 +1,10 @@
-use Rattle.std.proofs.Common.{◌+◌, ℕ, pos, get_or, List, length, inl, ap, sym, ◌∙◌, arith}
+use Rattle.std.proofs.Common.{ℕ, pos, get_or, List, length, inl, ap, sym, ◌∙◌}
 use Rattle.ctrl_types.specs.declared.ids.Pair.{Pair}
 use Rattle.ctrl_handlers.specs.Plan.{cluster_of}
+use Rattle.ctrl_clusters.specs.NewRows.{clusters_of}
 use Rattle.ctrl_lists.specs.Checks.{at_first, judging_refusal}
 use Rattle.ctrl_lists.specs.Touched.{with_cluster}
-use Rattle.ctrl_lists.proofs.ListLemmas.{passes, stops, touched_more, touched_next}
+use Rattle.ctrl_lists.proofs.ListLemmas.{passes, stops, touched_next, few_more, asked_more, asked_within}
 use Rattle.ctrl_lists.proofs.rows.judge_all.Goals as goal
 
 -- the first pair whose cluster is refused
@@ -15,10 +16,9 @@ returns-in-Err-clause-err g c =
 pub returns-in-Err-clause-at_most : goal.returns-in-Err-clause-at_most
 returns-in-Err-clause-at_most g c =
     let old = c.loop-place.invariant in
-    let clusters = old.each in
     let d : Pair = record { control = 0; value = pos 0 } in
-    let next = touched_next c.args.plan.now c.args.pairs.now c.loop-place.place d c.loop-place-test.true in
-    omega (arith, old.asked, rw clusters at c.judge_next.ensures.at_most, ap length clusters, ap length next, touched_more c.args.plan.now c.args.pairs.now (c.loop-place.place + 1))
+    asked_within c.args.plan.now c.args.pairs.now c.loop-place.place d (clusters_of c.loop-place.rows.items) c.args.work.now.asked c.loop-place.work.asked c.judge_next.new.work.asked
+    c.loop-place-test.true old.each old.asked c.judge_next.ensures.at_most
 
 -- one more pair, whose cluster has its row
 pub loop-place-preserved : goal.loop-place-preserved
@@ -34,9 +34,9 @@ loop-place-preserved g c =
       become = does.rows;
       within = does.within;
       long = does.long;
-      few = omega (arith, old.few, c.judge_next.ensures.more);
+      few = few_more (length c.loop-place.rows.items) (length c.judge_next.new.rows.items) c.loop-place.place old.few c.judge_next.ensures.more;
       room = rw c.judge_next.ensures.capacity old.room;
-      asked = omega (arith, old.asked, c.judge_next.ensures.at_most, ap length does.each);
+      asked = asked_more (clusters_of c.loop-place.rows.items) (clusters_of c.judge_next.new.rows.items) _ c.args.work.now.asked c.loop-place.work.asked c.judge_next.new.work.asked does.each old.asked c.judge_next.ensures.at_most;
       counted = does.asked c.args.work.now.asked old.counted;
       told = c.judge_next.ensures.told ∙ old.told;
     }

@@ -1,47 +1,48 @@
-use Rattle.std.proofs.Common.{◌≡◌, true, false, is_some, List, length, subst, sym, ap, ◌∙◌, rules, arith}
-use Rattle.std.specs.List.{All}
-use Rattle.ctrl_clusters.specs.Judging.{becomes}
-use Rattle.ctrl_lists.specs.View.{ViewData}
-use Rattle.std.proofs.lemmas.List.Elements.{All-push}
+use Rattle.std.proofs.Common.{◌≡◌, true, false, is_some, length, Ok, Err}
 use Rattle.ctrl_handlers.specs.Plan.{members}
 use Rattle.ctrl_clusters.specs.NewRows.{row_among}
 use Rattle.ctrl_clusters.specs.declared.new_row.NewRow.{NewRow}
-use Rattle.ctrl_lists.proofs.TouchLemmas.{accepted, accepted_now, refused_now, added_not, added_length, added_row, counted_next}
+use Rattle.ctrl_lists.proofs.ListLemmas.{all_pushed}
+use Rattle.ctrl_lists.proofs.TouchLemmas.{accepted, accepted_now, refused_now, added_not, added_row, asked_once, counted_next, looked_up, becomes_by}
 use Rattle.ctrl_lists.proofs.rows.judge_next.Goals as goal
 
 -- the cluster was accepted before
 pub returns-then-is_some-clause-ok : goal.returns-then-is_some-clause-ok
 returns-then-is_some-clause-ok g c =
-    let there : is_some (row_among c.args.rows.now.items c.cluster_of-cluster.result) ≡ true = search rules in
+    let there : is_some (row_among c.args.rows.now.items c.cluster_of-cluster.result) ≡ true =
+    looked_up c.args.rows.now.items c.as_slice.result.now c.cluster_of-cluster.result c.among.result c.is_some.result true c.as_slice.ensures.value c.among.ensures c.is_some.ensures c.if-is_some.true in
     rw c.cluster_of-cluster.ensures.cluster (accepted g.D.Validates.verdict c.args.plan.now c.args.view.now c.args.laid.now c.args.rows.now.items c.args.control c.cluster_of-cluster.result c.requires.rows c.requires.among c.cluster_of-cluster.ensures.cluster there)
 
 pub returns-then-is_some-clause-each : goal.returns-then-is_some-clause-each
 returns-then-is_some-clause-each g c =
-    let there : is_some (row_among c.args.rows.now.items c.cluster_of-cluster.result) ≡ true = search rules in
+    let there : is_some (row_among c.args.rows.now.items c.cluster_of-cluster.result) ≡ true =
+    looked_up c.args.rows.now.items c.as_slice.result.now c.cluster_of-cluster.result c.among.result c.is_some.result true c.as_slice.ensures.value c.among.ensures c.is_some.ensures c.if-is_some.true in
     rw c.cluster_of-cluster.ensures.cluster (added_not c.args.rows.now.items c.cluster_of-cluster.result there)
 
 -- its validator is asked for the first time
 pub returns-in-Err-clause-at_most : goal.returns-in-Err-clause-at_most
 returns-in-Err-clause-at_most g c =
-    let none : is_some (row_among c.args.rows.now.items c.cluster_of-cluster.result) ≡ false = search rules in
-    rw c.cluster_of-cluster.ensures.cluster (omega (arith, c.becomes.ensures.at_most_once, added_length c.args.rows.now.items c.cluster_of-cluster.result none))
+    let none : is_some (row_among c.args.rows.now.items c.cluster_of-cluster.result) ≡ false =
+    looked_up c.args.rows.now.items c.as_slice.result.now c.cluster_of-cluster.result c.among.result c.is_some.result false c.as_slice.ensures.value c.among.ensures c.is_some.ensures c.if-is_some.false in
+    asked_once c.args.plan.now c.args.rows.now.items c.args.control c.cluster_of-cluster.result c.args.work.now.asked c.becomes.new.work.asked c.cluster_of-cluster.ensures.cluster none c.becomes.ensures.at_most_once
 
 pub returns-in-Ok-clause-each : goal.returns-in-Ok-clause-each
 returns-in-Ok-clause-each g c =
-    let none : is_some (row_among c.args.rows.now.items c.cluster_of-cluster.result) ≡ false = search rules in
+    let none : is_some (row_among c.args.rows.now.items c.cluster_of-cluster.result) ≡ false =
+    looked_up c.args.rows.now.items c.as_slice.result.now c.cluster_of-cluster.result c.among.result c.is_some.result false c.as_slice.ensures.value c.among.ensures c.is_some.ensures c.if-is_some.false in
     rw c.cluster_of-cluster.ensures.cluster
     (added_row c.args.rows.now.items c.push_reserved.new.self.items (record { cluster = c.cluster_of-cluster.result; row = c.in-Ok.row }) none c.push_reserved.ensures.items)
 
 pub returns-in-Ok-clause-long : goal.returns-in-Ok-clause-long
 returns-in-Ok-clause-long g c =
     let P : NewRow → Type 0 = λ r. length r.row ≡ length (members c.args.plan.now r.cluster) in
-    subst (λ (rows : List NewRow). All P rows) (sym c.push_reserved.ensures.items)
-    (All-push P c.args.rows.now.items (record { cluster = c.cluster_of-cluster.result; row = c.in-Ok.row }) c.requires.long c.in-Ok.ensures.long)
+    all_pushed P c.args.rows.now.items c.push_reserved.new.self.items (record { cluster = c.cluster_of-cluster.result; row = c.in-Ok.row }) c.push_reserved.ensures.items c.requires.long c.in-Ok.ensures.long
 
 pub returns-in-Ok-clause-at_most : goal.returns-in-Ok-clause-at_most
 returns-in-Ok-clause-at_most g c =
-    let none : is_some (row_among c.args.rows.now.items c.cluster_of-cluster.result) ≡ false = search rules in
-    rw c.cluster_of-cluster.ensures.cluster (omega (arith, c.becomes.ensures.at_most_once, added_length c.args.rows.now.items c.cluster_of-cluster.result none))
+    let none : is_some (row_among c.args.rows.now.items c.cluster_of-cluster.result) ≡ false =
+    looked_up c.args.rows.now.items c.as_slice.result.now c.cluster_of-cluster.result c.among.result c.is_some.result false c.as_slice.ensures.value c.among.ensures c.is_some.ensures c.if-is_some.false in
+    asked_once c.args.plan.now c.args.rows.now.items c.args.control c.cluster_of-cluster.result c.args.work.now.asked c.becomes.new.work.asked c.cluster_of-cluster.ensures.cluster none c.becomes.ensures.at_most_once
 
 pub returns-in-Ok-clause-asked : goal.returns-in-Ok-clause-asked
 returns-in-Ok-clause-asked g c = λ n old.
@@ -51,10 +52,10 @@ returns-in-Ok-clause-asked g c = λ n old.
 -- what the row becomes is what is laid
 pub returns-in-Ok-clause-ok : goal.returns-in-Ok-clause-ok
 returns-in-Ok-clause-ok g c =
-    let is = c.in-Ok.ensures.row ∙ ap (λ (v : ViewData). becomes g.D.Validates.verdict c.args.plan.now v.controls v.values c.args.laid.now c.cluster_of-cluster.result) c.view.view_is in
+    let is = becomes_by g.D.Validates.verdict c.args.plan.now _ c.args.view.now c.args.laid.now c.cluster_of-cluster.result (Ok c.in-Ok.row) c.in-Ok.ensures.row c.view.view_is in
     accepted_now g.D.Validates.verdict c.args.plan.now c.args.view.now c.args.laid.now c.args.control c.cluster_of-cluster.result c.in-Ok.row c.requires.among c.cluster_of-cluster.ensures.cluster is
 
 pub returns-in-Err-clause-err : goal.returns-in-Err-clause-err
 returns-in-Err-clause-err g c =
-    let is = c.in-Err.ensures.row ∙ ap (λ (v : ViewData). becomes g.D.Validates.verdict c.args.plan.now v.controls v.values c.args.laid.now c.cluster_of-cluster.result) c.view.view_is in
+    let is = becomes_by g.D.Validates.verdict c.args.plan.now _ c.args.view.now c.args.laid.now c.cluster_of-cluster.result (Err c.in-Err.errno) c.in-Err.ensures.row c.view.view_is in
     refused_now g.D.Validates.verdict c.args.plan.now c.args.view.now c.args.laid.now c.args.control c.cluster_of-cluster.result c.in-Err.errno c.requires.among c.cluster_of-cluster.ensures.cluster is
