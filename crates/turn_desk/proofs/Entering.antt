@@ -21,4 +21,4 @@ module _ {T P S : Type 0} (is_legal : P → List (Entry S) → Type 0) (plan_of 
       let same : steps_of x.value ≡ steps_of object = ap steps_of copied in
       let taken = step_taken number past (steps_of object) grown longer in
       enters is_legal plan_of steps_of plan slots id n x p past m.0.seen number taken.0 (ap (λ k. k.1) is ∙ ap (λ others. (0, Entered x) ∷ rest others) away.carried) (ap (λ k. k.0.plan) is ∙ away.planned) (ap (λ k. k.0.holding) is ∙ away.held)
-          (ap (λ k. k.0.accounts) is ∙ away.account) (same ∙ taken.1) (subst (is_legal p) (sym same) lawful) (subst (λ l. length l < 2 ^ 64) (sym same) short)
+      (ap (λ k. k.0.accounts) is ∙ away.account) (same ∙ taken.1) (subst (is_legal p) (sym same) lawful) (subst (λ l. length l < 2 ^ 64) (sym same) short)
