@@ -19,7 +19,7 @@ use Rattle.ctrl_clusters.specs.Rows.{Values, value_at, row_of}
 use Rattle.ctrl_clusters.specs.Overlay.{is_among, is_touched}
 use Rattle.ctrl_clusters.specs.NewRows.{row_among, row_given}
 use Rattle.ctrl_clusters.specs.Changes.{is_changed, row_changes, cluster_changes}
-use Rattle.ctrl_clusters.specs.Notified.{MaySay, AreRenewed, IsRenewed, notified_count, after_notifying, after_change}
+use Rattle.ctrl_clusters.specs.Notified.{MaySay, IsRenewed, notified_count, after_notifying, after_change}
 use Rattle.ctrl_clusters.specs.declared.new_row.NewRow.{NewRow}
 
 -- what isn't changed has its value already
@@ -78,15 +78,6 @@ renewed_next says plan changed rows n old words new before is = record {
       where
         below : (k n : ℕ) → k < n + 1 → k ≢ n → k < n
         below k n lt other = omega (arith, lt, other)
-
--- all were
-pub renewed_all : (says : Words) (plan : PlanData) (changed : ℕ → Bool) (rows : ℕ → List CtrlValue) (n : ℕ) (old new : List ℕ) → n ≡ length plan.clusters → AreRenewedBelow says plan changed rows n old new
-    → AreRenewed says plan changed rows old new
-renewed_all says plan changed rows n old new all are = record {
-  each = are.each;
-  own = λ k lt ch. are.own k (omega (arith, lt, all)) ch;
-  others = λ k same. are.others k (λ lt. same (omega (arith, lt, all)));
-}
 
 -- a cluster that doesn't change isn't notified
 pub renewed_not : (says : Words) (plan : PlanData) (k : ℕ) (changed : Bool) (row : List CtrlValue) (words : List ℕ) → changed ≡ false → IsRenewed says plan k changed row words words
