@@ -1,5 +1,5 @@
 -- Each call of a builder keeps what holds of every plan.
-use Rattle.std.proofs.Common.{◌≡◌, ◌≢◌, ℕ, ◌<◌, Bool, true, false, if◌then◌else◌, nat_le, None, Some, is_some, List, [], ◌∷◌, ◌++◌, length, sym, ap, ◌∙◌, subst, arith, get_or, slice_set, refl, inl, inr, ◌⊎◌}
+use Rattle.std.proofs.Common.{◌≡◌, ◌≢◌, ℕ, zero, suc, ◌<◌, Bool, true, false, if◌then◌else◌, nat_le, None, Some, is_some, List, [], ◌∷◌, ◌++◌, length, sym, ap, ◌∙◌, subst, arith, get_or, slice_set, refl, inl, inr, ◌⊎◌}
 use Rattle.std.specs.List.{All}
 use Rattle.std.proofs.lemmas.Bool.{cases_eq}
 use Rattle.std.proofs.lemmas.Bool.Decides.{nat_tests}
@@ -8,12 +8,11 @@ use Rattle.std.proofs.lemmas.List.Elements.{All-push, All-weaker}
 use Rattle.ctrl_settle.specs.Control.{Control}
 use Rattle.ctrl_settle.specs.Faults.{IsWellFormed}
 use Rattle.ctrl_handlers.specs.HandlerData.{HandlerData}
-use Rattle.ctrl_handlers.specs.declared.limits.TheConstants.{MAX_CONTROLS}
-use Rattle.ctrl_handlers.specs.Plan.{PlanData, IsPlan, no_plan, no_control, no_handler, handler_at, own, added, members, names_twice, ids_of, owning, with_control}
+use Rattle.ctrl_handlers.specs.declared.limits.TheConstants.{MAX_CONTROLS, MAX_HANDLERS}
+use Rattle.ctrl_handlers.specs.Plan.{PlanData, IsPlan, no_plan, no_control, no_handler, handler_at, own, added, members, names_twice, ids_of, owning, with_handler, with_control}
 use Rattle.ctrl_handlers.specs.Visible.{first_with_id}
-use Rattle.ctrl_handlers.specs.Builder.{adding_refusal}
-use Rattle.ctrl_handlers.specs.declared.fault.PlanFault.{PlanFault}
-use Rattle.ctrl_handlers.specs.declared.fault.PlanFault.TheVariants.{UnknownNumber, LaterHandler}
+use Rattle.ctrl_handlers.specs.Builder.{adding_refusal, control_refusal}
+use Rattle.ctrl_handlers.specs.declared.fault.PlanFault.TheVariants.{DuplicateId, LaterHandler, UnknownNumber, Limit}
 use Rattle.ctrl_handlers.proofs.IdLemmas.{ids_stay, ids_more}
 
 -- a plan of nothing
@@ -32,6 +31,31 @@ is_plan_start = record {
   own_known = λ h k d lt. absurd (omega (arith, lt));
   own_differ = λ h. refl;
   added_before = λ h k d lt. absurd (omega (arith, lt));
+}
+
+-- one more handler of nothing is what stands for a handler that isn't there
+with_none : (handlers : List HandlerData) (g : ℕ) → get_or (handlers ++ no_handler ∷ []) g no_handler ≡ get_or handlers g no_handler
+with_none [] zero = refl
+with_none [] (suc g) = refl
+with_none (h ∷ hs) zero = refl
+with_none (h ∷ hs) (suc g) = with_none hs g
+
+-- one more handler
+pub is_plan_more : (plan : PlanData) → IsPlan plan → length plan.handlers < MAX_HANDLERS → IsPlan (with_handler plan)
+is_plan_more plan is room = record {
+  few_controls = is.few_controls;
+  few_handlers = omega (arith, room, length_push plan.handlers no_handler);
+  well_formed = is.well_formed;
+  items_known = is.items_known;
+  items_taken = is.items_taken;
+  some_members = is.some_members;
+  few_members = is.few_members;
+  members_known = is.members_known;
+  members_differ = is.members_differ;
+  members_apart = is.members_apart;
+  own_known = λ g. subst (λ (x : HandlerData). All (λ c. c < length plan.controls) x.own) (sym (with_none plan.handlers g)) (is.own_known g);
+  own_differ = λ g. subst (λ (x : HandlerData). names_twice (ids_of plan.controls x.own) ≡ false) (sym (with_none plan.handlers g)) (is.own_differ g);
+  added_before = λ g. subst (λ (x : HandlerData). All (λ a. a < g) x.added) (sym (with_none plan.handlers g)) (is.added_before g);
 }
 
 -- the handler at a number, once one is replaced
@@ -118,6 +142,19 @@ pub may_add : (plan : PlanData) (to added : ℕ) → adding_refusal plan to adde
 may_add plan to added is =
     let each = adding_by (nat_le (length plan.handlers) to) (nat_le to added) (nat_le (length plan.handlers) added) is in
     (grind (arith, nat_tests, each.0), grind (arith, nat_tests, each.1))
+
+-- where nothing refuses a control, the handler is there, there is room, and none of its own has this id
+control_by : (none full : Bool) (has : Bool) → (if none then Some UnknownNumber else if full then Some Limit else if has then Some DuplicateId else None) ≡ None → (none ≡ false) × (full ≡ false) × (has ≡ false)
+control_by true full has is = cc
+control_by false true has is = cc
+control_by false false true is = cc
+control_by false false false is = (refl, refl, refl)
+
+pub may_own : (plan : PlanData) (h : ℕ) (ctrl : Control) → control_refusal plan h ctrl ≡ None
+    → (h < length plan.handlers) × (length plan.controls < MAX_CONTROLS) × (is_some (first_with_id plan.controls (own plan h) ctrl.id) ≡ false)
+may_own plan h ctrl is =
+    let each = control_by (nat_le (length plan.handlers) h) (nat_le MAX_CONTROLS (length plan.controls)) (is_some (first_with_id plan.controls (own plan h) ctrl.id)) is in
+    (grind (arith, nat_tests, each.0), grind (arith, nat_tests, each.1), each.2)
 
 -- a handler that keeps its own controls and adds only handlers with smaller numbers
 pub is_plan_handler : (plan : PlanData) (h : ℕ) (handler : HandlerData) → IsPlan plan → h < length plan.handlers → handler.own ≡ own plan h → All (λ a. a < h) handler.added

@@ -7,13 +7,13 @@ ghost use Rattle.menu_items.specs.declared.item.MenuItem.TheVariants as items;
 ghost use Rattle.ctrl_handlers.specs.declared.fault.PlanFault.TheVariants.{Memory};
 
 use crate::fault::PlanFault;
-use crate::limits::{MAX_CONTROLS, MAX_HANDLERS};
+use crate::limits::MAX_HANDLERS;
 use crate::numbers::NumberList;
 use crate::outline::Outline;
 use crate::plan::Plan;
 use ctrl_calls::{Calls, Driver};
 use ctrl_settle::Ctrl;
-use menu_items::{MAX_MENU_NAME, MenuItem, MenuName, takes_name, takes_number};
+use menu_items::{MenuItem, MenuName};
 use std::alloc::Global;
 use std::marker::Model;
 
@@ -86,14 +86,8 @@ impl<D: Driver> PlanBuilder<D> {
         ensures ok { IfOk result (λ n. (control_refusal self.old handler ctrl ≡ None) × (n ≡ length self.old.controls) × (self.new ≡ with_control self.old handler ctrl)) }
         ensures err { IfErr result (λ fault. IsRefusedBy (control_refusal self.old handler ctrl) fault × (self.new ≡ self.old)) }
     {
-        if !self.outline.has_handler(handler) {
-            return Err(PlanFault::UnknownNumber);
-        }
-        if self.outline.control_count() >= MAX_CONTROLS {
-            return Err(PlanFault::Limit);
-        }
-        if self.outline.has_own(handler, ctrl.id()) {
-            return Err(PlanFault::DuplicateId);
+        if let Some(fault) = self.outline.control_refusal(handler, ctrl) {
+            return Err(fault);
         }
         match self.outline.add_control(handler, ctrl) {
             Ok(number) => Ok(number),
@@ -132,20 +126,13 @@ impl<D: Driver> PlanBuilder<D> {
         ensures ok { IfOk result (λ _. (name_refusal self.old control index name.now ≡ None) × (self.new ≡ with_item self.old control index (items.Name name.now))) }
         ensures err { IfErr result (λ fault. IsRefusedBy (name_refusal self.old control index name.now) fault × (self.new ≡ self.old)) }
     {
-        if control >= self.outline.control_count() {
-            return Err(PlanFault::UnknownNumber);
+        if let Some(fault) = self.outline.name_refusal(control, index, name) {
+            return Err(fault);
         }
-        let ctrl = self.outline.control(control);
-        if !takes_name(&ctrl, index) {
-            return Err(PlanFault::UnknownNumber);
+        match MenuName::new(self.alloc, name) {
+            Ok(name) => self.set_item(control, index, MenuItem::Name(name)),
+            Err(_) => Err(PlanFault::Memory),
         }
-        if name.len() > MAX_MENU_NAME {
-            return Err(PlanFault::Limit);
-        }
-        let Ok(name) = MenuName::new(self.alloc, name) else {
-            return Err(PlanFault::Memory);
-        };
-        self.set_item(control, index, MenuItem::Name(name))
     }
 
     /// Gives an `IntegerMenu` the number that stands at an index; a second number takes the place of the first (Linux driver
@@ -160,12 +147,8 @@ impl<D: Driver> PlanBuilder<D> {
         ensures ok { IfOk result (λ _. (number_refusal self.old control index ≡ None) × (self.new ≡ with_item self.old control index (items.Number number))) }
         ensures err { IfErr result (λ fault. IsRefusedBy (number_refusal self.old control index) fault × (self.new ≡ self.old)) }
     {
-        if control >= self.outline.control_count() {
-            return Err(PlanFault::UnknownNumber);
-        }
-        let ctrl = self.outline.control(control);
-        if !takes_number(&ctrl, index) {
-            return Err(PlanFault::UnknownNumber);
+        if let Some(fault) = self.outline.number_refusal(control, index) {
+            return Err(fault);
         }
         self.set_item(control, index, MenuItem::Number(number))
     }
@@ -176,10 +159,10 @@ impl<D: Driver> PlanBuilder<D> {
         requires takes { takes item (control_of self.old control) index ≡ true }
         ensures { MatchResult result (λ _. self.new ≡ with_item self.old control index item) (λ fault. (fault ≡ Memory) × (self.new ≡ self.old)) }
     {
-        if self.outline.set_item(control, index, item).is_err() {
-            return Err(PlanFault::Memory);
+        match self.outline.set_item(control, index, item) {
+            Ok(()) => Ok(()),
+            Err(_) => Err(PlanFault::Memory),
         }
-        Ok(())
     }
 
     /// Makes a cluster, and answers its number, from 0 in the order of the cluster calls (Linux driver API, "V4L2 Controls",

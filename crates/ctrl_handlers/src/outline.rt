@@ -1,6 +1,6 @@
 ghost use Rattle.std.specs.Prelude.{◌≡◌, ◌==◌, ◌<◌, ◌≤◌, ◌+◌, ℕ, true, false, if◌then◌else◌, [], ◌∷◌, ◌++◌, map, length, vec_capacity, None, Some, is_some, nat_lt, OnOk, OnErr, MatchOption, position, IfOk, IfSome, IsTrue, ◌↔◌};
 ghost use Rattle.ctrl_handlers.specs.Plan.{IsPlan, IsFinished, no_plan, with_handler, with_control, with_added, with_item, with_cluster, finished, in_none, alone, control as control_of, own, added, menu_item, cluster_of, cluster_at, members, has_member, leads, plan_flags, names_twice};
-ghost use Rattle.ctrl_handlers.specs.Builder.{cluster_refusal, misfits, adding_refusal};
+ghost use Rattle.ctrl_handlers.specs.Builder.{control_refusal, adding_refusal, name_refusal, number_refusal, cluster_refusal, misfits};
 ghost use Rattle.ctrl_settle.specs.Faults.{IsWellFormed};
 ghost use Rattle.menu_items.specs.Places.{takes};
 ghost use Rattle.ctrl_calls.specs.declared.row.TheConstants.{MAX_MEMBERS};
@@ -18,7 +18,7 @@ use ctrl_calls::{MAX_MEMBERS, Relations};
 use ctrl_settle::Ctrl;
 use ctrl_types::{CtrlId, Flags};
 use indexmap::IndexMap;
-use menu_items::MenuItem;
+use menu_items::{MAX_MENU_NAME, MenuItem, takes_name, takes_number};
 use std::alloc::{AllocError, Global};
 use std::marker::Model;
 
@@ -66,6 +66,22 @@ impl Outline {
         Ok(number)
     }
 
+    /// Why a control is refused, memory apart.
+    pub(crate) fn control_refusal(&self, handler: u32, ctrl: Ctrl) -> Option<PlanFault>
+        ensures { result ≡ control_refusal self.now handler ctrl }
+    {
+        if !self.has_handler(handler) {
+            return Some(PlanFault::UnknownNumber);
+        }
+        if self.control_count() >= MAX_CONTROLS {
+            return Some(PlanFault::Limit);
+        }
+        if self.has_own(handler, ctrl.id()) {
+            return Some(PlanFault::DuplicateId);
+        }
+        None
+    }
+
     /// One more control of a handler, by its number.
     pub(crate) fn add_control(&mut self, handler: u32, ctrl: Ctrl) -> Result<u32, AllocError>
         requires known { handler < length self.old.handlers }
@@ -105,6 +121,37 @@ impl Outline {
         ensures err { OnErr result (self.new ≡ self.old) }
     {
         self.handlers[to as usize].add_handler(added)
+    }
+
+    /// Why a name for an item of a menu is refused, memory apart.
+    pub(crate) fn name_refusal(&self, control: u32, index: u32, name: &str) -> Option<PlanFault>
+        ensures { result ≡ name_refusal self.now control index name.now }
+    {
+        if control >= self.control_count() {
+            return Some(PlanFault::UnknownNumber);
+        }
+        let ctrl = self.control(control);
+        if !takes_name(&ctrl, index) {
+            return Some(PlanFault::UnknownNumber);
+        }
+        if name.len() > MAX_MENU_NAME {
+            return Some(PlanFault::Limit);
+        }
+        None
+    }
+
+    /// Why a menu doesn't take a number at an index, memory apart.
+    pub(crate) fn number_refusal(&self, control: u32, index: u32) -> Option<PlanFault>
+        ensures { result ≡ number_refusal self.now control index }
+    {
+        if control >= self.control_count() {
+            return Some(PlanFault::UnknownNumber);
+        }
+        let ctrl = self.control(control);
+        if !takes_number(&ctrl, index) {
+            return Some(PlanFault::UnknownNumber);
+        }
+        None
     }
 
     /// Gives a menu an item that it takes, in place of the one that it has at this index.
@@ -234,8 +281,8 @@ impl Outline {
         self.clusters.iter().any(|cluster| cluster.leads(number))
     }
 
-    /// Whether a handler has a control of this id of its own.
-    pub(crate) fn has_own(&self, handler: u32, id: CtrlId) -> bool
+    // Whether a handler has a control of this id of its own.
+    fn has_own(&self, handler: u32, id: CtrlId) -> bool
         requires { handler < length self.now.handlers }
         ensures { result ≡ is_some (first_with_id self.now.controls (own self.now handler) id) }
     {

@@ -1,5 +1,5 @@
-use Rattle.std.proofs.Common.{length, ap, sym, ◌∙◌}
-use Rattle.ctrl_handlers.specs.Plan.{PlanData}
+use Rattle.std.proofs.Common.{length, refl, ap, sym, ◌∙◌}
+use Rattle.ctrl_handlers.specs.Plan.{PlanData, all_calls, finished}
 use Rattle.ctrl_handlers.specs.Visible.{shown_below}
 use Rattle.ctrl_handlers.proofs.FinishLemmas.{finished_calls, finished_shown}
 use Rattle.ctrl_handlers.proofs.builder.PlanBuilder.finish_with.Goals as goal
@@ -13,3 +13,17 @@ of_parts-requires-clause-calls g c =
 pub of_parts-requires-clause-shown : goal.of_parts-requires-clause-shown
 of_parts-requires-clause-shown g c =
     rw (c.in-Ok.ensures.ok.0) (c.requires ∙ ap (λ (p : PlanData). shown_below p (length p.handlers)) (sym c.self.view_is) ∙ sym (finished_shown c.self.inside.outline (length c.self.inside.outline.handlers)))
+
+-- the plan that is answered
+pub returns-in-Ok-clause-ok : goal.returns-in-Ok-clause-ok
+returns-in-Ok-clause-ok g c = c.of_parts.ensures ∙ c.in-Ok.ensures.ok.0 ∙ ap finished c.self.view_is
+
+pub returns-in-Ok-clause-finished : goal.returns-in-Ok-clause-finished
+returns-in-Ok-clause-finished g c = rw c.of_parts.ensures c.in-Ok.ensures.ok.1
+
+-- or the builder as it was
+pub invariant_of-result : goal.invariant_of-result
+invariant_of-result g c = c.self.invariant ∙ ap all_calls (sym c.in-Err.ensures.err)
+
+pub returns-in-Err-clause-err : goal.returns-in-Err-clause-err
+returns-in-Err-clause-err g c = (c.in-Err.ensures.err ∙ c.self.view_is, refl)
