@@ -2,7 +2,6 @@
 use Rattle.std.proofs.Common.{◌≡◌, ℕ, ℤ, ◌<◌, Bool, true, false, not, if◌then◌else◌, nat_le, nat_lt, List, [], ◌∷◌, ◌++◌, length, None, Some, Option, Result, Ok, Err, refl, sym, ap, ◌∙◌, arith, MatchResult, IfOk, IfErr, OnOk, OnErr}
 use Rattle.std.proofs.lemmas.List.{map_push}
 use Rattle.std.specs.declared.alloc.AllocError.{AllocError}
-use Rattle.ctrl_settle.specs.Control.{Control}
 use Rattle.ctrl_calls.specs.declared.relation.Relations.{Relations}
 use Rattle.ctrl_handlers.specs.ClusterData.{ClusterData}
 use Rattle.std.proofs.lemmas.Bool.Decides.{nat_tests}

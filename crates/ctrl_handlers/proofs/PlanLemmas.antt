@@ -12,7 +12,6 @@ use Rattle.ctrl_handlers.specs.declared.limits.TheConstants.{MAX_CONTROLS, MAX_H
 use Rattle.ctrl_handlers.specs.Plan.{PlanData, IsPlan, no_plan, no_control, no_handler, handler_at, own, added, members, names_twice, ids_of, owning, with_handler, with_control}
 use Rattle.ctrl_handlers.specs.Visible.{first_with_id}
 use Rattle.ctrl_handlers.specs.Builder.{adding_refusal, control_refusal}
-use Rattle.ctrl_handlers.specs.declared.fault.PlanFault.{PlanFault}
 use Rattle.ctrl_handlers.specs.declared.fault.PlanFault.TheVariants.{DuplicateId, LaterHandler, UnknownNumber, Limit}
 use Rattle.ctrl_handlers.proofs.IdLemmas.{ids_stay, ids_more}
 

@@ -25,3 +25,6 @@ returns-in-Ok-clause-ok g c = rw (← c.self.view_is) (rw c.relations.ensures at
 
 pub returns-in-Err-clause-err : goal.returns-in-Err-clause-err
 returns-in-Err-clause-err g c = (refl, c.in-Err.ensures.err ∙ c.self.view_is)
+
+pub returns-then-is_err-clause-err : goal.returns-then-is_err-clause-err
+returns-then-is_err-clause-err g c = (refl, c.self.view_is)
