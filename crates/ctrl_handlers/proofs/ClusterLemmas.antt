@@ -28,13 +28,17 @@ pub any_first : {X : Type 0} (p : X → Bool) (xs : List X) → ltb (position_or
 any_first p [] = refl
 any_first p (x ∷ xs) = step (p x) (position_or_len p xs) (length xs) (list_any p xs) (any_first p xs)
 
-none_by : (b : Bool) (n : ℕ) → is_some (cond b (Some n) None) ≡ false → b ≡ false
-none_by true n h = cc
-none_by false n h = refl
+found_by : (b : Bool) (n : ℕ) → is_some (cond b (Some n) None) ≡ b
+found_by true n = refl
+found_by false n = refl
+
+-- some item passes exactly where one passes first
+pub any_found : {X : Type 0} (p : X → Bool) (xs : List X) → is_some (position p xs) ≡ list_any p xs
+any_found p xs = found_by (ltb (position_or_len p xs) (length xs)) (position_or_len p xs) ∙ any_first p xs
 
 -- where no item passes first, none passes
 pub any-None : {X : Type 0} (p : X → Bool) (xs : List X) → is_some (position p xs) ≡ false → list_any p xs ≡ false
-any-None p xs h = sym (any_first p xs) ∙ none_by (ltb (position_or_len p xs) (length xs)) (position_or_len p xs) h
+any-None p xs h = sym (any_found p xs) ∙ h
 
 -- where none passes, the one at a place doesn't
 fails_at : {X : Type 0} (p : X → Bool) (xs : List X) (i : ℕ) (d : X) → list_any p xs ≡ false → i < length xs → p (get_or xs i d) ≡ false

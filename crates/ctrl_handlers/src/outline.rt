@@ -16,7 +16,7 @@ use crate::showing::{bring_added, first_with_id};
 use bitflags::Flags as FlagSet;
 use ctrl_calls::{MAX_MEMBERS, Relations};
 use ctrl_settle::Ctrl;
-use ctrl_types::{CtrlId, Flags};
+use ctrl_types::Flags;
 use indexmap::IndexMap;
 use menu_items::{MAX_MENU_NAME, MenuItem, takes_name, takes_number};
 use std::alloc::{AllocError, Global};
@@ -76,7 +76,7 @@ impl Outline {
         if self.control_count() >= MAX_CONTROLS {
             return Some(PlanFault::Limit);
         }
-        if self.has_own(handler, ctrl.id()) {
+        if first_with_id(self.controls(), self.own(handler), ctrl.id()).is_some() {
             return Some(PlanFault::DuplicateId);
         }
         None
@@ -281,14 +281,6 @@ impl Outline {
         self.clusters.iter().any(|cluster| cluster.leads(number))
     }
 
-    // Whether a handler has a control of this id of its own.
-    fn has_own(&self, handler: u32, id: CtrlId) -> bool
-        requires { handler < length self.now.handlers }
-        ensures { result ≡ is_some (first_with_id self.now.controls (own self.now handler) id) }
-    {
-        first_with_id(self.controls(), self.own(handler), id).is_some()
-    }
-
     // A handler's own controls.
     fn own(&self, handler: u32) -> &[u32]
         requires { handler < length self.now.handlers }
@@ -399,26 +391,20 @@ fn cluster_each(clusters: &mut Vec<Cluster>, count: u32)
 }
 
 // Gives a control that is in no cluster one of its own, the last.
+#[tactic(auto, using(crate::proofs::ClusterLemmas::any_found))]
 fn cluster_alone(clusters: &mut Vec<Cluster>, control: u32)
     requires { length clusters.old.items < vec_capacity clusters.old }
     ensures clusters { clusters.new.items ≡ (if list_any (has_member control) clusters.old.items then clusters.old.items else clusters.old.items ++ alone control ∷ []) }
     ensures room { vec_capacity clusters.new ≡ vec_capacity clusters.old }
     ensures few { length clusters.new.items ≤ length clusters.old.items + 1 }
 {
-    if !is_clustered(clusters.as_slice(), control) {
+    if place_of(clusters.as_slice(), control).is_none() {
         let calls = Relations {
             validator: None,
             notifier: None,
         };
         clusters.push_reserved(Cluster::new(&[control], None, calls));
     }
-}
-
-// Whether a control is in one of some clusters.
-fn is_clustered(clusters: &[Cluster], control: u32) -> bool
-    ensures { result ≡ list_any (has_member control) clusters.now }
-{
-    clusters.iter().any(|cluster| cluster.has(control))
 }
 
 // Whether there are no numbers, or more than a cluster can have.
