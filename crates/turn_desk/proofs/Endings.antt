@@ -1,5 +1,5 @@
 -- The seat that closes the desk takes in all others.
-use Rattle.std.proofs.Common.{◌≡◌, ◌<◌, suc, List, [], ◌∷◌, ◌++◌, All, length, map, Some, refl, sym, ap, ◌∙◌, subst, append_assoc, append-nil}
+use Rattle.std.proofs.Common.{◌≡◌, ℕ, ◌<◌, ◌≤◌, suc, List, [], ◌∷◌, ◌++◌, All, length, map, Option, Some, refl, sym, ap, ◌∙◌, subst, append_assoc, append-nil}
 use Rattle.std.proofs.lemmas.List.Elements.{All-nil, All-cons}
 use Rattle.std.specs.Option.{option_to_list}
 use Rattle.history.specs.declared.entry.Entry.{Entry}
@@ -9,8 +9,8 @@ use Rattle.turn_desk.specs.declared.rule.Account.{Account}
 use Rattle.turn_desk.specs.declared.rule.View.{View}
 use Rattle.turn_desk.specs.Views.{SeatView, times, once_below, IsWhole}
 use Rattle.turn_desk.specs.Rule.{Each, IsAccount, numbers}
-use Rattle.turn_desk.specs.Plays.{account, gathered}
-use Rattle.turn_desk.specs.Ending.{HasGathered, IsGathering, IsEnded}
+use Rattle.turn_desk.specs.Plays.{account, bare, gathered}
+use Rattle.turn_desk.specs.Ending.{HasGathered, IsCloser, IsGathering, IsEnded}
 
 module _ {A : Type 0} (P : A → Type 0) where
   pub All-each : (xs : List A) → Each P xs → All P xs
@@ -35,13 +35,24 @@ module _ {P S : Type 0} where
   pub gathers_all : (all : List (SeatView P S)) (v w : View P S) → IsGathering all [] v w → HasGathered all v w
   gathers_all all v w g = subst (λ l. HasGathered l v w) (sym g.split) g.gathered
 
-  numbers_of : (seats : List (SeatView P S)) → numbers (map account_of seats ++ []) ≡ map (λ s. s.number) seats
-  numbers_of [] = refl
-  numbers_of (s ∷ seats) = ap (λ l. s.number ∷ l) (numbers_of seats)
-
   length_of : (seats : List (SeatView P S)) → length (map account_of seats ++ []) ≡ length seats
   length_of [] = refl
   length_of (s ∷ seats) = ap suc (length_of seats)
+
+  -- with as many seats as were made it closes the desk
+  pub closer_of : (plan : Option P) (made : ℕ) (seats : List (SeatView P S)) (v w : View P S) → v ≡ bare plan (Some made) → HasGathered seats v w → made ≤ length seats → IsCloser w
+  closer_of plan made seats v w opened g enough =
+      let all : w.accounts ≡ map account_of seats ++ [] = g.accounts ∙ ap (λ x. map account_of seats ++ x.accounts) opened in
+      record {
+        count = made;
+        closes = g.closed ∙ ap (λ x. x.closing) opened;
+        unheld = g.held ∙ ap (λ x. x.holding) opened;
+        enough = subst (λ k. made ≤ k) (sym (ap length all ∙ length_of seats)) enough;
+      }
+
+  numbers_of : (seats : List (SeatView P S)) → numbers (map account_of seats ++ []) ≡ map (λ s. s.number) seats
+  numbers_of [] = refl
+  numbers_of (s ∷ seats) = ap (λ l. s.number ∷ l) (numbers_of seats)
 
   each_seen : (steps : List (Entry S)) (seats : List (SeatView P S)) → Each (IsAccount steps) (map account_of seats ++ []) → Each (λ s. IsPrefix s.seen steps) seats
   each_seen steps [] all = tt

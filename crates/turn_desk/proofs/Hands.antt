@@ -9,12 +9,14 @@ use Rattle.turn_desk.specs.declared.rule.Account.{Account}
 use Rattle.turn_desk.specs.declared.rule.Place.{Place}
 use Rattle.turn_desk.specs.declared.rule.Place.TheVariants.{Home}
 use Rattle.turn_desk.specs.declared.rule.View.{View}
-use Rattle.turn_desk.specs.Rule.{Each, IsAccount}
+use Rattle.turn_desk.specs.Views.{times}
+use Rattle.turn_desk.specs.Rule.{Each, IsAccount, numbers}
 use Rattle.turn_desk.specs.Plays.{account, first_of, rest_of, with_holding, with_accounts, kept_part, cut_part, gathered, Takes, Looks, Numbers}
-use Rattle.turn_desk.specs.Seated.{IsSeated}
+use Rattle.turn_desk.specs.Seated.{IsSeated, seat_view}
 use Rattle.turn_desk.specs.Working.{IsAtWork, GoesOn, HasWorked}
 use Rattle.turn_desk.specs.Calls.{IsCall}
 use Rattle.turn_desk.proofs.Histories.{own-append, own-entered}
+use Rattle.turn_desk.proofs.Turns.{times_self}
 
 module _ {T P S : Type 0} (is_legal : P → List (Entry S) → Type 0) (plan_of : T → P) (steps_of : T → List (Entry S)) where
   -- a seat between two calls looks at the history
@@ -135,6 +137,13 @@ module _ {T P S : Type 0} where
         closing = ap (λ x. x.closing) v;
       }
 
+  -- no account had the number
+  pub new_number : (number n : ℕ) (t u w : Seat (Place T) (View P S)) → IsSeated number t → u.me ≡ t.me → Numbers n u.me w.me → n ≢ number
+  new_number number n t u w s same new = λ e.
+      let one : times n (numbers u.me.0.accounts) ≡ 1 = ap (λ m. times n (numbers m.0.accounts)) same ∙ ap (λ xs. times n (numbers xs)) s.account ∙ ap (λ k. times n (k ∷ [])) (sym e) ∙ times_self n in
+      let none_yet = new.new in
+      absurd (omega arith)
+
   -- a seat that hears another keeps its account
   pub seated_heard : (number other : ℕ) (t from messenger u : Seat (Place T) (View P S)) → IsSeated number t → IsSeated other from → messenger.me ≡ (cut_part from.me.0, []) → u.me ≡ (gathered t.me.0 messenger.me.0, t.me.1) → IsSeated number u
   seated_heard number other t from messenger u s f cut e =
@@ -145,3 +154,30 @@ module _ {T P S : Type 0} where
         holding = ap (λ m. m.0.holding) e ∙ s.holding;
         closing = ap (λ m. m.0.closing) e ∙ s.closing;
       }
+
+  pub same_view : (number : ℕ) (t u : Seat (Place T) (View P S)) → u.table_id ≡ t.table_id → u.me ≡ t.me → seat_view number u ≡ seat_view number t
+  same_view number t u table e = λ i. record { desk = table i; plan = (e i).0.plan; number = number; seen = (e i).0.seen }
+
+-- a seat that has heard another, and has then looked at the history
+module _ {T P S : Type 0} (is_legal : P → List (Entry S) → Type 0) (plan_of : T → P) (steps_of : T → List (Entry S)) (number other r : ℕ) (t from messenger heard u : Seat (Place T) (View P S))
+    (s : IsSeated number t) (f : IsSeated other from) (cut : messenger.me ≡ (cut_part from.me.0, [])) (joined : heard.me ≡ (gathered t.me.0 messenger.me.0, t.me.1)) (l : Looks is_legal heard.me r u.me) where
+  heard_seated : IsSeated number heard
+  heard_seated = seated_heard number other t from messenger heard s f cut joined
+
+  pub told_seated : IsSeated number u
+  told_seated = seated_look is_legal plan_of steps_of number r heard u heard_seated l
+
+  history_seen : l.history ≡ u.me.0.seen
+  history_seen = sym (ap (λ m. m.0.seen) l.after)
+
+  pub told_later : IsPrefix t.me.0.seen u.me.0.seen
+  told_later = subst (IsPrefix t.me.0.seen) history_seen (subst (λ xs. IsPrefix xs l.history) (ap (λ m. m.0.seen) joined) l.shows.later)
+
+  pub told_told : IsPrefix from.me.0.seen u.me.0.seen
+  told_told = subst (IsPrefix from.me.0.seen) history_seen (subst (λ xs. IsPrefix xs l.history) (ap (λ m. m.0.heard) joined ∙ ap (λ m. m.0.seen) cut) l.shows.learned)
+
+  pub told_legal : (plan : P) → t.me.0.plan ≡ Some plan → is_legal plan u.me.0.seen
+  told_legal plan planned = subst (is_legal plan) history_seen (l.shows.legal plan (ap (λ m. m.0.plan) joined ∙ planned))
+
+  pub told_own : own number u.me.0.seen ≡ own number t.me.0.seen
+  told_own = own_look is_legal plan_of steps_of number r heard u heard_seated l ∙ ap (λ m. own number m.0.seen) joined

@@ -1,8 +1,10 @@
 pub mod Sums
+pub mod Words
 pub mod Histories
 pub mod Parts
 pub mod Turns
 pub mod Places
 pub mod Hands
+pub mod Entering
 pub mod Sending
 pub mod Endings

@@ -34,7 +34,7 @@ first_place (x ∷ xs) none_there = x.1
 carried_same : {T : Type 0} {x y : Snapshot T} → ◌≡◌ {A = List (ℕ × Place T)} ((0, Entered x) ∷ []) ((0, Entered y) ∷ []) → x ≡ y
 carried_same {x} {y} e = let places : Entered x ≡ Entered y = ap (λ c. first_place c (Entered x)) e in cc
 
-times_self : (n : ℕ) → times n (n ∷ []) ≡ 1
+pub times_self : (n : ℕ) → times n (n ∷ []) ≡ 1
 times_self n = grind (arith, nat_tests)
 
 module _ {T P S : Type 0} (is_legal : P → List (Entry S) → Type 0) (plan_of : T → P) (steps_of : T → List (Entry S)) (plan : P) where

@@ -1,22 +1,29 @@
-use Rattle.std.proofs.Common.{◌<◌, length, arith, sym, ap, ◌∙◌, subst}
+use Rattle.std.proofs.Common.{◌<◌, length, sym, ap, ◌∙◌, subst}
 use Rattle.turn_desk.specs.Plays.{Takes}
+use Rattle.turn_desk.proofs.Words.{has_turn}
 use Rattle.turn_desk.proofs.Turns.{tries, marks}
 use Rattle.turn_desk.proofs.desk.Desk.take_turn.Goals as goal
 
 pub compare_exchange-requires : goal.compare_exchange-requires
 compare_exchange-requires g c =
+    let t = g.T.Served in
+    let shared = c.self.inside.table.shared in
+    let token = c.loop.token in
     let i = c.loop.invariant in (
       i.0 ∙ c.requires.desk ∙ sym (ap (λ d. d.id) c.self.view_is),
-      omega (arith, c.self.invariant.0),
-      tries _ _ _ _ _ _ _ _ i.2 (subst (λ m. 0 < length m.0.accounts) (sym i.1) c.requires.account),
+      has_turn shared.table_id.words c.self.invariant.0,
+      tries t.is_legal t.plan t.steps (t.plan shared.key.value) shared.table_id.slots token.id c.loop.taking token.me i.2 (subst (λ m. 0 < length m.0.accounts) (sym i.1) c.requires.account),
     )
 
 pub compare_exchange-requires-in-loop : goal.compare_exchange-requires-in-loop
-compare_exchange-requires-in-loop g c = (
-  c.compare_exchange.ensures.0 ∙ c.loop.invariant.0 ∙ c.requires.desk ∙ sym (ap (λ d. d.id) c.self.view_is),
-  omega (arith, c.self.invariant.0),
-  marks _ _ _ _ _ _ _,
-)
+compare_exchange-requires-in-loop g c =
+    let t = g.T.Served in
+    let shared = c.self.inside.table.shared in
+    let token = c.compare_exchange.new.seat in (
+      c.compare_exchange.ensures.0 ∙ c.loop.invariant.0 ∙ c.requires.desk ∙ sym (ap (λ d. d.id) c.self.view_is),
+      has_turn shared.table_id.words c.self.invariant.0,
+      marks t.is_legal t.plan t.steps (t.plan shared.key.value) shared.table_id.slots token.id token.me,
+    )
 
 pub returns-then-compare_exchange-eq-FREE : goal.returns-then-compare_exchange-eq-FREE
 returns-then-compare_exchange-eq-FREE g c =
