@@ -1,8 +1,7 @@
 -- What a seat has in hand while it holds the turn.
 use Rattle.std.specs.Prelude.{◌≡◌, ◌≢◌, ℕ, List, [], ◌∷◌, ◌++◌, Option, Some, None, length}
 use Rattle.history.specs.declared.entry.Entry.{Entry}
-use Rattle.history.specs.Past.{own, entered}
-use Rattle.history.specs.Prefix.{IsPrefix}
+use Rattle.history.specs.Past.{entered}
 use Rattle.atomic_table.specs.Table.{Me}
 use Rattle.turn_desk.specs.declared.rule.Place.{Place}
 use Rattle.turn_desk.specs.declared.rule.Place.TheVariants.{Home}
