@@ -7,13 +7,10 @@ ghost use Rattle.ctrl_handlers.specs.Plan.{PlanData, IsPlan, control, own, added
 ghost use Rattle.ctrl_handlers.specs.Visible.{visible, find, all_brought, least_above};
 
 /// A handler shows its own controls, and then what each handler that it adds shows, in the order of adding, but for private
-/// controls and those whose id is shown already.
+/// controls and those whose id is shown already. So no id stands twice among what it shows, and a control that is found is the
+/// only shown one of its id.
 pub fn shown_controls()
-    ensures { (plan : PlanData) (h : ℕ) → IsPlan plan → visible plan h ≡ fold (λ shown a. all_brought plan.controls shown (visible plan a)) (own plan h) (added plan h) }
-{}
-
-/// No id stands twice among what a handler shows, so a control that is found is the only shown one of its id.
-pub fn shown_ids_differ()
+    ensures shown { (plan : PlanData) (h : ℕ) → IsPlan plan → visible plan h ≡ fold (λ shown a. all_brought plan.controls shown (visible plan a)) (own plan h) (added plan h) }
     ensures differ { (plan : PlanData) (h : ℕ) → IsPlan plan → names_twice (ids_of plan.controls (visible plan h)) ≡ false }
     ensures only { (plan : PlanData) (h c d : ℕ) (id : CtrlId) → IsPlan plan → find plan h id ≡ Some c → list_any (nat_eq d) (visible plan h) ≡ true → (control plan d).id ≡ id → d ≡ c }
 {}

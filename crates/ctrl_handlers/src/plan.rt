@@ -71,7 +71,7 @@ impl<D: Driver> Plan<D> {
     }
 
     /// The control that a handler shows under an id, by its number (Linux driver API, `v4l2_ctrl_find`). DISABLED controls are
-    /// found too. No other control that it shows has this id (`laws::shown_ids_differ`).
+    /// found too. No other control that it shows has this id (`laws::shown_controls`).
     ///
     /// - `handler`: the number of a handler, 0 to 15.
     /// - `id`: any id.
