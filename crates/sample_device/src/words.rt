@@ -1,5 +1,6 @@
-ghost use Rattle.std.specs.Prelude.{◌≡◌};
-ghost use Rattle.sample_device.specs.Words.{id_numbered, sample_id as sample_id_of, sample_number as sample_number_of};
+ghost use Rattle.std.specs.Prelude.{◌≡◌, position};
+ghost use Rattle.std.specs.Str.{bytes_eq};
+ghost use Rattle.sample_device.specs.Words.{sample_id as sample_id_of, sample_number as sample_number_of};
 
 use ctrl_types::CtrlId;
 
@@ -8,44 +9,57 @@ pub fn sample_id(word: &[u8]) -> Option<CtrlId>
     ensures { result ≡ sample_id_of word.now }
 {
     let number = sample_number(word)?;
-    id_numbered(number)
+    let id = IDS.get(number as usize)?;
+    Some(CtrlId(*id))
 }
 
-// The id of the control with a number.
-fn id_numbered(number: u32) -> Option<CtrlId>
-    ensures { result ≡ id_numbered number }
-{
-    let id = match number {
-        0 => 0x0098_0912,
-        1 => 0x0098_0913,
-        2 => 0x0098_0914,
-        3 => 0x0098_0915,
-        4 => 0x0098_0903,
-        5 => 0x0098_0900,
-        6 => 0x0098_0918,
-        7 => 0x0098_090d,
-        8 => 0x0098_090e,
-        9 => 0x0098_090f,
-        _ => return None,
-    };
-    Some(CtrlId(id))
-}
+// The words of the controls, by number.
+const WORDS: [&[u8]; 10] = [
+    b"autogain",
+    b"gain",
+    b"hflip",
+    b"vflip",
+    b"hue",
+    b"brightness",
+    b"power",
+    b"button",
+    b"red",
+    b"blue",
+];
+
+// The ids of the controls, by number.
+const IDS: [u32; 10] = [
+    0x0098_0912,
+    0x0098_0913,
+    0x0098_0914,
+    0x0098_0915,
+    0x0098_0903,
+    0x0098_0900,
+    0x0098_0918,
+    0x0098_090d,
+    0x0098_090e,
+    0x0098_090f,
+];
 
 /// The number of a control of the sample device, by its word; none for another word.
 pub fn sample_number(word: &[u8]) -> Option<u32>
     ensures { result ≡ sample_number_of word.now }
 {
-    match word {
-        b"autogain" => Some(0),
-        b"gain" => Some(1),
-        b"hflip" => Some(2),
-        b"vflip" => Some(3),
-        b"hue" => Some(4),
-        b"brightness" => Some(5),
-        b"power" => Some(6),
-        b"button" => Some(7),
-        b"red" => Some(8),
-        b"blue" => Some(9),
-        _ => None,
+    match place_of_word(&WORDS, word) {
+        Some(place) => Some(place as u32),
+        None => None,
     }
+}
+
+/// The first of some words that is this one, by its place; none where it isn't among them.
+pub fn place_of_word(words: &[&[u8]], word: &[u8]) -> Option<usize>
+    ensures { result ≡ position (λ w. bytes_eq word.now w.now) words.now }
+{
+    words.iter().position(|known| is_same(*known, word))
+}
+
+fn is_same(known: &[u8], word: &[u8]) -> bool
+    ensures { result ≡ bytes_eq word.now known.now }
+{
+    word == known
 }

@@ -1,7 +1,7 @@
 -- The commands of a script (of this project), over the words of a line.
-use Rattle.std.specs.Prelude.{◌≡◌, ℕ, ◌+◌, ◌==◌, Bool, true, false, not, ℤ, pos, if◌then◌else◌, List, [], ◌∷◌, length, take, drop, filter, position, Option, None, Some, Result, Ok, Err, codes, slice_index, ⊤}
+use Rattle.std.specs.Prelude.{◌≡◌, ℕ, ◌+◌, ◌==◌, Bool, true, false, not, ℤ, pos, if◌then◌else◌, List, [], ◌∷◌, length, take, drop, filter, position, Option, None, Some, Result, Ok, Err, codes, slice_get, slice_index, ⊤}
 use Rattle.std.specs.List.{slice_split}
-use Rattle.std.specs.Option.{option_map, option_or}
+use Rattle.std.specs.Option.{option_and_then, option_map, option_or}
 use Rattle.std.specs.Str.{bytes_eq}
 use Rattle.ctrl_types.specs.declared.ids.CtrlId.{CtrlId}
 use Rattle.ctrl_types.specs.declared.ids.ExtControl.{ExtControl}
@@ -29,14 +29,17 @@ abbrev pub which_at : Option (List ℕ) → List ℕ → Option WhichWord
 which_at (Some name) word = option_map (λ n. Request n) (name_of name)
 which_at None word = option_map (λ n. Number n) (hexadecimal_u32 word)
 
--- the numbers that have words
+-- the words for values that lists speak of
+abbrev pub which_words : List (List ℕ)
+which_words = codes "cur" ∷ codes "def" ∷ codes "user" ∷ codes "camera" ∷ []
+
+-- what `which` is for each, in the same order
+abbrev pub which_numbers : List ℕ
+which_numbers = 0 ∷ 0x0f000000 ∷ 0x00980000 ∷ 0x009a0000 ∷ []
+
+-- what `which` is, by its word
 abbrev pub fixed_which_of : List ℕ → Option ℕ
-fixed_which_of word =
-    if bytes_eq word (codes "cur") then Some 0
-    else if bytes_eq word (codes "def") then Some 0x0f000000
-    else if bytes_eq word (codes "user") then Some 0x00980000
-    else if bytes_eq word (codes "camera") then Some 0x009a0000
-    else None
+fixed_which_of word = option_and_then (slice_get which_numbers) (position (bytes_eq word) which_words)
 
 -- which values a list speaks of
 abbrev pub which_of : List ℕ → Option WhichWord
@@ -148,19 +151,16 @@ told_of (cluster ∷ []) = option_map (λ n. Told n) (decimal_u32 cluster)
 told_of _ = None
 
 -- the first words of commands
+abbrev pub verb_words : List (List ℕ)
+verb_words = codes "open" ∷ codes "close" ∷ codes "get" ∷ codes "set" ∷ codes "try" ∷ codes "grab" ∷ codes "query" ∷ codes "next" ∷ codes "menu" ∷ codes "told" ∷ []
+
+-- what they stand for, in the same order
+abbrev pub verbs_meant : List Verb
+verbs_meant = verbs.Open ∷ verbs.Close ∷ verbs.Get ∷ verbs.Set ∷ verbs.Try ∷ verbs.Grab ∷ verbs.Query ∷ verbs.Next ∷ verbs.Menu ∷ verbs.Told ∷ []
+
+-- what the first word of a command stands for
 abbrev pub verb_of : List ℕ → Option Verb
-verb_of word =
-    if bytes_eq word (codes "open") then Some verbs.Open
-    else if bytes_eq word (codes "close") then Some verbs.Close
-    else if bytes_eq word (codes "get") then Some verbs.Get
-    else if bytes_eq word (codes "set") then Some verbs.Set
-    else if bytes_eq word (codes "try") then Some verbs.Try
-    else if bytes_eq word (codes "grab") then Some verbs.Grab
-    else if bytes_eq word (codes "query") then Some verbs.Query
-    else if bytes_eq word (codes "next") then Some verbs.Next
-    else if bytes_eq word (codes "menu") then Some verbs.Menu
-    else if bytes_eq word (codes "told") then Some verbs.Told
-    else None
+verb_of word = option_and_then (slice_get verbs_meant) (position (bytes_eq word) verb_words)
 
 -- the command that a verb and its operands write
 abbrev pub command_of : Option Verb → List (List ℕ) → Option Command

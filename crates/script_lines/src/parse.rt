@@ -8,7 +8,7 @@ use crate::fault::LineFault;
 use crate::lexeme::{control_id, decimal_i64, decimal_u32, hexadecimal_u32};
 use crate::name::Name;
 use ctrl_types::{CtrlId, ExtControl};
-use sample_device::sample_number;
+use sample_device::{place_of_word, sample_number};
 use std::alloc::{AllocError, Global};
 
 /// Reads a line, without its line feed and of fewer than 2^32 - 1 bytes: the command, or nothing where the line is to be skipped, since
@@ -64,22 +64,29 @@ enum Verb {
     Told,
 }
 
+// The words that stand for them, in the same order as `VERBS`.
+const VERB_WORDS: [&[u8]; 10] = [
+    b"open", b"close", b"get", b"set", b"try", b"grab", b"query", b"next", b"menu", b"told",
+];
+
+const VERBS: [Verb; 10] = [
+    Verb::Open,
+    Verb::Close,
+    Verb::Get,
+    Verb::Set,
+    Verb::Try,
+    Verb::Grab,
+    Verb::Query,
+    Verb::Next,
+    Verb::Menu,
+    Verb::Told,
+];
+
 fn read_verb(word: &[u8]) -> Option<Verb>
     ensures { result ≡ verb_of word.now }
 {
-    match word {
-        b"open" => Some(Verb::Open),
-        b"close" => Some(Verb::Close),
-        b"get" => Some(Verb::Get),
-        b"set" => Some(Verb::Set),
-        b"try" => Some(Verb::Try),
-        b"grab" => Some(Verb::Grab),
-        b"query" => Some(Verb::Query),
-        b"next" => Some(Verb::Next),
-        b"menu" => Some(Verb::Menu),
-        b"told" => Some(Verb::Told),
-        _ => None,
-    }
+    let place = place_of_word(&VERB_WORDS, word)?;
+    VERBS.get(place).copied()
 }
 
 fn read_command(alloc: Global, verb: &[u8], operands: &[&[u8]]) -> Result<Command, LineFault>
@@ -250,17 +257,18 @@ fn read_which(word: &[u8]) -> Option<WhichWord>
     }
 }
 
+// The words for values that lists speak of.
+const WHICH_WORDS: [&[u8]; 4] = [b"cur", b"def", b"user", b"camera"];
+
+// What `which` is for each, in the same order.
+const WHICH_NUMBERS: [u32; 4] = [0, 0x0f00_0000, 0x0098_0000, 0x009a_0000];
+
 // The numbers that have words.
 fn fixed_which(word: &[u8]) -> Option<u32>
     ensures { result ≡ fixed_which_of word.now }
 {
-    match word {
-        b"cur" => Some(0),
-        b"def" => Some(0x0f00_0000),
-        b"user" => Some(0x0098_0000),
-        b"camera" => Some(0x009a_0000),
-        _ => None,
-    }
+    let place = place_of_word(&WHICH_WORDS, word)?;
+    WHICH_NUMBERS.get(place).copied()
 }
 
 // How the entries of a list are written.
