@@ -48,7 +48,7 @@ entry_read plan view p = record { id = (control plan p.control).id; value = valu
 abbrev pub entries_read : PlanData → ViewData → List ExtControl → List ExtControl
 entries_read plan view list = map (entry_read plan view) (pairs_of plan view.handler view.which list)
 
--- What a get is answered, memory aside.
+-- What a get is answered whose file handle and `which` are good, memory aside.
 unfoldable pub get_answer : PlanData → ViewData → List ExtControl → ListAnswer
 get_answer plan view list = answered (fault_at_count (length list)) (first_refusal (read_checks plan view list)) (entries_read plan view list)
 
@@ -56,7 +56,7 @@ get_answer plan view list = answered (fault_at_count (length list)) (first_refus
 abbrev pub value_judged : Verdicts → PlanData → ViewData → List Pair → ℕ → CtrlValue
 value_judged verdicts plan view pairs c = value_after verdicts plan view.controls view.values no_grabs pairs c
 
--- a control, as it is written
+-- a control, with the value that its judged cluster gives it
 abbrev pub entry_judged : Verdicts → PlanData → ViewData → List Pair → Pair → ExtControl
 entry_judged verdicts plan view pairs p = record { id = (control plan p.control).id; value = value_judged verdicts plan view pairs p.control }
 
@@ -64,12 +64,12 @@ entry_judged verdicts plan view pairs p = record { id = (control plan p.control)
 abbrev pub entries_judged : Verdicts → PlanData → ViewData → List ExtControl → List ExtControl
 entries_judged verdicts plan view list = map (entry_judged verdicts plan view (laid_pairs plan view list)) (pairs_of plan view.handler view.which list)
 
--- What a set is answered, memory and the limit of steps aside.
+-- What a set is answered whose file handle and `which` are good, memory and the limit of steps aside.
 unfoldable pub set_answer : Verdicts → PlanData → ViewData → List ExtControl → ListAnswer
 set_answer verdicts plan view list =
     answered (fault_at_count (length list)) (first_refusal (write_checks verdicts plan view true list)) (entries_judged verdicts plan view list)
 
--- What a try is answered, memory aside.
+-- What a try is answered whose file handle and `which` are good, memory aside.
 unfoldable pub try_answer : Verdicts → PlanData → ViewData → List ExtControl → ListAnswer
 try_answer verdicts plan view list =
     answered (fault_at_entry (length list)) (first_refusal (write_checks verdicts plan view false list)) (entries_judged verdicts plan view list)

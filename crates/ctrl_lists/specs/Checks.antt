@@ -1,5 +1,7 @@
--- What refuses a list of controls: the checks, each with its sentence (Linux userspace API, "ioctl VIDIOC_G_EXT_CTRLS,
--- VIDIOC_S_EXT_CTRLS, VIDIOC_TRY_EXT_CTRLS"; the order of the checks is of this project, a kernel may have another).
+-- What refuses a list of controls once its file handle and `which` are found good: the checks, each with its sentence (Linux userspace
+-- API, "ioctl VIDIOC_G_EXT_CTRLS, VIDIOC_S_EXT_CTRLS, VIDIOC_TRY_EXT_CTRLS"; of this project, so that a kernel may differ, are their order,
+-- the limit of 64, what a class and a list without entries answer, and that a DISABLED control and the default of a WRITE_ONLY one can't be
+-- read).
 use Rattle.std.specs.Prelude.{ℕ, Bool, true, false, not, ◌&&◌, ◌+◌, if◌then◌else◌, nat_lt, List, [], ◌∷◌, ◌++◌, length, Option, None, Some, is_some, Result, Ok, Err}
 use Rattle.ctrl_types.specs.Flags.{contains}
 use Rattle.ctrl_types.specs.Values.{CtrlValue}
@@ -122,6 +124,7 @@ write_checks verdicts plan view is_set list =
     -- the first control that can't be written, looked at in this order: READ_ONLY: EACCES; to be set and grabbed: EBUSY; a value that
     -- doesn't settle: its errno
     ∷ at_first (writing_refusal plan view is_set) (pairs_of plan view.handler view.which list)
-    -- the first control whose cluster is refused: the errno of the first member that doesn't settle, or else that of judging
+    -- the first control whose cluster is refused, which is that of the first entry of the first such cluster: the errno of the first member
+    -- that doesn't settle, or else that of judging
     ∷ at_first (judging_refusal verdicts plan view (laid_pairs plan view list)) (pairs_of plan view.handler view.which list)
     ∷ []

@@ -27,22 +27,22 @@ use Rattle.device_history.specs.Handles.{handler_of}
 use Rattle.device_history.specs.Grabs.{grabbed}
 use Rattle.device_history.specs.Values.{now, now_after}
 
--- a list that writes can't speak of the defaults; and no request exists as yet
+-- what a list can't speak of: the defaults, where it writes; and a request, as none exists as yet
 abbrev pub is_refused : Bool → Which → Bool
 is_refused writes Defaults = writes
 is_refused writes Request = true
 is_refused writes _ = false
 
--- what `which` stands for, where it can be read; where it can't, no list is looked at further
+-- what `which` stands for; where it can't be read, which refuses the list, the present values stand in
 abbrev pub which_or : Result Which Errno → Which
 which_or (Ok which) = which
 which_or (Err errno) = Current
 
--- the handler of a file handle, where it is open; where it isn't, no list is looked at further
+-- the handler of a file handle; where it isn't open, which refuses the list, 0 stands in
 abbrev pub handler_or : Option ℕ → ℕ
 handler_or handler = unwrap_or handler 0
 
--- What a list is read against: the handler of its file handle, the values that it speaks of, the controls of the plan, the present
+-- What a list is read against: the handler of its file handle, which values it speaks of, the controls of the plan, the present
 -- values, the grabs, and no pairs from before.
 abbrev pub list_view : Verdicts → PlanData → Past → FhId → ℕ → ViewData
 list_view verdicts plan past fh which = record {
@@ -54,7 +54,7 @@ list_view verdicts plan past fh which = record {
   asked = [];
 }
 
--- The first checks of every list, the first refusal first, of a list that writes or of one that reads.
+-- The checks that every list begins with, the first refusal first; `writes` says whether the list writes.
 abbrev pub opening_checks : Past → FhId → ℕ → Bool → List (Option Refusal)
 opening_checks past fh which writes =
     -- the file handle isn't open: EBADF
@@ -65,31 +65,33 @@ opening_checks past fh which writes =
     ∷ refused_if (is_refused writes (which_or (which_of which))) EINVAL
     ∷ []
 
--- The checks of a get, from the file handle on: the first ones, and those of a list that reads.
+-- The checks of a get, the first refusal first: those that every list begins with, and then those of a list that reads
+-- (ctrl_lists/specs/Checks).
 abbrev pub get_checks : Verdicts → PlanData → Past → FhId → ℕ → List ExtControl → List (Option Refusal)
 get_checks verdicts plan past fh which list = opening_checks past fh which false ++ read_checks plan (list_view verdicts plan past fh which) list
 
--- The checks of a set, from the file handle to the limit of steps: the first ones; those of a list that writes, to set; and ENOSPC where
--- no further step is kept.
+-- The checks of a set, the first refusal first: those that every list begins with, those of a list that writes, to set
+-- (ctrl_lists/specs/Checks), and last ENOSPC where no further step is kept.
 abbrev pub set_checks : Verdicts → PlanData → Past → FhId → ℕ → List ExtControl → List (Option Refusal)
 set_checks verdicts plan past fh which list =
     opening_checks past fh which true ++ (write_checks verdicts plan (list_view verdicts plan past fh which) true list ++ refused_if (is_full past) ENOSPC ∷ [])
 
--- The checks of a try, from the file handle on: the first ones, and those of a list that writes, not to set.
+-- The checks of a try, the first refusal first: those that every list begins with, and then those of a list that writes, to try
+-- (ctrl_lists/specs/Checks).
 abbrev pub try_checks : Verdicts → PlanData → Past → FhId → ℕ → List ExtControl → List (Option Refusal)
 try_checks verdicts plan past fh which list = opening_checks past fh which true ++ write_checks verdicts plan (list_view verdicts plan past fh which) false list
 
--- the controls of a list, or its fault
+-- the reply with a list's controls, or its fault
 abbrev pub controls_of : ListAnswer → Answer
 controls_of (Ok entries) = Ok (Controls entries)
 controls_of (Err fault) = Err fault
 
--- Getting controls: the first refusal, or each entry's control as it is read.
+-- Getting controls: the first refusal, with the number of entries as its index, or each entry's control as it is read.
 abbrev pub get_list : Verdicts → PlanData → Past → FhId → ℕ → List ExtControl → Answer
 get_list verdicts plan past fh which list =
     controls_of (answered (fault_at_count (length list)) (first_refusal (get_checks verdicts plan past fh which list)) (entries_read plan (list_view verdicts plan past fh which) list))
 
--- Setting controls: the first refusal, or each entry's control as it is judged.
+-- Setting controls: the first refusal, with the number of entries as its index, or each entry's control as it is judged.
 abbrev pub set_list : Verdicts → PlanData → Past → FhId → ℕ → List ExtControl → Answer
 set_list verdicts plan past fh which list =
     controls_of (answered (fault_at_count (length list)) (first_refusal (set_checks verdicts plan past fh which list)) (entries_judged verdicts plan (list_view verdicts plan past fh which) list))
@@ -99,11 +101,12 @@ abbrev pub try_list : Verdicts → PlanData → Past → FhId → ℕ → List E
 try_list verdicts plan past fh which list =
     controls_of (answered (fault_at_entry (length list)) (first_refusal (try_checks verdicts plan past fh which list)) (entries_judged verdicts plan (list_view verdicts plan past fh which) list))
 
--- want of memory may take the place of every answer to a list with entries, and not too many, after its first checks
+-- Want of memory may take the place of every answer to a list with entries, and not too many, that passes the checks that every list begins
+-- with.
 abbrev pub MayLackList : Past → FhId → ℕ → Bool → List ExtControl → Type 0
 MayLackList past fh which writes list = (first_refusal (opening_checks past fh which writes) ≡ None) × IsTrue (may_lack list)
 
--- for a set also that of success
+-- For a set it may also take the place of success, so that of an accepted one without entries too.
 abbrev pub MayLackSet : Past → FhId → ℕ → List ExtControl → Answer → Type 0
 MayLackSet past fh which list answer = (first_refusal (opening_checks past fh which true) ≡ None) × (IsTrue (may_lack list) ⊎ IsOk answer)
 
