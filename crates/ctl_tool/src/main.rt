@@ -2,17 +2,11 @@
 //! reply line for each command.
 #![tactic(auto)]
 
-mod mode;
-#[cfg(test)]
-mod tests;
-
-ghost use Rattle.std.specs.Prelude.{◌≡◌};
 ghost use Rattle.ctrl_calls.specs.Meanings.{JudgesBy, TellsBy};
-ghost use Rattle.ctl_tool.specs.Modes.{status_of};
 
-use crate::mode::{Mode, ModeFault, mode_of};
+use command_line::{Mode, ModeFault, mode_of};
 use ctl_script::{
-    BALANCE_LIMIT, BRIGHTNESS_WORDS, BUTTON_WORDS, GAIN_LIMIT, Outcome, PAIR_WORDS, Sample,
+    BALANCE_LIMIT, BRIGHTNESS_WORDS, BUTTON_WORDS, GAIN_LIMIT, PAIR_WORDS, Sample,
     balance_verdict, brightness_word, button_word, gain_verdict, pair_word, run_script,
     sample_plan,
 };
@@ -112,17 +106,7 @@ fn run<D: Driver, R: AllocGlobal + Input + Print>(
     let mut reader = rt.reader();
     let mut writer = io::writer(rt);
     let (_, outcome) = run_script(rt.alloc(), device, &mut reader, &mut writer);
-    ExitCode::from(status(outcome))
-}
-
-// The status that the tool ends with.
-fn status(outcome: Outcome) -> u8
-    ensures { result ≡ status_of outcome }
-{
-    match outcome {
-        Outcome::Finished => 0,
-        _ => 1,
-    }
+    ExitCode::from(outcome.status())
 }
 
 // Says that a growth of the tool's own was refused. Where that can't be written, the status says it.

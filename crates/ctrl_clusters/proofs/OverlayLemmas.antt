@@ -1,12 +1,14 @@
 -- What pairs make of the values: each cluster's row by itself, and the values control by control.
-use Rattle.std.proofs.Common.{◌≡◌, ◌≢◌, ℕ, zero, suc, eq-eqb, ◌<◌, ◌≤◌, ◌+◌, ◌==◌, ◌&&◌, ◌||◌, not, Bool, true, false, cond, nat_eq, List, [], ◌∷◌, length, map, pos, Option, None, Some, is_some, unwrap_or, Ok, Err, Result, inl, inr, ◌⊎◌, subst, refl, ap, sym, ◌∙◌, arith, if◌then◌else◌}
+use Rattle.std.proofs.Common.{◌≡◌, ◌≢◌, ℕ, zero, suc, eq-eqb, ◌<◌, ◌≤◌, ◌+◌, ◌==◌, ◌&&◌, ◌||◌, not, Bool, true, false, cond, nat_eq, List, [], ◌∷◌, length, map, pos, Option, None, Some, is_some, unwrap_or, Ok, Err, Result, is_err, inl, inr, ◌⊎◌, subst, refl, ap, sym, ◌∙◌, arith, if◌then◌else◌}
 use Rattle.std.specs.List.{All, list_any, range_with_len}
 use Rattle.std.specs.Option.{option_and_then, option_or}
 use Rattle.std.proofs.lemmas.Bool.Decides.{eqb_tells}
 use Rattle.std.proofs.lemmas.List.Elements.{All-head, All-tail, All-weaker, All-get_or}
 use Rattle.std.proofs.lemmas.List.{length-map}
+use Rattle.std.proofs.lemmas.Map.Views.{any-filter_same}
 use Rattle.std.proofs.lemmas.List.FromFn.{length-map-range_with_len, get_or-map-range_with_len}
 use Rattle.ctrl_types.specs.Values.{CtrlValue}
+use Rattle.ctrl_types.specs.Pairs.{last_value}
 use Rattle.ctrl_types.specs.declared.errno.Errno.{Errno}
 use Rattle.ctrl_types.specs.declared.errno.Errno.TheVariants.{EBUSY, EINVAL}
 use Rattle.ctrl_types.specs.declared.ids.Pair.{Pair}
@@ -18,9 +20,9 @@ use Rattle.ctrl_settle.specs.Control.{Control}
 use Rattle.ctrl_settle.specs.Settle.{settle}
 use Rattle.ctrl_handlers.specs.Plan.{PlanData, IsPlan, cluster_of, members, names_twice, calls_of, control_in}
 use Rattle.ctrl_handlers.proofs.ClusterLemmas.{or_false, or_false_right}
-use Rattle.ctrl_clusters.specs.Rows.{Values, value_at, row_of, value_in, Grabs, is_grabbed, last_value, overwritten, settle_row, settled_before}
+use Rattle.ctrl_clusters.specs.Rows.{Values, value_at, row_of, value_in, Grabs, is_grabbed, overwritten, settle_row, settled_before}
 use Rattle.ctrl_clusters.specs.Judging.{becomes, judge, judge_by, judge_settled, judged, takes_row, is_value}
-use Rattle.ctrl_clusters.specs.Overlay.{is_among, is_touched, is_held, row_after, given_by, given_in, value_after, overlay}
+use Rattle.ctrl_clusters.specs.Overlay.{is_among, is_touched, is_held, row_after, given_by, given_in, value_after, overlay, refused_clusters}
 use Rattle.ctrl_clusters.specs.NewRows.{clusters_of, row_among, value_among, AreNewRows, value_written, written}
 use Rattle.ctrl_clusters.specs.declared.new_row.NewRow.{NewRow}
 use Rattle.ctrl_clusters.proofs.RowLemmas.{takes_length}
@@ -179,6 +181,37 @@ pub refused_row : (verdicts : Verdicts) (plan : PlanData) (controls : List Contr
 refused_row verdicts plan controls values grabs pairs k errno is many lt after =
     same_each (value_at (overlay verdicts plan controls values grabs pairs)) (value_at values) (members plan k)
     (λ c among. member_after verdicts plan controls values grabs pairs k c is many lt among ∙ ap (λ (r : Result (List CtrlValue) Errno). unwrap_or (given_by (members plan k) r c) (value_at values c)) after)
+
+-- a number within a range is among its numbers
+among_range : (k a n : ℕ) → a ≤ k → k < a + n → list_any (nat_eq k) (range_with_len a n) ≡ true
+among_range k a zero from below = absurd (omega (arith, from, below))
+among_range k a (suc n) from below = by (eqb_tells k a) (λ further. among_range k (a + 1) n further (omega (arith, below)))
+  where
+    by : ((k == a) ≡ true × (k ≡ a)) ⊎ ((k == a) ≡ false × (k ≢ a)) → (a + 1 ≤ k → list_any (nat_eq k) (range_with_len (a + 1) n) ≡ true) → list_any (nat_eq k) (range_with_len a (suc n)) ≡ true
+    by (inl e) rest = or_true (nat_eq k a) (list_any (nat_eq k) (range_with_len (a + 1) n)) e.0
+    by (inr e) rest = or_true_right (nat_eq k a) (list_any (nat_eq k) (range_with_len (a + 1) n)) (rest (omega (arith, from, e.1)))
+
+-- the refused clusters are those whose row is refused
+pub refused_are : (verdicts : Verdicts) (plan : PlanData) (controls : List Control) (values : Values) (grabs : Grabs) (pairs : List Pair) (k : ℕ) → k < length plan.clusters
+    → list_any (nat_eq k) (refused_clusters verdicts plan controls values grabs pairs) ≡ is_err (row_after verdicts plan controls values grabs pairs k)
+unfolding refused_clusters
+refused_are verdicts plan controls values grabs pairs k lt =
+    any-filter_same (nat_eq k) fails (fails k) (λ j is. same j (eqb_tells k j) is) (range_with_len 0 (length plan.clusters))
+    ∙ ap (λ (b : Bool). fails k && b) (among_range k 0 (length plan.clusters) (omega arith) (omega (arith, lt))) ∙ whole (fails k)
+  where
+    fails : ℕ → Bool
+    fails j = is_err (row_after verdicts plan controls values grabs pairs j)
+
+    same : (j : ℕ) → ((k == j) ≡ true × (k ≡ j)) ⊎ ((k == j) ≡ false × (k ≢ j)) → nat_eq k j ≡ true → fails j ≡ fails k
+    same j (inl e) is = ap fails (sym e.1)
+    same j (inr e) is = absurd (clash (sym is ∙ e.0))
+      where
+        clash : true ≡ false → ⊥
+        clash h = cc
+
+    whole : (b : Bool) → (b && true) ≡ b
+    whole true = refl
+    whole false = refl
 
 -- a control is among pairs where they give it a value
 among_is : (pairs : List Pair) (c : ℕ) → is_among pairs c ≡ is_some (last_value pairs c)

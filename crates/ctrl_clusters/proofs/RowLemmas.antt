@@ -1,6 +1,5 @@
 -- The loops over a row.
 use Rattle.std.proofs.Common.{◌≡◌, ◌≢◌, ℕ, ℤ, suc, eq-eqb, slice_get, ◌∙◌, ◌<◌, ◌+◌, ◌==◌, ◌&&◌, ◌||◌, Bool, true, false, pos, List, [], ◌∷◌, ◌++◌, length, take, drop, get_or, set, if◌then◌else◌, Option, None, Some, Result, Ok, Err, refl, sym, ap}
-use Rattle.std.specs.Option.{option_or}
 use Rattle.std.proofs.lemmas.Option.{get_or_from_slice_get}
 use Rattle.std.proofs.lemmas.List.{append-nil, append_assoc, take_more_set, drop_more}
 use Rattle.ctrl_types.specs.declared.errno.Errno.{Errno}
@@ -9,24 +8,8 @@ use Rattle.ctrl_settle.specs.Control.{Control}
 use Rattle.ctrl_settle.specs.Settle.{settle}
 use Rattle.ctrl_handlers.specs.Plan.{PlanData, control_in}
 use Rattle.ctrl_clusters.specs.Changes.{is_changed, row_changes}
-use Rattle.ctrl_clusters.specs.Rows.{Values, value_at, last_value, settle_row, settled_before, value_in}
+use Rattle.ctrl_clusters.specs.Rows.{Values, value_at, settle_row, settled_before, value_in}
 use Rattle.ctrl_clusters.specs.Judging.{is_value, takes_row}
-
--- what was found so far counts where the pairs that are left give nothing
-abbrev pub last_from : Option ℤ → List Pair → ℕ → Option ℤ
-last_from found pairs c = option_or (last_value pairs c) found
-
-or_or : (a b d : Option ℤ) → option_or (option_or a b) d ≡ option_or a (option_or b d)
-or_or None b d = refl
-or_or (Some x) b d = refl
-
--- a pair of the control takes the place of what was found
-pub last_more : (found : Option ℤ) (p : Pair) (pairs : List Pair) (c : ℕ) → (p.control == c) ≡ true → last_from found (p ∷ pairs) c ≡ last_from (Some p.value) pairs c
-last_more found p pairs c h = rw h (or_or (last_value pairs c) (Some p.value) found)
-
--- another pair leaves it
-pub last_skip : (found : Option ℤ) (p : Pair) (pairs : List Pair) (c : ℕ) → (p.control == c) ≡ false → last_from found (p ∷ pairs) c ≡ last_from found pairs c
-last_skip found p pairs c h = rw h (or_or (last_value pairs c) None found)
 
 -- values that are settled, before what the others settle to
 abbrev pub before : List ℤ → Result (List ℤ) Errno → Result (List ℤ) Errno

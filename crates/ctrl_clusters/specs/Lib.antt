@@ -1,4 +1,5 @@
 pub use Rattle.ctrl_types.specs.Values
+pub use Rattle.ctrl_types.specs.Pairs
 pub use Rattle.ctrl_types.specs.Flags
 pub use Rattle.ctrl_calls.specs.Meanings
 pub use Rattle.ctrl_calls.specs.Counts

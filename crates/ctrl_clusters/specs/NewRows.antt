@@ -1,5 +1,5 @@
 -- Rows that some clusters get, each cluster once (Linux driver API, "V4L2 Controls", "Control Clusters").
-use Rattle.std.specs.Prelude.{◌≡◌, ℕ, Bool, false, ◌<◌, ◌==◌, if◌then◌else◌, List, [], ◌∷◌, length, map, Option, None, Some, unwrap_or, slice_set}
+use Rattle.std.specs.Prelude.{◌≡◌, ℕ, false, ◌<◌, ◌==◌, if◌then◌else◌, List, [], ◌∷◌, length, map, Option, None, Some, unwrap_or, slice_set}
 use Rattle.std.specs.List.{All, range_with_len}
 use Rattle.std.specs.Option.{option_and_then}
 use Rattle.ctrl_types.specs.Values.{CtrlValue}

@@ -1,6 +1,6 @@
 -- Pairs laid over values, cluster by cluster (of this project; what a cluster makes of a row is of the Linux driver API, "V4L2 Controls",
 -- "Control Clusters"). Whatever lays pairs over values does so in this one way; as yet sets and tries do.
-use Rattle.std.specs.Prelude.{ℕ, Bool, not, ◌==◌, ◌&&◌, if◌then◌else◌, List, [], ◌∷◌, length, map, filter, Option, None, Some, unwrap_or, Result, Ok, Err, is_err}
+use Rattle.std.specs.Prelude.{ℕ, Bool, not, ◌==◌, ◌&&◌, if◌then◌else◌, List, [], length, map, filter, Option, None, Some, unwrap_or, Result, Ok, Err, is_err}
 use Rattle.std.specs.List.{list_any, range_with_len}
 use Rattle.ctrl_types.specs.Values.{CtrlValue}
 use Rattle.ctrl_types.specs.declared.errno.Errno.{Errno}
@@ -52,8 +52,8 @@ unfoldable pub overlay : Verdicts → PlanData → List Control → Values → G
 overlay verdicts plan controls values grabs pairs = map (value_after verdicts plan controls values grabs pairs) (range_with_len 0 (length values))
 
 -- The clusters that are refused then, in rising order.
-unfoldable pub refused : Verdicts → PlanData → List Control → Values → Grabs → List Pair → List ℕ
-refused verdicts plan controls values grabs pairs = filter (λ k. is_err (row_after verdicts plan controls values grabs pairs k)) (range_with_len 0 (length plan.clusters))
+unfoldable pub refused_clusters : Verdicts → PlanData → List Control → Values → Grabs → List Pair → List ℕ
+refused_clusters verdicts plan controls values grabs pairs = filter (λ k. is_err (row_after verdicts plan controls values grabs pairs k)) (range_with_len 0 (length plan.clusters))
 
 -- no control is grabbed
 abbrev pub no_grabs : Grabs

@@ -1,7 +1,7 @@
 -- The row of a cluster under values that are asked for (Linux driver API, "V4L2 Controls", "Control Clusters").
 use Rattle.std.specs.Prelude.{◌≡◌, ℕ, Bool, false, pos, length, ◌==◌, if◌then◌else◌, List, [], ◌∷◌, map, Option, None, Some, Result, Ok, Err, slice_index_or, unwrap_or}
-use Rattle.std.specs.Option.{option_or}
 use Rattle.ctrl_types.specs.Values.{CtrlValue}
+use Rattle.ctrl_types.specs.Pairs.{last_value}
 use Rattle.ctrl_types.specs.declared.errno.Errno.{Errno}
 use Rattle.ctrl_types.specs.declared.errno.Errno.TheVariants.{EINVAL}
 use Rattle.ctrl_types.specs.declared.ids.Pair.{Pair}
@@ -33,11 +33,6 @@ Grabs = List Bool
 -- whether one control is
 abbrev pub is_grabbed : Grabs → ℕ → Bool
 is_grabbed grabs c = slice_index_or grabs c false
-
--- the last value that a list of pairs gives a control
-abbrev pub last_value : List Pair → ℕ → Option CtrlValue
-last_value [] c = None
-last_value (p ∷ pairs) c = option_or (last_value pairs c) (if p.control == c then Some p.value else None)
 
 -- the values of some controls
 abbrev pub row_of : Values → List ℕ → List CtrlValue

@@ -1,16 +1,17 @@
 //! What follows from the one definition of how pairs are laid over values. Each law is the contract of a function that does nothing.
 
-ghost use Rattle.std.specs.Prelude.{◌≡◌, ◌<◌, ℕ, false, List, Some, Ok, Err, length, nat_eq};
+ghost use Rattle.std.specs.Prelude.{◌≡◌, ◌<◌, ℕ, false, List, Some, Ok, Err, is_err, length, nat_eq};
 ghost use Rattle.std.specs.List.{All, list_any};
 ghost use Rattle.ctrl_types.specs.Values.{CtrlValue};
+ghost use Rattle.ctrl_types.specs.Pairs.{last_value};
 ghost use Rattle.ctrl_types.specs.declared.errno.Errno.{Errno};
 ghost use Rattle.ctrl_types.specs.declared.ids.Pair.{Pair};
 ghost use Rattle.ctrl_calls.specs.Meanings.{Verdicts};
 ghost use Rattle.ctrl_settle.specs.Control.{Control};
 ghost use Rattle.ctrl_handlers.specs.Plan.{PlanData, IsPlan, control_in, cluster_of, members};
-ghost use Rattle.ctrl_clusters.specs.Rows.{Values, value_at, last_value, row_of, Grabs, is_grabbed};
+ghost use Rattle.ctrl_clusters.specs.Rows.{Values, value_at, row_of, Grabs, is_grabbed};
 ghost use Rattle.ctrl_clusters.specs.Judging.{becomes};
-ghost use Rattle.ctrl_clusters.specs.Overlay.{is_touched, row_after, overlay};
+ghost use Rattle.ctrl_clusters.specs.Overlay.{is_touched, row_after, overlay, refused_clusters};
 ghost use Rattle.ctrl_clusters.specs.NewRows.{clusters_of, written};
 ghost use Rattle.ctrl_clusters.specs.declared.new_row.NewRow.{NewRow};
 
@@ -42,4 +43,12 @@ pub fn written_overlays()
         → ((c k : ℕ) → cluster_of plan c ≡ Some k → is_touched pairs (members plan k) ≡ list_any (nat_eq k) (clusters_of rows))
         → All (λ r. becomes verdicts plan controls values pairs r.cluster ≡ Ok r.row) rows
         → overlay verdicts plan controls values grabs pairs ≡ written plan values rows }
+{}
+
+/// The clusters that are refused where pairs are laid over values are exactly those whose row is refused.
+#[tactic(auto, using(crate::proofs::OverlayLemmas::refused_are))]
+pub fn refused_rows()
+    ensures { (verdicts : Verdicts) (plan : PlanData) (controls : List Control) (values : Values) (grabs : Grabs) (pairs : List Pair) (k : ℕ)
+        → k < length plan.clusters
+        → list_any (nat_eq k) (refused_clusters verdicts plan controls values grabs pairs) ≡ is_err (row_after verdicts plan controls values grabs pairs k) }
 {}

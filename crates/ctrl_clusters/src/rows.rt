@@ -5,12 +5,13 @@ ghost use Rattle.std.specs.List.{All};
 ghost use Rattle.ctrl_calls.specs.declared.row.TheConstants.{MAX_MEMBERS};
 ghost use Rattle.ctrl_settle.specs.Settle.{settle};
 ghost use Rattle.ctrl_handlers.specs.Plan.{control_in};
-ghost use Rattle.ctrl_clusters.specs.Rows.{value_at, last_value, overwritten, settle_row, value_in};
+ghost use Rattle.ctrl_types.specs.Pairs.{last_value};
+ghost use Rattle.ctrl_clusters.specs.Rows.{value_at, overwritten, settle_row, value_in};
 ghost use Rattle.ctrl_clusters.specs.Judging.{is_value, takes_row};
 
 use ctrl_calls::{ClusterRow, MAX_MEMBERS};
 use ctrl_settle::{Ctrl, settle};
-use ctrl_types::{CtrlValue, Errno, Pair};
+use ctrl_types::{CtrlValue, Errno, Pair, last_value};
 
 /// The values of a cluster's members, in member order, overwritten by pairs: the last pair of a control counts.
 pub(crate) fn overwritten(values: &[CtrlValue], pairs: &[Pair], members: &[u32]) -> ClusterRow
@@ -31,19 +32,6 @@ fn asked_of(values: &[CtrlValue], pairs: &[Pair], control: u32) -> CtrlValue
     ensures { result ≡ unwrap_or (last_value pairs.now control) (value_at values.now control) }
 {
     last_value(pairs, control).unwrap_or(values[control as usize])
-}
-
-// The last value that pairs give a control.
-fn last_value(pairs: &[Pair], control: u32) -> Option<CtrlValue>
-    ensures { result ≡ last_value pairs.now control }
-{
-    let mut last = None;
-    for pair in pairs {
-        if pair.control == control {
-            last = Some(pair.value);
-        }
-    }
-    last
 }
 
 /// What a cluster's members take for the values of a row, settled in member order; the errno of the first that doesn't settle.

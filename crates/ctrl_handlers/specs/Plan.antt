@@ -89,10 +89,6 @@ members plan k = (cluster_at plan k).members
 abbrev pub master_of : ClusterData → ℕ
 master_of cluster = slice_index cluster.members 0
 
--- the first member of a cluster with a number
-abbrev pub master : PlanData → ℕ → ℕ
-master plan k = master_of (cluster_at plan k)
-
 -- the relations of a cluster's closures
 abbrev pub calls_of : PlanData → ℕ → Relations
 calls_of plan k = (cluster_at plan k).calls

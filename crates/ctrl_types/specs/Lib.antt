@@ -2,3 +2,4 @@ pub mod Numbers
 pub mod Classes
 pub mod Flags
 pub mod Values
+pub mod Pairs

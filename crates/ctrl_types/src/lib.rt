@@ -5,10 +5,12 @@ mod errno;
 mod flags;
 mod ids;
 mod kind;
+mod pairs;
 mod which;
 
 pub use errno::{Errno, Fault};
 pub use flags::Flags;
 pub use ids::{CtrlId, CtrlValue, ExtControl, FhId, Pair, RequestId};
 pub use kind::Kind;
+pub use pairs::last_value;
 pub use which::Which;

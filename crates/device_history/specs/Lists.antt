@@ -1,7 +1,7 @@
 -- Lists of controls: what getting, setting and trying them is answered after a history, and the pairs of a list (Linux userspace
 -- API, "ioctl VIDIOC_G_EXT_CTRLS, VIDIOC_S_EXT_CTRLS, VIDIOC_TRY_EXT_CTRLS"; the order of the refusals and the index are of this
 -- project).
-use Rattle.std.specs.Prelude.{◌≡◌, ℕ, Bool, true, false, not, ◌++◌, List, [], ◌∷◌, length, Option, None, Some, unwrap_or, Result, Ok, Err, IsOk, IsTrue, ◌⊎◌}
+use Rattle.std.specs.Prelude.{◌≡◌, ℕ, Bool, true, false, not, ◌++◌, List, [], ◌∷◌, length, Option, None, unwrap_or, Result, Ok, Err, IsOk, IsTrue, ◌⊎◌}
 use Rattle.std.specs.Option.{is_none}
 use Rattle.std.specs.Result.{is_ok}
 use Rattle.ctrl_types.specs.declared.errno.Errno.{Errno}

@@ -1,5 +1,5 @@
 -- What an accepted list makes of the values, the words and the counts, one cluster after another (of this project).
-use Rattle.std.specs.Prelude.{◌≡◌, ℕ, false, ◌++◌, List, [], ◌∷◌, length, Ok}
+use Rattle.std.specs.Prelude.{◌≡◌, ℕ, false, ◌++◌, List, [], ◌∷◌, Ok}
 use Rattle.std.specs.List.{list_any}
 use Rattle.history.specs.Past.{past}
 use Rattle.ctrl_types.specs.declared.ids.ExtControl.{ExtControl}

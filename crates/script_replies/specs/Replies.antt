@@ -71,3 +71,13 @@ outcome_line ReadFault = codes "read fault\n"
 outcome_line WriteFault = []
 outcome_line NoSecond = codes "no second script\n"
 outcome_line Memory = codes "no memory\n"
+
+-- the status that the tool ends with after an outcome
+abbrev pub status_of : Outcome → ℕ
+status_of Finished = 0
+status_of (BadLine number) = 1
+status_of TooLong = 1
+status_of ReadFault = 1
+status_of WriteFault = 1
+status_of NoSecond = 1
+status_of Memory = 1

@@ -1,3 +1,6 @@
+ghost use Rattle.std.specs.Prelude.{◌≡◌};
+ghost use Rattle.script_replies.specs.Replies.{status_of};
+
 /// How the run of a script ended.
 #[derive(Clone, Copy, Debug, PartialEq, Eq)]
 pub enum Outcome {
@@ -15,4 +18,16 @@ pub enum Outcome {
     NoSecond,
     /// A growth of the tool's own was refused.
     Memory,
+}
+
+impl Outcome {
+    /// The exit status of the tool (of this project): 0 after `Finished`, and 1 after any other outcome.
+    pub fn status(self) -> u8
+        ensures { result ≡ status_of self.now }
+    {
+        match self {
+            Outcome::Finished => 0,
+            _ => 1,
+        }
+    }
 }

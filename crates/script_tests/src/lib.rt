@@ -1,10 +1,12 @@
 //! Tests of the run of a script that no file of `cases` can show: readers and writers that fail, the longest input, refused growths,
-//! and a device of a plan of its own; and of each reply line on writers that take few bytes or fail. The devices have no closures.
+//! and a device of a plan of its own; of each reply line on writers that take few bytes or fail; and of command lines. The devices have no closures.
 //!
 //! `rt try --test --fail-alloc N` refuses the Nth growth: a command that is refused for want of memory is answered with its error and
 //! does nothing, and where a growth of the tool's own is refused the run ends behind the commands that were answered.
 #![tactic(auto)]
 
+#[cfg(test)]
+mod command_lines;
 #[cfg(test)]
 mod devices;
 #[cfg(test)]

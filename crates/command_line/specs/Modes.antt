@@ -1,11 +1,9 @@
 -- What the tool is asked to do by its command line (of this project).
-use Rattle.std.specs.Prelude.{◌≡◌, ℕ, true, List, [], Result, Ok, Err, codes}
+use Rattle.std.specs.Prelude.{◌≡◌, true, List, [], Result, Ok, Err, codes}
 use Rattle.clap.specs.Words.{App, Text, fault_of, new_app, with_subcommand}
-use Rattle.script_replies.specs.declared.outcome.Outcome.{Outcome}
-use Rattle.script_replies.specs.declared.outcome.Outcome.TheVariants.{Finished, BadLine, TooLong, ReadFault, WriteFault, NoSecond, Memory as NoMemory}
-use Rattle.ctl_tool.specs.declared.mode.Mode.{Mode}
-use Rattle.ctl_tool.specs.declared.mode.ModeFault.{ModeFault}
-use Rattle.ctl_tool.specs.declared.mode.ModeFault.TheVariants.{Usage, Memory}
+use Rattle.command_line.specs.declared.mode.Mode.{Mode}
+use Rattle.command_line.specs.declared.mode.ModeFault.{ModeFault}
+use Rattle.command_line.specs.declared.mode.ModeFault.TheVariants.{Usage, Memory}
 
 -- a command one of whose subcommands has to be used
 abbrev pub with_required : App → App
@@ -24,13 +22,3 @@ abbrev pub Answers : Result Mode ModeFault → List Text → Type 0
 Answers (Ok mode) words = IsCommandLine words
 Answers (Err Usage) words = ¬ IsCommandLine words
 Answers (Err Memory) words = Unit {0}
-
--- the status that an outcome ends the tool with
-abbrev pub status_of : Outcome → ℕ
-status_of Finished = 0
-status_of (BadLine number) = 1
-status_of TooLong = 1
-status_of ReadFault = 1
-status_of WriteFault = 1
-status_of NoSecond = 1
-status_of NoMemory = 1

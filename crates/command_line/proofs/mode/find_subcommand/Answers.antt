@@ -2,8 +2,8 @@ use Rattle.std.proofs.Common.{◌≡◌, ◌∙◌, true, ap, ap₂, sym, refl, 
 use Rattle.clap.proofs.OnLiterals.{clap_on_literals}
 use Rattle.clap.specs.Simple.{app_of_fields}
 use Rattle.clap.specs.Words.{App, HasKind, app_of, fault_of, is_simple_and_free, with_subcommand}
-use Rattle.ctl_tool.specs.Modes.{tool, with_required}
-use Rattle.ctl_tool.proofs.mode.find_subcommand.Goals as goal
+use Rattle.command_line.specs.Modes.{tool, with_required}
+use Rattle.command_line.proofs.mode.find_subcommand.Goals as goal
 
 simple : is_simple_and_free tool ≡ true
 unfolding clap_on_literals

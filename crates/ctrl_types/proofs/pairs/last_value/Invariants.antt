@@ -1,7 +1,7 @@
 use Rattle.std.proofs.Common.{◌≡◌, drop}
-use Rattle.ctrl_clusters.specs.Rows.{last_value}
-use Rattle.ctrl_clusters.proofs.RowLemmas.{last_from}
-use Rattle.ctrl_clusters.proofs.rows.last_value.Given as goal
+use Rattle.ctrl_types.specs.Pairs.{last_value}
+use Rattle.ctrl_types.proofs.PairLemmas.{last_from}
+use Rattle.ctrl_types.proofs.pairs.last_value.Given as goal
 
 -- what was found counts where the pairs that are left give nothing
 abbrev pub invariant-loop-pair : goal.invariant-loop-pair

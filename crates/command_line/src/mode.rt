@@ -1,6 +1,6 @@
 ghost use Rattle.std.specs.Prelude.{◌≡◌, map};
 ghost use Rattle.clap.specs.Words.{FailsBy, fault_of};
-ghost use Rattle.ctl_tool.specs.Modes.{Answers, tool as tool_of};
+ghost use Rattle.command_line.specs.Modes.{Answers, tool as tool_of};
 
 use clap::error::ErrorKind;
 use clap::{Command, Error};
