@@ -23,7 +23,7 @@ pub enum Outcome {
 impl Outcome {
     /// The exit status of the tool (of this project): 0 after `Finished`, and 1 after any other outcome.
     pub fn status(self) -> u8
-        ensures { result ≡ status_of self.now }
+        ensures { result ≡ status_of self }
     {
         match self {
             Outcome::Finished => 0,
