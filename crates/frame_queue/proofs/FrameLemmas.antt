@@ -1,0 +1,324 @@
+-- The queue has exactly the queued requests, and the running one runs: each call keeps it so.
+use Rattle.std.proofs.Common.{◌≡◌, ◌≢◌, ℕ, ◌∙◌, ◌||◌, Bool, true, false, not, cond, inl, inr, List, [], ◌∷◌, ◌++◌, filter, Option, None, Some, Result, Ok, Err, OnOk, IfErr, nat_eq, eq-eqb, refl, sym, ap, subst, slice_get, remove, if◌then◌else◌}
+use Rattle.std.specs.List.{list_any}
+use Rattle.std.specs.Option.{option_map, option_or}
+use Rattle.std.proofs.lemmas.Bool.{or_from, or_parts}
+use Rattle.std.proofs.lemmas.Bool.Decides.{eqb_tells}
+use Rattle.std.proofs.lemmas.List.Folds.{list_any-append}
+use Rattle.std.proofs.lemmas.Map.Views.{any-filter_same}
+use Rattle.ctrl_types.specs.Values.{CtrlValue}
+use Rattle.ctrl_types.specs.declared.errno.Errno.{Errno}
+use Rattle.ctrl_types.specs.declared.ids.Pair.{Pair}
+use Rattle.ctrl_types.specs.declared.errno.Errno.TheVariants.{EBUSY, EINVAL}
+use Rattle.req_book.specs.declared.state.RequestState.{RequestState}
+use Rattle.req_book.specs.declared.state.RequestState.TheVariants.{Idle, Queued, Running, Complete}
+use Rattle.req_book.specs.Requests.{RequestData, RequestsData, find, with_request, changed, queued, begun, completed, cleared, fresh, without, is_pending, is_number}
+use Rattle.req_book.specs.Refusals.{queue_refusal, clear_refusal, unless}
+use Rattle.req_book.proofs.ObjectLemmas.{Tells}
+use Rattle.req_book.proofs.FindLemmas.{find_added, find_changed, find_without}
+use Rattle.frame_queue.specs.Frames.{FramesData, AreFrames, AreOnce, is_in, is_queued, is_running, queued_last, cancelled, cancel_refusal, ended, stopped, with_requests}
+
+clash : {X : Type 0} → true ≡ false → X
+clash h = cc
+
+-- a number isn't another
+apart : (j id : ℕ) → id ≢ j → nat_eq j id ≡ false
+apart j id differ = by (eqb_tells j id)
+  where
+    by : Tells j id → nat_eq j id ≡ false
+    by (inl same) = absurd (differ (sym same.1))
+    by (inr other) = other.0
+
+or_off : (b : Bool) → (b || false) ≡ b
+or_off true = refl
+or_off false = refl
+
+-- one request is changed
+pub kept_changed : (old : FramesData) (id : ℕ) (f : RequestData → RequestData) (queue : List ℕ) (running : Option ℕ) → AreFrames old → ((r : RequestData) → (f r).id ≡ r.id) → AreOnce queue
+    → ((j : ℕ) → id ≢ j → list_any (nat_eq j) queue ≡ list_any (nat_eq j) old.queue) → list_any (nat_eq id) queue ≡ is_in is_queued (option_map f (find old.requests.all id))
+    → ((j : ℕ) → id ≢ j → is_number running j ≡ is_number old.running j) → is_number running id ≡ is_in is_running (option_map f (find old.requests.all id))
+    → AreFrames (record { requests = changed old.requests id f; queue = queue; running = running })
+kept_changed old id f queue running kept keeps once others own runs_others runs_own = record { once = once; waits = λ j. waits j (eqb_tells id j); runs = λ j. runs j (eqb_tells id j) }
+  where
+    waits : (j : ℕ) → Tells id j → list_any (nat_eq j) queue ≡ is_in is_queued (find (with_request id f old.requests.all) j)
+    waits j (inl same) =
+        let is : find (with_request id f old.requests.all) j ≡ option_map f (find old.requests.all j) = rw same.0 at (find_changed old.requests.all id f j keeps) in
+        subst (λ i. list_any (nat_eq i) queue ≡ is_in is_queued (option_map f (find old.requests.all i))) same.1 own ∙ ap (is_in is_queued) (sym is)
+    waits j (inr other) =
+        let is : find (with_request id f old.requests.all) j ≡ find old.requests.all j = rw other.0 at (find_changed old.requests.all id f j keeps) in
+        others j other.1 ∙ kept.waits j ∙ ap (is_in is_queued) (sym is)
+
+    runs : (j : ℕ) → Tells id j → is_number running j ≡ is_in is_running (find (with_request id f old.requests.all) j)
+    runs j (inl same) =
+        let is : find (with_request id f old.requests.all) j ≡ option_map f (find old.requests.all j) = rw same.0 at (find_changed old.requests.all id f j keeps) in
+        subst (λ i. is_number running i ≡ is_in is_running (option_map f (find old.requests.all i))) same.1 runs_own ∙ ap (is_in is_running) (sym is)
+    runs j (inr other) =
+        let is : find (with_request id f old.requests.all) j ≡ find old.requests.all j = rw other.0 at (find_changed old.requests.all id f j keeps) in
+        runs_others j other.1 ∙ kept.runs j ∙ ap (is_in is_running) (sym is)
+
+-- a number behind others, of which it is none
+once_last : (ids : List ℕ) (id : ℕ) → AreOnce ids → list_any (nat_eq id) ids ≡ false → AreOnce (ids ++ id ∷ [])
+once_last [] id once none = (refl, tt)
+once_last (k ∷ ks) id once none =
+    let parts = or_parts (nat_eq id k) (list_any (nat_eq id) ks) none in
+    (list_any-append (nat_eq k) ks (id ∷ []) ∙ or_from (list_any (nat_eq k) ks) (nat_eq k id || false) once.0 (or_from (nat_eq k id) false (apart k id (differ parts.0)) refl), once_last ks id once.1 parts.1)
+  where
+    differ : nat_eq id k ≡ false → id ≢ k
+    differ off is = clash (sym (eq-eqb id k is) ∙ off)
+
+once_filter : (test : ℕ → Bool) (ids : List ℕ) → AreOnce ids → AreOnce (filter test ids)
+once_filter test [] once = tt
+once_filter test (k ∷ ks) once = by (test k) (once_filter test ks once.1)
+  where
+    fewer : (b : Bool) (rest : List ℕ) → list_any (nat_eq k) rest ≡ false → list_any (nat_eq k) (filter test ks) ≡ false
+    fewer b rest h = any_filter ks once.0
+      where
+        any_filter : (ms : List ℕ) → list_any (nat_eq k) ms ≡ false → list_any (nat_eq k) (filter test ms) ≡ false
+        any_filter [] none = refl
+        any_filter (m ∷ ms) none = pick (test m) (or_parts (nat_eq k m) (list_any (nat_eq k) ms) none).0 (any_filter ms (or_parts (nat_eq k m) (list_any (nat_eq k) ms) none).1)
+          where
+            pick : (b : Bool) → nat_eq k m ≡ false → list_any (nat_eq k) (filter test ms) ≡ false → list_any (nat_eq k) (cond b (m ∷ filter test ms) (filter test ms)) ≡ false
+            pick true off rest = or_from (nat_eq k m) (list_any (nat_eq k) (filter test ms)) off rest
+            pick false off rest = rest
+
+    by : (b : Bool) → AreOnce (filter test ks) → AreOnce (cond b (k ∷ filter test ks) (filter test ks))
+    by true rest = (fewer true ks once.0, rest)
+    by false rest = rest
+
+-- an idle request waits, the last
+pub queued_kept : (old : FramesData) (id : ℕ) → AreFrames old → queue_refusal (find old.requests.all id) ≡ None → AreFrames (queued_last old id)
+queued_kept old id kept passes = by (find old.requests.all id) refl passes
+  where
+    by : (o : Option RequestData) → find old.requests.all id ≡ o → queue_refusal o ≡ None → AreFrames (queued_last old id)
+    by None is passes = cc
+    by (Some r) is passes = idle r.state refl
+      where
+        idle : (s : RequestState) → r.state ≡ s → AreFrames (queued_last old id)
+        idle Idle state =
+            let off : list_any (nat_eq id) old.queue ≡ false = kept.waits id ∙ ap (is_in is_queued) is ∙ ap is_queued state in
+            let still : is_number old.running id ≡ false = kept.runs id ∙ ap (is_in is_running) is ∙ ap is_running state in
+            kept_changed old id (queued old.requests.controls) (old.queue ++ id ∷ []) old.running kept (λ q. refl) (once_last old.queue id kept.once off)
+            (λ j differ. list_any-append (nat_eq j) old.queue (id ∷ []) ∙ ap (λ b. list_any (nat_eq j) old.queue || (b || false)) (apart j id differ) ∙ or_off (list_any (nat_eq j) old.queue))
+            (list_any-append (nat_eq id) old.queue (id ∷ []) ∙ ap (λ b. b || (nat_eq id id || false)) off ∙ ap (λ b. b || false) (eq-eqb id id refl) ∙ sym (ap (λ o. is_in is_queued (option_map (queued old.requests.controls) o)) is))
+            (λ j differ. refl)
+            (still ∙ sym (ap (λ o. is_in is_running (option_map (queued old.requests.controls) o)) is))
+        idle Queued state = absurd (refused (rw state at passes))
+          where
+            refused : Some EBUSY ≡ None → ⊥
+            refused h = cc
+        idle Running state = absurd (refused (rw state at passes))
+          where
+            refused : Some EBUSY ≡ None → ⊥
+            refused h = cc
+        idle Complete state = absurd (refused (rw state at passes))
+          where
+            refused : Some EBUSY ≡ None → ⊥
+            refused h = cc
+
+-- a request that is made to be complete neither waits nor runs
+not_queued : (values : List CtrlValue) (o : Option RequestData) → is_in is_queued (option_map (completed values) o) ≡ false
+not_queued values None = refl
+not_queued values (Some r) = refl
+
+not_running : (values : List CtrlValue) (o : Option RequestData) → is_in is_running (option_map (completed values) o) ≡ false
+not_running values None = refl
+not_running values (Some r) = refl
+
+-- a request that waits doesn't run, and one that runs doesn't wait
+waits_only : (o : Option RequestData) → is_in is_queued o ≡ true → is_in is_running o ≡ false
+waits_only None h = refl
+waits_only (Some r) h = by r.state h
+  where
+    by : (s : RequestState) → is_queued s ≡ true → is_running s ≡ false
+    by Idle h = refl
+    by Queued h = refl
+    by Running h = cc
+    by Complete h = refl
+
+runs_only : (o : Option RequestData) → is_in is_running o ≡ true → is_in is_queued o ≡ false
+runs_only None h = refl
+runs_only (Some r) h = by r.state h
+  where
+    by : (s : RequestState) → is_running s ≡ true → is_queued s ≡ false
+    by Idle h = refl
+    by Queued h = cc
+    by Running h = refl
+    by Complete h = refl
+
+-- the first that waits runs
+pub begun_kept : (old : FramesData) (id : ℕ) (ids : List ℕ) (applied : List Pair) → AreFrames old → old.queue ≡ id ∷ ids → old.running ≡ None
+    → AreFrames (record { requests = changed old.requests id (begun old.requests.controls applied); queue = ids; running = Some id })
+begun_kept old id ids applied kept first none =
+    let once : AreOnce (id ∷ ids) = subst AreOnce first kept.once in
+    let was : true ≡ is_in is_queued (find old.requests.all id) = sym (ap (λ b. b || list_any (nat_eq id) ids) (eq-eqb id id refl)) ∙ ap (list_any (nat_eq id)) (sym first) ∙ kept.waits id in
+    kept_changed old id (begun old.requests.controls applied) ids (Some id) kept (λ r. refl) once.1
+    (λ j differ. sym (ap (λ b. b || list_any (nat_eq j) ids) (apart j id differ)) ∙ ap (list_any (nat_eq j)) (sym first))
+    (once.0 ∙ sym (off (find old.requests.all id)))
+    (λ j differ. other (eqb_tells id j) differ ∙ ap (λ o. is_number o j) (sym none))
+    (eq-eqb id id refl ∙ runs (find old.requests.all id) was)
+  where
+    off : (o : Option RequestData) → is_in is_queued (option_map (begun old.requests.controls applied) o) ≡ false
+    off None = refl
+    off (Some r) = refl
+
+    runs : (o : Option RequestData) → true ≡ is_in is_queued o → true ≡ is_in is_running (option_map (begun old.requests.controls applied) o)
+    runs None h = h
+    runs (Some r) h = refl
+
+    other : {j : ℕ} → Tells id j → id ≢ j → nat_eq id j ≡ false
+    other (inl same) differ = absurd (differ same.1)
+    other (inr differs) differ = differs.0
+
+-- the first that waits is complete
+pub ended_kept : (old : FramesData) (id : ℕ) (ids : List ℕ) (values : List CtrlValue) → AreFrames old → old.queue ≡ id ∷ ids
+    → AreFrames (record { requests = changed old.requests id (completed values); queue = ids; running = old.running })
+ended_kept old id ids values kept first =
+    let once : AreOnce (id ∷ ids) = subst AreOnce first kept.once in
+    let was : true ≡ is_in is_queued (find old.requests.all id) = sym (ap (λ b. b || list_any (nat_eq id) ids) (eq-eqb id id refl)) ∙ ap (list_any (nat_eq id)) (sym first) ∙ kept.waits id in
+    kept_changed old id (completed values) ids old.running kept (λ r. refl) once.1
+    (λ j differ. sym (ap (λ b. b || list_any (nat_eq j) ids) (apart j id differ)) ∙ ap (list_any (nat_eq j)) (sym first))
+    (once.0 ∙ sym (not_queued values (find old.requests.all id)))
+    (λ j differ. refl)
+    (kept.runs id ∙ waits_only (find old.requests.all id) (sym was) ∙ sym (not_running values (find old.requests.all id)))
+
+-- the one that runs is complete
+pub completed_kept : (old : FramesData) (id : ℕ) (values : List CtrlValue) → AreFrames old → old.running ≡ Some id
+    → AreFrames (record { requests = changed old.requests id (completed values); queue = old.queue; running = None })
+completed_kept old id values kept running =
+    let was : true ≡ is_in is_running (find old.requests.all id) = sym (eq-eqb id id refl) ∙ ap (λ o. is_number o id) (sym running) ∙ kept.runs id in
+    kept_changed old id (completed values) old.queue None kept (λ r. refl) kept.once (λ j differ. refl)
+    (kept.waits id ∙ runs_only (find old.requests.all id) (sym was) ∙ sym (not_queued values (find old.requests.all id)))
+    (λ j differ. sym (other (eqb_tells id j) differ) ∙ ap (λ o. is_number o j) (sym running))
+    (sym (not_running values (find old.requests.all id)))
+  where
+    other : {j : ℕ} → Tells id j → id ≢ j → nat_eq id j ≡ false
+    other (inl same) differ = absurd (differ same.1)
+    other (inr differs) differ = differs.0
+
+-- one that waits is taken from the queue
+pub cancelled_kept : (old : FramesData) (id : ℕ) (values : List CtrlValue) → AreFrames old → cancel_refusal (find old.requests.all id) ≡ None → AreFrames (cancelled old id values)
+cancelled_kept old id values kept passes =
+    let was : is_in is_queued (find old.requests.all id) ≡ true = waiting (find old.requests.all id) passes in
+    kept_changed old id (completed values) (filter (λ j. not (nat_eq id j)) old.queue) old.running kept (λ r. refl) (once_filter (λ j. not (nat_eq id j)) old.queue kept.once)
+    (λ j differ. any-filter_same (nat_eq j) (λ k. not (nat_eq id k)) true (λ k is. left j k differ (eqb_tells j k) is) old.queue)
+    (any-filter_same (nat_eq id) (λ k. not (nat_eq id k)) false (λ k is. ap not is) old.queue ∙ sym (not_queued values (find old.requests.all id)))
+    (λ j differ. refl)
+    (kept.runs id ∙ waits_only (find old.requests.all id) was ∙ sym (not_running values (find old.requests.all id)))
+  where
+    waiting : (o : Option RequestData) → cancel_refusal o ≡ None → is_in is_queued o ≡ true
+    waiting None h = cc
+    waiting (Some r) h = by r.state h
+      where
+        by : (s : RequestState) → (if is_running s then Some EBUSY else if is_queued s then None else Some EINVAL) ≡ None → is_queued s ≡ true
+        by Idle h = cc
+        by Queued h = refl
+        by Running h = cc
+        by Complete h = cc
+
+    left : (j k : ℕ) → id ≢ j → Tells j k → nat_eq j k ≡ true → not (nat_eq id k) ≡ true
+    left j k differ (inl same) is = ap not (off (eqb_tells id k))
+      where
+        off : Tells id k → nat_eq id k ≡ false
+        off (inl own) = absurd (differ (own.1 ∙ sym same.1))
+        off (inr other) = other.0
+    left j k differ (inr other) is = clash (sym is ∙ other.0)
+
+-- a change that leaves the state of a request leaves the queue
+pub state_kept : (old : FramesData) (id : ℕ) (f : RequestData → RequestData) → AreFrames old → ((r : RequestData) → (f r).id ≡ r.id) → ((r : RequestData) → (f r).state ≡ r.state)
+    → AreFrames (record { requests = changed old.requests id f; queue = old.queue; running = old.running })
+state_kept old id f kept keeps same =
+    kept_changed old id f old.queue old.running kept keeps kept.once (λ j differ. refl) (kept.waits id ∙ is is_queued (find old.requests.all id)) (λ j differ. refl) (kept.runs id ∙ is is_running (find old.requests.all id))
+  where
+    is : (test : RequestState → Bool) (o : Option RequestData) → is_in test o ≡ is_in test (option_map f o)
+    is test None = refl
+    is test (Some r) = ap test (sym (same r))
+
+-- a request that may be emptied neither waits nor runs
+pub rests : (o : Option RequestData) → clear_refusal o ≡ None → (is_in is_queued o ≡ false) × (is_in is_running o ≡ false)
+rests None h = (refl, refl)
+rests (Some r) h = by r.state h
+  where
+    by : (s : RequestState) → (if is_pending s then Some EBUSY else None) ≡ None → (is_queued s ≡ false) × (is_running s ≡ false)
+    by Idle h = (refl, refl)
+    by Queued h = cc
+    by Running h = cc
+    by Complete h = (refl, refl)
+
+-- one that neither waits nor runs is as new
+pub cleared_kept : (old : FramesData) (id : ℕ) → AreFrames old → clear_refusal (find old.requests.all id) ≡ None → AreFrames (record { requests = changed old.requests id cleared; queue = old.queue; running = old.running })
+cleared_kept old id kept passes =
+    kept_changed old id cleared old.queue old.running kept (λ r. refl) kept.once (λ j differ. refl)
+    (kept.waits id ∙ (rests (find old.requests.all id) passes).0 ∙ sym (idle (find old.requests.all id)).0) (λ j differ. refl)
+    (kept.runs id ∙ (rests (find old.requests.all id) passes).1 ∙ sym (idle (find old.requests.all id)).1)
+  where
+    idle : (o : Option RequestData) → (is_in is_queued (option_map cleared o) ≡ false) × (is_in is_running (option_map cleared o) ≡ false)
+    idle None = (refl, refl)
+    idle (Some r) = (refl, refl)
+
+-- one that neither waits nor runs is let go
+pub freed_kept : (old : FramesData) (id : ℕ) → AreFrames old → clear_refusal (find old.requests.all id) ≡ None
+    → AreFrames (record { requests = record old.requests { all = without id old.requests.all }; queue = old.queue; running = old.running })
+freed_kept old id kept passes = record { once = kept.once; waits = λ j. waits j (eqb_tells id j); runs = λ j. runs j (eqb_tells id j) }
+  where
+    waits : (j : ℕ) → Tells id j → list_any (nat_eq j) old.queue ≡ is_in is_queued (find (without id old.requests.all) j)
+    waits j (inl same) =
+        let is : find (without id old.requests.all) j ≡ None = rw same.0 at (find_without old.requests.all id j) in
+        kept.waits j ∙ ap (λ i. is_in is_queued (find old.requests.all i)) (sym same.1) ∙ (rests (find old.requests.all id) passes).0 ∙ sym (ap (is_in is_queued) is)
+    waits j (inr other) =
+        let is : find (without id old.requests.all) j ≡ find old.requests.all j = rw other.0 at (find_without old.requests.all id j) in
+        kept.waits j ∙ sym (ap (is_in is_queued) is)
+
+    runs : (j : ℕ) → Tells id j → is_number old.running j ≡ is_in is_running (find (without id old.requests.all) j)
+    runs j (inl same) =
+        let is : find (without id old.requests.all) j ≡ None = rw same.0 at (find_without old.requests.all id j) in
+        kept.runs j ∙ ap (λ i. is_in is_running (find old.requests.all i)) (sym same.1) ∙ (rests (find old.requests.all id) passes).1 ∙ sym (ap (is_in is_running) is)
+    runs j (inr other) =
+        let is : find (without id old.requests.all) j ≡ find old.requests.all j = rw other.0 at (find_without old.requests.all id j) in
+        kept.runs j ∙ sym (ap (is_in is_running) is)
+
+-- a new one neither waits nor runs
+pub added_kept : (old : FramesData) (id : ℕ) → AreFrames old → find old.requests.all id ≡ None
+    → AreFrames (record { requests = record old.requests { all = old.requests.all ++ fresh id ∷ [] }; queue = old.queue; running = old.running })
+added_kept old id kept none = record {
+  once = kept.once;
+  waits = λ j. kept.waits j ∙ same is_queued refl (find old.requests.all j) (nat_eq j id) ∙ sym (ap (is_in is_queued) (find_added old.requests.all (fresh id) j));
+  runs = λ j. kept.runs j ∙ same is_running refl (find old.requests.all j) (nat_eq j id) ∙ sym (ap (is_in is_running) (find_added old.requests.all (fresh id) j));
+}
+  where
+    same : (test : RequestState → Bool) → test Idle ≡ false → (o : Option RequestData) (b : Bool) → is_in test o ≡ is_in test (option_or o (cond b (Some (fresh id)) None))
+    same test idle None true = sym idle
+    same test idle None false = refl
+    same test idle (Some r) b = refl
+
+-- the first of a list that has one
+pub first_is : (ids : List ℕ) (id : ℕ) → slice_get ids 0 ≡ Some id → ids ≡ id ∷ remove ids 0
+first_is [] id h = cc
+first_is (k ∷ ks) id h = ap (λ i. i ∷ ks) (same k id h)
+  where
+    same : (a b : ℕ) → Some a ≡ Some b → a ≡ b
+    same a b h = cc
+
+-- where none waits, nothing is left to stop
+pub at_end : (values : List CtrlValue) (f : FramesData) → slice_get f.queue 0 ≡ None → stopped values f ≡ f
+at_end values f none = ap (λ ids. whole (ended values ids f.requests)) empty ∙ ap (λ ids. record { requests = f.requests; queue = ids; running = f.running }) (sym empty)
+  where
+    whole : RequestsData → FramesData
+    whole requests = record { requests = requests; queue = []; running = f.running }
+
+    by : (ids : List ℕ) → slice_get ids 0 ≡ None → ids ≡ []
+    by [] h = refl
+    by (k ∷ ks) h = cc
+
+    empty : f.queue ≡ []
+    empty = by f.queue none
+
+-- a call that only its refusal can stop keeps the queue, refused or not
+pub unless_kept : (old : FramesData) (refusal : Option Errno) (new : RequestsData) → AreFrames old → (refusal ≡ None → AreFrames (with_requests old new)) → AreFrames (with_requests old (unless refusal old.requests new))
+unless_kept old None new kept changes = changes refl
+unless_kept old (Some errno) new kept changes = kept
+
+-- a call that may want memory as well: accepted, it changes the requests; refused, it leaves them
+pub either_kept : (old : FramesData) (requests new : RequestsData) (P : Type 0) (R : Errno → Type 0) (r : Result (Unit {0}) Errno) → AreFrames old → OnOk r (P × (requests ≡ new)) → IfErr r (λ errno. R errno × (requests ≡ old.requests)) → (P → AreFrames (with_requests old new))
+    → AreFrames (with_requests old requests)
+either_kept old requests new P R (Ok done) kept ok err changes = subst (λ x. AreFrames (with_requests old x)) (sym ok.1) (changes ok.0)
+either_kept old requests new P R (Err errno) kept ok err changes = subst (λ x. AreFrames (with_requests old x)) (sym err.1) kept

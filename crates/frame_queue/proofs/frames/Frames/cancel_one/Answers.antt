@@ -1,0 +1,13 @@
+use Rattle.std.proofs.Common.{◌≡◌, ◌∙◌, List, ℕ, None, ap, sym, subst}
+use Rattle.std.proofs.Math.Path.{ap₂}
+use Rattle.req_book.specs.Requests.{RequestsData, find}
+use Rattle.frame_queue.specs.Frames.{FramesData, AreFrames, cancel_refusal}
+use Rattle.frame_queue.proofs.FrameLemmas.{cancelled_kept}
+use Rattle.frame_queue.proofs.frames.Frames.cancel_one.Goals as goal
+
+pub invariant_of-self : goal.invariant_of-self
+invariant_of-self c =
+    let old : FramesData = record { requests = c.self.inside.requests; queue = c.self.inside.queue.items; running = c.self.inside.running } in
+    let whole : RequestsData → List ℕ → FramesData = λ requests ids. record { requests = requests; queue = ids; running = c.self.inside.running } in
+    let waits : cancel_refusal (find c.self.inside.requests.all c.args.id) ≡ None = ap (λ (f : FramesData). cancel_refusal (find f.requests.all c.args.id)) c.self.view_is ∙ c.requires.waits in
+    subst AreFrames (sym (ap₂ whole c.mark_complete.ensures c.leave.ensures)) (cancelled_kept old c.args.id c.args.values.now c.self.invariant waits)

@@ -1,0 +1,109 @@
+-- The queue of frames, and what its calls make of it (Linux userspace API, "Request API").
+use Rattle.std.specs.Prelude.{◌≡◌, ℕ, Bool, true, false, not, List, [], ◌∷◌, ◌++◌, filter, Option, None, Some, is_some, Result, Ok, Err, nat_eq, if◌then◌else◌, unwrap_or}
+use Rattle.std.specs.List.{list_any}
+use Rattle.std.specs.Option.{is_none}
+use Rattle.ctrl_types.specs.Values.{CtrlValue}
+use Rattle.ctrl_types.specs.declared.errno.Errno.{Errno}
+use Rattle.ctrl_types.specs.declared.errno.Errno.TheVariants.{EBUSY, EINVAL, ENOENT}
+use Rattle.ctrl_types.specs.declared.ids.Pair.{Pair}
+use Rattle.req_book.specs.declared.state.RequestState.{RequestState}
+use Rattle.req_book.specs.declared.state.RequestState.TheVariants.{Queued, Running}
+use Rattle.req_book.specs.Requests.{RequestData, RequestsData, find, changed, queued, begun, completed, is_number}
+
+-- the requests; those that wait for their frames, in the order in which they were queued; and the one whose frame is being made
+pub record FramesData : Type 0 where
+  pub requests : RequestsData
+  pub queue : List ℕ
+  pub running : Option ℕ
+
+abbrev pub is_queued : RequestState → Bool
+is_queued Queued = true
+is_queued _ = false
+
+abbrev pub is_running : RequestState → Bool
+is_running Running = true
+is_running _ = false
+
+-- whether a request is there, in such a state
+abbrev pub is_in : (RequestState → Bool) → Option RequestData → Bool
+is_in test None = false
+is_in test (Some r) = test r.state
+
+-- no number stands twice
+abbrev pub AreOnce : List ℕ → Type 0
+AreOnce [] = Unit {0}
+AreOnce (id ∷ ids) = (list_any (nat_eq id) ids ≡ false) × AreOnce ids
+
+-- The queue has exactly the queued requests, each once; the one that runs is exactly the running one.
+pub record AreFrames (f : FramesData) : Type 0 where
+  pub once : AreOnce f.queue
+  pub waits : (id : ℕ) → list_any (nat_eq id) f.queue ≡ is_in is_queued (find f.requests.all id)
+  pub runs : (id : ℕ) → is_number f.running id ≡ is_in is_running (find f.requests.all id)
+
+-- what is left: what was there, where a call is refused
+abbrev pub unless_refused : Option Errno → FramesData → FramesData → FramesData
+unless_refused None old new = new
+unless_refused (Some errno) old new = old
+
+-- other requests, with the same queue
+abbrev pub with_requests : FramesData → RequestsData → FramesData
+with_requests f requests = record f { requests = requests }
+
+-- a request waits, the last
+abbrev pub queued_last : FramesData → ℕ → FramesData
+queued_last f id = record { requests = changed f.requests id (queued f.requests.controls); queue = f.queue ++ id ∷ []; running = f.running }
+
+-- the number of the buffer that a request holds; each one that waits holds one
+abbrev pub buffer_number : Option RequestData → ℕ
+buffer_number None = 0
+buffer_number (Some r) = unwrap_or r.buffer 0
+
+-- the first that waits, with its buffer
+abbrev pub first_waiting : List RequestData → List ℕ → Result (ℕ × ℕ) Errno
+first_waiting rs [] = Err ENOENT
+first_waiting rs (id ∷ ids) = Ok (id, buffer_number (find rs id))
+
+-- What a begin answers: EBUSY where one runs, ENOENT where none waits; else the first that waits, with its buffer.
+abbrev pub begin_answer : FramesData → Result (ℕ × ℕ) Errno
+begin_answer f = if is_some f.running then Err EBUSY else first_waiting f.requests.all f.queue
+
+-- what it leaves: the first that waits runs, and its controls got these values
+abbrev pub first_begun : List Pair → RequestsData → List ℕ → FramesData
+first_begun applied requests [] = record { requests = requests; queue = []; running = None }
+first_begun applied requests (id ∷ ids) = record { requests = changed requests id (begun requests.controls applied); queue = ids; running = Some id }
+
+abbrev pub after_begin : FramesData → List Pair → FramesData
+after_begin f applied = if is_some f.running then f else first_begun applied f.requests f.queue
+
+-- why no frame is completed: none runs
+abbrev pub complete_refusal : FramesData → Option Errno
+complete_refusal f = if is_none f.running then Some ENOENT else None
+
+-- what is left once the frame that runs, where one does, ended at these values
+abbrev pub running_done : List CtrlValue → RequestsData → List ℕ → Option ℕ → FramesData
+running_done values requests queue None = record { requests = requests; queue = queue; running = None }
+running_done values requests queue (Some id) = record { requests = changed requests id (completed values); queue = queue; running = None }
+
+abbrev pub after_complete : FramesData → List CtrlValue → FramesData
+after_complete f values = running_done values f.requests f.queue f.running
+
+-- Why a request isn't taken from the queue: it isn't there; it runs; it doesn't wait.
+abbrev pub cancel_refusal : Option RequestData → Option Errno
+cancel_refusal None = Some EINVAL
+cancel_refusal (Some r) = if is_running r.state then Some EBUSY else if is_queued r.state then None else Some EINVAL
+
+-- what is left once it was taken from the queue, at these values
+abbrev pub cancelled : FramesData → ℕ → List CtrlValue → FramesData
+cancelled f id values = record { requests = changed f.requests id (completed values); queue = filter (λ j. not (nat_eq id j)) f.queue; running = f.running }
+
+-- the requests, where those with these ids are complete
+abbrev pub ended : List CtrlValue → List ℕ → RequestsData → RequestsData
+ended values [] requests = requests
+ended values (id ∷ ids) requests = ended values ids (changed requests id (completed values))
+
+-- what is left once the stream is off: the one that runs and all that wait are complete
+abbrev pub stopped : List CtrlValue → FramesData → FramesData
+stopped values f = record { requests = ended values f.queue f.requests; queue = []; running = f.running }
+
+abbrev pub after_off : FramesData → List CtrlValue → FramesData
+after_off f values = stopped values (after_complete f values)

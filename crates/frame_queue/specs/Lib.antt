@@ -1,0 +1,3 @@
+pub use Rattle.req_book.specs.Requests
+pub use Rattle.req_book.specs.Refusals
+pub mod Frames

@@ -1,0 +1,403 @@
+ghost use Rattle.std.specs.Prelude.{◌≡◌, ◌++◌, ◌<◌, ◌∷◌, [], length, None, Some, Ok, Err, true, IfErr, IfOk, IfSome, OnOk, MatchResult, slice_get, remove, filter, not, nat_eq, option_copied};
+ghost use Rattle.std.specs.Option.{option_map, ok_or};
+ghost use Rattle.std.specs.List.{All};
+ghost use Rattle.req_book.specs.Requests.{find, changed, completed, with_pairs, with_buffer, cleared, without, fresh};
+ghost use Rattle.req_book.specs.Refusals.{alloc_refusal, store_refusal, buffer_refusal, queue_refusal, clear_refusal, state_answer, buffer_answer, asked_answer, snapshot_answer, value_answer, answered, unless, IsRefusedBy};
+ghost use Rattle.ctrl_types.specs.declared.errno.Errno.TheVariants.{ENOENT, ENOMEM};
+ghost use Rattle.frame_queue.specs.Frames.{with_requests, queued_last, begin_answer, after_begin, first_waiting, buffer_number, first_begun, complete_refusal, after_complete, cancel_refusal, cancelled, running_done, unless_refused, after_off};
+
+use ctrl_types::{CtrlValue, Errno, Pair, RequestId};
+use req_book::{MAX_REQUESTS, RequestState, Requests};
+use std::alloc::Global;
+use std::marker::Model;
+
+/// The media requests of a device, and the queue of its frames. Contracts see the requests, the queue and the request that runs.
+#[derive(Drop)]
+pub struct Frames {
+    requests: Requests,
+    queue: Vec<u32>,
+    running: Option<u32>,
+}
+
+impl Model for Frames {
+    ghost use Rattle.frame_queue.specs.Frames.{FramesData, AreFrames};
+
+    ghost Value = { FramesData };
+
+    ghost view = { λ f. record { requests = f.requests; queue = f.queue.items; running = f.running } };
+
+    ghost invariant = { λ f. AreFrames (record { requests = f.requests; queue = f.queue.items; running = f.running }) };
+}
+
+impl Frames {
+    /// No request is there, and room for 64 in the queue. `controls` is the number of the device's controls. ENOMEM (12) where the room
+    /// was refused.
+    pub fn new(alloc: Global, controls: u32) -> Result<Frames, Errno>
+        ensures { MatchResult result (λ frames. frames ≡ record { requests = record { controls = controls; all = [] }; queue = []; running = None }) (λ errno. errno ≡ ENOMEM) }
+    {
+        match Vec::with_capacity(alloc, MAX_REQUESTS) {
+            Ok(queue) => Ok(Frames {
+                requests: Requests::new(alloc, controls),
+                queue,
+                running: None,
+            }),
+            Err(_) => Err(Errno::ENOMEM),
+        }
+    }
+
+    /// The request that waits at a place of the queue, from 0.
+    pub fn queued(&self, place: usize) -> Option<RequestId>
+        ensures { option_map (λ id. id.0) result ≡ slice_get self.now.queue place }
+    {
+        match self.queue.get(place) {
+            Some(id) => Some(RequestId(*id)),
+            None => None,
+        }
+    }
+
+    /// How many requests wait.
+    pub fn queue_len(&self) -> usize
+        ensures { result ≡ length self.now.queue }
+    {
+        self.queue.len()
+    }
+
+    /// The request whose frame is being made.
+    pub fn running(&self) -> Option<RequestId>
+        ensures { option_map (λ id. id.0) result ≡ self.now.running }
+    {
+        match self.running {
+            Some(id) => Some(RequestId(id)),
+            None => None,
+        }
+    }
+
+    /// Has a request wait for its frame, the last (`MEDIA_REQUEST_IOC_QUEUE`), and makes room for what its frame will have. EINVAL (22) where
+    /// there is no such request, EBUSY (16) where it isn't idle, ENOENT (2) where it has no buffer, ENOMEM (12) where a growth was refused. A
+    /// refusal changes nothing.
+    pub fn queue(&mut self, id: RequestId) -> Result<(), Errno>
+        ensures ok { OnOk result ((queue_refusal (find self.old.requests.all id.0) ≡ None) × (self.new ≡ queued_last self.old id.0)) }
+        ensures err { IfErr result (λ errno. IsRefusedBy (queue_refusal (find self.old.requests.all id.0)) errno × (self.new ≡ self.old)) }
+    {
+        if let Some(errno) = self.requests.queue_refusal(id) {
+            return Err(errno);
+        }
+        if self.queue.reserve(1).is_err() {
+            return Err(Errno::ENOMEM);
+        }
+        match self.requests.mark_queued(id) {
+            Ok(()) => {
+                self.queue.push_reserved(id.0);
+                Ok(())
+            }
+            Err(errno) => Err(errno),
+        }
+    }
+
+    /// Has the frame of the first request that waits be made, in which controls get these values, and answers the request and the number of
+    /// its buffer.
+    ///
+    /// - `applied`: the values after the begin of the controls that the request asks for and whose cluster isn't refused.
+    ///
+    /// EBUSY (16) where a frame is being made, ENOENT (2) where no request waits. It takes no memory. A refusal changes nothing.
+    pub fn begin(&mut self, applied: &[Pair]) -> Result<(RequestId, u32), Errno>
+        ensures answer { MatchResult result (λ a. begin_answer self.old ≡ Ok (a.0.0, a.1)) (λ errno. begin_answer self.old ≡ Err errno) }
+        ensures frames { self.new ≡ after_begin self.old applied.now }
+    {
+        if self.running.is_some() {
+            return Err(Errno::EBUSY);
+        }
+        match self.first() {
+            Some((id, number)) => {
+                self.begin_first(id, applied);
+                Ok((RequestId(id), number))
+            }
+            None => Err(Errno::ENOENT),
+        }
+    }
+
+    // The first request that waits, with the number of its buffer.
+    fn first(&self) -> Option<(u32, u32)>
+        ensures { first_waiting self.now.requests.all self.now.queue ≡ ok_or result ENOENT }
+    {
+        match self.queue.first() {
+            Some(id) => Some((*id, self.number_of(*id))),
+            None => None,
+        }
+    }
+
+    // The number of a request's buffer.
+    fn number_of(&self, id: u32) -> u32
+        ensures { result ≡ buffer_number (find self.now.requests.all id) }
+    {
+        match self.requests.buffer_of(RequestId(id)) {
+            Ok(Some(number)) => number,
+            _ => 0,
+        }
+    }
+
+    // Has the frame of the first request that waits be made.
+    fn begin_first(&mut self, id: u32, applied: &[Pair])
+        requires idle { self.old.running ≡ None }
+        requires first { slice_get self.old.queue 0 ≡ Some id }
+        ensures { self.new ≡ first_begun applied.now self.old.requests self.old.queue }
+    {
+        self.queue.remove(0);
+        self.running = Some(id);
+        self.requests.mark_running(RequestId(id), applied);
+    }
+
+    /// Ends the frame that is being made (of this project: a driver completes its request): its snapshot has the values that it got at its
+    /// begin, and else these.
+    ///
+    /// - `values`: the present values; the caller owes one for each control, in the order of their numbers.
+    ///
+    /// ENOENT (2) where none is being made. It takes no memory. A refusal changes nothing.
+    pub fn complete(&mut self, values: &[CtrlValue]) -> Result<(), Errno>
+        requires { length values.now ≡ self.old.requests.controls }
+        ensures answer { result ≡ answered (complete_refusal self.old) }
+        ensures frames { self.new ≡ after_complete self.old values.now }
+    {
+        match self.running {
+            Some(id) => {
+                self.complete_one(id, values);
+                Ok(())
+            }
+            None => Err(Errno::ENOENT),
+        }
+    }
+
+    // Ends the frame that is being made.
+    fn complete_one(&mut self, id: u32, values: &[CtrlValue])
+        requires values { length values.now ≡ self.old.requests.controls }
+        requires running { self.old.running ≡ Some id }
+        ensures { self.new ≡ running_done values.now self.old.requests self.old.queue (Some id) }
+    {
+        self.running = None;
+        self.requests.mark_complete(RequestId(id), values);
+    }
+
+    /// Why a request isn't taken from the queue: EINVAL (22) where there is no such request, EBUSY (16) where its frame is being made, EINVAL
+    /// (22) where it doesn't wait.
+    pub fn cancel_refusal(&self, id: RequestId) -> Option<Errno>
+        ensures { result ≡ cancel_refusal (find self.now.requests.all id.0) }
+    {
+        match self.requests.state_of(id) {
+            Ok(RequestState::Queued) => None,
+            Ok(RequestState::Running) => Some(Errno::EBUSY),
+            _ => Some(Errno::EINVAL),
+        }
+    }
+
+    /// Takes a request from the queue (of this project; `VIDIOC_STREAMOFF` does it to all): it is complete, without having run, and its
+    /// snapshot has these values.
+    ///
+    /// - `values`: the present values; the caller owes one for each control, in the order of their numbers.
+    ///
+    /// EINVAL (22) where there is no such request, EBUSY (16) where its frame is being made, EINVAL (22) where it doesn't wait. It takes no
+    /// memory. A refusal changes nothing.
+    pub fn cancel(&mut self, id: RequestId, values: &[CtrlValue]) -> Result<(), Errno>
+        requires { length values.now ≡ self.old.requests.controls }
+        ensures answer { result ≡ answered (cancel_refusal (find self.old.requests.all id.0)) }
+        ensures frames { self.new ≡ unless_refused (cancel_refusal (find self.old.requests.all id.0)) self.old (cancelled self.old id.0 values.now) }
+    {
+        match self.cancel_refusal(id) {
+            Some(errno) => Err(errno),
+            None => {
+                self.cancel_one(id.0, values);
+                Ok(())
+            }
+        }
+    }
+
+    // Takes a request that waits from the queue.
+    fn cancel_one(&mut self, id: u32, values: &[CtrlValue])
+        requires values { length values.now ≡ self.old.requests.controls }
+        requires waits { cancel_refusal (find self.old.requests.all id) ≡ None }
+        ensures { self.new ≡ cancelled self.old id values.now }
+    {
+        leave(&mut self.queue, id);
+        self.requests.mark_complete(RequestId(id), values);
+    }
+
+    /// Stops the stream (`VIDIOC_STREAMOFF`): the request whose frame is being made and all that wait are complete; the first has the values
+    /// that it got at its begin, and else, as the others, these.
+    ///
+    /// - `values`: the present values; the caller owes one for each control, in the order of their numbers.
+    ///
+    /// It takes no memory and refuses nothing.
+    pub fn stream_off(&mut self, values: &[CtrlValue])
+        requires { length values.now ≡ self.old.requests.controls }
+        ensures { self.new ≡ after_off self.old values.now }
+    {
+        let _ = self.complete(values);
+        while let Some(id) = self.next_waiting() {
+            self.end_first(id, values);
+        }
+    }
+
+    // The first request that waits.
+    fn next_waiting(&self) -> Option<u32>
+        ensures { result ≡ slice_get self.now.queue 0 }
+    {
+        self.queue.first().copied()
+    }
+
+    // Completes the first request that waits.
+    fn end_first(&mut self, id: u32, values: &[CtrlValue])
+        requires values { length values.now ≡ self.old.requests.controls }
+        requires first { slice_get self.old.queue 0 ≡ Some id }
+        ensures { self.new ≡ record self.old { requests = changed self.old.requests id (completed values.now); queue = remove self.old.queue 0 } }
+    {
+        self.queue.remove(0);
+        self.requests.mark_complete(RequestId(id), values);
+    }
+
+    /// The number of the device's controls.
+    pub fn controls(&self) -> u32
+        ensures { result ≡ self.now.requests.controls }
+    {
+        self.requests.controls()
+    }
+
+    /// How many requests there are.
+    pub fn count(&self) -> usize
+        ensures { result ≡ length self.now.requests.all }
+    {
+        self.requests.count()
+    }
+
+    /// A request's state; EINVAL (22) where there is no such request.
+    pub fn state_of(&self, id: RequestId) -> Result<RequestState, Errno>
+        ensures { result ≡ state_answer (find self.now.requests.all id.0) }
+    {
+        self.requests.state_of(id)
+    }
+
+    /// The number of the buffer that a request holds, where it has one; EINVAL (22) where there is no such request.
+    pub fn buffer_of(&self, id: RequestId) -> Result<Option<u32>, Errno>
+        ensures { result ≡ buffer_answer (find self.now.requests.all id.0) }
+    {
+        self.requests.buffer_of(id)
+    }
+
+    /// What a request asks for: of each control the last stored pair, in order of control numbers; EINVAL (22) where there is no such request.
+    pub fn asked(&self, id: RequestId) -> Result<&[Pair], Errno>
+        ensures { MatchResult result (λ pairs. asked_answer (find self.now.requests.all id.0) ≡ Ok pairs.now) (λ errno. asked_answer (find self.now.requests.all id.0) ≡ Err errno) }
+    {
+        self.requests.asked(id)
+    }
+
+    /// The value of a control that the frame of a complete request had; EINVAL (22) where there is no such request or no control of this
+    /// number, EACCES (13) where the request isn't complete.
+    pub fn snapshot(&self, id: RequestId, control: u32) -> Result<CtrlValue, Errno>
+        ensures { result ≡ value_answer self.now.requests.controls control (find self.now.requests.all id.0) }
+    {
+        self.requests.snapshot(id, control)
+    }
+
+    /// The value of each control that the frame of a complete request had; EINVAL (22) where there is no such request, EACCES (13) where
+    /// it isn't complete.
+    pub fn snapshot_values(&self, id: RequestId) -> Result<&[CtrlValue], Errno>
+        ensures { MatchResult result (λ values. snapshot_answer (find self.now.requests.all id.0) ≡ Ok values.now) (λ errno. snapshot_answer (find self.now.requests.all id.0) ≡ Err errno) }
+    {
+        self.requests.snapshot_values(id)
+    }
+
+    /// Why no further request is made: ENOSPC (28) where there are 64.
+    pub fn alloc_refusal(&self) -> Option<Errno>
+        ensures { result ≡ alloc_refusal self.now.requests.all }
+    {
+        self.requests.alloc_refusal()
+    }
+
+    /// Why a request takes no settings: EINVAL (22) where there is no such request, EBUSY (16) where it isn't idle.
+    pub fn store_refusal(&self, id: RequestId) -> Option<Errno>
+        ensures { result ≡ store_refusal (find self.now.requests.all id.0) }
+    {
+        self.requests.store_refusal(id)
+    }
+
+    /// Why a request takes no buffer: EINVAL (22) where there is no such request; EBUSY (16) where it isn't idle, has one, or where another
+    /// that isn't complete holds the number.
+    pub fn buffer_refusal(&self, id: RequestId, number: u32) -> Option<Errno>
+        ensures { result ≡ buffer_refusal self.now.requests.all number (find self.now.requests.all id.0) }
+    {
+        self.requests.buffer_refusal(id, number)
+    }
+
+    /// Why a request isn't queued: EINVAL (22) where there is no such request, EBUSY (16) where it isn't idle, ENOENT (2) where it has no
+    /// buffer.
+    pub fn queue_refusal(&self, id: RequestId) -> Option<Errno>
+        ensures { result ≡ queue_refusal (find self.now.requests.all id.0) }
+    {
+        self.requests.queue_refusal(id)
+    }
+
+    /// Why a request is neither made as new nor freed: EINVAL (22) where there is no such request, EBUSY (16) where it is queued or running.
+    pub fn clear_refusal(&self, id: RequestId) -> Option<Errno>
+        ensures { result ≡ clear_refusal (find self.now.requests.all id.0) }
+    {
+        self.requests.clear_refusal(id)
+    }
+
+    /// Makes a request: idle, without a buffer, and with nothing asked (`MEDIA_IOC_REQUEST_ALLOC`). The caller owes an `id` that no request
+    /// has. ENOSPC (28) where there are 64; ENOMEM (12) where a growth was refused. A refusal changes nothing.
+    pub fn alloc(&mut self, id: RequestId) -> Result<(), Errno>
+        requires { find self.old.requests.all id.0 ≡ None }
+        ensures ok { OnOk result ((alloc_refusal self.old.requests.all ≡ None) × (self.new ≡ with_requests self.old (record self.old.requests { all = self.old.requests.all ++ fresh id.0 ∷ [] }))) }
+        ensures err { IfErr result (λ errno. IsRefusedBy (alloc_refusal self.old.requests.all) errno × (self.new ≡ self.old)) }
+    {
+        self.requests.alloc(id)
+    }
+
+    /// Stores values that a request asks for (`VIDIOC_S_EXT_CTRLS` with `V4L2_CTRL_WHICH_REQUEST_VAL`): of each control the last stored pair
+    /// counts.
+    ///
+    /// - `pairs`: any number, a control any number of times; the caller owes numbers of controls.
+    ///
+    /// EINVAL (22) where there is no such request, EBUSY (16) where it isn't idle, ENOMEM (12) where a growth was refused. A refusal changes
+    /// nothing.
+    pub fn store(&mut self, id: RequestId, pairs: &[Pair]) -> Result<(), Errno>
+        requires { All (λ p. p.control < self.old.requests.controls) pairs.now }
+        ensures ok { OnOk result ((store_refusal (find self.old.requests.all id.0) ≡ None) × (self.new ≡ with_requests self.old (changed self.old.requests id.0 (with_pairs self.old.requests.controls pairs.now)))) }
+        ensures err { IfErr result (λ errno. IsRefusedBy (store_refusal (find self.old.requests.all id.0)) errno × (self.new ≡ self.old)) }
+    {
+        self.requests.store(id, pairs)
+    }
+
+    /// Gives a request the buffer with a number (`VIDIOC_QBUF` with `request_fd`; that it has one, and that no two hold a number, is of this
+    /// project). EINVAL (22) where there is no such request; EBUSY (16) where it isn't idle, has a buffer, or another that isn't complete
+    /// holds the number. It takes no memory. A refusal changes nothing.
+    pub fn add_buffer(&mut self, id: RequestId, number: u32) -> Result<(), Errno>
+        ensures answer { result ≡ answered (buffer_refusal self.old.requests.all number (find self.old.requests.all id.0)) }
+        ensures frames { self.new ≡ with_requests self.old (unless (buffer_refusal self.old.requests.all number (find self.old.requests.all id.0)) self.old.requests (changed self.old.requests id.0 (with_buffer number))) }
+    {
+        self.requests.add_buffer(id, number)
+    }
+
+    /// Makes a request as new (`MEDIA_REQUEST_IOC_REINIT`). EINVAL (22) where there is no such request, EBUSY (16) where it is queued or
+    /// running. It takes no memory. A refusal changes nothing.
+    pub fn reinit(&mut self, id: RequestId) -> Result<(), Errno>
+        ensures answer { result ≡ answered (clear_refusal (find self.old.requests.all id.0)) }
+        ensures frames { self.new ≡ with_requests self.old (unless (clear_refusal (find self.old.requests.all id.0)) self.old.requests (changed self.old.requests id.0 cleared)) }
+    {
+        self.requests.reinit(id)
+    }
+
+    /// Lets a request go (`close` of its descriptor; that a queued or running one is refused is of this project). EINVAL (22) where there is
+    /// no such request, EBUSY (16) where it is queued or running. It takes no memory. A refusal changes nothing.
+    pub fn free(&mut self, id: RequestId) -> Result<(), Errno>
+        ensures answer { result ≡ answered (clear_refusal (find self.old.requests.all id.0)) }
+        ensures frames { self.new ≡ with_requests self.old (unless (clear_refusal (find self.old.requests.all id.0)) self.old.requests (record self.old.requests { all = without id.0 self.old.requests.all })) }
+    {
+        self.requests.free(id)
+    }
+}
+
+// Takes a number out.
+fn leave(ids: &mut Vec<u32>, id: u32)
+    ensures { ids.new.items ≡ filter (λ j. not (nat_eq id j)) ids.old.items }
+{
+    ids.retain(|other| id != *other);
+}

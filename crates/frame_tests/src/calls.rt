@@ -1,0 +1,125 @@
+//! Calls of a queue of frames over three controls, and looks at it.
+
+use ctrl_types::{CtrlValue, Errno, Pair, RequestId};
+use frame_queue::{Frames, RequestState};
+
+/// How many controls there are.
+pub(crate) const CONTROLS: u32 = 3;
+
+/// A call. A frame ends at a value that each control then has.
+#[derive(Clone, Copy, Debug)]
+pub(crate) enum Call {
+    Alloc(u32),
+    Store(u32, &'static [Pair]),
+    Buffer(u32, u32),
+    Queue(u32),
+    Begin(&'static [Pair]),
+    Complete(CtrlValue),
+    Cancel(u32, CtrlValue),
+    Off(CtrlValue),
+    Reinit(u32),
+    Free(u32),
+}
+
+/// A look.
+#[derive(Clone, Copy, Debug)]
+pub(crate) enum Look {
+    State(u32, RequestState),
+    Gone(u32),
+    Holds(u32, Option<u32>),
+    Asks(u32, &'static [Pair]),
+    Had(u32, &'static [CtrlValue]),
+    HadNothing(u32, Errno),
+    HadValue(u32, u32, Result<CtrlValue, Errno>),
+    Waits(&'static [u32]),
+    Runs(Option<u32>),
+    Count(usize),
+}
+
+/// What a call answers; a begin the number of its frame's buffer, every other call 0. A call that its caller owes something else isn't made,
+/// and answers ERANGE.
+pub(crate) fn answer(frames: &mut Frames, call: Call) -> Result<u32, Errno> {
+    match call {
+        Call::Alloc(id) => alloc(frames, RequestId(id)),
+        Call::Store(id, pairs) => store(frames, RequestId(id), pairs),
+        Call::Buffer(id, number) => done(frames.add_buffer(RequestId(id), number)),
+        Call::Queue(id) => done(frames.queue(RequestId(id))),
+        Call::Begin(applied) => match frames.begin(applied) {
+            Ok((_, number)) => Ok(number),
+            Err(errno) => Err(errno),
+        },
+        Call::Complete(value) if frames.controls() == CONTROLS => {
+            done(frames.complete([value; 3].as_slice()))
+        }
+        Call::Cancel(id, value) if frames.controls() == CONTROLS => {
+            done(frames.cancel(RequestId(id), [value; 3].as_slice()))
+        }
+        Call::Off(value) if frames.controls() == CONTROLS => {
+            frames.stream_off([value; 3].as_slice());
+            Ok(0)
+        }
+        Call::Complete(_) | Call::Cancel(_, _) | Call::Off(_) => Err(Errno::ERANGE),
+        Call::Reinit(id) => done(frames.reinit(RequestId(id))),
+        Call::Free(id) => done(frames.free(RequestId(id))),
+    }
+}
+
+fn done(answer: Result<(), Errno>) -> Result<u32, Errno> {
+    match answer {
+        Ok(()) => Ok(0),
+        Err(errno) => Err(errno),
+    }
+}
+
+fn alloc(frames: &mut Frames, id: RequestId) -> Result<u32, Errno> {
+    match frames.state_of(id) {
+        Ok(_) => Err(Errno::ERANGE),
+        Err(_) => done(frames.alloc(id)),
+    }
+}
+
+fn store(frames: &mut Frames, id: RequestId, pairs: &[Pair]) -> Result<u32, Errno> {
+    let controls = frames.controls();
+    if pairs.iter().all(|pair| pair.control < controls) {
+        done(frames.store(id, pairs))
+    } else {
+        Err(Errno::ERANGE)
+    }
+}
+
+/// Whether a look shows what it says.
+pub(crate) fn shows(frames: &Frames, look: Look) -> bool {
+    match look {
+        Look::State(id, state) => frames.state_of(RequestId(id)) == Ok(state),
+        Look::Gone(id) => frames.state_of(RequestId(id)) == Err(Errno::EINVAL),
+        Look::Holds(id, number) => frames.buffer_of(RequestId(id)) == Ok(number),
+        Look::Asks(id, pairs) => match frames.asked(RequestId(id)) {
+            Ok(asked) => asked == pairs,
+            Err(_) => false,
+        },
+        Look::Had(id, values) => match frames.snapshot_values(RequestId(id)) {
+            Ok(snapshot) => snapshot == values,
+            Err(_) => false,
+        },
+        Look::HadNothing(id, errno) => match frames.snapshot_values(RequestId(id)) {
+            Ok(_) => false,
+            Err(refusal) => refusal == errno,
+        },
+        Look::HadValue(id, control, value) => frames.snapshot(RequestId(id), control) == value,
+        Look::Waits(ids) => waits(frames, ids),
+        Look::Runs(id) => match frames.running() {
+            Some(running) => id == Some(running.0),
+            None => id.is_none(),
+        },
+        Look::Count(count) => frames.count() == count,
+    }
+}
+
+fn waits(frames: &Frames, ids: &[u32]) -> bool {
+    for (place, id) in ids.iter().enumerate() {
+        if frames.queued(place) != Some(RequestId(*id)) {
+            return false;
+        }
+    }
+    frames.queue_len() == ids.len() && frames.queued(ids.len()).is_none()
+}

@@ -1,0 +1,3 @@
+pub mod ObjectLemmas
+pub mod SettingLemmas
+pub mod FindLemmas

@@ -1,0 +1,7 @@
+use Rattle.std.proofs.Common.{refl}
+use Rattle.req_book.specs.Objects.{requests_in}
+use Rattle.req_book.proofs.objects.Objects.new.Goals as goal
+
+pub returns : goal.returns
+unfolding requests_in
+returns c = rw c.new.ensures.empty refl

@@ -1,0 +1,11 @@
+use Rattle.std.proofs.Common.{◌≡◌, map, take, length}
+use Rattle.std.specs.List.{range_with_len}
+use Rattle.ctrl_types.specs.Pairs.{last_value}
+use Rattle.req_book.proofs.settings.apply.Given as goal
+
+-- the controls so far have what they got
+abbrev pub invariant-loop-control : goal.invariant-loop-control
+invariant-loop-control l = record {
+  so_far : take l.control l.applied.items ≡ map (last_value l.pairs) (range_with_len 0 l.control);
+  long : length l.applied.items ≡ length l.initial.applied.items;
+}

@@ -1,0 +1,114 @@
+ghost use Rattle.std.specs.Prelude.{◌≡◌, ◌&&◌, ◌<◌, length, not, [], None, Some, Ok, Err, is_some, if◌then◌else◌, MatchResult};
+ghost use Rattle.ctrl_types.specs.declared.errno.Errno.TheVariants.{EACCES, EBUSY};
+ghost use Rattle.req_book.specs.Refusals.{store_refusal, queue_refusal, clear_refusal, snapshot_answer};
+ghost use Rattle.req_book.specs.Objects.{request_at};
+ghost use Rattle.req_book.specs.Requests.{is_number, is_idle, is_complete, value_in};
+ghost use Rattle.req_book.specs.declared.state.RequestState.TheVariants as states;
+
+use crate::state::RequestState;
+use ctrl_types::{CtrlValue, Errno, Pair};
+use std::alloc::Global;
+
+/// What is kept of a media request.
+#[derive(Drop)]
+pub(crate) struct Object {
+    pub(crate) state: RequestState,
+    /// The number of the buffer that it holds.
+    pub(crate) buffer: Option<u32>,
+    /// What it asks for: of each control the last stored pair, in order of control numbers.
+    pub(crate) pairs: Vec<Pair>,
+    /// From its queueing on: what each control got at its begin, where it did.
+    pub(crate) applied: Vec<Option<CtrlValue>>,
+    /// From its queueing on: room for a value of each control; of a complete one the values that its frame had.
+    pub(crate) values: Vec<CtrlValue>,
+}
+
+impl Object {
+    /// A new one. It takes no memory.
+    pub(crate) fn new(alloc: Global) -> Object
+        ensures state { result.state ≡ states.Idle }
+        ensures buffer { result.buffer ≡ None }
+        ensures pairs { result.pairs.items ≡ [] }
+        ensures applied { result.applied.items ≡ [] }
+    {
+        Object {
+            state: RequestState::Idle,
+            buffer: None,
+            pairs: Vec::new(alloc),
+            applied: Vec::new(alloc),
+            values: Vec::new(alloc),
+        }
+    }
+
+    /// Whether it holds a buffer number, which a complete one doesn't.
+    pub(crate) fn holds(&self, number: u32) -> bool
+        ensures { result ≡ (is_number self.now.buffer number && not (is_complete self.now.state)) }
+    {
+        self.buffer == Some(number) && self.state != RequestState::Complete
+    }
+
+    /// Why it takes no settings.
+    pub(crate) fn store_refusal(&self) -> Option<Errno>
+        ensures { result ≡ store_refusal (Some (request_at 0 self.now)) }
+    {
+        match self.state {
+            RequestState::Idle => None,
+            _ => Some(Errno::EBUSY),
+        }
+    }
+
+    /// Why it takes no buffer, where the number is held or not.
+    pub(crate) fn buffer_refusal(&self, is_held: bool) -> Option<Errno>
+        ensures { result ≡ (if not (is_idle self.now.state) then Some EBUSY else if is_some self.now.buffer then Some EBUSY else if is_held then Some EBUSY else None) }
+    {
+        if self.state != RequestState::Idle || self.buffer.is_some() || is_held {
+            Some(Errno::EBUSY)
+        } else {
+            None
+        }
+    }
+
+    /// Why it isn't queued.
+    pub(crate) fn queue_refusal(&self) -> Option<Errno>
+        ensures { result ≡ queue_refusal (Some (request_at 0 self.now)) }
+    {
+        if self.state != RequestState::Idle {
+            Some(Errno::EBUSY)
+        } else if self.buffer.is_none() {
+            Some(Errno::ENOENT)
+        } else {
+            None
+        }
+    }
+
+    /// Why it is neither made as new nor freed.
+    pub(crate) fn clear_refusal(&self) -> Option<Errno>
+        ensures { result ≡ clear_refusal (Some (request_at 0 self.now)) }
+    {
+        match self.state {
+            RequestState::Queued | RequestState::Running => Some(Errno::EBUSY),
+            _ => None,
+        }
+    }
+
+    /// What its frame had.
+    pub(crate) fn snapshot(&self) -> Result<&[CtrlValue], Errno>
+        ensures { MatchResult result (λ values. snapshot_answer (Some (request_at 0 self.now)) ≡ Ok values.now) (λ errno. snapshot_answer (Some (request_at 0 self.now)) ≡ Err errno) }
+    {
+        match self.state {
+            RequestState::Complete => Ok(self.values.as_slice()),
+            _ => Err(Errno::EACCES),
+        }
+    }
+
+    /// The value of a control that its frame had. The caller owes a number below that of the device's controls.
+    pub(crate) fn value_of(&self, control: u32) -> Result<CtrlValue, Errno>
+        requires { self.now.state ≡ states.Complete → control < length self.now.values.items }
+        ensures { result ≡ (if is_complete self.now.state then Ok (value_in self.now.values.items control) else Err EACCES) }
+    {
+        match self.state {
+            RequestState::Complete => Ok(self.values[control as usize]),
+            _ => Err(Errno::EACCES),
+        }
+    }
+}

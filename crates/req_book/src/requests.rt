@@ -1,0 +1,303 @@
+ghost use Rattle.std.specs.Prelude.{◌≡◌, ◌++◌, ◌<◌, ◌∷◌, [], length, None, Ok, Err, true, IfErr, IfSome, OnOk, MatchResult};
+ghost use Rattle.std.specs.List.{All};
+ghost use Rattle.req_book.specs.declared.state.RequestState.TheVariants as states;
+ghost use Rattle.req_book.specs.Requests.{find, changed, with_pairs, with_buffer, cleared, queued, begun, completed, is_pending, is_held, without, fresh};
+ghost use Rattle.req_book.specs.Refusals.{alloc_refusal, store_refusal, buffer_refusal, queue_refusal, clear_refusal, state_answer, buffer_answer, asked_answer, snapshot_answer, value_answer, IsRefusedBy, answered, unless};
+
+use crate::limits::MAX_REQUESTS;
+use crate::objects::Objects;
+use crate::settings::latest;
+use crate::state::RequestState;
+use ctrl_types::{CtrlValue, Errno, Pair, RequestId};
+use std::alloc::Global;
+use std::marker::Model;
+
+/// The media requests of a device (Linux userspace API, "Request API"). Contracts see each request's state, its buffer, what it asks for,
+/// and what its frame had, in the order in which the requests were allocated.
+#[derive(Drop)]
+pub struct Requests {
+    objects: Objects,
+    alloc: Global,
+}
+
+impl Model for Requests {
+    ghost use Rattle.req_book.specs.Requests.{RequestsData};
+
+    ghost Value = { RequestsData };
+
+    ghost view = { λ r. r.objects };
+}
+
+impl Requests {
+    /// No request is there. `controls` is the number of the device's controls. It takes no memory; other calls take theirs from `alloc`.
+    pub fn new(alloc: Global, controls: u32) -> Requests
+        ensures { result ≡ record { controls = controls; all = [] } }
+    {
+        Requests {
+            objects: Objects::new(alloc, controls),
+            alloc,
+        }
+    }
+
+    /// The number of the device's controls.
+    pub fn controls(&self) -> u32
+        ensures { result ≡ self.now.controls }
+    {
+        self.objects.controls()
+    }
+
+    /// How many requests there are.
+    pub fn count(&self) -> usize
+        ensures { result ≡ length self.now.all }
+    {
+        self.objects.count()
+    }
+
+    /// A request's state; EINVAL (22) where there is no such request.
+    pub fn state_of(&self, id: RequestId) -> Result<RequestState, Errno>
+        ensures { result ≡ state_answer (find self.now.all id.0) }
+    {
+        match self.objects.get(id.0) {
+            Some(object) => Ok(object.state),
+            None => Err(Errno::EINVAL),
+        }
+    }
+
+    /// The number of the buffer that a request holds, where it has one; EINVAL (22) where there is no such request.
+    pub fn buffer_of(&self, id: RequestId) -> Result<Option<u32>, Errno>
+        ensures { result ≡ buffer_answer (find self.now.all id.0) }
+    {
+        match self.objects.get(id.0) {
+            Some(object) => Ok(object.buffer),
+            None => Err(Errno::EINVAL),
+        }
+    }
+
+    /// Whether a request that isn't complete holds a buffer number.
+    pub fn is_held(&self, number: u32) -> bool
+        ensures { result ≡ is_held self.now.all number }
+    {
+        self.objects.is_held(number)
+    }
+
+    /// What a request asks for: of each control the last stored pair, in order of control numbers; EINVAL (22) where there is no such request.
+    pub fn asked(&self, id: RequestId) -> Result<&[Pair], Errno>
+        ensures { MatchResult result (λ pairs. asked_answer (find self.now.all id.0) ≡ Ok pairs.now) (λ errno. asked_answer (find self.now.all id.0) ≡ Err errno) }
+    {
+        match self.objects.get(id.0) {
+            Some(object) => Ok(object.pairs.as_slice()),
+            None => Err(Errno::EINVAL),
+        }
+    }
+
+    /// The value of each control that the frame of a complete request had; EINVAL (22) where there is no such request, EACCES (13) where
+    /// it isn't complete.
+    pub fn snapshot_values(&self, id: RequestId) -> Result<&[CtrlValue], Errno>
+        ensures { MatchResult result (λ values. snapshot_answer (find self.now.all id.0) ≡ Ok values.now) (λ errno. snapshot_answer (find self.now.all id.0) ≡ Err errno) }
+    {
+        match self.objects.get(id.0) {
+            Some(object) => object.snapshot(),
+            None => Err(Errno::EINVAL),
+        }
+    }
+
+    /// Why no further request is made: ENOSPC (28) where there are 64.
+    pub fn alloc_refusal(&self) -> Option<Errno>
+        ensures { result ≡ alloc_refusal self.now.all }
+    {
+        if self.objects.count() >= MAX_REQUESTS {
+            Some(Errno::ENOSPC)
+        } else {
+            None
+        }
+    }
+
+    /// Why a request takes no settings: EINVAL (22) where there is no such request, EBUSY (16) where it isn't idle.
+    pub fn store_refusal(&self, id: RequestId) -> Option<Errno>
+        ensures { result ≡ store_refusal (find self.now.all id.0) }
+    {
+        match self.objects.get(id.0) {
+            Some(object) => object.store_refusal(),
+            None => Some(Errno::EINVAL),
+        }
+    }
+
+    /// Why a request takes no buffer: EINVAL (22) where there is no such request; EBUSY (16) where it isn't idle, has one, or where another
+    /// that isn't complete holds the number.
+    pub fn buffer_refusal(&self, id: RequestId, number: u32) -> Option<Errno>
+        ensures { result ≡ buffer_refusal self.now.all number (find self.now.all id.0) }
+    {
+        match self.objects.get(id.0) {
+            Some(object) => object.buffer_refusal(self.objects.is_held(number)),
+            None => Some(Errno::EINVAL),
+        }
+    }
+
+    /// Why a request isn't queued: EINVAL (22) where there is no such request, EBUSY (16) where it isn't idle, ENOENT (2) where it has no
+    /// buffer.
+    pub fn queue_refusal(&self, id: RequestId) -> Option<Errno>
+        ensures { result ≡ queue_refusal (find self.now.all id.0) }
+    {
+        match self.objects.get(id.0) {
+            Some(object) => object.queue_refusal(),
+            None => Some(Errno::EINVAL),
+        }
+    }
+
+    /// Why a request is neither made as new nor freed: EINVAL (22) where there is no such request, EBUSY (16) where it is queued or running.
+    pub fn clear_refusal(&self, id: RequestId) -> Option<Errno>
+        ensures { result ≡ clear_refusal (find self.now.all id.0) }
+    {
+        match self.objects.get(id.0) {
+            Some(object) => object.clear_refusal(),
+            None => Some(Errno::EINVAL),
+        }
+    }
+
+    /// The value of a control that the frame of a complete request had.
+    ///
+    /// - `control`: the number of a control.
+    ///
+    /// EINVAL (22) where there is no such request or no such control, EACCES (13) where the request isn't complete.
+    pub fn snapshot(&self, id: RequestId, control: u32) -> Result<CtrlValue, Errno>
+        ensures { result ≡ value_answer self.now.controls control (find self.now.all id.0) }
+    {
+        match self.objects.get(id.0) {
+            Some(object) if control < self.objects.controls() => object.value_of(control),
+            _ => Err(Errno::EINVAL),
+        }
+    }
+
+    /// Makes a request: idle, without a buffer, and with nothing asked (`MEDIA_IOC_REQUEST_ALLOC`). The caller owes an `id` that no request
+    /// has. ENOSPC (28) where there are 64; ENOMEM (12) where a growth was refused. A refusal changes nothing.
+    pub fn alloc(&mut self, id: RequestId) -> Result<(), Errno>
+        requires { find self.old.all id.0 ≡ None }
+        ensures ok { OnOk result ((alloc_refusal self.old.all ≡ None) × (self.new ≡ record self.old { all = self.old.all ++ fresh id.0 ∷ [] })) }
+        ensures err { IfErr result (λ errno. IsRefusedBy (alloc_refusal self.old.all) errno × (self.new ≡ self.old)) }
+    {
+        match self.alloc_refusal() {
+            Some(errno) => Err(errno),
+            None => match self.objects.add(self.alloc, id.0) {
+                Ok(()) => Ok(()),
+                Err(_) => Err(Errno::ENOMEM),
+            },
+        }
+    }
+
+    /// Stores values that a request asks for (`VIDIOC_S_EXT_CTRLS` with `V4L2_CTRL_WHICH_REQUEST_VAL`): of each control the last stored pair
+    /// counts.
+    ///
+    /// - `pairs`: any number, a control any number of times; the caller owes numbers of controls.
+    ///
+    /// EINVAL (22) where there is no such request, EBUSY (16) where it isn't idle, ENOMEM (12) where a growth was refused. A refusal changes
+    /// nothing.
+    pub fn store(&mut self, id: RequestId, pairs: &[Pair]) -> Result<(), Errno>
+        requires { All (λ p. p.control < self.old.controls) pairs.now }
+        ensures ok { OnOk result ((store_refusal (find self.old.all id.0) ≡ None) × (self.new ≡ changed self.old id.0 (with_pairs self.old.controls pairs.now))) }
+        ensures err { IfErr result (λ errno. IsRefusedBy (store_refusal (find self.old.all id.0)) errno × (self.new ≡ self.old)) }
+    {
+        match self.store_refusal(id) {
+            Some(errno) => Err(errno),
+            None => match self.objects.store(self.alloc, id.0, pairs) {
+                Ok(()) => Ok(()),
+                Err(_) => Err(Errno::ENOMEM),
+            },
+        }
+    }
+
+    /// Gives a request the buffer with a number (`VIDIOC_QBUF` with `request_fd`; that it has one, and that no two hold a number, is of this
+    /// project). EINVAL (22) where there is no such request; EBUSY (16) where it isn't idle, has a buffer, or another that isn't complete
+    /// holds the number. It takes no memory. A refusal changes nothing.
+    pub fn add_buffer(&mut self, id: RequestId, number: u32) -> Result<(), Errno>
+        ensures answer { result ≡ answered (buffer_refusal self.old.all number (find self.old.all id.0)) }
+        ensures requests { self.new ≡ unless (buffer_refusal self.old.all number (find self.old.all id.0)) self.old (changed self.old id.0 (with_buffer number)) }
+    {
+        match self.buffer_refusal(id, number) {
+            Some(errno) => Err(errno),
+            None => {
+                self.objects.set_buffer(id.0, number);
+                Ok(())
+            }
+        }
+    }
+
+    /// Makes a request as new (`MEDIA_REQUEST_IOC_REINIT`). EINVAL (22) where there is no such request, EBUSY (16) where it is queued or
+    /// running. It takes no memory. A refusal changes nothing.
+    pub fn reinit(&mut self, id: RequestId) -> Result<(), Errno>
+        ensures answer { result ≡ answered (clear_refusal (find self.old.all id.0)) }
+        ensures requests { self.new ≡ unless (clear_refusal (find self.old.all id.0)) self.old (changed self.old id.0 cleared) }
+    {
+        match self.clear_refusal(id) {
+            Some(errno) => Err(errno),
+            None => {
+                self.objects.clear(id.0);
+                Ok(())
+            }
+        }
+    }
+
+    /// Lets a request go (`close` of its descriptor; that a queued or running one is refused is of this project). EINVAL (22) where there is
+    /// no such request, EBUSY (16) where it is queued or running. It takes no memory. A refusal changes nothing.
+    pub fn free(&mut self, id: RequestId) -> Result<(), Errno>
+        ensures answer { result ≡ answered (clear_refusal (find self.old.all id.0)) }
+        ensures requests { self.new ≡ unless (clear_refusal (find self.old.all id.0)) self.old (record self.old { all = without id.0 self.old.all }) }
+    {
+        match self.clear_refusal(id) {
+            Some(errno) => Err(errno),
+            None => {
+                self.objects.remove(id.0);
+                Ok(())
+            }
+        }
+    }
+
+    /// Marks a request as one that waits for its frame (`MEDIA_REQUEST_IOC_QUEUE`), and makes room for what its frame will have. For the
+    /// queue of frames alone. EINVAL (22) where there is no such request, EBUSY (16) where it isn't idle, ENOENT (2) where it has no buffer,
+    /// ENOMEM (12) where a growth was refused. A refusal changes nothing.
+    pub fn mark_queued(&mut self, id: RequestId) -> Result<(), Errno>
+        ensures ok { OnOk result ((queue_refusal (find self.old.all id.0) ≡ None) × (self.new ≡ changed self.old id.0 (queued self.old.controls))) }
+        ensures err { IfErr result (λ errno. IsRefusedBy (queue_refusal (find self.old.all id.0)) errno × (self.new ≡ self.old)) }
+    {
+        match self.queue_refusal(id) {
+            Some(errno) => Err(errno),
+            None => {
+                let controls = self.objects.controls() as usize;
+                let (Ok(applied), Ok(values)) = (
+                    vec![in self.alloc; None; controls],
+                    vec![in self.alloc; 0; controls],
+                ) else {
+                    return Err(Errno::ENOMEM);
+                };
+                self.objects.enqueue(id.0, applied, values);
+                Ok(())
+            }
+        }
+    }
+
+    /// Marks a request as the one whose frame is being made, in which controls got values. For the queue of frames alone. The caller owes a
+    /// queued one.
+    ///
+    /// - `applied`: the values that controls got; the last pair of a control counts.
+    ///
+    /// It takes no memory and refuses nothing.
+    pub fn mark_running(&mut self, id: RequestId, applied: &[Pair])
+        requires { IfSome (find self.old.all id.0) (λ r. r.state ≡ states.Queued) }
+        ensures { self.new ≡ changed self.old id.0 (begun self.old.controls applied.now) }
+    {
+        self.objects.begin(id.0, applied);
+    }
+
+    /// Marks a request as complete, whose frame has the values that it got at its begin, and else those that are handed in. For the queue of
+    /// frames alone. The caller owes a queued or a running one.
+    ///
+    /// - `values`: the present values; the caller owes one for each control, in the order of their numbers.
+    ///
+    /// It takes no memory and refuses nothing.
+    pub fn mark_complete(&mut self, id: RequestId, values: &[CtrlValue])
+        requires state { IfSome (find self.old.all id.0) (λ r. is_pending r.state ≡ true) }
+        requires values { length values.now ≡ self.old.controls }
+        ensures { self.new ≡ changed self.old id.0 (completed values.now) }
+    {
+        self.objects.complete(id.0, values);
+    }
+}
