@@ -6,9 +6,8 @@ ghost use Rattle.ctrl_calls.specs.Meanings.{JudgesBy, TellsBy};
 
 use command_line::{Mode, ModeFault, mode_of};
 use ctl_script::{
-    BALANCE_LIMIT, BRIGHTNESS_WORDS, BUTTON_WORDS, GAIN_LIMIT, PAIR_WORDS, Sample,
-    balance_verdict, brightness_word, button_word, gain_verdict, pair_word, run_script,
-    sample_plan,
+    BALANCE_LIMIT, BRIGHTNESS_WORDS, BUTTON_WORDS, GAIN_LIMIT, PAIR_WORDS, Sample, balance_verdict,
+    brightness_word, button_word, gain_verdict, pair_word, run_script, sample_plan,
 };
 use ctrl_calls::{Calls, ClusterRow, Driver, Notifier, Validator, Verdict};
 use device_state::Device;

@@ -1,7 +1,7 @@
 -- The queue has exactly the queued requests, and the running one runs: each call keeps it so.
-use Rattle.std.proofs.Common.{◌≡◌, ◌≢◌, ℕ, ◌∙◌, ◌||◌, Bool, true, false, not, cond, inl, inr, List, [], ◌∷◌, ◌++◌, filter, Option, None, Some, Result, Ok, Err, OnOk, IfErr, nat_eq, eq-eqb, refl, sym, ap, subst, slice_get, remove, if◌then◌else◌}
+use Rattle.std.proofs.Common.{◌≡◌, ◌≢◌, ℕ, ◌∙◌, ◌||◌, Bool, true, false, not, cond, inl, inr, List, [], ◌∷◌, ◌++◌, filter, Option, None, Some, is_some, Result, Ok, Err, OnOk, IfErr, nat_eq, eq-eqb, refl, sym, ap, subst, slice_get, remove, if◌then◌else◌}
 use Rattle.std.specs.List.{list_any}
-use Rattle.std.specs.Option.{option_map, option_or}
+use Rattle.std.specs.Option.{option_map, option_or, is_none}
 use Rattle.std.proofs.lemmas.Bool.{or_from, or_parts}
 use Rattle.std.proofs.lemmas.Bool.Decides.{eqb_tells}
 use Rattle.std.proofs.lemmas.List.Folds.{list_any-append}
@@ -9,7 +9,7 @@ use Rattle.std.proofs.lemmas.Map.Views.{any-filter_same}
 use Rattle.ctrl_types.specs.Values.{CtrlValue}
 use Rattle.ctrl_types.specs.declared.errno.Errno.{Errno}
 use Rattle.ctrl_types.specs.declared.ids.Pair.{Pair}
-use Rattle.ctrl_types.specs.declared.errno.Errno.TheVariants.{EBUSY, EINVAL}
+use Rattle.ctrl_types.specs.declared.errno.Errno.TheVariants.{EBUSY, EINVAL, ENOENT}
 use Rattle.req_book.specs.declared.state.RequestState.{RequestState}
 use Rattle.req_book.specs.declared.state.RequestState.TheVariants.{Idle, Queued, Running, Complete}
 use Rattle.req_book.specs.Requests.{RequestData, RequestsData, find, with_request, changed, queued, begun, completed, cleared, fresh, without, is_pending, is_number}
@@ -37,9 +37,26 @@ or_off false = refl
 pub kept_changed : (old : FramesData) (id : ℕ) (f : RequestData → RequestData) (queue : List ℕ) (running : Option ℕ) → AreFrames old → ((r : RequestData) → (f r).id ≡ r.id) → AreOnce queue
     → ((j : ℕ) → id ≢ j → list_any (nat_eq j) queue ≡ list_any (nat_eq j) old.queue) → list_any (nat_eq id) queue ≡ is_in is_queued (option_map f (find old.requests.all id))
     → ((j : ℕ) → id ≢ j → is_number running j ≡ is_number old.running j) → is_number running id ≡ is_in is_running (option_map f (find old.requests.all id))
+    → ((r : RequestData) → find old.requests.all id ≡ Some r → is_queued (f r).state ≡ true → is_some (f r).buffer ≡ true)
     → AreFrames (record { requests = changed old.requests id f; queue = queue; running = running })
-kept_changed old id f queue running kept keeps once others own runs_others runs_own = record { once = once; waits = λ j. waits j (eqb_tells id j); runs = λ j. runs j (eqb_tells id j) }
+kept_changed old id f queue running kept keeps once others own runs_others runs_own holds =
+    record { once = once; waits = λ j. waits j (eqb_tells id j); runs = λ j. runs j (eqb_tells id j); buffers = λ j r there waiting. buffers j r (eqb_tells id j) there waiting }
   where
+    mapped : (r : RequestData) (o : Option RequestData) → find old.requests.all id ≡ o → option_map f o ≡ Some r → is_queued r.state ≡ true → is_some r.buffer ≡ true
+    mapped r None is there = cc
+    mapped r (Some q) is there = subst (λ (x : RequestData). is_queued x.state ≡ true → is_some x.buffer ≡ true) (same (f q) r there) (holds q is)
+      where
+        same : (a b : RequestData) → Some a ≡ Some b → a ≡ b
+        same a b h = cc
+
+    buffers : (j : ℕ) (r : RequestData) → Tells id j → find (with_request id f old.requests.all) j ≡ Some r → is_queued r.state ≡ true → is_some r.buffer ≡ true
+    buffers j r (inl same) there =
+        let is : find (with_request id f old.requests.all) j ≡ option_map f (find old.requests.all j) = rw same.0 at (find_changed old.requests.all id f j keeps) in
+        mapped r (find old.requests.all id) refl (ap (λ i. option_map f (find old.requests.all i)) same.1 ∙ sym is ∙ there)
+    buffers j r (inr other) there =
+        let is : find (with_request id f old.requests.all) j ≡ find old.requests.all j = rw other.0 at (find_changed old.requests.all id f j keeps) in
+        kept.buffers j r (sym is ∙ there)
+
     waits : (j : ℕ) → Tells id j → list_any (nat_eq j) queue ≡ is_in is_queued (find (with_request id f old.requests.all) j)
     waits j (inl same) =
         let is : find (with_request id f old.requests.all) j ≡ option_map f (find old.requests.all j) = rw same.0 at (find_changed old.requests.all id f j keeps) in
@@ -93,6 +110,13 @@ queued_kept old id kept passes = by (find old.requests.all id) refl passes
     by None is passes = cc
     by (Some r) is passes = idle r.state refl
       where
+        same : (a b : RequestData) → Some a ≡ Some b → a ≡ b
+        same a b h = cc
+
+        buffered : (b : Option ℕ) → (if is_none b then Some ENOENT else None) ≡ None → is_some b ≡ true
+        buffered None h = cc
+        buffered (Some n) h = refl
+
         idle : (s : RequestState) → r.state ≡ s → AreFrames (queued_last old id)
         idle Idle state =
             let off : list_any (nat_eq id) old.queue ≡ false = kept.waits id ∙ ap (is_in is_queued) is ∙ ap is_queued state in
@@ -102,6 +126,7 @@ queued_kept old id kept passes = by (find old.requests.all id) refl passes
             (list_any-append (nat_eq id) old.queue (id ∷ []) ∙ ap (λ b. b || (nat_eq id id || false)) off ∙ ap (λ b. b || false) (eq-eqb id id refl) ∙ sym (ap (λ o. is_in is_queued (option_map (queued old.requests.controls) o)) is))
             (λ j differ. refl)
             (still ∙ sym (ap (λ o. is_in is_running (option_map (queued old.requests.controls) o)) is))
+            (λ q there waiting. ap (λ (x : RequestData). is_some x.buffer) (same q r (sym there ∙ is)) ∙ buffered r.buffer (rw state at passes))
         idle Queued state = absurd (refused (rw state at passes))
           where
             refused : Some EBUSY ≡ None → ⊥
@@ -156,6 +181,7 @@ begun_kept old id ids applied kept first none =
     (once.0 ∙ sym (off (find old.requests.all id)))
     (λ j differ. other (eqb_tells id j) differ ∙ ap (λ o. is_number o j) (sym none))
     (eq-eqb id id refl ∙ runs (find old.requests.all id) was)
+    (λ r there waiting. clash (sym waiting))
   where
     off : (o : Option RequestData) → is_in is_queued (option_map (begun old.requests.controls applied) o) ≡ false
     off None = refl
@@ -180,6 +206,7 @@ ended_kept old id ids values kept first =
     (once.0 ∙ sym (not_queued values (find old.requests.all id)))
     (λ j differ. refl)
     (kept.runs id ∙ waits_only (find old.requests.all id) (sym was) ∙ sym (not_running values (find old.requests.all id)))
+    (λ r there waiting. clash (sym waiting))
 
 -- the one that runs is complete
 pub completed_kept : (old : FramesData) (id : ℕ) (values : List CtrlValue) → AreFrames old → old.running ≡ Some id
@@ -190,6 +217,7 @@ completed_kept old id values kept running =
     (kept.waits id ∙ runs_only (find old.requests.all id) (sym was) ∙ sym (not_queued values (find old.requests.all id)))
     (λ j differ. sym (other (eqb_tells id j) differ) ∙ ap (λ o. is_number o j) (sym running))
     (sym (not_running values (find old.requests.all id)))
+    (λ r there waiting. clash (sym waiting))
   where
     other : {j : ℕ} → Tells id j → id ≢ j → nat_eq id j ≡ false
     other (inl same) differ = absurd (differ same.1)
@@ -204,6 +232,7 @@ cancelled_kept old id values kept passes =
     (any-filter_same (nat_eq id) (λ k. not (nat_eq id k)) false (λ k is. ap not is) old.queue ∙ sym (not_queued values (find old.requests.all id)))
     (λ j differ. refl)
     (kept.runs id ∙ waits_only (find old.requests.all id) was ∙ sym (not_running values (find old.requests.all id)))
+    (λ r there waiting. clash (sym waiting))
   where
     waiting : (o : Option RequestData) → cancel_refusal o ≡ None → is_in is_queued o ≡ true
     waiting None h = cc
@@ -225,9 +254,10 @@ cancelled_kept old id values kept passes =
 
 -- a change that leaves the state of a request leaves the queue
 pub state_kept : (old : FramesData) (id : ℕ) (f : RequestData → RequestData) → AreFrames old → ((r : RequestData) → (f r).id ≡ r.id) → ((r : RequestData) → (f r).state ≡ r.state)
-    → AreFrames (record { requests = changed old.requests id f; queue = old.queue; running = old.running })
-state_kept old id f kept keeps same =
+    → ((r : RequestData) → is_some r.buffer ≡ true → is_some (f r).buffer ≡ true) → AreFrames (record { requests = changed old.requests id f; queue = old.queue; running = old.running })
+state_kept old id f kept keeps same holds =
     kept_changed old id f old.queue old.running kept keeps kept.once (λ j differ. refl) (kept.waits id ∙ is is_queued (find old.requests.all id)) (λ j differ. refl) (kept.runs id ∙ is is_running (find old.requests.all id))
+    (λ r there waiting. holds r (kept.buffers id r there (sym (ap is_queued (same r)) ∙ waiting)))
   where
     is : (test : RequestState → Bool) (o : Option RequestData) → is_in test o ≡ is_in test (option_map f o)
     is test None = refl
@@ -250,6 +280,7 @@ cleared_kept old id kept passes =
     kept_changed old id cleared old.queue old.running kept (λ r. refl) kept.once (λ j differ. refl)
     (kept.waits id ∙ (rests (find old.requests.all id) passes).0 ∙ sym (idle (find old.requests.all id)).0) (λ j differ. refl)
     (kept.runs id ∙ (rests (find old.requests.all id) passes).1 ∙ sym (idle (find old.requests.all id)).1)
+    (λ r there waiting. clash (sym waiting))
   where
     idle : (o : Option RequestData) → (is_in is_queued (option_map cleared o) ≡ false) × (is_in is_running (option_map cleared o) ≡ false)
     idle None = (refl, refl)
@@ -258,8 +289,19 @@ cleared_kept old id kept passes =
 -- one that neither waits nor runs is let go
 pub freed_kept : (old : FramesData) (id : ℕ) → AreFrames old → clear_refusal (find old.requests.all id) ≡ None
     → AreFrames (record { requests = record old.requests { all = without id old.requests.all }; queue = old.queue; running = old.running })
-freed_kept old id kept passes = record { once = kept.once; waits = λ j. waits j (eqb_tells id j); runs = λ j. runs j (eqb_tells id j) }
+freed_kept old id kept passes = record { once = kept.once; waits = λ j. waits j (eqb_tells id j); runs = λ j. runs j (eqb_tells id j); buffers = λ j r there. buffers j r (eqb_tells id j) there }
   where
+    buffers : (j : ℕ) (r : RequestData) → Tells id j → find (without id old.requests.all) j ≡ Some r → is_queued r.state ≡ true → is_some r.buffer ≡ true
+    buffers j r (inl same) there =
+        let is : find (without id old.requests.all) j ≡ None = rw same.0 at (find_without old.requests.all id j) in
+        absurd (gone (sym is ∙ there))
+      where
+        gone : None ≡ Some r → ⊥
+        gone h = cc
+    buffers j r (inr other) there =
+        let is : find (without id old.requests.all) j ≡ find old.requests.all j = rw other.0 at (find_without old.requests.all id j) in
+        kept.buffers j r (sym is ∙ there)
+
     waits : (j : ℕ) → Tells id j → list_any (nat_eq j) old.queue ≡ is_in is_queued (find (without id old.requests.all) j)
     waits j (inl same) =
         let is : find (without id old.requests.all) j ≡ None = rw same.0 at (find_without old.requests.all id j) in
@@ -283,8 +325,21 @@ added_kept old id kept none = record {
   once = kept.once;
   waits = λ j. kept.waits j ∙ same is_queued refl (find old.requests.all j) (nat_eq j id) ∙ sym (ap (is_in is_queued) (find_added old.requests.all (fresh id) j));
   runs = λ j. kept.runs j ∙ same is_running refl (find old.requests.all j) (nat_eq j id) ∙ sym (ap (is_in is_running) (find_added old.requests.all (fresh id) j));
+  buffers = λ j r there. waiting r (find old.requests.all j) (nat_eq j id) (kept.buffers j r) (sym (find_added old.requests.all (fresh id) j) ∙ there);
 }
   where
+    fresh_only : (r : RequestData) → Some (fresh id) ≡ Some r → is_queued r.state ≡ true → is_some r.buffer ≡ true
+    fresh_only r is waits = clash (sym waits ∙ sym (ap (λ (x : RequestData). is_queued x.state) (same_some (fresh id) r is)))
+      where
+        same_some : (a b : RequestData) → Some a ≡ Some b → a ≡ b
+        same_some a b h = cc
+
+    waiting : (r : RequestData) (o : Option RequestData) (b : Bool) → (o ≡ Some r → is_queued r.state ≡ true → is_some r.buffer ≡ true) → option_or o (cond b (Some (fresh id)) None) ≡ Some r
+        → is_queued r.state ≡ true → is_some r.buffer ≡ true
+    waiting r None true holds is = fresh_only r is
+    waiting r None false holds is = cc
+    waiting r (Some q) b holds is = holds is
+
     same : (test : RequestState → Bool) → test Idle ≡ false → (o : Option RequestData) (b : Bool) → is_in test o ≡ is_in test (option_or o (cond b (Some (fresh id)) None))
     same test idle None true = sym idle
     same test idle None false = refl

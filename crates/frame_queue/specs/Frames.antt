@@ -34,11 +34,12 @@ abbrev pub AreOnce : List ℕ → Type 0
 AreOnce [] = Unit {0}
 AreOnce (id ∷ ids) = (list_any (nat_eq id) ids ≡ false) × AreOnce ids
 
--- The queue has exactly the queued requests, each once; the one that runs is exactly the running one.
+-- The queue has exactly the queued requests, each once; the one that runs is exactly the running one; and each that waits holds a buffer.
 pub record AreFrames (f : FramesData) : Type 0 where
   pub once : AreOnce f.queue
   pub waits : (id : ℕ) → list_any (nat_eq id) f.queue ≡ is_in is_queued (find f.requests.all id)
   pub runs : (id : ℕ) → is_number f.running id ≡ is_in is_running (find f.requests.all id)
+  pub buffers : (id : ℕ) (r : RequestData) → find f.requests.all id ≡ Some r → is_queued r.state ≡ true → is_some r.buffer ≡ true
 
 -- what is left: what was there, where a call is refused
 abbrev pub unless_refused : Option Errno → FramesData → FramesData → FramesData

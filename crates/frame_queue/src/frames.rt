@@ -1,10 +1,10 @@
-ghost use Rattle.std.specs.Prelude.{◌≡◌, ◌++◌, ◌<◌, ◌∷◌, [], length, None, Some, Ok, Err, true, IfErr, IfOk, IfSome, OnOk, MatchResult, slice_get, remove, filter, not, nat_eq, option_copied};
+ghost use Rattle.std.specs.Prelude.{◌≡◌, ◌++◌, ◌<◌, ◌∷◌, [], length, None, Some, Ok, Err, true, IfErr, IfOk, IfSome, OnOk, MatchResult, slice_get, is_some, ℕ, remove, filter, not, nat_eq, option_copied};
 ghost use Rattle.std.specs.Option.{option_map, ok_or};
 ghost use Rattle.std.specs.List.{All};
-ghost use Rattle.req_book.specs.Requests.{find, changed, completed, with_pairs, with_buffer, cleared, without, fresh};
+ghost use Rattle.req_book.specs.Requests.{RequestData, find, changed, completed, with_pairs, with_buffer, cleared, without, fresh};
 ghost use Rattle.req_book.specs.Refusals.{alloc_refusal, store_refusal, buffer_refusal, queue_refusal, clear_refusal, state_answer, buffer_answer, asked_answer, snapshot_answer, value_answer, answered, unless, IsRefusedBy};
 ghost use Rattle.ctrl_types.specs.declared.errno.Errno.TheVariants.{ENOENT, ENOMEM};
-ghost use Rattle.frame_queue.specs.Frames.{with_requests, queued_last, begin_answer, after_begin, first_waiting, buffer_number, first_begun, complete_refusal, after_complete, cancel_refusal, cancelled, running_done, unless_refused, after_off};
+ghost use Rattle.frame_queue.specs.Frames.{is_queued, with_requests, queued_last, begin_answer, after_begin, first_waiting, buffer_number, first_begun, complete_refusal, after_complete, cancel_refusal, cancelled, running_done, unless_refused, after_off};
 
 use ctrl_types::{CtrlValue, Errno, Pair, RequestId};
 use req_book::{MAX_REQUESTS, RequestState, Requests};
@@ -45,9 +45,10 @@ impl Frames {
         }
     }
 
-    /// The request that waits at a place of the queue, from 0.
+    /// The request that waits at a place of the queue, from 0. It holds a buffer.
     pub fn queued(&self, place: usize) -> Option<RequestId>
-        ensures { option_map (λ id. id.0) result ≡ slice_get self.now.queue place }
+        ensures place { option_map (λ id. id.0) result ≡ slice_get self.now.queue place }
+        ensures buffer { (id : ℕ) (r : RequestData) → find self.now.requests.all id ≡ Some r → is_queued r.state ≡ true → is_some r.buffer ≡ true }
     {
         match self.queue.get(place) {
             Some(id) => Some(RequestId(*id)),

@@ -70,6 +70,46 @@ fn clusters_of_two(rt: HostRuntime) -> Result<(), Fail> {
     holds(&rt, rt.alloc(), &[BYTE; 10], TWOS, values, OF_TWO)
 }
 
+// Pairs are laid cluster by cluster: one that refuses, or has a grabbed member among the pairs, keeps its row, and the others get theirs.
+const LAID: &[Look] = &[
+    Look::Lays(FREE, &[], &[10, 11, 12, 13, 14, 15, 16, 17, 18, 19], &[], 0),
+    Look::Lays(FREE, FIVE, &[5, 21, 8, 7, 14, 15, 16, 17, 18, 0], &[], 2),
+    Look::Lays(
+        FREE,
+        &[(6, 1), (4, 1), (0, 1)],
+        &[1, 11, 12, 13, 14, 15, 16, 17, 18, 19],
+        &[2, 3],
+        3,
+    ),
+    Look::Lays(
+        HELD,
+        &[(0, 1), (9, 3)],
+        &[10, 11, 12, 13, 14, 15, 16, 17, 18, 3],
+        &[0],
+        0,
+    ),
+    // a grabbed member that isn't among the pairs doesn't matter
+    Look::Lays(
+        HELD,
+        &[(1, 1), (8, 3)],
+        &[10, 1, 12, 13, 14, 15, 16, 17, 3, 19],
+        &[],
+        1,
+    ),
+];
+
+const FREE: &[bool] = &[false; 10];
+
+const HELD: &[bool] = &[
+    true, false, false, false, false, false, false, false, false, false,
+];
+
+#[test]
+fn pairs_laid_over_values(rt: HostRuntime) -> Result<(), Fail> {
+    let values = &[10, 11, 12, 13, 14, 15, 16, 17, 18, 19];
+    holds(&rt, rt.alloc(), &[BYTE; 10], TWOS, values, LAID)
+}
+
 const EIGHTS: &[Named] = &[
     Named::Judged(&[7, 0, 6, 1, 5, 2, 4, 3], 0),
     Named::Judged(&[8, 9, 10, 11, 12, 13, 14, 15], 2),

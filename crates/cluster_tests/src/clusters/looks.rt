@@ -9,10 +9,11 @@ use crate::driver::Strict;
 use bitflags::Flags as FlagSet;
 use ctrl_calls::{ClusterRow, Work};
 use ctrl_clusters::{becomes, flags_under, inactive, judge, present_row};
+use ctrl_forecast::overlay;
 use ctrl_handlers::Plan;
 use ctrl_settle::Ctrl;
 use ctrl_types::{CtrlValue, Errno, Pair};
-use std::alloc::Global;
+use std::alloc::{AllocError, Global};
 use std::process::Abort;
 use std::test::Fail;
 
@@ -29,6 +30,8 @@ pub enum Look {
     Inactive(u32, bool),
     // the flags of a control under grabs
     Flags(u32, &'static [bool], u32),
+    // under grabs pairs are laid over the values: the values then, the clusters that are refused, and how many validators are asked
+    Lays(&'static [bool], &'static [(u32, CtrlValue)], &'static [CtrlValue], &'static [u32], u64),
 }
 
 pub type Answer = Result<&'static [CtrlValue], Errno>;
@@ -105,6 +108,24 @@ fn has_flags(
         && flags_under(plan, values, grabs, control).bits() == want
 }
 
+fn lays(
+    alloc: Global,
+    plan: &Plan<Strict>,
+    controls: &[Ctrl],
+    values: &[CtrlValue],
+    grabs: &[bool],
+    pairs: &[Pair],
+    want: (&[CtrlValue], &[u32], u64),
+) -> Result<bool, AllocError>
+    requires controls { AreControlsOf plan.now controls.now }
+    requires values { length values.now ≡ length plan.now.controls }
+{
+    let mut work = Work::new();
+    let laid = overlay(alloc, plan, controls, values, grabs, pairs, &mut work)?;
+    let is_laid = laid.values.as_slice() == want.0 && laid.refused.as_slice() == want.1;
+    Ok(is_laid && is_work(&work, want.2, 0))
+}
+
 pub fn shows(
     alloc: Global,
     plan: &Plan<Strict>,
@@ -136,6 +157,11 @@ pub fn shows(
             control < plan.control_count() && inactive(plan, values, control) == want
         }
         Look::Flags(control, grabs, want) => has_flags(plan, values, grabs, control, want),
+        Look::Lays(grabs, asked, want, refused, count) => {
+            let pairs = pairs_of(alloc, asked)?;
+            let want = (want, refused, count);
+            lays(alloc, plan, controls, values, grabs, pairs.as_slice(), want)?
+        }
     })
 }
 

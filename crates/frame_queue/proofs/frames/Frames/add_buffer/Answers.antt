@@ -11,4 +11,4 @@ invariant_of-self c =
     let whole : RequestsData → FramesData = λ requests. record { requests = requests; queue = c.self.inside.queue.items; running = c.self.inside.running } in
     subst AreFrames (sym (ap whole c.add_buffer.ensures.requests))
     (unless_kept old (buffer_refusal c.self.inside.requests.all c.args.number (find c.self.inside.requests.all c.args.id.0)) (changed c.self.inside.requests c.args.id.0 (with_buffer c.args.number)) c.self.invariant
-    (λ none. state_kept old c.args.id.0 (with_buffer c.args.number) c.self.invariant (λ r. refl) (λ r. refl)))
+    (λ none. state_kept old c.args.id.0 (with_buffer c.args.number) c.self.invariant (λ r. refl) (λ r. refl) (λ r held. refl)))

@@ -9,4 +9,4 @@ pub invariant_of-self : goal.invariant_of-self
 invariant_of-self c =
     let old : FramesData = record { requests = c.self.inside.requests; queue = c.self.inside.queue.items; running = c.self.inside.running } in
     either_kept old c.store.new.self (changed c.self.inside.requests c.args.id.0 (with_pairs c.self.inside.requests.controls c.args.pairs.now)) (store_refusal (find c.self.inside.requests.all c.args.id.0) ≡ None) (IsRefusedBy (store_refusal (find c.self.inside.requests.all c.args.id.0)))
-    c.store.result c.self.invariant c.store.ensures.ok c.store.ensures.err (λ passes. state_kept old c.args.id.0 (with_pairs c.self.inside.requests.controls c.args.pairs.now) c.self.invariant (λ r. refl) (λ r. refl))
+    c.store.result c.self.invariant c.store.ensures.ok c.store.ensures.err (λ passes. state_kept old c.args.id.0 (with_pairs c.self.inside.requests.controls c.args.pairs.now) c.self.invariant (λ r. refl) (λ r. refl) (λ r held. held))

@@ -1,0 +1,3 @@
+pub use Rattle.ctrl_clusters.specs.Rows
+pub use Rattle.ctrl_clusters.specs.Overlay
+pub mod Touched

@@ -1,0 +1,121 @@
+ghost use Rattle.std.specs.Prelude.{◌≡◌, ◌<◌, ◌≤◌, ◌+◌, ◌&&◌, length, IfOk, if◌then◌else◌};
+ghost use Rattle.std.specs.List.{list_any};
+ghost use Rattle.ctrl_handlers.specs.Plan.{members};
+ghost use Rattle.ctrl_clusters.specs.Rows.{AreControlsOf, is_grabbed};
+ghost use Rattle.ctrl_clusters.specs.Overlay.{is_among, is_touched, is_held, row_after, overlay, refused_clusters};
+ghost use Rattle.ctrl_forecast.specs.Touched.{touched_count};
+
+use crate::lists::{ClusterList, ValueRow};
+use ctrl_calls::{ClusterRow, Driver, Work};
+use ctrl_clusters::{NewRow, becomes, present_row, write_rows};
+use ctrl_handlers::Plan;
+use ctrl_settle::Ctrl;
+use ctrl_types::{CtrlValue, Errno, Pair};
+use std::alloc::{AllocError, Global};
+
+/// What pairs make of values (of this project).
+#[derive(Drop)]
+pub struct Overlaid {
+    /// The values afterwards.
+    pub values: ValueRow,
+    /// The clusters that are refused, which keep their rows.
+    pub refused: ClusterList,
+}
+
+/// Lays pairs over values, under grabs (of this project; what a cluster makes of a row is of the Linux driver API, "V4L2 Controls", "Control
+/// Clusters"): each cluster with a member among the pairs is overwritten, settled and judged by itself; one that is refused keeps its row.
+///
+/// - `plan`: what the device is built of.
+/// - `controls`: its controls as they are now; the caller owes as many as the plan's, with their ids, kinds, flags and skipped items.
+/// - `values`: a value for each control, in the order of their numbers; the caller owes exactly as many.
+/// - `grabs`: for each control whether it is grabbed.
+/// - `pairs`: what is laid; of a control the last pair counts.
+/// - `work`: its count `asked` grows by at most one for each cluster with a member among the pairs.
+///
+/// The error is that a growth was refused. Nobody is told.
+pub fn overlay<D: Driver>(
+    alloc: Global,
+    plan: &Plan<D>,
+    controls: &[Ctrl],
+    values: &[CtrlValue],
+    grabs: &[bool],
+    pairs: &[Pair],
+    work: &mut Work,
+) -> Result<Overlaid, AllocError>
+    requires controls { AreControlsOf plan.now controls.now }
+    requires values { length values.now ≡ length plan.now.controls }
+    ensures values { IfOk result (λ o. o.values ≡ overlay D.verdict plan.now controls.now values.now grabs.now pairs.now) }
+    ensures refused { IfOk result (λ o. o.refused ≡ refused_clusters D.verdict plan.now controls.now values.now grabs.now pairs.now) }
+    ensures asked { work.new.asked ≤ work.old.asked + touched_count plan.now pairs.now }
+    ensures told { work.new.told ≡ work.old.told }
+{
+    let mut after = Vec::from_slice(alloc, values)?;
+    let mut refused = Vec::new(alloc);
+    for cluster in 0..plan.cluster_count() {
+        match row_after(plan, controls, values, grabs, pairs, cluster, work) {
+            Ok(row) => write_rows(plan, &mut after, &[NewRow { cluster, row }]),
+            Err(_) => refused.push(cluster)?,
+        }
+    }
+    Ok(Overlaid {
+        values: ValueRow::from_vec(after),
+        refused: ClusterList::from_vec(refused),
+    })
+}
+
+// What the row of a cluster is then, or why it is refused.
+fn row_after<D: Driver>(
+    plan: &Plan<D>,
+    controls: &[Ctrl],
+    values: &[CtrlValue],
+    grabs: &[bool],
+    pairs: &[Pair],
+    cluster: u32,
+    work: &mut Work,
+) -> Result<ClusterRow, Errno>
+    requires controls { AreControlsOf plan.now controls.now }
+    requires values { length values.now ≡ length plan.now.controls }
+    requires cluster { cluster < length plan.now.clusters }
+    ensures row { result ≡ row_after D.verdict plan.now controls.now values.now grabs.now pairs.now cluster }
+    ensures long { IfOk result (λ row. length row ≡ length (members plan.now cluster)) }
+    ensures asked { work.new.asked ≤ work.old.asked + (if is_touched pairs.now (members plan.now cluster) then 1 else 0) }
+    ensures told { work.new.told ≡ work.old.told }
+{
+    let members = plan.members(cluster);
+    if !is_touched(pairs, members) {
+        return Ok(present_row(values, members));
+    }
+    if is_held(grabs, pairs, members) {
+        return Err(Errno::EBUSY);
+    }
+    becomes(plan, controls, cluster, values, pairs, work)
+}
+
+// Whether some member is among the pairs.
+fn is_touched(pairs: &[Pair], members: &[u32]) -> bool
+    ensures { result ≡ is_touched pairs.now members.now }
+{
+    members.iter().any(|member| is_among(pairs, *member))
+}
+
+// Whether some member that is among the pairs is grabbed.
+fn is_held(grabs: &[bool], pairs: &[Pair], members: &[u32]) -> bool
+    ensures { result ≡ is_held grabs.now pairs.now members.now }
+{
+    members.iter().any(|member| is_among(pairs, *member) && is_grabbed(grabs, *member))
+}
+
+fn is_grabbed(grabs: &[bool], control: u32) -> bool
+    ensures { result ≡ is_grabbed grabs.now control }
+{
+    match grabs.get(control as usize) {
+        Some(grabbed) => *grabbed,
+        None => false,
+    }
+}
+
+fn is_among(pairs: &[Pair], control: u32) -> bool
+    ensures { result ≡ is_among pairs.now control }
+{
+    pairs.iter().any(|pair| pair.control == control)
+}

@@ -1,0 +1,9 @@
+//! What pairs make of a device's values, whoever lays them: a begin lays those of its request over the present ones, a forecast those of each
+//! queued request over what the one before left.
+#![tactic(auto)]
+
+mod laying;
+mod lists;
+
+pub use laying::{Overlaid, overlay};
+pub use lists::{ClusterList, ValueRow};
