@@ -1,16 +1,16 @@
 -- Rows that some clusters get, and the values once they are written.
-use Rattle.std.proofs.Common.{◌≡◌, ◌≢◌, ℕ, zero, suc, add-one, eq-eqb, ◌<◌, ◌≤◌, ◌+◌, ◌==◌, ◌||◌, Bool, true, false, cond, nat_eq, List, [], ◌∷◌, ◌++◌, length, take, drop, get_or, set, slice_set, map, pos, Option, None, Some, is_some, unwrap_or, inl, inr, ◌⊎◌, subst, refl, ap, sym, ◌∙◌, arith}
-use Rattle.std.specs.List.{All, list_any, range_with_len}
-use Rattle.std.specs.Option.{option_and_then, option_or}
+use Rattle.std.proofs.Common.{◌≡◌, ◌≢◌, ℕ, zero, suc, eq-eqb, ◌<◌, ◌+◌, ◌==◌, Bool, true, false, cond, nat_eq, List, [], ◌∷◌, ◌++◌, length, take, drop, get_or, slice_set, pos, Option, None, Some, is_some, unwrap_or, inl, inr, ◌⊎◌, subst, refl, ap, sym, ◌∙◌, arith}
+use Rattle.std.specs.List.{All, list_any}
+use Rattle.std.specs.Option.{option_or}
 use Rattle.std.proofs.lemmas.Bool.Decides.{eqb_tells}
-use Rattle.std.proofs.lemmas.List.{length-set, get_or-set_same, get_or-set_other, drop_more, map_more, take_more}
+use Rattle.std.proofs.lemmas.List.{length-set, get_or-set_same, get_or-set_other, drop_more, take_more}
 use Rattle.std.proofs.lemmas.List.Elements.{All-head, All-tail, All-weaker, All-get_or}
 use Rattle.std.proofs.lemmas.List.FromFn.{length-map-range_with_len, get_or-map-range_with_len}
 use Rattle.ctrl_types.specs.Values.{CtrlValue}
 use Rattle.ctrl_handlers.specs.Plan.{PlanData, IsPlan, cluster_of, members, names_twice}
 use Rattle.ctrl_handlers.proofs.ClusterLemmas.{or_false, or_false_right}
-use Rattle.ctrl_clusters.specs.Rows.{Values, value_at, row_of, value_in}
-use Rattle.ctrl_clusters.specs.NewRows.{clusters_of, row_among, value_among, AreNewRows, value_written, written, row_given, with_row}
+use Rattle.ctrl_clusters.specs.Rows.{Values, value_at, value_in}
+use Rattle.ctrl_clusters.specs.NewRows.{clusters_of, row_among, value_among, AreNewRows, value_written, written, with_row}
 use Rattle.ctrl_clusters.specs.declared.new_row.NewRow.{NewRow}
 
 -- values that are equal one by one are equal

@@ -1,8 +1,9 @@
 -- Which clusters are notified, and the words afterwards.
-use Rattle.std.proofs.Common.{◌≡◌, ◌≢◌, ℕ, zero, suc, cond, add-one, add-zero, zero-add, ◌<◌, ◌≤◌, ◌==◌, ◌+◌, ◌-◌, ◌^◌, ◌&&◌, ◌||◌, not, Bool, true, false, List, [], ◌∷◌, length, None, Some, is_some, Option, refl, sym, ap, subst, ◌∙◌, arith, slice_index, ◌++◌, below_more, ◌⊎◌, inl, inr, count_by, map}
-use Rattle.std.specs.List.{list_any, range_with_len, sum_by}
+use Rattle.std.proofs.Common.{◌≡◌, ◌≢◌, ℕ, zero, suc, cond, add-one, add-zero, zero-add, ◌<◌, ◌≤◌, ◌==◌, ◌+◌, ◌-◌, ◌^◌, ◌&&◌, ◌||◌, not, Bool, true, false, List, [], ◌∷◌, length, None, Some, is_some, Option, refl, sym, ap, subst, ◌∙◌, arith, slice_index, ◌++◌, below_more, ◌⊎◌, inl, inr, count_by}
+use Rattle.std.specs.List.{range_with_len, sum_by}
 use Rattle.std.specs.Ordering.{int_eq}
 use Rattle.std.proofs.lemmas.List.Sums.{sum_by-cons, count_by-le-length}
+use Rattle.std.proofs.lemmas.List.{length-map}
 use Rattle.std.proofs.lemmas.List.FromFn.{length-range_with_len}
 use Rattle.std.proofs.lemmas.Bool.Decides.{eqb_tells, Decides-int_eq}
 use Rattle.std.proofs.lemmas.Grind.{common_steps}
@@ -16,10 +17,10 @@ use Rattle.ctrl_types.specs.declared.ids.Pair.{Pair}
 use Rattle.ctrl_handlers.specs.Plan.{PlanData, control, calls_of, members}
 use Rattle.ctrl_handlers.proofs.ClusterLemmas.{or_false, or_false_right}
 use Rattle.ctrl_clusters.specs.Rows.{Values, value_at, row_of}
-use Rattle.ctrl_clusters.specs.Overlay.{is_among, is_touched}
-use Rattle.ctrl_clusters.specs.NewRows.{row_among, row_given}
-use Rattle.ctrl_clusters.specs.Changes.{is_changed, row_changes, cluster_changes}
-use Rattle.ctrl_clusters.specs.Notified.{MaySay, IsRenewed, notified_count, after_notifying, after_change}
+use Rattle.ctrl_clusters.specs.Overlay.{is_among}
+use Rattle.ctrl_clusters.specs.NewRows.{row_among}
+use Rattle.ctrl_clusters.specs.Changes.{is_changed, row_changes, cluster_changes, members_change}
+use Rattle.ctrl_clusters.specs.Notified.{MaySay, HasWord, HaveWords, AreRenewed, IsRenewed, notified_count, after_change}
 use Rattle.ctrl_clusters.specs.declared.new_row.NewRow.{NewRow}
 
 -- what isn't changed has its value already
@@ -101,9 +102,13 @@ counts plan changed k = is_some (calls_of plan k).notifier && changed k
 pub notified_below : PlanData → (ℕ → Bool) → ℕ → ℕ
 notified_below plan changed n = count_by (counts plan changed) (range_with_len 0 n)
 
-pub notified_all : (plan : PlanData) (changed : ℕ → Bool) (n : ℕ) → n ≡ length plan.clusters → notified_below plan changed n ≡ notified_count plan changed
+notified_all : (plan : PlanData) (changed : ℕ → Bool) (n : ℕ) → n ≡ length plan.clusters → notified_below plan changed n ≡ notified_count plan changed
 unfolding notified_below counts
 notified_all plan changed n all = ap (λ (m : ℕ). count_by (counts plan changed) (range_with_len 0 m)) all
+
+-- once no cluster is left, all are counted
+pub work_end : (plan : PlanData) (changed : ℕ → Bool) (n : ℕ) (old work : Work) → n ≡ length plan.clusters → work ≡ record old { told = notified_below plan changed n } → work ≡ record old { told = notified_count plan changed }
+work_end plan changed n old work all is = is ∙ ap (λ (m : ℕ). record old { told = m }) (notified_all plan changed n all)
 
 pub work_start : (plan : PlanData) (changed : ℕ → Bool) (work : Work) → work.told ≡ 0 → work ≡ record work { told = notified_below plan changed 0 }
 unfolding notified_below
@@ -155,3 +160,18 @@ word_next says plan values words new n word long before last is =
     below_more P n
     (λ k lt. let same : slice_index new k ≡ slice_index words k = rw is (grind (arith, common_steps, long)) in rw same (before k lt))
     (let same : slice_index new n ≡ word = rw is (grind (arith, common_steps, long)) in rw same last)
+
+-- once the clusters with a changed member were notified, each word is one of the values afterwards
+pub words_between : (says : Words) (plan : PlanData) (before after : Values) (pairs : List Pair) (words new : List ℕ) → HaveWords says plan before words
+    → AreRenewed says plan (members_change plan before after pairs) (λ k. row_of after (members plan k)) words new → HaveWords says plan after new
+words_between says plan before after pairs words new have is = record {
+  each = is.each ∙ have.each;
+  allowed = λ k lt. by k lt (members_change plan before after pairs k) refl;
+}
+  where
+    by : (k : ℕ) → k < length plan.clusters → (b : Bool) → members_change plan before after pairs k ≡ b → HasWord says plan after new k
+    by k lt true changed = is.own k lt changed
+    by k lt false kept =
+        let same : row_of before (members plan k) ≡ row_of after (members plan k) =
+        same_row plan before pairs (members plan k) (row_of after (members plan k)) (length-map (members plan k) (value_at after)) kept in
+        subst (λ (row : List CtrlValue). MaySay says (calls_of plan k).notifier row (slice_index new k)) same (rw (is.others k (λ h. kept)) (have.allowed k lt))

@@ -1,9 +1,9 @@
 -- What pairs make of the values: each cluster's row by itself, and the values control by control.
-use Rattle.std.proofs.Common.{◌≡◌, ◌≢◌, ℕ, zero, suc, eq-eqb, ◌<◌, ◌≤◌, ◌+◌, ◌==◌, ◌&&◌, ◌||◌, not, Bool, true, false, cond, nat_eq, List, [], ◌∷◌, length, map, pos, Option, None, Some, is_some, unwrap_or, Ok, Err, Result, is_err, inl, inr, ◌⊎◌, subst, refl, ap, sym, ◌∙◌, arith, if◌then◌else◌}
+use Rattle.std.proofs.Common.{◌≡◌, ◌≢◌, ℕ, zero, suc, eq-eqb, ◌<◌, ◌≤◌, ◌+◌, ◌==◌, ◌&&◌, ◌||◌, not, Bool, true, false, cond, nat_eq, List, [], ◌∷◌, length, map, pos, Option, None, Some, is_some, unwrap_or, Ok, Err, Result, is_err, inl, inr, ◌⊎◌, subst, refl, ap, sym, ◌∙◌, arith}
 use Rattle.std.specs.List.{All, list_any, range_with_len}
 use Rattle.std.specs.Option.{option_and_then, option_or}
 use Rattle.std.proofs.lemmas.Bool.Decides.{eqb_tells}
-use Rattle.std.proofs.lemmas.List.Elements.{All-head, All-tail, All-weaker, All-get_or}
+use Rattle.std.proofs.lemmas.List.Elements.{All-head, All-tail, All-weaker}
 use Rattle.std.proofs.lemmas.List.{length-map}
 use Rattle.std.proofs.lemmas.Map.Views.{any-filter_same}
 use Rattle.std.proofs.lemmas.List.FromFn.{length-map-range_with_len, get_or-map-range_with_len}
@@ -21,12 +21,12 @@ use Rattle.ctrl_settle.specs.Settle.{settle}
 use Rattle.ctrl_handlers.specs.Plan.{PlanData, IsPlan, cluster_of, members, names_twice, calls_of, control_in}
 use Rattle.ctrl_handlers.proofs.ClusterLemmas.{or_false, or_false_right}
 use Rattle.ctrl_clusters.specs.Rows.{Values, value_at, row_of, value_in, Grabs, is_grabbed, overwritten, settle_row, settled_before}
-use Rattle.ctrl_clusters.specs.Judging.{becomes, judge, judge_by, judge_settled, judged, takes_row, is_value}
+use Rattle.ctrl_clusters.specs.Judging.{becomes, judge, judge_by, judge_settled, judged, takes_row}
 use Rattle.ctrl_clusters.specs.Overlay.{is_among, is_touched, is_held, row_after, given_by, given_in, value_after, overlay, refused_clusters}
-use Rattle.ctrl_clusters.specs.NewRows.{clusters_of, row_among, value_among, AreNewRows, value_written, written}
+use Rattle.ctrl_clusters.specs.NewRows.{clusters_of, row_among, value_among, written}
 use Rattle.ctrl_clusters.specs.declared.new_row.NewRow.{NewRow}
 use Rattle.ctrl_clusters.proofs.RowLemmas.{takes_length}
-use Rattle.ctrl_clusters.proofs.NewRowLemmas.{same_values, not_equal, differs, value_in_none, has_row, row_met, written_at, length_written}
+use Rattle.ctrl_clusters.proofs.NewRowLemmas.{same_values, not_equal, has_row, row_met, written_at, length_written}
 
 pub or_true : (a b : Bool) → a ≡ true → (a || b) ≡ true
 or_true a b h = rw h refl

@@ -7,7 +7,7 @@ use Rattle.ctrl_types.specs.Values.{CtrlValue}
 use Rattle.ctrl_types.specs.declared.flags.TheConstants.Flags.{EXECUTE_ON_WRITE}
 use Rattle.ctrl_types.specs.declared.ids.Pair.{Pair}
 use Rattle.ctrl_handlers.specs.Plan.{PlanData, control, members}
-use Rattle.ctrl_clusters.specs.Rows.{Values, value_at}
+use Rattle.ctrl_clusters.specs.Rows.{Values, value_at, row_of}
 use Rattle.ctrl_clusters.specs.Overlay.{is_among}
 use Rattle.ctrl_clusters.specs.NewRows.{row_given}
 use Rattle.ctrl_clusters.specs.declared.new_row.NewRow.{NewRow}
@@ -27,3 +27,7 @@ row_changes plan values pairs (c ∷ cs) (v ∷ vs) = is_changed plan values pai
 -- whether the row that a cluster gets, where it gets one, changes a member
 abbrev pub cluster_changes : PlanData → Values → List Pair → List NewRow → ℕ → Bool
 cluster_changes plan values pairs rows k = row_changes plan values pairs (members plan k) (row_given rows k)
+
+-- whether a member of a cluster is changed, from the values before to those after
+abbrev pub members_change : PlanData → Values → Values → List Pair → ℕ → Bool
+members_change plan before after pairs k = row_changes plan before pairs (members plan k) (row_of after (members plan k))

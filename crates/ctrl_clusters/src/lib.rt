@@ -16,7 +16,7 @@ mod writing;
 pub use auto_clusters::inactive;
 pub use judging::{becomes, judge};
 pub use new_row::NewRow;
-pub use notifying::{first_words, notify_changed};
+pub use notifying::{first_words, notify_between, notify_changed};
 pub use present_flags::flags_under;
 pub use rows::value_in;
 pub use writing::{present_row, write_rows};

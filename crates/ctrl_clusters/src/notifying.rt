@@ -4,7 +4,7 @@ ghost use Rattle.std.specs.Prelude.{◌≡◌, ◌<◌, length, IfOk};
 ghost use Rattle.ctrl_handlers.specs.Plan.{calls_of, members};
 ghost use Rattle.ctrl_clusters.specs.Rows.{row_of};
 ghost use Rattle.ctrl_clusters.specs.NewRows.{AreNewRows, row_given};
-ghost use Rattle.ctrl_clusters.specs.Changes.{cluster_changes};
+ghost use Rattle.ctrl_clusters.specs.Changes.{row_changes, cluster_changes, members_change};
 ghost use Rattle.ctrl_clusters.specs.Notified.{MaySay, HaveWords, AreRenewed, IsRenewed, notified_count, after_notifying, after_change};
 
 use crate::changes::row_changes;
@@ -64,10 +64,83 @@ fn notify_touched<D: Driver>(
     ensures work { work.new ≡ record work.old { told = after_change plan.now cluster (cluster_changes plan.now values.now pairs.now rows.now cluster) work.old.told } }
 {
     if let Some(row) = NewRow::among(rows, cluster) {
-        let members = plan.members(cluster);
-        let changed = row_changes(plan, values, pairs, members, &row);
-        notify_where(plan, words, cluster, changed, &row, work);
+        notify_of(plan, values, pairs, &row, cluster, words, work);
     }
+}
+
+/// Notifies each cluster with a changed member of its row of the values afterwards, in rising number of the clusters, and keeps the words
+/// (Linux driver API, "V4L2 Controls", "Adding Notify Callbacks"; words are of this project). A member is changed where it has another value
+/// afterwards, or where it acts on each write and is among the pairs.
+///
+/// - `plan`: what the device is built of.
+/// - `before`: the values before; the caller owes one for each control.
+/// - `after`: the values afterwards; the caller owes one for each control.
+/// - `pairs`: what was applied to come from the ones to the others.
+/// - `words`: the words; the caller owes one for each cluster.
+/// - `work`: its count `told`, which the caller owes to be 0, is then the number of notifiers that were called.
+///
+/// It takes no memory and refuses nothing.
+pub fn notify_between<D: Driver>(
+    plan: &Plan<D>,
+    before: &[CtrlValue],
+    after: &[CtrlValue],
+    pairs: &[Pair],
+    words: &mut Vec<u64>,
+    work: &mut Work,
+)
+    requires before { length before.now ≡ length plan.now.controls }
+    requires after { length after.now ≡ length plan.now.controls }
+    requires words { length words.old.items ≡ length plan.now.clusters }
+    requires fresh { work.old.told ≡ 0 }
+    ensures words { AreRenewed D.told plan.now (members_change plan.now before.now after.now pairs.now) (λ k. row_of after.now (members plan.now k)) words.old.items words.new.items }
+    ensures work { work.new ≡ record work.old { told = notified_count plan.now (members_change plan.now before.now after.now pairs.now) } }
+{
+    for cluster in 0..plan.cluster_count() {
+        notify_moved(plan, before, after, pairs, cluster, words, work);
+    }
+}
+
+// Notifies a cluster of its row of the values afterwards, where a member is changed.
+fn notify_moved<D: Driver>(
+    plan: &Plan<D>,
+    before: &[CtrlValue],
+    after: &[CtrlValue],
+    pairs: &[Pair],
+    cluster: u32,
+    words: &mut Vec<u64>,
+    work: &mut Work,
+)
+    requires known { cluster < length plan.now.clusters }
+    requires before { length before.now ≡ length plan.now.controls }
+    requires after { length after.now ≡ length plan.now.controls }
+    requires words { length words.old.items ≡ length plan.now.clusters }
+    ensures words { IsRenewed D.told plan.now cluster (members_change plan.now before.now after.now pairs.now cluster) (row_of after.now (members plan.now cluster)) words.old.items words.new.items }
+    ensures work { work.new ≡ record work.old { told = after_change plan.now cluster (members_change plan.now before.now after.now pairs.now cluster) work.old.told } }
+{
+    let row = present_row(after, plan.members(cluster));
+    notify_of(plan, before, pairs, &row, cluster, words, work);
+}
+
+// Notifies a cluster of a row that it gets, where the row changes a member.
+fn notify_of<D: Driver>(
+    plan: &Plan<D>,
+    values: &[CtrlValue],
+    pairs: &[Pair],
+    row: &ClusterRow,
+    cluster: u32,
+    words: &mut Vec<u64>,
+    work: &mut Work,
+)
+    requires known { cluster < length plan.now.clusters }
+    requires values { length values.now ≡ length plan.now.controls }
+    requires row { length row.now ≡ length (members plan.now cluster) }
+    requires words { length words.old.items ≡ length plan.now.clusters }
+    ensures words { IsRenewed D.told plan.now cluster (row_changes plan.now values.now pairs.now (members plan.now cluster) row.now) row.now words.old.items words.new.items }
+    ensures work { work.new ≡ record work.old { told = after_change plan.now cluster (row_changes plan.now values.now pairs.now (members plan.now cluster) row.now) work.old.told } }
+{
+    let members = plan.members(cluster);
+    let changed = row_changes(plan, values, pairs, members, row);
+    notify_where(plan, words, cluster, changed, row, work);
 }
 
 // Notifies a cluster of its new row, where the row changes a member, and keeps the word.

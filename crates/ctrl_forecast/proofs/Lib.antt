@@ -1,1 +1,2 @@
 pub mod LayingLemmas
+pub mod ApplyingLemmas

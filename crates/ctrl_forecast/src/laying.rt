@@ -46,6 +46,7 @@ pub fn overlay<D: Driver>(
     requires values { length values.now ≡ length plan.now.controls }
     ensures values { IfOk result (λ o. o.values ≡ overlay D.verdict plan.now controls.now values.now grabs.now pairs.now) }
     ensures refused { IfOk result (λ o. o.refused ≡ refused_clusters D.verdict plan.now controls.now values.now grabs.now pairs.now) }
+    ensures long { IfOk result (λ o. length o.values ≡ length values.now) }
     ensures asked { work.new.asked ≤ work.old.asked + touched_count plan.now pairs.now }
     ensures told { work.new.told ≡ work.old.told }
 {

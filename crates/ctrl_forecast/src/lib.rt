@@ -2,8 +2,10 @@
 //! queued request over what the one before left.
 #![tactic(auto)]
 
+mod applying;
 mod laying;
 mod lists;
 
+pub use applying::applied;
 pub use laying::{Overlaid, overlay};
 pub use lists::{ClusterList, ValueRow};

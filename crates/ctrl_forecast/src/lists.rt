@@ -25,6 +25,14 @@ impl ValueRow {
         ValueRow { values }
     }
 
+    /// The values, with the memory that they lie in.
+    pub fn into_vec(self) -> Vec<CtrlValue>
+        ensures { result.items ≡ self }
+    {
+        let ValueRow { values } = self;
+        values
+    }
+
     /// The values, in the order of the controls' numbers.
     pub fn as_slice(&self) -> &[CtrlValue]
         ensures { result.now ≡ self.now }
@@ -34,7 +42,7 @@ impl ValueRow {
 }
 
 /// Numbers of clusters, rising (of this project). Contracts see it as the list of them.
-#[derive(Drop)]
+#[derive(Debug, Drop)]
 pub struct ClusterList {
     clusters: Vec<u32>,
 }
@@ -48,12 +56,20 @@ impl Model for ClusterList {
 }
 
 impl ClusterList {
-    ghost use Rattle.std.specs.Prelude.{◌≡◌};
+    ghost use Rattle.std.specs.Prelude.{◌≡◌, nat_eq};
+    ghost use Rattle.std.specs.List.{list_any};
 
     pub(crate) fn from_vec(clusters: Vec<u32>) -> ClusterList
         ensures { result ≡ clusters.items }
     {
         ClusterList { clusters }
+    }
+
+    /// Whether a cluster is among them.
+    pub(crate) fn contains(&self, cluster: u32) -> bool
+        ensures { result ≡ list_any (nat_eq cluster) self.now }
+    {
+        self.clusters.iter().any(|other| cluster == *other)
     }
 
     /// The numbers, rising.

@@ -46,9 +46,10 @@ pub record AreJudged (verdicts : Verdicts) (plan : PlanData) (controls : List Co
   pub within : All (λ r. r.cluster < length plan.clusters) rows
   pub long : All (λ r. length r.row ≡ length (members plan r.cluster)) rows
 
--- It is what the list asks for: the pairs are the list's, and the rows those of the clusters that they touch.
+-- It is what the list asks for: the pairs are the list's, of controls that are there, and the rows those of the clusters that they touch.
 pub record IsTouched (verdicts : Verdicts) (plan : PlanData) (view : ViewData) (list : List ExtControl) (touch : TouchedData) : Type 0 where
   pub own_pairs : touch.pairs ≡ pairs_of plan view.handler view.which list
+  pub known : All (λ p. p.control < length plan.controls) touch.pairs
   pub judged : AreJudged verdicts plan view.controls view.values (laid_pairs plan view list) (pairs_of plan view.handler view.which list) touch.rows
 
 -- how many of some clusters have a validator

@@ -102,9 +102,10 @@ abbrev pub ended : List CtrlValue → List ℕ → RequestsData → RequestsData
 ended values [] requests = requests
 ended values (id ∷ ids) requests = ended values ids (changed requests id (completed values))
 
--- what is left once the stream is off: the one that runs and all that wait are complete
+-- what is left once all that wait are complete
 abbrev pub stopped : List CtrlValue → FramesData → FramesData
 stopped values f = record { requests = ended values f.queue f.requests; queue = []; running = f.running }
 
+-- what is left once the stream is off: the one that runs and all that wait are complete
 abbrev pub after_off : FramesData → List CtrlValue → FramesData
 after_off f values = stopped values (after_complete f values)

@@ -1,10 +1,10 @@
 -- What a request asks for, control by control.
 use Rattle.std.proofs.Common.{◌≡◌, ℕ, ◌+◌, ◌∙◌, ◌==◌, true, false, ◌<◌, List, [], ◌∷◌, ◌++◌, length, map, take, slice_set, filter_map, Option, None, Some, refl, sym, ap, zero, suc, inl, inr, ◌⊎◌, ◌≢◌, ◌≤◌, unwrap_or, slice_index_or, pos, if◌then◌else◌, arith}
-use Rattle.std.specs.List.{cons_option, range_with_len}
+use Rattle.std.specs.List.{All, cons_option, range_with_len}
 use Rattle.std.specs.Option.{option_or}
 use Rattle.std.proofs.lemmas.Bool.Decides.{eqb_tells}
 use Rattle.std.proofs.lemmas.List.{map-id, take_more_set, take_all}
-use Rattle.std.proofs.lemmas.List.Elements.{filter_map-append}
+use Rattle.std.proofs.lemmas.List.Elements.{All-nil, All-cons, filter_map-append}
 use Rattle.std.proofs.lemmas.List.FromFn.{map-range_with_len_more, length-map-range_with_len}
 use Rattle.ctrl_types.specs.Values.{CtrlValue}
 use Rattle.ctrl_types.specs.Pairs.{last_value}
@@ -92,3 +92,20 @@ pub latest_again : (controls : ℕ) (pairs more : List Pair) → latest controls
 unfolding latest
 latest_again controls pairs more = same_pairs (last_value (latest controls pairs ++ more)) (last_value (pairs ++ more)) 0 controls controls (omega arith)
     (λ c below. last_append (latest controls pairs) more c ∙ ap (option_or (last_value more c)) (last_latest controls pairs c below) ∙ sym (last_append pairs more c))
+
+-- the pairs of the controls of a range name controls below its end
+known_within : (f : ℕ → Option CtrlValue) (a n m : ℕ) → a + n ≤ m → All (λ (p : Pair). p.control < m) (filter_map (λ i. pair_of i (f i)) (range_with_len a n))
+known_within f a zero m within = All-nil (λ (p : Pair). p.control < m)
+known_within f a (suc n) m within = by (f a) (known_within f (a + 1) n m (omega (arith, within)))
+  where
+    rest : List Pair
+    rest = filter_map (λ i. pair_of i (f i)) (range_with_len (a + 1) n)
+
+    by : (v : Option CtrlValue) → All (λ (p : Pair). p.control < m) rest → All (λ (p : Pair). p.control < m) (cons_option (pair_of a v) rest)
+    by None known = known
+    by (Some v) known = All-cons (λ (p : Pair). p.control < m) (record { control = a; value = v }) rest (omega (arith, within)) known
+
+-- what is kept names controls that are there
+pub known_latest : (controls : ℕ) (pairs : List Pair) → All (λ p. p.control < controls) (latest controls pairs)
+unfolding latest
+known_latest controls pairs = known_within (last_value pairs) 0 controls controls (omega arith)

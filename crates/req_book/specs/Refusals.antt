@@ -61,7 +61,7 @@ abbrev pub snapshot_answer : Option RequestData → Result (List CtrlValue) Errn
 snapshot_answer None = Err EINVAL
 snapshot_answer (Some r) = if is_complete r.state then Ok r.snapshot else Err EACCES
 
--- the same, of a control; one that isn't there has none
+-- the same, of a control: EINVAL where there is no such request or no such control, then EACCES where the request isn't complete
 abbrev pub value_answer : ℕ → ℕ → Option RequestData → Result CtrlValue Errno
 value_answer controls c None = Err EINVAL
 value_answer controls c (Some r) = if nat_le controls c then Err EINVAL else if is_complete r.state then Ok (value_in r.snapshot c) else Err EACCES

@@ -17,7 +17,7 @@ pub record RequestData : Type 0 where
   pub buffer : Option ℕ
   -- what it asks for: of each control the last stored pair, in order of control numbers
   pub pairs : List Pair
-  -- from its queueing on: what each control got at its begin, where it did
+  -- from its queueing on: what each control got at the begin of its frame, where it did
   pub applied : List (Option CtrlValue)
   -- of a complete one: the value of each control that its frame had
   pub snapshot : List CtrlValue

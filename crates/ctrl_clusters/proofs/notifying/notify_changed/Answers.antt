@@ -1,7 +1,7 @@
-use Rattle.std.proofs.Common.{ℕ, ◌∙◌, ap, rules}
+use Rattle.std.proofs.Common.{rules}
 use Rattle.ctrl_clusters.specs.Changes.{cluster_changes}
 use Rattle.ctrl_clusters.specs.NewRows.{row_given}
-use Rattle.ctrl_clusters.proofs.NotifyLemmas.{renewed_start, renewed_next, work_start, work_next, notified_all}
+use Rattle.ctrl_clusters.proofs.NotifyLemmas.{renewed_start, renewed_next, work_start, work_next, work_end}
 use Rattle.ctrl_clusters.proofs.notifying.notify_changed.Goals as goal
 
 pub loop-cluster-init : goal.loop-cluster-init
@@ -24,6 +24,4 @@ loop-cluster-preserved g c =
 
 pub returns-clause-work : goal.returns-clause-work
 returns-clause-work g c =
-    let changed = cluster_changes c.args.plan.now c.args.values.now c.args.pairs.now c.args.rows.now in
-    c.loop-cluster.invariant.work
-    ∙ ap (λ (n : ℕ). record c.args.work.now { told = n }) (notified_all c.args.plan.now changed c.loop-cluster.cluster (search rules))
+    work_end c.args.plan.now (cluster_changes c.args.plan.now c.args.values.now c.args.pairs.now c.args.rows.now) c.loop-cluster.cluster c.args.work.now c.loop-cluster.work (search rules) c.loop-cluster.invariant.work

@@ -4,9 +4,9 @@ use Rattle.ctrl_clusters.proofs.NewRowLemmas.{given_long}
 use Rattle.ctrl_clusters.proofs.NotifyLemmas.{changes_not, renewed_not, count_not}
 use Rattle.ctrl_clusters.proofs.notifying.notify_touched.Goals as goal
 
-pub row_changes-changed-requires-clause-long : goal.row_changes-changed-requires-clause-long
-row_changes-changed-requires-clause-long g c =
-    rw c.members-members.ensures.members (given_long c.args.plan.now c.args.rows.now c.args.cluster c.in-Some.row c.requires.rows.long (sym c.among.ensures ∙ c.in-Some.is))
+pub notify_of-requires-clause-row : goal.notify_of-requires-clause-row
+notify_of-requires-clause-row g c =
+    given_long c.args.plan.now c.args.rows.now c.args.cluster c.in-Some.row c.requires.rows.long (sym c.among.ensures ∙ c.in-Some.is)
 
 -- a cluster that gets no row isn't notified
 pub returns-in_default-clause-words : goal.returns-in_default-clause-words

@@ -69,3 +69,8 @@ returns-clause-refused g c =
     let outcome : ℕ → Result (List CtrlValue) Errno = row_after g.D.Validates.verdict c.args.plan.now c.args.controls.now c.args.values.now c.args.grabs.now c.args.pairs.now in
     let all : c.loop-cluster.cluster ≡ length c.args.plan.now.clusters = omega (arith, c.loop-cluster-test.false, c.loop-cluster.auto.cluster-end, c.cluster_count-cluster-end.ensures.count) in
     c.from_vec-2.ensures ∙ c.loop-cluster.invariant.refused ∙ ap (λ n. filter (λ k. is_err (outcome k)) (range_with_len 0 n)) all
+
+pub returns-clause-long : goal.returns-clause-long
+returns-clause-long g c =
+    let outcome : ℕ → Result (List CtrlValue) Errno = row_after g.D.Validates.verdict c.args.plan.now c.args.controls.now c.args.values.now c.args.grabs.now c.args.pairs.now in
+    ap length c.from_vec.ensures ∙ ap length c.loop-cluster.invariant.values ∙ length_below c.args.plan.now outcome c.args.values.now c.loop-cluster.cluster
