@@ -1,5 +1,5 @@
 -- A refusal has an index exactly where the ask is one about a list.
-use Rattle.std.proofs.Common.{◌≡◌, ℕ, Bool, true, false, if◌then◌else◌, List, length, Option, None, Some, Ok, Err, is_some, refl, sym, subst, inl, inr}
+use Rattle.std.proofs.Common.{◌≡◌, ℕ, Bool, true, false, if◌then◌else◌, List, length, Option, None, Some, Result, Ok, Err, is_some, refl, sym, subst, inl, inr}
 use Rattle.ctrl_types.specs.declared.errno.Errno.{Errno}
 use Rattle.ctrl_types.specs.declared.errno.Fault.{Fault}
 use Rattle.ctrl_types.specs.declared.ids.CtrlId.{CtrlId}
@@ -15,9 +15,14 @@ use Rattle.ctrl_lists.specs.declared.refusal.Refusal.{Refusal}
 use Rattle.ctrl_lists.specs.Answers.{answered, fault_at_count, fault_at_entry}
 use Rattle.device_history.specs.Steps.{Past}
 use Rattle.device_history.specs.Handles.{handler_of}
-use Rattle.device_history.specs.Refusals.{Answer, refused, refused_at}
+use Rattle.device_history.specs.Refusals.{Answer, refused, refused_at, is_full}
 use Rattle.device_history.specs.Answers.{answer_of, is_list, no_memory, MayAnswer}
 use Rattle.device_history.specs.Lists.{controls_of}
+use Rattle.device_history.specs.Requests.{state}
+use Rattle.device_history.specs.Snapshots.{frames}
+use Rattle.device_history.specs.RequestAnswers.{stepped, frame_answer, state_reply}
+use Rattle.frame_queue.specs.Frames.{begin_answer}
+use Rattle.req_book.specs.declared.state.RequestState.{RequestState}
 use Rattle.device_history.specs.Queries.{query_one, next_one, next_of, item_one, item_of}
 
 -- where the answer is a refusal, whether it has an index is b
@@ -73,6 +78,18 @@ item : (plan : PlanData) (index : ℕ) (found : Option ℕ) → HasIndex false (
 item plan index None = plain _
 item plan index (Some c) = item_found (menu_item plan c index)
 
+stepped_so : (errno : Option Errno) (past : Past) (reply : Reply) → HasIndex false (stepped errno past reply)
+stepped_so None past reply = either false (is_full past) _ _ (plain _) (accepted false reply)
+stepped_so (Some errno) past reply = plain errno
+
+frame : (verdicts : Verdicts) (plan : PlanData) (past : Past) (first : Result (ℕ × ℕ) Errno) → HasIndex false (frame_answer verdicts plan past first)
+frame verdicts plan past (Ok first) = stepped_so None past _
+frame verdicts plan past (Err errno) = plain errno
+
+state_so : (s : Option RequestState) → HasIndex false (state_reply s)
+state_so None = plain _
+state_so (Some s) = accepted false _
+
 told_so : (verdicts : Verdicts) (plan : PlanData) (past : Past) (words : List ℕ) (ask : Ask) → HasIndex (is_list ask) (answer_of verdicts plan past words ask)
 told_so verdicts plan past words (asks.OpenFh handler) = search (either, plain, accepted)
 told_so verdicts plan past words (asks.CloseFh fh) = search (either, plain, accepted)
@@ -80,6 +97,16 @@ told_so verdicts plan past words (asks.GetCtrls fh which request list) = faulty 
 told_so verdicts plan past words (asks.SetCtrls fh which request list) = faulty (fault_at_count (length list)) _ _ (at_count (length list))
 told_so verdicts plan past words (asks.TryCtrls fh which request list) = faulty (fault_at_entry (length list)) _ _ (at_entry (length list))
 told_so verdicts plan past words (asks.Grab c on) = search (either, plain, accepted)
+told_so verdicts plan past words asks.Alloc = stepped_so _ past _
+told_so verdicts plan past words (asks.AddBuffer r number) = stepped_so _ past _
+told_so verdicts plan past words (asks.Queue r) = stepped_so _ past _
+told_so verdicts plan past words asks.Begin = frame verdicts plan past (begin_answer (frames verdicts plan past))
+told_so verdicts plan past words asks.Complete = stepped_so _ past _
+told_so verdicts plan past words (asks.Cancel r) = stepped_so _ past _
+told_so verdicts plan past words asks.StreamOff = stepped_so None past _
+told_so verdicts plan past words (asks.Reinit r) = stepped_so _ past _
+told_so verdicts plan past words (asks.Free r) = stepped_so _ past _
+told_so verdicts plan past words (asks.StateOf r) = state_so (state past r.0)
 told_so verdicts plan past words (asks.Query fh id) = search (either, plain, queried)
 told_so verdicts plan past words (asks.NextId fh id) = next plan id (handler_of past fh)
 told_so verdicts plan past words (asks.MenuItem fh id index) = search (either, plain, item)
@@ -92,6 +119,16 @@ lacking (asks.GetCtrls fh which request list) = at _ _
 lacking (asks.SetCtrls fh which request list) = at _ _
 lacking (asks.TryCtrls fh which request list) = at _ _
 lacking (asks.Grab c on) = plain _
+lacking asks.Alloc = plain _
+lacking (asks.AddBuffer r number) = plain _
+lacking (asks.Queue r) = plain _
+lacking asks.Begin = plain _
+lacking asks.Complete = plain _
+lacking (asks.Cancel r) = plain _
+lacking asks.StreamOff = plain _
+lacking (asks.Reinit r) = plain _
+lacking (asks.Free r) = plain _
+lacking (asks.StateOf r) = plain _
 lacking (asks.Query fh id) = plain _
 lacking (asks.NextId fh id) = plain _
 lacking (asks.MenuItem fh id index) = plain _

@@ -1,3 +1,9 @@
+pub mod AllFit
+pub mod StateLemmas
+pub mod RequestLemmas
+pub mod MadeLemmas
+pub mod QueueLemmas
+pub mod FrameLemmas
 pub mod GrabLemmas
 pub mod PastLemmas
 pub mod PresentLemmas
@@ -6,3 +12,5 @@ pub mod WholeLemmas
 pub mod WordLemmas
 pub mod IndexLemmas
 pub mod LegalLemmas
+pub mod FitLemmas
+pub mod FrameLaw

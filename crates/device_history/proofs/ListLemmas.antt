@@ -9,6 +9,7 @@ use Rattle.ctrl_types.specs.declared.flags.TheConstants.Flags.{READ_ONLY}
 use Rattle.ctrl_types.specs.declared.ids.ExtControl.{ExtControl}
 use Rattle.ctrl_types.specs.declared.ids.FhId.{FhId}
 use Rattle.ctrl_types.specs.declared.ids.Pair.{Pair}
+use Rattle.ctrl_types.specs.declared.ids.RequestId.{RequestId}
 use Rattle.ctrl_calls.specs.Meanings.{Verdicts}
 use Rattle.ctrl_settle.specs.Settle.{settle}
 use Rattle.ctrl_handlers.specs.Plan.{PlanData, control, control_in}
@@ -20,7 +21,7 @@ use Rattle.ctrl_clusters.specs.Rows.{is_grabbed}
 use Rattle.device_history.specs.declared.ask.Reply.TheVariants.{Controls}
 use Rattle.device_history.specs.Steps.{Past}
 use Rattle.device_history.specs.Refusals.{refused_at, is_full}
-use Rattle.device_history.specs.Lists.{list_view, opening_checks, set_checks, controls_of, get_list, set_list, try_list}
+use Rattle.device_history.specs.Lists.{read_view, write_view, opening_checks, set_checks, controls_of, get_list_answer, set_list_answer, try_list_answer}
 
 -- where the checks before pass, the first refusal stands behind them
 pub first_behind : (before behind : List (Option Refusal)) → first_refusal before ≡ None → first_refusal (before ++ behind) ≡ first_refusal behind
@@ -41,44 +42,44 @@ none_of_both (None ∷ before) behind h = none_of_both before behind h
 none_of_both (Some refusal ∷ before) behind h = cc
 
 -- a list whose first checks refuse it
-pub get_unopened : (verdicts : Verdicts) (plan : PlanData) (past : Past) (fh : FhId) (which : ℕ) (list : List ExtControl) (errno : Errno)
-    → first_refusal (opening_checks past fh which false) ≡ Some (record { errno = errno; place = None }) → get_list verdicts plan past fh which list ≡ refused_at errno (length list)
-get_unopened verdicts plan past fh which list errno h = rw (first_before (opening_checks past fh which false) (read_checks plan (list_view verdicts plan past fh which) list) _ h) refl
+pub get_unopened : (verdicts : Verdicts) (plan : PlanData) (past : Past) (fh : FhId) (which : ℕ) (request : Option RequestId) (list : List ExtControl) (errno : Errno)
+    → first_refusal (opening_checks verdicts plan past fh which request false) ≡ Some (record { errno = errno; place = None }) → get_list_answer verdicts plan past fh which request list ≡ refused_at errno (length list)
+get_unopened verdicts plan past fh which request list errno h = rw (first_before (opening_checks verdicts plan past fh which request false) (read_checks plan (read_view verdicts plan past fh which request) list) _ h) refl
 
-pub set_unopened : (verdicts : Verdicts) (plan : PlanData) (past : Past) (fh : FhId) (which : ℕ) (list : List ExtControl) (errno : Errno)
-    → first_refusal (opening_checks past fh which true) ≡ Some (record { errno = errno; place = None }) → set_list verdicts plan past fh which list ≡ refused_at errno (length list)
-set_unopened verdicts plan past fh which list errno h =
-    rw (first_before (opening_checks past fh which true) (write_checks verdicts plan (list_view verdicts plan past fh which) true list ++ refused_if (is_full past) ENOSPC ∷ []) _ h) refl
+pub set_unopened : (verdicts : Verdicts) (plan : PlanData) (past : Past) (fh : FhId) (which : ℕ) (request : Option RequestId) (list : List ExtControl) (errno : Errno)
+    → first_refusal (opening_checks verdicts plan past fh which request true) ≡ Some (record { errno = errno; place = None }) → set_list_answer verdicts plan past fh which request list ≡ refused_at errno (length list)
+set_unopened verdicts plan past fh which request list errno h =
+    rw (first_before (opening_checks verdicts plan past fh which request true) (write_checks verdicts plan (write_view verdicts plan past fh which request) true list ++ refused_if (is_full past) ENOSPC ∷ []) _ h) refl
 
-pub try_unopened : (verdicts : Verdicts) (plan : PlanData) (past : Past) (fh : FhId) (which : ℕ) (list : List ExtControl) (errno : Errno)
-    → first_refusal (opening_checks past fh which true) ≡ Some (record { errno = errno; place = None }) → try_list verdicts plan past fh which list ≡ refused_at errno (length list)
-try_unopened verdicts plan past fh which list errno h = rw (first_before (opening_checks past fh which true) (write_checks verdicts plan (list_view verdicts plan past fh which) false list) _ h) refl
+pub try_unopened : (verdicts : Verdicts) (plan : PlanData) (past : Past) (fh : FhId) (which : ℕ) (request : Option RequestId) (list : List ExtControl) (errno : Errno)
+    → first_refusal (opening_checks verdicts plan past fh which request true) ≡ Some (record { errno = errno; place = None }) → try_list_answer verdicts plan past fh which request list ≡ refused_at errno (length list)
+try_unopened verdicts plan past fh which request list errno h = rw (first_before (opening_checks verdicts plan past fh which request true) (write_checks verdicts plan (write_view verdicts plan past fh which request) false list) _ h) refl
 
 -- a list whose first checks pass is answered as the list is
-pub get_opened : (verdicts : Verdicts) (plan : PlanData) (past : Past) (fh : FhId) (which : ℕ) (list : List ExtControl) → first_refusal (opening_checks past fh which false) ≡ None
-    → get_list verdicts plan past fh which list ≡ controls_of (get_answer plan (list_view verdicts plan past fh which) list)
+pub get_opened : (verdicts : Verdicts) (plan : PlanData) (past : Past) (fh : FhId) (which : ℕ) (request : Option RequestId) (list : List ExtControl) → first_refusal (opening_checks verdicts plan past fh which request false) ≡ None
+    → get_list_answer verdicts plan past fh which request list ≡ controls_of (get_answer plan (read_view verdicts plan past fh which request) list)
 unfolding get_answer
-get_opened verdicts plan past fh which list h = rw (first_behind (opening_checks past fh which false) (read_checks plan (list_view verdicts plan past fh which) list) h) refl
+get_opened verdicts plan past fh which request list h = rw (first_behind (opening_checks verdicts plan past fh which request false) (read_checks plan (read_view verdicts plan past fh which request) list) h) refl
 
-pub try_opened : (verdicts : Verdicts) (plan : PlanData) (past : Past) (fh : FhId) (which : ℕ) (list : List ExtControl) → first_refusal (opening_checks past fh which true) ≡ None
-    → try_list verdicts plan past fh which list ≡ controls_of (try_answer verdicts plan (list_view verdicts plan past fh which) list)
+pub try_opened : (verdicts : Verdicts) (plan : PlanData) (past : Past) (fh : FhId) (which : ℕ) (request : Option RequestId) (list : List ExtControl) → first_refusal (opening_checks verdicts plan past fh which request true) ≡ None
+    → try_list_answer verdicts plan past fh which request list ≡ controls_of (try_answer verdicts plan (write_view verdicts plan past fh which request) list)
 unfolding try_answer
-try_opened verdicts plan past fh which list h = rw (first_behind (opening_checks past fh which true) (write_checks verdicts plan (list_view verdicts plan past fh which) false list) h) refl
+try_opened verdicts plan past fh which request list h = rw (first_behind (opening_checks verdicts plan past fh which request true) (write_checks verdicts plan (write_view verdicts plan past fh which request) false list) h) refl
 
 -- a set that the list's own checks refuse
-pub set_refused : (verdicts : Verdicts) (plan : PlanData) (past : Past) (fh : FhId) (which : ℕ) (list : List ExtControl) (fault : Fault) → first_refusal (opening_checks past fh which true) ≡ None
-    → set_answer verdicts plan (list_view verdicts plan past fh which) list ≡ Err fault → set_list verdicts plan past fh which list ≡ Err fault
+pub set_refused : (verdicts : Verdicts) (plan : PlanData) (past : Past) (fh : FhId) (which : ℕ) (request : Option RequestId) (list : List ExtControl) (fault : Fault) → first_refusal (opening_checks verdicts plan past fh which request true) ≡ None
+    → set_answer verdicts plan (write_view verdicts plan past fh which request) list ≡ Err fault → set_list_answer verdicts plan past fh which request list ≡ Err fault
 unfolding set_answer
-set_refused verdicts plan past fh which list fault opens is = rw (first_behind (opening_checks past fh which true) (own ++ limit) opens) (by (first_refusal own) refl is)
+set_refused verdicts plan past fh which request list fault opens is = rw (first_behind (opening_checks verdicts plan past fh which request true) (own ++ limit) opens) (by (first_refusal own) refl is)
   where
     own : List (Option Refusal)
-    own = write_checks verdicts plan (list_view verdicts plan past fh which) true list
+    own = write_checks verdicts plan (write_view verdicts plan past fh which request) true list
 
     limit : List (Option Refusal)
     limit = refused_if (is_full past) ENOSPC ∷ []
 
     entries : List ExtControl
-    entries = entries_judged verdicts plan (list_view verdicts plan past fh which) list
+    entries = entries_judged verdicts plan (write_view verdicts plan past fh which request) list
 
     by : (first : Option Refusal) → first_refusal own ≡ first → answered (fault_at_count (length list)) first entries ≡ Err fault
         → controls_of (answered (fault_at_count (length list)) (first_refusal (own ++ limit)) entries) ≡ Err fault
@@ -86,19 +87,19 @@ set_refused verdicts plan past fh which list fault opens is = rw (first_behind (
     by (Some refusal) e h = rw (first_before own limit refusal e) (ap controls_of h)
 
 -- a set that they don't refuse: the limit of steps decides
-pub set_limited : (verdicts : Verdicts) (plan : PlanData) (past : Past) (fh : FhId) (which : ℕ) (list answers : List ExtControl) → first_refusal (opening_checks past fh which true) ≡ None
-    → set_answer verdicts plan (list_view verdicts plan past fh which) list ≡ Ok answers → set_list verdicts plan past fh which list ≡ (if is_full past then refused_at ENOSPC (length list) else Ok (Controls answers))
+pub set_limited : (verdicts : Verdicts) (plan : PlanData) (past : Past) (fh : FhId) (which : ℕ) (request : Option RequestId) (list answers : List ExtControl) → first_refusal (opening_checks verdicts plan past fh which request true) ≡ None
+    → set_answer verdicts plan (write_view verdicts plan past fh which request) list ≡ Ok answers → set_list_answer verdicts plan past fh which request list ≡ (if is_full past then refused_at ENOSPC (length list) else Ok (Controls answers))
 unfolding set_answer
-set_limited verdicts plan past fh which list answers opens is = rw (first_behind (opening_checks past fh which true) (own ++ limit) opens) (by (first_refusal own) refl is)
+set_limited verdicts plan past fh which request list answers opens is = rw (first_behind (opening_checks verdicts plan past fh which request true) (own ++ limit) opens) (by (first_refusal own) refl is)
   where
     own : List (Option Refusal)
-    own = write_checks verdicts plan (list_view verdicts plan past fh which) true list
+    own = write_checks verdicts plan (write_view verdicts plan past fh which request) true list
 
     limit : List (Option Refusal)
     limit = refused_if (is_full past) ENOSPC ∷ []
 
     entries : List ExtControl
-    entries = entries_judged verdicts plan (list_view verdicts plan past fh which) list
+    entries = entries_judged verdicts plan (write_view verdicts plan past fh which request) list
 
     full : (b : Bool) → answered (fault_at_count (length list)) None entries ≡ Ok answers
         → controls_of (answered (fault_at_count (length list)) (first_refusal (refused_if b ENOSPC ∷ [])) entries) ≡ (if b then refused_at ENOSPC (length list) else Ok (Controls answers))
@@ -111,23 +112,23 @@ set_limited verdicts plan past fh which list answers opens is = rw (first_behind
     by (Some refusal) e h = cc
 
 -- a set that is accepted passes the first checks, and the list's own
-pub set_passes : (verdicts : Verdicts) (plan : PlanData) (past : Past) (fh : FhId) (which : ℕ) (list answers : List ExtControl) → set_list verdicts plan past fh which list ≡ Ok (Controls answers)
-    → (first_refusal (opening_checks past fh which true) ≡ None) × (set_answer verdicts plan (list_view verdicts plan past fh which) list ≡ Ok answers)
+pub set_passes : (verdicts : Verdicts) (plan : PlanData) (past : Past) (fh : FhId) (which : ℕ) (request : Option RequestId) (list answers : List ExtControl) → set_list_answer verdicts plan past fh which request list ≡ Ok (Controls answers)
+    → (first_refusal (opening_checks verdicts plan past fh which request true) ≡ None) × (set_answer verdicts plan (write_view verdicts plan past fh which request) list ≡ Ok answers)
 unfolding set_answer
-set_passes verdicts plan past fh which list answers is =
-    let all : first_refusal (set_checks verdicts plan past fh which list) ≡ None = none (first_refusal (set_checks verdicts plan past fh which list)) is in
-    let parts = none_of_both (opening_checks past fh which true) (own ++ limit) all in
+set_passes verdicts plan past fh which request list answers is =
+    let all : first_refusal (set_checks verdicts plan past fh which request list) ≡ None = none (first_refusal (set_checks verdicts plan past fh which request list)) is in
+    let parts = none_of_both (opening_checks verdicts plan past fh which request true) (own ++ limit) all in
     let passed = none_of_both own limit parts.1 in
-    (parts.0, rw passed.0 (same (first_refusal (set_checks verdicts plan past fh which list)) all is))
+    (parts.0, rw passed.0 (same (first_refusal (set_checks verdicts plan past fh which request list)) all is))
   where
     own : List (Option Refusal)
-    own = write_checks verdicts plan (list_view verdicts plan past fh which) true list
+    own = write_checks verdicts plan (write_view verdicts plan past fh which request) true list
 
     limit : List (Option Refusal)
     limit = refused_if (is_full past) ENOSPC ∷ []
 
     entries : List ExtControl
-    entries = entries_judged verdicts plan (list_view verdicts plan past fh which) list
+    entries = entries_judged verdicts plan (write_view verdicts plan past fh which request) list
 
     none : (first : Option Refusal) → controls_of (answered (fault_at_count (length list)) first entries) ≡ Ok (Controls answers) → first ≡ None
     none None h = refl

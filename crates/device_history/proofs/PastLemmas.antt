@@ -11,14 +11,14 @@ use Rattle.history.proofs.Pasts.{past_add, length_past}
 use Rattle.ctrl_calls.specs.Meanings.{Verdicts}
 use Rattle.ctrl_types.specs.declared.ids.FhId.{FhId}
 use Rattle.device_history.specs.declared.ask.Step.{Step}
-use Rattle.device_history.specs.declared.ask.Step.TheVariants.{OpenFh, CloseFh, Set, Grab}
+use Rattle.device_history.specs.declared.ask.Step.TheVariants as steps
 use Rattle.ctrl_handlers.specs.Plan.{PlanData}
 use Rattle.device_history.specs.Steps.{History, Past}
 use Rattle.device_history.specs.Handles.{opening, ever_opened, closes, is_closed, opened, opened_after, handler_of}
 use Rattle.device_history.specs.Grabs.{grabbed, grabbed_after}
 use Rattle.ctrl_clusters.specs.PresentFlags.{flags_under}
 use Rattle.device_history.specs.Flags.{flags_now}
-use Rattle.device_history.specs.Values.{defaults, now, now_after}
+use Rattle.device_history.specs.Values.{defaults, laid, now, now_after}
 use Rattle.device_history.proofs.GrabLemmas.{grabbed_start, grabbed_add}
 use Rattle.device_history.specs.Legal.{IsLegal, MayFollow}
 
@@ -36,7 +36,7 @@ unfolding IsLegal
 legal_start verdicts plan = tt
 
 -- the present values after one more entry
-pub now_add : (verdicts : Verdicts) (plan : PlanData) (steps : History) (e : Entry Step) → now verdicts plan (past (steps ++ e ∷ [])) ≡ now_after verdicts plan (grabbed plan (past steps)) e.step (now verdicts plan (past steps))
+pub now_add : (verdicts : Verdicts) (plan : PlanData) (steps : History) (e : Entry Step) → now verdicts plan (past (steps ++ e ∷ [])) ≡ now_after verdicts plan (grabbed plan (past steps)) (laid plan (past steps) e.step) (now verdicts plan (past steps))
 unfolding now
 now_add verdicts plan steps e = rw (past_add steps e) refl
 
@@ -45,7 +45,7 @@ pub flags_start : (verdicts : Verdicts) (plan : PlanData) (c : ℕ) → flags_no
 flags_start verdicts plan c = rw (now_start verdicts plan, grabbed_start plan) refl
 
 pub flags_add : (verdicts : Verdicts) (plan : PlanData) (steps : History) (e : Entry Step) (c : ℕ) → flags_now verdicts plan (past (steps ++ e ∷ [])) c
-    ≡ flags_under plan (now_after verdicts plan (grabbed plan (past steps)) e.step (now verdicts plan (past steps))) (grabbed_after e.step (grabbed plan (past steps))) c
+    ≡ flags_under plan (now_after verdicts plan (grabbed plan (past steps)) (laid plan (past steps) e.step) (now verdicts plan (past steps))) (grabbed_after e.step (grabbed plan (past steps))) c
 flags_add verdicts plan steps e c = rw (now_add verdicts plan steps e, grabbed_add plan steps e) refl
 
 -- what makes one more entry legal
@@ -93,10 +93,20 @@ below_filter n test (o ∷ os) h = by (test o) (below_filter n test os h.1)
 
 opening_below : (n : ℕ) (step : Step) → AreBelow (suc n) (opening n step)
 unfolding AreBelow
-opening_below n (OpenFh handler) = (omega arith, tt)
-opening_below n (CloseFh fh) = tt
-opening_below n (Set fh pairs) = tt
-opening_below n (Grab c on) = tt
+opening_below n (steps.OpenFh handler) = (omega arith, tt)
+opening_below n (steps.CloseFh fh) = tt
+opening_below n (steps.Set fh pairs) = tt
+opening_below n (steps.Grab c on) = tt
+opening_below n steps.Alloc = tt
+opening_below n (steps.Store r pairs) = tt
+opening_below n (steps.Buffer r number) = tt
+opening_below n (steps.Queue r) = tt
+opening_below n (steps.Begin r) = tt
+opening_below n (steps.Complete r) = tt
+opening_below n (steps.Cancel r) = tt
+opening_below n steps.StreamOff = tt
+opening_below n (steps.Reinit r) = tt
+opening_below n (steps.Free r) = tt
 
 -- a file handle's id is the number of a step that was made
 ever_below : (past : Past) → AreBelow (length past) (ever_opened past)
@@ -149,10 +159,20 @@ unfolding opened ever_opened
 opened_more e older = by e.step refl
   where
     by : (step : Step) → e.step ≡ step → filter (λ h. not (is_closed (e ∷ older) h.0)) (ever_opened older ++ opening (length older) step) ≡ opened_after (length older) step (filter (λ h. not (is_closed older h.0)) (ever_opened older))
-    by (OpenFh handler) is = filter-append _ (ever_opened older) ((length older, handler) ∷ []) ∙ rw (closed_last e older, older_kept e older _ is) refl
-    by (CloseFh fh) is = filter-append _ (ever_opened older) [] ∙ append-nil _ ∙ older_kept e older _ is ∙ filter_both (λ h. nat_eq fh.0 h.0) (λ h. is_closed older h.0) (ever_opened older)
-    by (Set fh pairs) is = filter-append _ (ever_opened older) [] ∙ append-nil _ ∙ older_kept e older _ is
-    by (Grab c on) is = filter-append _ (ever_opened older) [] ∙ append-nil _ ∙ older_kept e older _ is
+    by (steps.OpenFh handler) is = filter-append _ (ever_opened older) ((length older, handler) ∷ []) ∙ rw (closed_last e older, older_kept e older _ is) refl
+    by (steps.CloseFh fh) is = filter-append _ (ever_opened older) [] ∙ append-nil _ ∙ older_kept e older _ is ∙ filter_both (λ h. nat_eq fh.0 h.0) (λ h. is_closed older h.0) (ever_opened older)
+    by (steps.Set fh pairs) is = filter-append _ (ever_opened older) [] ∙ append-nil _ ∙ older_kept e older _ is
+    by (steps.Grab c on) is = filter-append _ (ever_opened older) [] ∙ append-nil _ ∙ older_kept e older _ is
+    by steps.Alloc is = filter-append _ (ever_opened older) [] ∙ append-nil _ ∙ older_kept e older _ is
+    by (steps.Store r pairs) is = filter-append _ (ever_opened older) [] ∙ append-nil _ ∙ older_kept e older _ is
+    by (steps.Buffer r number) is = filter-append _ (ever_opened older) [] ∙ append-nil _ ∙ older_kept e older _ is
+    by (steps.Queue r) is = filter-append _ (ever_opened older) [] ∙ append-nil _ ∙ older_kept e older _ is
+    by (steps.Begin r) is = filter-append _ (ever_opened older) [] ∙ append-nil _ ∙ older_kept e older _ is
+    by (steps.Complete r) is = filter-append _ (ever_opened older) [] ∙ append-nil _ ∙ older_kept e older _ is
+    by (steps.Cancel r) is = filter-append _ (ever_opened older) [] ∙ append-nil _ ∙ older_kept e older _ is
+    by steps.StreamOff is = filter-append _ (ever_opened older) [] ∙ append-nil _ ∙ older_kept e older _ is
+    by (steps.Reinit r) is = filter-append _ (ever_opened older) [] ∙ append-nil _ ∙ older_kept e older _ is
+    by (steps.Free r) is = filter-append _ (ever_opened older) [] ∙ append-nil _ ∙ older_kept e older _ is
 
 pub opened_add : (steps : History) (e : Entry Step) → opened (past (steps ++ e ∷ [])) ≡ opened_after (length steps) e.step (opened (past steps))
 opened_add steps e = rw (past_add steps e)
@@ -212,10 +232,20 @@ rising_filter test (o ∷ os) h = by (test o) (rising_filter test os h.1)
     by false k = k
 
 after_rising : (n : ℕ) (step : Step) (os : List (ℕ × ℕ)) → AreRising os → AreBelow n os → AreRising (opened_after n step os)
-after_rising n (OpenFh handler) os h b = rising_push n handler os h b
-after_rising n (CloseFh fh) os h b = rising_filter _ os h
-after_rising n (Set fh pairs) os h b = h
-after_rising n (Grab c on) os h b = h
+after_rising n (steps.OpenFh handler) os h b = rising_push n handler os h b
+after_rising n (steps.CloseFh fh) os h b = rising_filter _ os h
+after_rising n (steps.Set fh pairs) os h b = h
+after_rising n (steps.Grab c on) os h b = h
+after_rising n steps.Alloc os h b = h
+after_rising n (steps.Store r pairs) os h b = h
+after_rising n (steps.Buffer r number) os h b = h
+after_rising n (steps.Queue r) os h b = h
+after_rising n (steps.Begin r) os h b = h
+after_rising n (steps.Complete r) os h b = h
+after_rising n (steps.Cancel r) os h b = h
+after_rising n steps.StreamOff os h b = h
+after_rising n (steps.Reinit r) os h b = h
+after_rising n (steps.Free r) os h b = h
 
 -- the ids of the open file handles rise in the order of their opening
 pub opened_rising : (past : Past) → AreRising (opened past)
@@ -255,8 +285,8 @@ dropped k (o ∷ os) = by (nat_eq k o.0) refl (dropped k os)
     by false e rest = rw e rest
 
 -- a file handle that was closed isn't open
-pub closed_gone : (steps : History) (e : Entry Step) (fh : FhId) → e.step ≡ CloseFh fh → handler_of (past (steps ++ e ∷ [])) fh ≡ None
-closed_gone steps e fh is = rw (opened_add steps e, is) (dropped fh.0 (opened (past steps)))
+pub closed_gone : (entries : History) (e : Entry Step) (fh : FhId) → e.step ≡ steps.CloseFh fh → handler_of (past (entries ++ e ∷ [])) fh ≡ None
+closed_gone entries e fh is = rw (opened_add entries e, is) (dropped fh.0 (opened (past entries)))
 
 -- one that isn't there isn't there without others
 still_absent : (k : ℕ) (test : ℕ × ℕ → Bool) (os : List (ℕ × ℕ)) → lookup (nat_eq k) os ≡ None → lookup (nat_eq k) (filter test os) ≡ None
@@ -280,10 +310,20 @@ absent_push k n handler (o ∷ os) lt h = by (nat_eq k o.0) h (absent_push k n h
     by false g rest = rest g
 
 after_absent : (n : ℕ) (step : Step) (k : ℕ) (os : List (ℕ × ℕ)) → k < n → lookup (nat_eq k) os ≡ None → lookup (nat_eq k) (opened_after n step os) ≡ None
-after_absent n (OpenFh handler) k os lt h = absent_push k n handler os lt h
-after_absent n (CloseFh fh) k os lt h = still_absent k _ os h
-after_absent n (Set fh pairs) k os lt h = h
-after_absent n (Grab c on) k os lt h = h
+after_absent n (steps.OpenFh handler) k os lt h = absent_push k n handler os lt h
+after_absent n (steps.CloseFh fh) k os lt h = still_absent k _ os h
+after_absent n (steps.Set fh pairs) k os lt h = h
+after_absent n (steps.Grab c on) k os lt h = h
+after_absent n steps.Alloc k os lt h = h
+after_absent n (steps.Store r pairs) k os lt h = h
+after_absent n (steps.Buffer r number) k os lt h = h
+after_absent n (steps.Queue r) k os lt h = h
+after_absent n (steps.Begin r) k os lt h = h
+after_absent n (steps.Complete r) k os lt h = h
+after_absent n (steps.Cancel r) k os lt h = h
+after_absent n steps.StreamOff k os lt h = h
+after_absent n (steps.Reinit r) k os lt h = h
+after_absent n (steps.Free r) k os lt h = h
 
 older_gone : (newer older : Past) (fh : FhId) → fh.0 < length older → handler_of older fh ≡ None → handler_of (newer ++ older) fh ≡ None
 older_gone [] older fh lt h = h

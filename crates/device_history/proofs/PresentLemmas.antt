@@ -1,30 +1,27 @@
 -- There is a present value, and a grab, for each control.
-use Rattle.std.proofs.Common.{◌≡◌, [], ◌∷◌, length, refl, ◌∙◌}
+use Rattle.std.proofs.Common.{◌≡◌, List, [], ◌∷◌, length, Option, None, Some, refl, ◌∙◌}
 use Rattle.std.specs.List.{range_with_len}
 use Rattle.std.proofs.lemmas.List.{length-map}
 use Rattle.std.proofs.lemmas.List.FromFn.{length-range_with_len}
 use Rattle.ctrl_calls.specs.Meanings.{Verdicts}
-use Rattle.device_history.specs.declared.ask.Step.{Step}
-use Rattle.device_history.specs.declared.ask.Step.TheVariants.{OpenFh, CloseFh, Set, Grab}
+use Rattle.ctrl_types.specs.declared.ids.Pair.{Pair}
 use Rattle.ctrl_handlers.specs.Plan.{PlanData}
 use Rattle.device_history.specs.Steps.{Past}
 use Rattle.ctrl_clusters.specs.Rows.{Grabs, Values}
 use Rattle.device_history.specs.Grabs.{grabbed}
 use Rattle.ctrl_clusters.proofs.OverlayLemmas.{length_overlay}
-use Rattle.device_history.specs.Values.{now, now_after}
+use Rattle.device_history.specs.Values.{laid, now, now_after}
 
--- a step leaves as many values
-length_now_after : (verdicts : Verdicts) (plan : PlanData) (grabs : Grabs) (step : Step) (values : Values) → length (now_after verdicts plan grabs step values) ≡ length values
-length_now_after verdicts plan grabs (Set fh pairs) values = length_overlay verdicts plan plan.controls values grabs pairs
-length_now_after verdicts plan grabs (OpenFh handler) values = refl
-length_now_after verdicts plan grabs (CloseFh fh) values = refl
-length_now_after verdicts plan grabs (Grab c on) values = refl
+-- pairs that are laid leave as many values
+length_now_after : (verdicts : Verdicts) (plan : PlanData) (grabs : Grabs) (pairs : Option (List Pair)) (values : Values) → length (now_after verdicts plan grabs pairs values) ≡ length values
+length_now_after verdicts plan grabs None values = refl
+length_now_after verdicts plan grabs (Some pairs) values = length_overlay verdicts plan plan.controls values grabs pairs
 
 -- there is a value for each control of the plan
 pub length_now : (verdicts : Verdicts) (plan : PlanData) (past : Past) → length (now verdicts plan past) ≡ length plan.controls
 unfolding now
 length_now verdicts plan [] = length-map plan.controls _
-length_now verdicts plan (e ∷ older) = length_now_after verdicts plan (grabbed plan older) e.step (now verdicts plan older) ∙ length_now verdicts plan older
+length_now verdicts plan (e ∷ older) = length_now_after verdicts plan (grabbed plan older) (laid plan older e.step) (now verdicts plan older) ∙ length_now verdicts plan older
 
 -- for each control of the plan it is said whether it is grabbed
 pub length_grabbed : (plan : PlanData) (past : Past) → length (grabbed plan past) ≡ length plan.controls

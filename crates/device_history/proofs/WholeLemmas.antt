@@ -1,21 +1,22 @@
 -- A set that is accepted is made whole: no cluster is refused.
-use Rattle.std.proofs.Common.{◌≡◌, ℕ, Bool, true, false, not, cond, ◌||◌, ◌+◌, ◌<◌, List, [], ◌∷◌, ◌++◌, length, map, nat_eq, unwrap_or, Option, None, Some, Result, Ok, Err, refl, ap, sym, subst, ◌∙◌, ◌==◌, ◌≢◌, ◌⊎◌, inl, inr, eq-eqb}
+use Rattle.std.proofs.Common.{◌≡◌, ℕ, Bool, true, false, ◌||◌, ◌+◌, ◌<◌, List, [], ◌∷◌, ◌++◌, length, map, unwrap_or, Option, None, Some, Result, Ok, Err, refl, ap, sym, subst, ◌∙◌, ◌==◌, ◌≢◌, ◌⊎◌, inl, inr}
 use Rattle.std.specs.List.{list_any}
 use Rattle.std.proofs.lemmas.Bool.Decides.{eqb_tells}
 use Rattle.ctrl_types.specs.Values.{CtrlValue}
 use Rattle.ctrl_types.specs.declared.errno.Errno.{Errno}
-use Rattle.ctrl_types.specs.declared.errno.Errno.TheVariants.{EBUSY, EINVAL}
+use Rattle.ctrl_types.specs.declared.errno.Errno.TheVariants.{EINVAL}
+use Rattle.ctrl_types.specs.Classes.{which_of}
 use Rattle.ctrl_types.specs.declared.ids.ExtControl.{ExtControl}
 use Rattle.ctrl_types.specs.declared.ids.FhId.{FhId}
 use Rattle.ctrl_types.specs.declared.ids.Pair.{Pair}
+use Rattle.ctrl_types.specs.declared.ids.RequestId.{RequestId}
 use Rattle.ctrl_calls.specs.Meanings.{Verdicts}
 use Rattle.ctrl_settle.specs.Control.{Control}
 use Rattle.ctrl_handlers.specs.Plan.{PlanData, IsPlan, control, cluster_of, members}
 use Rattle.ctrl_handlers.proofs.ClusterLemmas.{cluster_of_member, cluster_of_within}
 use Rattle.ctrl_clusters.specs.Rows.{Grabs, is_grabbed, Values, value_at, row_of}
-use Rattle.ctrl_clusters.specs.Judging.{becomes}
-use Rattle.ctrl_clusters.specs.Overlay.{is_touched, is_held, row_after, given_by, given_in, value_after, overlay, no_grabs}
-use Rattle.ctrl_clusters.proofs.OverlayLemmas.{held_none, held_not, overlaid_row, member_after, or_true_right}
+use Rattle.ctrl_clusters.specs.Overlay.{is_touched, row_after, given_by, given_in, value_after, overlay, no_grabs}
+use Rattle.ctrl_clusters.proofs.OverlayLemmas.{held_none, held_not, overlaid_row, member_after}
 use Rattle.ctrl_lists.specs.declared.refusal.Refusal.{Refusal}
 use Rattle.ctrl_lists.specs.View.{ViewData, pairs_of}
 use Rattle.ctrl_lists.specs.Checks.{at_first, errno_of, first_from, first_refusal, is_long, is_of_no_class, laid_pairs, refused_if, row_laid, judging_refusal, naming_refusal, writing_refusal, write_checks}
@@ -25,7 +26,7 @@ use Rattle.device_history.specs.declared.ask.Reply.TheVariants.{Controls}
 use Rattle.device_history.specs.Steps.{Past}
 use Rattle.device_history.specs.Grabs.{grabbed}
 use Rattle.device_history.specs.Values.{now}
-use Rattle.device_history.specs.Lists.{list_pairs, list_view, set_list, values_set}
+use Rattle.device_history.specs.Lists.{earlier_pairs, list_pairs, meant, write_view, set_list_answer, values_set, which_or}
 use Rattle.device_history.proofs.PresentLemmas.{length_now}
 use Rattle.device_history.proofs.ListLemmas.{passes, none_found, not_refused, accepted_free, set_passes}
 
@@ -106,13 +107,18 @@ accepted_judged verdicts plan view list answers is =
     said None e h = cc
     said (Some refusal) e h = cc
 
-whole : (verdicts : Verdicts) (plan : PlanData) (older : Past) (fh : FhId) (which : ℕ) (list answers : List ExtControl) → set_list verdicts plan older fh which list ≡ Ok (Controls answers)
-    → IsWhole verdicts plan (list_view verdicts plan older fh which) (list_pairs plan older fh which list) answers
-whole verdicts plan older fh which list answers is =
-    let view : ViewData = list_view verdicts plan older fh which in
-    let accepted : set_answer verdicts plan view list ≡ Ok answers = (set_passes verdicts plan older fh which list answers is).1 in
+whole : (verdicts : Verdicts) (plan : PlanData) (older : Past) (fh : FhId) (which : ℕ) (request : Option RequestId) (list answers : List ExtControl) → meant (which_or (which_of which)) request ≡ None → set_list_answer verdicts plan older fh which request list ≡ Ok (Controls answers)
+    → IsWhole verdicts plan (write_view verdicts plan older fh which request) (list_pairs plan older fh which list) answers
+whole verdicts plan older fh which request list answers current is =
+    let view : ViewData = write_view verdicts plan older fh which request in
+    let accepted : set_answer verdicts plan view list ≡ Ok answers = (set_passes verdicts plan older fh which request list answers is).1 in
     let parts = accepted_judged verdicts plan view list answers accepted in
-    record { free = accepted_free verdicts plan view list answers accepted; passed = parts.0; answers_are = parts.1 }
+    let pairs : List Pair = list_pairs plan older fh which list in
+    record {
+      free = accepted_free verdicts plan view list answers accepted;
+      passed = subst (λ (o : Option RequestId). at_first (judging_refusal verdicts plan view (earlier_pairs plan older o ++ pairs)) pairs ≡ None) current parts.0;
+      answers_are = subst (λ (o : Option RequestId). answers ≡ map (entry_judged verdicts plan view (earlier_pairs plan older o ++ pairs)) pairs) current parts.1;
+    }
 
 -- a cluster without a control of the pairs keeps its row
 untouched : (verdicts : Verdicts) (plan : PlanData) (controls : List Control) (values : Values) (grabs : Grabs) (pairs : List Pair) (k : ℕ) → is_touched pairs (members plan k) ≡ false
@@ -132,11 +138,12 @@ none_refused verdicts plan view pairs answers k is cs lt whole = by (is_touched 
     by false none = untouched verdicts plan plan.controls view.values view.grabs pairs k none
 
 -- each cluster has the row that an accepted set's pairs make of it
-pub all_rows : (verdicts : Verdicts) (plan : PlanData) (older : Past) (fh : FhId) (which k : ℕ) (list answers : List ExtControl) → IsPlan plan → set_list verdicts plan older fh which list ≡ Ok (Controls answers)
+pub all_rows : (verdicts : Verdicts) (plan : PlanData) (older : Past) (fh : FhId) (which k : ℕ) (request : Option RequestId) (list answers : List ExtControl) → IsPlan plan → meant (which_or (which_of which)) request ≡ None
+    → set_list_answer verdicts plan older fh which request list ≡ Ok (Controls answers)
     → k < length plan.clusters → row_after verdicts plan plan.controls (now verdicts plan older) (grabbed plan older) (list_pairs plan older fh which list) k ≡ Ok (row_of (values_set verdicts plan older fh which list) (members plan k))
-all_rows verdicts plan older fh which k list answers is accepted lt =
+all_rows verdicts plan older fh which k request list answers is current accepted lt =
     row_made verdicts plan plan.controls (now verdicts plan older) (grabbed plan older) (list_pairs plan older fh which list) k is (length_now verdicts plan older) lt
-    (none_refused verdicts plan (list_view verdicts plan older fh which) (list_pairs plan older fh which list) answers k is refl lt (whole verdicts plan older fh which list answers accepted))
+    (none_refused verdicts plan (write_view verdicts plan older fh which request) (list_pairs plan older fh which list) answers k is refl lt (whole verdicts plan older fh which request list answers current accepted))
 
 -- what an entry is answered is the value that its control has then
 entry_made : (verdicts : Verdicts) (plan : PlanData) (values : Values) (grabs : Grabs) (pairs : List Pair) (c : ℕ) (o : Option ℕ) → IsPlan plan → length values ≡ length plan.controls
@@ -170,9 +177,10 @@ entries_made verdicts plan values grabs view pairs (p ∷ rest) n is many cs vs 
     clustered (Some k) h = λ e. cc
 
 -- each entry of an accepted set is answered the value that its control has then
-pub all_answers : (verdicts : Verdicts) (plan : PlanData) (older : Past) (fh : FhId) (which : ℕ) (list answers : List ExtControl) → IsPlan plan → set_list verdicts plan older fh which list ≡ Ok (Controls answers)
+pub all_answers : (verdicts : Verdicts) (plan : PlanData) (older : Past) (fh : FhId) (which : ℕ) (request : Option RequestId) (list answers : List ExtControl) → IsPlan plan → meant (which_or (which_of which)) request ≡ None
+    → set_list_answer verdicts plan older fh which request list ≡ Ok (Controls answers)
     → answers ≡ map (λ p. record { id = (control plan p.control).id; value = value_at (values_set verdicts plan older fh which list) p.control }) (list_pairs plan older fh which list)
-all_answers verdicts plan older fh which list answers is accepted =
-    let it = whole verdicts plan older fh which list answers accepted in
+all_answers verdicts plan older fh which request list answers is current accepted =
+    let it = whole verdicts plan older fh which request list answers current accepted in
     let pairs : List Pair = list_pairs plan older fh which list in
-    it.answers_are ∙ entries_made verdicts plan (now verdicts plan older) (grabbed plan older) (list_view verdicts plan older fh which) pairs pairs 0 is (length_now verdicts plan older) refl refl it.free it.passed
+    it.answers_are ∙ entries_made verdicts plan (now verdicts plan older) (grabbed plan older) (write_view verdicts plan older fh which request) pairs pairs 0 is (length_now verdicts plan older) refl refl it.free it.passed

@@ -1,50 +1,64 @@
 -- Words stay such as clusters may have been told, where those don't change.
-use Rattle.std.proofs.Common.{◌≡◌, ℕ, suc, ℤ, ◌&&◌, ◌||◌, not, Bool, true, false, List, [], ◌∷◌, length, refl, sym, ap, ◌∙◌, arith, ◌++◌}
+use Rattle.std.proofs.Common.{◌≡◌, ℕ, suc, ◌||◌, Bool, false, List, [], ◌∷◌, length, Some, refl, sym, ap, ◌∙◌, ◌++◌}
 use Rattle.std.specs.List.{list_any}
 use Rattle.ctrl_calls.specs.Meanings.{Verdicts, Words}
-use Rattle.ctrl_types.specs.declared.ids.FhId.{FhId}
 use Rattle.ctrl_types.specs.declared.ids.Pair.{Pair}
 use Rattle.device_history.specs.declared.ask.Step.{Step}
-use Rattle.device_history.specs.declared.ask.Step.TheVariants.{OpenFh, CloseFh, Set, Grab}
-use Rattle.ctrl_handlers.specs.Plan.{PlanData, calls_of, control, members}
+use Rattle.device_history.specs.declared.ask.Step.TheVariants as steps
+use Rattle.ctrl_handlers.specs.Plan.{PlanData, calls_of, members}
 use Rattle.device_history.specs.Grabs.{grabbed}
 use Rattle.ctrl_clusters.specs.Overlay.{overlay}
+use Rattle.device_history.specs.Requests.{asked}
+use Rattle.device_history.specs.Snapshots.{begun_pairs}
 use Rattle.ctrl_clusters.specs.Changes.{is_changed, row_changes}
 use Rattle.ctrl_clusters.specs.Notified.{MaySay}
 use Rattle.ctrl_clusters.proofs.NotifyLemmas.{same_row}
 use Rattle.ctrl_clusters.specs.Rows.{Values, value_at, row_of}
-use Rattle.device_history.specs.Values.{now, now_after}
-use Rattle.device_history.specs.Steps.{History}
+use Rattle.device_history.specs.Values.{laid, now, now_after}
+use Rattle.device_history.specs.Steps.{History, Past}
 use Rattle.history.specs.declared.entry.Entry.{Entry}
 use Rattle.history.specs.Past.{past}
-use Rattle.device_history.specs.Words.{changes}
+use Rattle.device_history.specs.Words.{acted, changes}
 use Rattle.device_history.proofs.PastLemmas.{now_add}
 
 -- some member is changed exactly where the row that they have afterwards changes one
-pub changed_row : (plan : PlanData) (values after : Values) (fh : FhId) (pairs : List Pair) (cs : List ℕ) → list_any (changes plan values after (Set fh pairs)) cs ≡ row_changes plan values pairs cs (row_of after cs)
-changed_row plan values after fh pairs [] = refl
-changed_row plan values after fh pairs (c ∷ cs) =
-    ap (λ (b : Bool). is_changed plan values pairs c (value_at after c) || b) (changed_row plan values after fh pairs cs)
+pub changed_row : (plan : PlanData) (values after : Values) (pairs : List Pair) (cs : List ℕ) → list_any (changes plan values after (Some pairs)) cs ≡ row_changes plan values pairs cs (row_of after cs)
+changed_row plan values after pairs [] = refl
+changed_row plan values after pairs (c ∷ cs) =
+    ap (λ (b : Bool). is_changed plan values pairs c (value_at after c) || b) (changed_row plan values after pairs cs)
 
--- a step that leaves some controls unchanged leaves their row
-row_stays : (verdicts : Verdicts) (plan : PlanData) (steps : History) (step : Step) (cs : List ℕ)
-    → list_any (changes plan (now verdicts plan (past steps)) (now_after verdicts plan (grabbed plan (past steps)) step (now verdicts plan (past steps))) step) cs ≡ false
-    → row_of (now_after verdicts plan (grabbed plan (past steps)) step (now verdicts plan (past steps))) cs ≡ row_of (now verdicts plan (past steps)) cs
-row_stays verdicts plan steps (OpenFh handler) cs h = refl
-row_stays verdicts plan steps (CloseFh fh) cs h = refl
-row_stays verdicts plan steps (Grab c on) cs h = refl
-row_stays verdicts plan steps (Set fh pairs) cs h =
-    let present = now verdicts plan (past steps) in
-    let after = overlay verdicts plan plan.controls present (grabbed plan (past steps)) pairs in
-    sym (same_row plan present pairs cs (row_of after cs) (long cs) (sym (changed_row plan present after fh pairs cs) ∙ h))
+-- values after which some controls are unchanged leave their row
+unchanged_row : (plan : PlanData) (values after : Values) (pairs : List Pair) (cs : List ℕ) → list_any (changes plan values after (Some pairs)) cs ≡ false → row_of after cs ≡ row_of values cs
+unchanged_row plan values after pairs cs h = sym (same_row plan values pairs cs (row_of after cs) (long cs) (sym (changed_row plan values after pairs cs) ∙ h))
   where
-    long : (cs : List ℕ) → length (row_of (overlay verdicts plan plan.controls (now verdicts plan (past steps)) (grabbed plan (past steps)) pairs) cs) ≡ length cs
+    long : (cs : List ℕ) → length (row_of after cs) ≡ length cs
     long [] = refl
     long (c ∷ cs) = ap suc (long cs)
 
+-- a step that leaves some controls unchanged leaves their row
+row_stays : (verdicts : Verdicts) (plan : PlanData) (older : Past) (step : Step) (values : Values) (cs : List ℕ)
+    → list_any (changes plan values (now_after verdicts plan (grabbed plan older) (laid plan older step) values) (acted verdicts plan older step)) cs ≡ false
+    → row_of (now_after verdicts plan (grabbed plan older) (laid plan older step) values) cs ≡ row_of values cs
+row_stays verdicts plan older (steps.Set fh pairs) values cs h = unchanged_row plan values (overlay verdicts plan plan.controls values (grabbed plan older) pairs) pairs cs h
+row_stays verdicts plan older (steps.Begin r) values cs h =
+    unchanged_row plan values (overlay verdicts plan plan.controls values (grabbed plan older) (asked plan older r.0)) (begun_pairs verdicts plan older r.0) cs h
+row_stays verdicts plan older (steps.OpenFh handler) values cs h = refl
+row_stays verdicts plan older (steps.CloseFh fh) values cs h = refl
+row_stays verdicts plan older (steps.Grab c on) values cs h = refl
+row_stays verdicts plan older steps.Alloc values cs h = refl
+row_stays verdicts plan older (steps.Store r pairs) values cs h = refl
+row_stays verdicts plan older (steps.Buffer r number) values cs h = refl
+row_stays verdicts plan older (steps.Queue r) values cs h = refl
+row_stays verdicts plan older (steps.Complete r) values cs h = refl
+row_stays verdicts plan older (steps.Cancel r) values cs h = refl
+row_stays verdicts plan older steps.StreamOff values cs h = refl
+row_stays verdicts plan older (steps.Reinit r) values cs h = refl
+row_stays verdicts plan older (steps.Free r) values cs h = refl
+
 -- a cluster of which no member changes keeps a word that it may have been told
-pub word_stays : (told : Words) (verdicts : Verdicts) (plan : PlanData) (steps : History) (e : Entry Step) (k word : ℕ)
-    → list_any (changes plan (now verdicts plan (past steps)) (now_after verdicts plan (grabbed plan (past steps)) e.step (now verdicts plan (past steps))) e.step) (members plan k) ≡ false
-    → MaySay told (calls_of plan k).notifier (row_of (now verdicts plan (past steps)) (members plan k)) word
-    → MaySay told (calls_of plan k).notifier (row_of (now verdicts plan (past (steps ++ e ∷ []))) (members plan k)) word
-word_stays told verdicts plan steps e k word same may = rw (now_add verdicts plan steps e, row_stays verdicts plan steps e.step (members plan k) same) may
+pub word_stays : (told : Words) (verdicts : Verdicts) (plan : PlanData) (entries : History) (e : Entry Step) (k word : ℕ)
+    → list_any (changes plan (now verdicts plan (past entries)) (now_after verdicts plan (grabbed plan (past entries)) (laid plan (past entries) e.step) (now verdicts plan (past entries))) (acted verdicts plan (past entries) e.step)) (members plan k) ≡ false
+    → MaySay told (calls_of plan k).notifier (row_of (now verdicts plan (past entries)) (members plan k)) word
+    → MaySay told (calls_of plan k).notifier (row_of (now verdicts plan (past (entries ++ e ∷ []))) (members plan k)) word
+word_stays told verdicts plan entries e k word same may =
+    rw (now_add verdicts plan entries e, row_stays verdicts plan (past entries) e.step (now verdicts plan (past entries)) (members plan k) same) may

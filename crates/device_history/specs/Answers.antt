@@ -14,17 +14,29 @@ use Rattle.device_history.specs.Steps.{Past}
 use Rattle.device_history.specs.Refusals.{Answer, fault_of}
 use Rattle.device_history.specs.Handles.{open_answer, close_answer}
 use Rattle.device_history.specs.Grabs.{grab_answer}
-use Rattle.device_history.specs.Lists.{get_list, set_list, try_list, list_pairs, MayLackList, MayLackSet}
+use Rattle.device_history.specs.Frames.{queue, running, first_of}
+use Rattle.device_history.specs.RequestAnswers.{alloc_answer, buffer_answer, queue_answer, begin_frame_answer, complete_answer, cancel_answer, off_answer, clear_answer, state_answer}
+use Rattle.device_history.specs.Lists.{get_list_answer, set_list_answer, try_list_answer, list_step, MayLackList, MayLackSet}
 use Rattle.device_history.specs.Queries.{query_answer, next_answer, item_answer, told_answer}
 
 -- the answer where memory suffices, where these words were told
 abbrev pub answer_of : Verdicts → PlanData → Past → List ℕ → Ask → Answer
 answer_of verdicts plan past words (asks.OpenFh handler) = open_answer plan past handler
 answer_of verdicts plan past words (asks.CloseFh fh) = close_answer past fh
-answer_of verdicts plan past words (asks.GetCtrls fh which request list) = get_list verdicts plan past fh which list
-answer_of verdicts plan past words (asks.SetCtrls fh which request list) = set_list verdicts plan past fh which list
-answer_of verdicts plan past words (asks.TryCtrls fh which request list) = try_list verdicts plan past fh which list
+answer_of verdicts plan past words (asks.GetCtrls fh which request list) = get_list_answer verdicts plan past fh which request list
+answer_of verdicts plan past words (asks.SetCtrls fh which request list) = set_list_answer verdicts plan past fh which request list
+answer_of verdicts plan past words (asks.TryCtrls fh which request list) = try_list_answer verdicts plan past fh which request list
 answer_of verdicts plan past words (asks.Grab c on) = grab_answer plan past c
+answer_of verdicts plan past words asks.Alloc = alloc_answer verdicts plan past
+answer_of verdicts plan past words (asks.AddBuffer r number) = buffer_answer verdicts plan past r number
+answer_of verdicts plan past words (asks.Queue r) = queue_answer verdicts plan past r
+answer_of verdicts plan past words asks.Begin = begin_frame_answer verdicts plan past
+answer_of verdicts plan past words asks.Complete = complete_answer verdicts plan past
+answer_of verdicts plan past words (asks.Cancel r) = cancel_answer verdicts plan past r
+answer_of verdicts plan past words asks.StreamOff = off_answer past
+answer_of verdicts plan past words (asks.Reinit r) = clear_answer verdicts plan past r
+answer_of verdicts plan past words (asks.Free r) = clear_answer verdicts plan past r
+answer_of verdicts plan past words (asks.StateOf r) = state_answer past r
 answer_of verdicts plan past words (asks.Query fh id) = query_answer verdicts plan past fh id
 answer_of verdicts plan past words (asks.NextId fh id) = next_answer plan past fh id
 answer_of verdicts plan past words (asks.MenuItem fh id index) = item_answer plan past fh id index
@@ -35,17 +47,18 @@ answer_of verdicts plan past words (asks.Told cluster) = told_answer plan words 
 abbrev pub refusal : Verdicts → PlanData → Past → Ask → Option Fault
 refusal verdicts plan past ask = fault_of (answer_of verdicts plan past [] ask)
 
--- ENOMEM may take the place of an accepted opening, close or grab and of an item of a menu; for a list with entries, and not too
--- many, that of every answer after the first checks; and that of every accepted set.
+-- ENOMEM may take the place of every accepted answer, but for a state, a query, a next id and a word, which take no memory; of a get
+-- and a try without entries, which take none either, it may not; for a list with entries, and not too many, it may take the place of
+-- every answer after the first checks.
 abbrev pub MayLackMemory : Verdicts → PlanData → Past → Ask → Type 0
-MayLackMemory verdicts plan past (asks.OpenFh handler) = IsOk (open_answer plan past handler)
-MayLackMemory verdicts plan past (asks.CloseFh fh) = IsOk (close_answer past fh)
-MayLackMemory verdicts plan past (asks.GetCtrls fh which request list) = MayLackList past fh which false list
-MayLackMemory verdicts plan past (asks.SetCtrls fh which request list) = MayLackSet past fh which list (set_list verdicts plan past fh which list)
-MayLackMemory verdicts plan past (asks.TryCtrls fh which request list) = MayLackList past fh which true list
-MayLackMemory verdicts plan past (asks.Grab c on) = IsOk (grab_answer plan past c)
-MayLackMemory verdicts plan past (asks.MenuItem fh id index) = IsOk (item_answer plan past fh id index)
-MayLackMemory verdicts plan past _ = ⊥
+MayLackMemory verdicts plan past (asks.GetCtrls fh which request list) = MayLackList verdicts plan past fh which request false list
+MayLackMemory verdicts plan past (asks.SetCtrls fh which request list) = MayLackSet verdicts plan past fh which request list (set_list_answer verdicts plan past fh which request list)
+MayLackMemory verdicts plan past (asks.TryCtrls fh which request list) = MayLackList verdicts plan past fh which request true list
+MayLackMemory verdicts plan past (asks.StateOf r) = ⊥
+MayLackMemory verdicts plan past (asks.Query fh id) = ⊥
+MayLackMemory verdicts plan past (asks.NextId fh id) = ⊥
+MayLackMemory verdicts plan past (asks.Told cluster) = ⊥
+MayLackMemory verdicts plan past ask = IsOk (answer_of verdicts plan past [] ask)
 
 -- the entries of an ask that is one about a list
 abbrev pub list_of : Ask → Option (List ExtControl)
@@ -71,8 +84,17 @@ MayAnswer verdicts plan past words ask answer =
 abbrev pub step_of : PlanData → Past → Ask → Option Step
 step_of plan past (asks.OpenFh handler) = Some (steps.OpenFh handler)
 step_of plan past (asks.CloseFh fh) = Some (steps.CloseFh fh)
-step_of plan past (asks.SetCtrls fh which request list) = Some (steps.Set fh (list_pairs plan past fh which list))
+step_of plan past (asks.SetCtrls fh which request list) = Some (list_step plan past fh which request list)
 step_of plan past (asks.Grab c on) = Some (steps.Grab c on)
+step_of plan past asks.Alloc = Some steps.Alloc
+step_of plan past (asks.AddBuffer r number) = Some (steps.Buffer r number)
+step_of plan past (asks.Queue r) = Some (steps.Queue r)
+step_of plan past asks.Begin = option_map (λ r. steps.Begin (record { 0 = r })) (first_of (queue past))
+step_of plan past asks.Complete = option_map (λ r. steps.Complete (record { 0 = r })) (running past)
+step_of plan past (asks.Cancel r) = Some (steps.Cancel r)
+step_of plan past asks.StreamOff = Some steps.StreamOff
+step_of plan past (asks.Reinit r) = Some (steps.Reinit r)
+step_of plan past (asks.Free r) = Some (steps.Free r)
 step_of plan past _ = None
 
 -- the step that it adds where this is its answer

@@ -7,7 +7,7 @@ use Rattle.ctrl_calls.specs.Meanings.{Verdicts}
 use Rattle.device_history.specs.Steps.{Past}
 use Rattle.device_history.specs.Answers.{refusal, step_of}
 
--- nothing refuses some ask whose step it is
+-- some ask that nothing refuses adds it
 abbrev pub MayFollow : Verdicts → PlanData → Past → Step → Type 0
 MayFollow verdicts plan past step = (ask : Ask) × (refusal verdicts plan past ask ≡ None) × (step_of plan past ask ≡ Some step)
 

@@ -18,6 +18,10 @@ pub use Rattle.ctrl_clusters.specs.NewRows
 pub use Rattle.ctrl_clusters.specs.Changes
 pub use Rattle.ctrl_clusters.specs.Notified
 pub use Rattle.ctrl_clusters.specs.PresentFlags
+pub use Rattle.req_book.specs.Requests as RequestData
+pub use Rattle.req_book.specs.Refusals as RequestRefusals
+pub use Rattle.frame_queue.specs.Frames as FrameData
+pub use Rattle.ctrl_forecast.specs.Applied
 pub use Rattle.ctrl_lists.specs.View
 pub use Rattle.ctrl_lists.specs.Checks
 pub use Rattle.ctrl_lists.specs.Touched
@@ -26,10 +30,15 @@ pub mod Steps
 pub mod Refusals
 pub mod Handles
 pub mod Grabs
+pub mod Requests
 pub mod Values
 pub mod Flags
+pub mod Frames
+pub mod Snapshots
 pub mod Words
 pub mod Lists
+pub mod RequestAnswers
+pub mod FrameSteps
 pub mod Queries
 pub mod Answers
 pub mod Legal

@@ -1,24 +1,32 @@
--- The present values (Linux userspace API, "Extended Controls API").
+-- The present values (Linux userspace API, "Extended Controls API" and "Request API").
+use Rattle.std.specs.Prelude.{[], ◌∷◌, List, map, Option, None, Some}
+use Rattle.ctrl_types.specs.declared.ids.Pair.{Pair}
 use Rattle.ctrl_clusters.specs.Rows.{Values, Grabs}
-use Rattle.std.specs.Prelude.{[], ◌∷◌, map}
-use Rattle.device_history.specs.declared.ask.Step.{Step}
-use Rattle.device_history.specs.declared.ask.Step.TheVariants.{Set}
-use Rattle.ctrl_handlers.specs.Plan.{PlanData}
+use Rattle.ctrl_clusters.specs.Overlay.{overlay}
 use Rattle.ctrl_calls.specs.Meanings.{Verdicts}
+use Rattle.ctrl_handlers.specs.Plan.{PlanData}
+use Rattle.device_history.specs.declared.ask.Step.{Step}
+use Rattle.device_history.specs.declared.ask.Step.TheVariants as steps
 use Rattle.device_history.specs.Steps.{Past}
 use Rattle.device_history.specs.Grabs.{grabbed}
-use Rattle.ctrl_clusters.specs.Overlay.{overlay}
+use Rattle.device_history.specs.Requests.{asked}
 
 -- the values before the first step
 abbrev pub defaults : PlanData → Values
 defaults plan = map (λ c. c.default_value) plan.controls
 
--- what a step makes of the present values, under the grabs before it
-abbrev pub now_after : Verdicts → PlanData → Grabs → Step → Values → Values
-now_after verdicts plan grabs (Set fh pairs) values = overlay verdicts plan plan.controls values grabs pairs
-now_after verdicts plan grabs _ values = values
+-- The pairs that a step lays over the present values: those of a set; those that a request asks for, where its frame is begun.
+abbrev pub laid : PlanData → Past → Step → Option (List Pair)
+laid plan older (steps.Set fh pairs) = Some pairs
+laid plan older (steps.Begin r) = Some (asked plan older r.0)
+laid plan older _ = None
+
+-- what pairs that are laid make of values, under grabs
+abbrev pub now_after : Verdicts → PlanData → Grabs → Option (List Pair) → Values → Values
+now_after verdicts plan grabs None values = values
+now_after verdicts plan grabs (Some pairs) values = overlay verdicts plan plan.controls values grabs pairs
 
 -- the present values after a history: the defaults at first, and then what each step makes of them
 unfoldable pub now : Verdicts → PlanData → Past → Values
 now verdicts plan [] = defaults plan
-now verdicts plan (e ∷ older) = now_after verdicts plan (grabbed plan older) e.step (now verdicts plan older)
+now verdicts plan (e ∷ older) = now_after verdicts plan (grabbed plan older) (laid plan older e.step) (now verdicts plan older)

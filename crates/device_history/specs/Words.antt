@@ -1,12 +1,23 @@
 -- Which controls a step changes, so that their clusters are notified (Linux driver API, "V4L2 Controls", "Adding Notify Callbacks").
-use Rattle.std.specs.Prelude.{ℕ, Bool, false}
+use Rattle.std.specs.Prelude.{ℕ, Bool, false, List, Option, None, Some}
+use Rattle.ctrl_types.specs.declared.ids.Pair.{Pair}
+use Rattle.ctrl_calls.specs.Meanings.{Verdicts}
 use Rattle.ctrl_handlers.specs.Plan.{PlanData}
 use Rattle.ctrl_clusters.specs.Rows.{Values, value_at}
 use Rattle.ctrl_clusters.specs.Changes.{is_changed}
 use Rattle.device_history.specs.declared.ask.Step.{Step}
-use Rattle.device_history.specs.declared.ask.Step.TheVariants.{Set}
+use Rattle.device_history.specs.declared.ask.Step.TheVariants as steps
+use Rattle.device_history.specs.Steps.{Past}
+use Rattle.device_history.specs.Snapshots.{begun_pairs}
 
--- whether a step changes a control, from the values before it to those after it
-abbrev pub changes : PlanData → Values → Values → Step → ℕ → Bool
-changes plan before after (Set fh pairs) c = is_changed plan before pairs c (value_at after c)
-changes plan before after _ c = false
+-- The pairs of a step that were applied, so that a control among them that acts on each write does so: all that are set; of a request
+-- whose frame is begun those of the clusters that aren't refused.
+abbrev pub acted : Verdicts → PlanData → Past → Step → Option (List Pair)
+acted verdicts plan older (steps.Set fh pairs) = Some pairs
+acted verdicts plan older (steps.Begin r) = Some (begun_pairs verdicts plan older r.0)
+acted verdicts plan older _ = None
+
+-- whether applied pairs change a control, from the values before to those after
+abbrev pub changes : PlanData → Values → Values → Option (List Pair) → ℕ → Bool
+changes plan before after None c = false
+changes plan before after (Some pairs) c = is_changed plan before pairs c (value_at after c)

@@ -1,8 +1,10 @@
 use crate::info::CtrlInfo;
 use crate::pair_list::PairList;
+use ctrl_forecast::ClusterList;
 use ctrl_handlers::MenuItem;
 use ctrl_lists::ControlList;
 use ctrl_types::{CtrlId, FhId, RequestId};
+use req_book::RequestState;
 
 /// What a caller asks of a device.
 #[derive(Debug, Drop)]
@@ -57,6 +59,47 @@ pub enum Ask {
         /// Whether it is to be grabbed.
         on: bool,
     },
+    /// Makes a media request (`MEDIA_IOC_REQUEST_ALLOC`).
+    Alloc,
+    /// Gives a request the buffer of its frame (`VIDIOC_QBUF` with `request_fd`).
+    AddBuffer {
+        /// The request.
+        request: RequestId,
+        /// The buffer's number.
+        buffer: u32,
+    },
+    /// Has a request wait for its frame (`MEDIA_REQUEST_IOC_QUEUE`).
+    Queue {
+        /// The request.
+        request: RequestId,
+    },
+    /// Begins the frame of the first request that waits: the present values become what it asks for (Linux driver API, "V4L2 Controls",
+    /// `v4l2_ctrl_request_setup`).
+    Begin,
+    /// Ends the frame that is being made (Linux driver API, `v4l2_ctrl_request_complete`).
+    Complete,
+    /// Takes a request that waits from the queue (of this project).
+    Cancel {
+        /// The request.
+        request: RequestId,
+    },
+    /// Stops the stream (`VIDIOC_STREAMOFF`).
+    StreamOff,
+    /// Makes a request as new (`MEDIA_REQUEST_IOC_REINIT`).
+    Reinit {
+        /// The request.
+        request: RequestId,
+    },
+    /// Lets a request go (Linux userspace API, "Request API", `close()`).
+    Free {
+        /// The request.
+        request: RequestId,
+    },
+    /// Reads a request's state (of this project).
+    StateOf {
+        /// The request.
+        request: RequestId,
+    },
     /// Reads what a control is like (`VIDIOC_QUERY_EXT_CTRL`).
     Query {
         /// The file handle.
@@ -96,6 +139,19 @@ pub enum Reply {
     Done,
     /// The controls of the list, in its order, with their values.
     Controls(ControlList),
+    /// The request that was made.
+    Request(RequestId),
+    /// The request's state.
+    State(RequestState),
+    /// The frame that was begun.
+    Frame {
+        /// The request whose frame it is.
+        request: RequestId,
+        /// The number of the request's buffer.
+        buffer: u32,
+        /// The clusters that were refused, which keep their rows, in rising order.
+        refused: ClusterList,
+    },
     /// What the control is like.
     Info(CtrlInfo),
     /// The next id.
@@ -132,5 +188,53 @@ pub enum Step {
         control: u32,
         /// Whether it was grabbed.
         on: bool,
+    },
+    /// A request was made; its id is the number of this step.
+    Alloc,
+    /// Values were stored in a request.
+    Store {
+        /// The request.
+        request: RequestId,
+        /// The values, as they were given.
+        pairs: PairList,
+    },
+    /// A request was given a buffer.
+    Buffer {
+        /// The request.
+        request: RequestId,
+        /// The buffer's number.
+        buffer: u32,
+    },
+    /// A request was queued.
+    Queue {
+        /// The request.
+        request: RequestId,
+    },
+    /// The frame of a request was begun.
+    Begin {
+        /// The request.
+        request: RequestId,
+    },
+    /// The frame of a request was ended.
+    Complete {
+        /// The request.
+        request: RequestId,
+    },
+    /// A request was taken from the queue.
+    Cancel {
+        /// The request.
+        request: RequestId,
+    },
+    /// The stream was stopped.
+    StreamOff,
+    /// A request was made as new.
+    Reinit {
+        /// The request.
+        request: RequestId,
+    },
+    /// A request was let go.
+    Free {
+        /// The request.
+        request: RequestId,
     },
 }

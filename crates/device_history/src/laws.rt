@@ -1,14 +1,16 @@
 //! What the definitions over the history say of one more entry. Each function is a law that its contract states; none has
 //! anything to do.
 
-ghost use Rattle.std.specs.Prelude.{◌≡◌, ◌<◌, ℕ, true, false, [], ◌∷◌, ◌++◌, List, length, map, is_some, None, Ok, Err};
+ghost use Rattle.std.specs.Prelude.{◌≡◌, ◌<◌, ℕ, Option, true, false, [], ◌∷◌, ◌++◌, List, length, map, is_some, None, Ok, Err};
 ghost use Rattle.std.specs.List.{list_any};
 ghost use Rattle.history.specs.declared.entry.Entry.{Entry};
 ghost use Rattle.history.specs.Past.{past};
 ghost use Rattle.ctrl_calls.specs.Meanings.{Verdicts};
 ghost use Rattle.ctrl_types.specs.declared.errno.Fault.{Fault};
 ghost use Rattle.ctrl_types.specs.declared.ids.ExtControl.{ExtControl};
+ghost use Rattle.ctrl_types.specs.Classes.{which_of};
 ghost use Rattle.ctrl_types.specs.declared.ids.FhId.{FhId};
+ghost use Rattle.ctrl_types.specs.declared.ids.RequestId.{RequestId};
 ghost use Rattle.ctrl_types.specs.declared.ids.Pair.{Pair};
 ghost use Rattle.device_history.specs.declared.ask.Ask.{Ask};
 ghost use Rattle.device_history.specs.declared.ask.Reply.TheVariants.{Controls};
@@ -24,11 +26,17 @@ ghost use Rattle.device_history.specs.Flags.{flags_now};
 ghost use Rattle.device_history.specs.Steps.{History, Past};
 ghost use Rattle.device_history.specs.Refusals.{fault_of};
 ghost use Rattle.device_history.specs.Handles.{opened, opened_after, handler_of};
-ghost use Rattle.device_history.specs.Values.{defaults, now, now_after};
+ghost use Rattle.device_history.specs.Values.{defaults, laid, now, now_after};
 ghost use Rattle.device_history.specs.Answers.{MayAnswer, answer_of, is_list, refusal};
-ghost use Rattle.device_history.specs.Lists.{list_pairs, set_list, values_set};
+ghost use Rattle.device_history.specs.Lists.{list_pairs, meant, set_list_answer, values_set, which_or};
 ghost use Rattle.device_history.specs.Legal.{IsLegal, MayFollow};
-ghost use Rattle.device_history.specs.Words.{changes};
+ghost use Rattle.device_history.specs.Words.{acted, changes};
+ghost use Rattle.device_history.specs.Requests.{asked, asked_after, buffer, buffer_after, state, state_after};
+ghost use Rattle.device_history.specs.Frames.{queue, queue_after, running, running_after};
+ghost use Rattle.device_history.specs.Snapshots.{frames, request, requests};
+ghost use Rattle.device_history.specs.FrameSteps.{frames_after, request_after};
+ghost use Rattle.frame_queue.specs.Frames.{FramesData, AreFrames};
+ghost use Rattle.req_book.specs.Requests.{find};
 
 use ctrl_calls::Driver;
 
@@ -51,15 +59,17 @@ pub fn closed_handles()
 #[tactic(auto, using(crate::proofs::PastLemmas::now_start, crate::proofs::PastLemmas::now_add))]
 pub fn present_values()
     ensures start { (verdicts : Verdicts) (plan : PlanData) → now verdicts plan (past []) ≡ defaults plan }
-    ensures one_more { (verdicts : Verdicts) (plan : PlanData) (steps : History) (e : Entry Step) → now verdicts plan (past (steps ++ e ∷ [])) ≡ now_after verdicts plan (grabbed plan (past steps)) e.step (now verdicts plan (past steps)) }
+    ensures one_more { (verdicts : Verdicts) (plan : PlanData) (steps : History) (e : Entry Step) → now verdicts plan (past (steps ++ e ∷ [])) ≡ now_after verdicts plan (grabbed plan (past steps)) (laid plan (past steps) e.step) (now verdicts plan (past steps)) }
 {}
 
-/// A set that is accepted is made whole: no cluster is refused, so that each has the row that its pairs make of it; and each entry is answered
+/// A set of present values that is accepted is made whole: no cluster is refused, so that each has the row that its pairs make of it; and each entry is answered
 /// the value that its control has then.
 pub fn whole_sets()
-    ensures rows { (verdicts : Verdicts) (plan : PlanData) (older : Past) (fh : FhId) (which k : ℕ) (list answers : List ExtControl) → IsPlan plan → set_list verdicts plan older fh which list ≡ Ok (Controls answers)
+    ensures rows { (verdicts : Verdicts) (plan : PlanData) (older : Past) (fh : FhId) (which k : ℕ) (request : Option RequestId) (list answers : List ExtControl) → IsPlan plan → meant (which_or (which_of which)) request ≡ None
+        → set_list_answer verdicts plan older fh which request list ≡ Ok (Controls answers)
         → k < length plan.clusters → row_after verdicts plan plan.controls (now verdicts plan older) (grabbed plan older) (list_pairs plan older fh which list) k ≡ Ok (row_of (values_set verdicts plan older fh which list) (members plan k)) }
-    ensures answers { (verdicts : Verdicts) (plan : PlanData) (older : Past) (fh : FhId) (which : ℕ) (list answers : List ExtControl) → IsPlan plan → set_list verdicts plan older fh which list ≡ Ok (Controls answers)
+    ensures answers { (verdicts : Verdicts) (plan : PlanData) (older : Past) (fh : FhId) (which : ℕ) (request : Option RequestId) (list answers : List ExtControl) → IsPlan plan → meant (which_or (which_of which)) request ≡ None
+        → set_list_answer verdicts plan older fh which request list ≡ Ok (Controls answers)
         → answers ≡ map (λ p. record { id = (control plan p.control).id; value = value_at (values_set verdicts plan older fh which list) p.control }) (list_pairs plan older fh which list) }
 {}
 
@@ -76,13 +86,13 @@ pub fn grabbed_controls()
 pub fn present_flags()
     ensures start { (verdicts : Verdicts) (plan : PlanData) (c : ℕ) → flags_now verdicts plan (past []) c ≡ flags_under plan (defaults plan) (map (λ _. false) plan.controls) c }
     ensures one_more { (verdicts : Verdicts) (plan : PlanData) (steps : History) (e : Entry Step) (c : ℕ) → flags_now verdicts plan (past (steps ++ e ∷ [])) c
-        ≡ flags_under plan (now_after verdicts plan (grabbed plan (past steps)) e.step (now verdicts plan (past steps))) (grabbed_after e.step (grabbed plan (past steps))) c }
+        ≡ flags_under plan (now_after verdicts plan (grabbed plan (past steps)) (laid plan (past steps) e.step) (now verdicts plan (past steps))) (grabbed_after e.step (grabbed plan (past steps))) c }
 {}
 
-/// A cluster of a driver of which no member changes keeps a word that it may have been told, also where other clusters change.
+/// A driver's cluster, no member of which changes, keeps a word that it may have been told, also where other clusters change.
 pub fn told_words<D: Driver>()
     ensures { (verdicts : Verdicts) (plan : PlanData) (steps : History) (e : Entry Step) (k word : ℕ)
-        → list_any (changes plan (now verdicts plan (past steps)) (now_after verdicts plan (grabbed plan (past steps)) e.step (now verdicts plan (past steps))) e.step) (members plan k) ≡ false
+        → list_any (changes plan (now verdicts plan (past steps)) (now_after verdicts plan (grabbed plan (past steps)) (laid plan (past steps) e.step) (now verdicts plan (past steps))) (acted verdicts plan (past steps) e.step)) (members plan k) ≡ false
         → MaySay D.told (calls_of plan k).notifier (row_of (now verdicts plan (past steps)) (members plan k)) word
         → MaySay D.told (calls_of plan k).notifier (row_of (now verdicts plan (past (steps ++ e ∷ []))) (members plan k)) word }
 {}
@@ -101,4 +111,54 @@ pub fn legal_histories()
     ensures one_more { (verdicts : Verdicts) (plan : PlanData) (steps : History) (e : Entry Step) → IsLegal verdicts plan (past steps) → MayFollow verdicts plan (past steps) e.step → IsLegal verdicts plan (past (steps ++ e ∷ [])) }
     ensures last { (verdicts : Verdicts) (plan : PlanData) (steps : History) (e : Entry Step) → IsLegal verdicts plan (past (steps ++ e ∷ [])) → MayFollow verdicts plan (past steps) e.step }
     ensures front { (verdicts : Verdicts) (plan : PlanData) (steps more : History) → IsLegal verdicts plan (past (steps ++ more)) → IsLegal verdicts plan (past steps) }
+{}
+
+/// At first there is no request; one more entry makes of each request's state what its step makes of it.
+#[tactic(auto, using(crate::proofs::StateLemmas::state_start, crate::proofs::StateLemmas::state_add))]
+pub fn request_states()
+    ensures start { (r : ℕ) → state (past []) r ≡ None }
+    ensures one_more { (steps : History) (e : Entry Step) (r : ℕ) → state (past (steps ++ e ∷ [])) r ≡ state_after (length steps) e.step r (state (past steps) r) }
+{}
+
+/// At first nothing is asked for; one more entry makes of what a request asks for what its step makes of it: of each control a later stored
+/// pair takes the place of the earlier one.
+#[tactic(auto, using(crate::proofs::StateLemmas::asked_start, crate::proofs::StateLemmas::asked_add))]
+pub fn asked_pairs()
+    ensures start { (plan : PlanData) (r : ℕ) → asked plan (past []) r ≡ [] }
+    ensures one_more { (plan : PlanData) (steps : History) (e : Entry Step) (r : ℕ) → asked plan (past (steps ++ e ∷ [])) r ≡ asked_after plan (length steps) e.step r (asked plan (past steps) r) }
+{}
+
+/// At first no request has a buffer; one more entry makes of a request's buffer what its step makes of it.
+#[tactic(auto, using(crate::proofs::StateLemmas::buffer_start, crate::proofs::StateLemmas::buffer_add))]
+pub fn request_buffers()
+    ensures start { (r : ℕ) → buffer (past []) r ≡ None }
+    ensures one_more { (steps : History) (e : Entry Step) (r : ℕ) → buffer (past (steps ++ e ∷ [])) r ≡ buffer_after (length steps) e.step r (buffer (past steps) r) }
+{}
+
+/// One more entry makes of the queue, and of the request whose frame is being made, what its step makes of them.
+#[tactic(auto, using(crate::proofs::FrameLaw::queue_add, crate::proofs::FrameLaw::running_add))]
+pub fn queued_requests()
+    ensures queue { (steps : History) (e : Entry Step) → queue (past (steps ++ e ∷ [])) ≡ queue_after (length steps) e.step (queue (past steps)) }
+    ensures running { (steps : History) (e : Entry Step) → running (past (steps ++ e ∷ [])) ≡ running_after (length steps) e.step (running (past steps)) }
+{}
+
+/// At first there is no request; one more entry that may follow a legal history makes of each one, with what the begin of its frame applied
+/// and its snapshot, what the store of requests makes of it. What is let go is never there again.
+#[tactic(auto, using(crate::proofs::FrameLaw::request_start, crate::proofs::FrameLaw::request_add, crate::proofs::FrameLaw::freed_for_good))]
+pub fn each_request()
+    ensures start { (verdicts : Verdicts) (plan : PlanData) (r : ℕ) → request verdicts plan (past []) r ≡ None }
+    ensures one_more { (verdicts : Verdicts) (plan : PlanData) (steps : History) (e : Entry Step) (r : ℕ) → IsLegal verdicts plan (past steps) → MayFollow verdicts plan (past steps) e.step
+        → request verdicts plan (past (steps ++ e ∷ [])) r ≡ request_after verdicts plan (past steps) (length steps) e.step r (request verdicts plan (past steps) r) }
+    ensures for_good { (verdicts : Verdicts) (plan : PlanData) (steps more : History) (r : ℕ) → IsLegal verdicts plan (past (steps ++ more)) → r < length steps → state (past steps) r ≡ None → state (past (steps ++ more)) r ≡ None }
+{}
+
+/// The store of requests and the queue of frames, changed by the steps of a legal history one after another, are what the definitions over the
+/// history say; the queue has exactly the queued requests, each once; and the store finds each request under its id.
+#[tactic(auto, using(crate::proofs::FrameLaw::frames_start, crate::proofs::FrameLaw::frames_add, crate::proofs::FrameLaw::frames_legal, crate::proofs::FrameLaw::found_request))]
+pub fn kept_frames()
+    ensures start { (verdicts : Verdicts) (plan : PlanData) → ◌≡◌ {A = FramesData} (frames verdicts plan (past [])) (record { requests = record { controls = length plan.controls; all = [] }; queue = []; running = None }) }
+    ensures one_more { (verdicts : Verdicts) (plan : PlanData) (steps : History) (e : Entry Step) → IsLegal verdicts plan (past steps) → MayFollow verdicts plan (past steps) e.step
+        → frames verdicts plan (past (steps ++ e ∷ [])) ≡ frames_after verdicts plan (past steps) (length steps) e.step (frames verdicts plan (past steps)) }
+    ensures queue { (verdicts : Verdicts) (plan : PlanData) (older : Past) → IsLegal verdicts plan older → AreFrames (frames verdicts plan older) }
+    ensures found { (verdicts : Verdicts) (plan : PlanData) (older : Past) (r : ℕ) → IsLegal verdicts plan older → find (requests verdicts plan older) r ≡ request verdicts plan older r }
 {}

@@ -12,6 +12,8 @@ use Rattle.ctrl_types.specs.declared.ids.ExtControl.{ExtControl}
 use Rattle.ctrl_types.specs.declared.ids.FhId.{FhId}
 use Rattle.ctrl_types.specs.declared.ids.Pair.{Pair}
 use Rattle.ctrl_types.specs.declared.ids.RequestId.{RequestId}
+use Rattle.ctrl_types.specs.Classes.{which_of}
+use Rattle.device_history.specs.declared.ask.Step.{Step}
 use Rattle.device_history.specs.declared.ask.Ask.{Ask}
 use Rattle.device_history.specs.declared.ask.Ask.TheVariants as asks
 use Rattle.device_history.specs.declared.ask.Reply.{Reply}
@@ -21,27 +23,26 @@ use Rattle.ctrl_handlers.specs.Plan.{PlanData, members}
 use Rattle.ctrl_lists.specs.Touched.{TouchedData, touched}
 use Rattle.device_history.specs.Grabs.{grabbed, grab_answer}
 use Rattle.device_history.specs.Steps.{Past}
-use Rattle.ctrl_clusters.specs.Rows.{Values}
 use Rattle.device_history.specs.Values.{now}
-use Rattle.device_history.specs.Words.{changes}
 use Rattle.device_history.specs.Refusals.{Answer}
 use Rattle.device_history.specs.Handles.{open_answer, close_answer}
+use Rattle.device_history.specs.RequestAnswers.{state_answer}
 use Rattle.device_history.specs.Queries.{query_answer, next_answer, told_answer}
-use Rattle.device_history.specs.Lists.{list_pairs}
+use Rattle.device_history.specs.Lists.{list_pairs, meant, which_or}
 use Rattle.device_history.specs.Answers.{MayAnswer, taken}
 use Rattle.device_state.specs.Device.{DeviceData, Handles, may_ask, must_ask, with_step, step_changes}
 use Rattle.device_state.specs.Setting.{IsSettable, SetsAll}
 use Rattle.ctrl_clusters.specs.Changes.{cluster_changes}
-use Rattle.ctrl_clusters.specs.Notified.{notified_count}
 use Rattle.ctrl_lists.specs.Touched.{judged_count, with_calls}
 use Rattle.device_history.proofs.PresentLemmas.{length_now}
+use Rattle.device_state.proofs.SettingLemmas.{own_judged, set_step}
 use Rattle.device_state.proofs.SetLemmas.{changes_written, notified_none, notified_same}
 
 -- no call yet
 abbrev pub at_rest : Work
 at_rest = record { asked = 0; told = 0 }
 
-asked_at_rest : (work : Work) (n : ℕ) → work ≡ at_rest → work.asked ≤ n
+pub asked_at_rest : (work : Work) (n : ℕ) → work ≡ at_rest → work.asked ≤ n
 asked_at_rest work n rest = omega (arith, ap (λ (w : Work). w.asked) rest)
 
 -- a call that adds no step
@@ -94,6 +95,17 @@ pub handles_told : (verdicts : Verdicts) (old : DeviceData) (work : Work) (seat 
     → Handles verdicts old (record old { work = work }) seat (asks.Told cluster) answer
 handles_told verdicts old work seat cluster answer rest is =
     handles_none verdicts old work seat _ answer (ap (λ (w : Work). w.told) rest) (asked_at_rest work _ rest) (λ _. omega arith) (taken_told old.plan (past old.steps) cluster answer) (inl is)
+
+-- reading a request's state
+taken_state : (plan : PlanData) (older : Past) (request : RequestId) (answer : Answer) → taken plan older (asks.StateOf request) answer ≡ None
+taken_state plan older request (Ok reply) = refl
+taken_state plan older request (Err fault) = refl
+
+pub handles_state : (verdicts : Verdicts) (old : DeviceData) (work : Work) (seat : ℕ) (request : RequestId) (answer : Answer) → work ≡ at_rest
+    → answer ≡ state_answer (past old.steps) request
+    → Handles verdicts old (record old { work = work }) seat (asks.StateOf request) answer
+handles_state verdicts old work seat request answer rest is =
+    handles_none verdicts old work seat _ answer (ap (λ (w : Work). w.told) rest) (asked_at_rest work _ rest) (λ _. omega arith) (taken_state old.plan (past old.steps) request answer) (inl is)
 
 -- a query
 pub handles_query : (verdicts : Verdicts) (old : DeviceData) (work : Work) (seat : ℕ) (fh : FhId) (id : CtrlId) (answer : Answer) → work ≡ at_rest
@@ -172,10 +184,10 @@ handles_grab verdicts old work seat c on rest is = record {
 }
 
 -- what was counted since the start of a call
-told_since : (start work : Work) → start ≡ at_rest → work.told ≡ start.told → work.told ≡ 0
+pub told_since : (start work : Work) → start ≡ at_rest → work.told ≡ start.told → work.told ≡ 0
 told_since start work rest told = told ∙ ap (λ (w : Work). w.told) rest
 
-asked_since : (start work : Work) (n : ℕ) → start ≡ at_rest → work.asked ≤ start.asked + n → work.asked ≤ n
+pub asked_since : (start work : Work) (n : ℕ) → start ≡ at_rest → work.asked ≤ start.asked + n → work.asked ≤ n
 asked_since start work n rest asked = omega (arith, asked, ap (λ (w : Work). w.asked) rest)
 
 -- a call that changes nothing, where validators were asked
@@ -193,26 +205,29 @@ taken_try plan older fh which request list (Err fault) = refl
 
 -- what a set changes of the members of a cluster: what the row that it gets changes
 set_changing : (verdicts : Verdicts) (plan : PlanData) (older : Past) (fh : FhId) (which : ℕ) (request : Option RequestId) (list : List ExtControl) (touch : TouchedData) (reply : Reply)
-    → IsSettable verdicts plan older fh which list touch → (j : ℕ) → j < length plan.clusters
+    → IsSettable verdicts plan older fh which request list touch → meant (which_or (which_of which)) request ≡ None → (j : ℕ) → j < length plan.clusters
     → list_any (step_changes verdicts plan older (taken plan older (asks.SetCtrls fh which request list) (Ok reply))) (members plan j)
     ≡ cluster_changes plan (now verdicts plan older) touch.pairs touch.rows j
-set_changing verdicts plan older fh which request list touch reply sets j lt =
-    ap (λ (pairs : List Pair). list_any (step_changes verdicts plan older (Some (Set fh pairs))) (members plan j)) (sym sets.own_pairs)
-    ∙ changes_written verdicts plan (now verdicts plan older) (grabbed plan older) fh touch.pairs touch.rows j sets.plans (length_now verdicts plan older) lt sets.judged sets.free
+set_changing verdicts plan older fh which request list touch reply sets current j lt =
+    ap (λ (step : Step). list_any (step_changes verdicts plan older (Some step)) (members plan j)) (set_step (meant (which_or (which_of which)) request) fh (list_pairs plan older fh which list) current)
+    ∙ ap (λ (pairs : List Pair). list_any (step_changes verdicts plan older (Some (Set fh pairs))) (members plan j)) (sym sets.own_pairs)
+    ∙ changes_written verdicts plan (now verdicts plan older) (grabbed plan older) touch.pairs touch.rows j sets.plans (length_now verdicts plan older) lt (own_judged verdicts plan older fh which request list touch sets current) sets.free
 
 -- a set that is accepted
 pub handles_set : (verdicts : Verdicts) (told : Words) (old between new : DeviceData) (start work : Work) (seat : ℕ) (fh : FhId) (which : ℕ) (request : Option RequestId) (list : List ExtControl) (touch : TouchedData) (controls : List ExtControl)
     → between ≡ record old { work = work } → start ≡ at_rest → work.told ≡ start.told → work.asked ≤ start.asked + length (touched old.plan (list_pairs old.plan (past old.steps) fh which list))
-    → IsSettable verdicts old.plan (past old.steps) fh which list touch → controls ≡ touch.answers → with_calls (judged_count old.plan (touched old.plan (list_pairs old.plan (past old.steps) fh which list))) 0 ≤ work.asked → SetsAll verdicts told between new seat fh touch
+    → IsSettable verdicts old.plan (past old.steps) fh which request list touch → meant (which_or (which_of which)) request ≡ None → controls ≡ touch.answers → with_calls (judged_count old.plan (touched old.plan (list_pairs old.plan (past old.steps) fh which list))) 0 ≤ work.asked → SetsAll verdicts told between new seat fh touch
     → Handles verdicts old new seat (asks.SetCtrls fh which request list) (Ok (Controls controls))
-handles_set verdicts told old between new start work seat fh which request list touch controls begin rest untold asked sets reply all does =
+handles_set verdicts told old between new start work seat fh which request list touch controls begin rest untold asked sets current reply all does =
     let done : SetsAll verdicts told (record old { work = work }) new seat fh touch = rw begin at does in
-    let changing = set_changing verdicts old.plan (past old.steps) fh which request list touch (Controls controls) sets in
+    let changing = set_changing verdicts old.plan (past old.steps) fh which request list touch (Controls controls) sets current in
     record {
       plan = done.plan;
       answers = inl (ap (λ (l : List ExtControl). Ok (Controls l)) reply ∙ sym sets.accepted);
       refused = λ e. cc;
-      steps = done.steps ∙ ap (λ (pairs : List Pair). old.steps ++ record { seat = seat; step = Set fh pairs } ∷ []) sets.own_pairs;
+      steps =
+          done.steps ∙ ap (λ (pairs : List Pair). old.steps ++ record { seat = seat; step = Set fh pairs } ∷ []) sets.own_pairs
+          ∙ ap (λ (step : Step). old.steps ++ record { seat = seat; step = step } ∷ []) (sym (set_step (meant (which_or (which_of which)) request) fh (list_pairs old.plan (past old.steps) fh which list) current));
       words = λ j lt same. done.words.others j (λ _. sym (changing j lt) ∙ same);
       notified =
           ap (λ (w : Work). w.told) done.work

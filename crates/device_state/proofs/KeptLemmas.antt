@@ -1,5 +1,5 @@
 -- Each kind of step keeps the device's parts what they are defined to be.
-use Rattle.std.proofs.Common.{◌≡◌, ℕ, nat_eq, ◌<◌, Bool, false, map, List, [], ◌∷◌, ◌++◌, length, Some, None, IsOk, Ok, slice_set, refl, ap, sym, ◌∙◌, subst, arith, length-append}
+use Rattle.std.proofs.Common.{◌≡◌, ℕ, nat_eq, ◌<◌, Bool, false, map, List, [], ◌∷◌, ◌++◌, length, Option, Some, None, true, IsOk, Ok, slice_set, refl, ap, sym, ◌∙◌, subst, arith, length-append}
 use Rattle.std.specs.Map.{lookup, remove_entry}
 use Rattle.std.proofs.lemmas.Grind.{common_steps}
 use Rattle.std.proofs.lemmas.Bool.Decides.{nat_tests}
@@ -22,32 +22,42 @@ use Rattle.device_history.specs.Steps.{History}
 use Rattle.device_history.specs.Handles.{opened, ever_opened, open_answer, close_answer, opened_after}
 use Rattle.ctrl_clusters.specs.Rows.{Grabs, Values}
 use Rattle.device_history.specs.Grabs.{grabbed, grab_answer, grabbed_after}
-use Rattle.device_history.specs.Values.{now, defaults, now_after}
+use Rattle.device_history.specs.Snapshots.{frames}
+use Rattle.device_history.specs.FrameSteps.{frames_after}
+use Rattle.frame_queue.specs.Frames.{FramesData}
+use Rattle.device_history.proofs.FrameLaw.{frames_start, frames_add}
+use Rattle.device_history.specs.Values.{laid, now, defaults, now_after}
 use Rattle.ctrl_clusters.specs.Notified.{HaveWords, AreRenewed}
 use Rattle.ctrl_clusters.specs.Changes.{cluster_changes}
 use Rattle.ctrl_clusters.specs.NewRows.{row_given, written}
 use Rattle.device_history.specs.Refusals.{Answer, is_full}
-use Rattle.device_history.specs.Lists.{set_list}
+use Rattle.device_history.specs.Lists.{set_list_answer, list_pairs, meant, which_or}
+use Rattle.ctrl_types.specs.Classes.{which_of}
+use Rattle.ctrl_types.specs.declared.ids.RequestId.{RequestId}
 use Rattle.device_history.specs.Answers.{step_of}
 use Rattle.device_history.specs.Legal.{IsLegal, MayFollow}
 use Rattle.device_state.specs.Kept.{Caches, IsKept}
 use Rattle.device_state.specs.Setting.{IsSettable}
+use Rattle.device_state.specs.Entering.{is_still}
+use Rattle.device_state.proofs.StillLemmas.{opened_still, grabbed_still, laid_still}
 use Rattle.device_history.proofs.PastLemmas.{opened_add, opened_fresh, opened_rising, drops_one, now_add, legal_add}
 use Rattle.device_history.proofs.GrabLemmas.{grabbed_start, grabbed_add}
 use Rattle.device_history.proofs.LegalLemmas.{unrefused}
 use Rattle.device_history.proofs.PresentLemmas.{length_now}
 use Rattle.device_state.proofs.SetLemmas.{laid_written, words_after}
+use Rattle.device_state.proofs.SettingLemmas.{own_judged, set_step}
 
 -- a device without steps
 pub kept_start : (verdicts : Verdicts) (told : Words) (plan : PlanData) (steps : History) (caches : Caches) → steps ≡ [] → caches.file_handles ≡ [] → caches.grabs ≡ map (λ _. false) plan.controls → caches.values ≡ defaults plan
-    → HaveWords told plan (defaults plan) caches.words → IsKept verdicts told plan steps caches
+    → ◌≡◌ {A = FramesData} caches.frames (record { requests = record { controls = length plan.controls; all = [] }; queue = []; running = None }) → HaveWords told plan (defaults plan) caches.words → IsKept verdicts told plan steps caches
 unfolding IsLegal opened ever_opened now
-kept_start verdicts told plan steps caches s h g v w = rw s (record {
+kept_start verdicts told plan steps caches s h g v f w = rw s (record {
   legal = tt;
   few = omega arith;
   file_handles = h;
   grabs = g ∙ sym (grabbed_start plan);
   values = v;
+  frames = f ∙ sym (frames_start verdicts plan);
   words = subst (λ (values : Values). HaveWords told plan values caches.words) (sym v) w;
 })
 
@@ -58,17 +68,19 @@ kept_fresh verdicts told plan steps caches kept =
     ∙ subst (λ (n : ℕ). lookup (nat_eq n) (opened (past steps)) ≡ None) (length_past steps) (opened_fresh (past steps))
 
 -- one more entry of a step that may follow, with the parts that it makes
-kept_add : (verdicts : Verdicts) (told : Words) (plan : PlanData) (steps steps' : History) (caches caches' : Caches) (e : Entry Step)
+pub kept_add : (verdicts : Verdicts) (told : Words) (plan : PlanData) (steps steps' : History) (caches caches' : Caches) (e : Entry Step)
     → IsKept verdicts told plan steps caches → length steps < MAX_STEPS → MayFollow verdicts plan (past steps) e.step → steps' ≡ steps ++ e ∷ []
     → caches'.file_handles ≡ opened_after (length steps) e.step (opened (past steps)) → caches'.grabs ≡ grabbed_after e.step (grabbed plan (past steps))
-    → caches'.values ≡ now_after verdicts plan (grabbed plan (past steps)) e.step (now verdicts plan (past steps)) → HaveWords told plan caches'.values caches'.words
+    → caches'.values ≡ now_after verdicts plan (grabbed plan (past steps)) (laid plan (past steps) e.step) (now verdicts plan (past steps))
+    → caches'.frames ≡ frames_after verdicts plan (past steps) (length steps) e.step (frames verdicts plan (past steps)) → HaveWords told plan caches'.values caches'.words
     → IsKept verdicts told plan steps' caches'
-kept_add verdicts told plan steps steps' caches caches' e kept room may s h g v w = rw s (record {
+kept_add verdicts told plan steps steps' caches caches' e kept room may s h g v f w = rw s (record {
   legal = legal_add verdicts plan steps e kept.legal may;
   few = omega (arith, length-append steps (e ∷ []));
   file_handles = h ∙ sym (opened_add steps e);
   grabs = g ∙ sym (grabbed_add plan steps e);
   values = v ∙ sym (now_add verdicts plan steps e);
+  frames = f ∙ sym (frames_add verdicts plan steps e kept.legal may);
   words = w;
 })
 
@@ -83,7 +95,7 @@ pub kept_open : (verdicts : Verdicts) (told : Words) (plan : PlanData) (steps st
 kept_open verdicts told plan steps steps' caches handles seat handler kept accepted s h =
     kept_add verdicts told plan steps steps' caches (record caches { file_handles = handles }) (record { seat = seat; step = OpenFh handler }) kept (open_room plan steps handler accepted)
     (asks.OpenFh handler, unrefused (open_answer plan (past steps) handler) accepted, refl) s
-    (h ∙ ap (λ (os : List (ℕ × ℕ)). os ++ (length steps, handler) ∷ []) kept.file_handles) kept.grabs kept.values kept.words
+    (h ∙ ap (λ (os : List (ℕ × ℕ)). os ++ (length steps, handler) ∷ []) kept.file_handles) kept.grabs kept.values kept.frames kept.words
 
 -- where a close is accepted, one more step is kept
 close_room : (steps : History) (fh : FhId) → IsOk (close_answer (past steps) fh) → length steps < MAX_STEPS
@@ -96,7 +108,7 @@ pub kept_close : (verdicts : Verdicts) (told : Words) (plan : PlanData) (steps s
 kept_close verdicts told plan steps steps' caches handles seat fh kept accepted s h =
     kept_add verdicts told plan steps steps' caches (record caches { file_handles = handles }) (record { seat = seat; step = CloseFh fh }) kept (close_room steps fh accepted)
     (asks.CloseFh fh, unrefused (close_answer (past steps) fh) accepted, refl) s
-    (h ∙ ap (remove_entry (nat_eq fh.0)) kept.file_handles ∙ drops_one fh.0 (opened (past steps)) (opened_rising (past steps))) kept.grabs kept.values kept.words
+    (h ∙ ap (remove_entry (nat_eq fh.0)) kept.file_handles ∙ drops_one fh.0 (opened (past steps)) (opened_rising (past steps))) kept.grabs kept.values kept.frames kept.words
 
 -- where a grab is accepted, one more step is kept
 grab_room : (plan : PlanData) (steps : History) (c : ℕ) → IsOk (grab_answer plan (past steps) c) → length steps < MAX_STEPS
@@ -113,30 +125,45 @@ pub kept_grab : (verdicts : Verdicts) (told : Words) (plan : PlanData) (steps st
 kept_grab verdicts told plan steps steps' caches grabs seat c on kept accepted s g =
     kept_add verdicts told plan steps steps' caches (record caches { grabs = grabs }) (record { seat = seat; step = Grab c on }) kept (grab_room plan steps c accepted)
     (asks.Grab c on, unrefused (grab_answer plan (past steps) c) accepted, refl) s
-    kept.file_handles (g ∙ ap (λ (gs : Grabs). slice_set gs c on) kept.grabs) kept.values kept.words
+    kept.file_handles (g ∙ ap (λ (gs : Grabs). slice_set gs c on) kept.grabs) kept.values kept.frames kept.words
 
 -- where a list is set, one more step is kept
-set_room : (steps : History) → is_full (past steps) ≡ false → length steps < MAX_STEPS
+pub set_room : (steps : History) → is_full (past steps) ≡ false → length steps < MAX_STEPS
 set_room steps room = grind (arith, nat_tests, length_past steps, room)
 
 accepted_set : (answer : Answer) (reply : Reply) → answer ≡ Ok reply → IsOk answer
 accepted_set answer reply is = rw is refl
 
 -- a set
-pub kept_set : (verdicts : Verdicts) (told : Words) (plan : PlanData) (steps steps' : History) (caches : Caches) (values : Values) (words : List ℕ) (seat : ℕ) (fh : FhId) (which : ℕ) (list : List ExtControl) (touch : TouchedData)
-    → IsKept verdicts told plan steps caches → IsSettable verdicts plan (past steps) fh which list touch → steps' ≡ steps ++ record { seat = seat; step = Set fh touch.pairs } ∷ []
+pub kept_set : (verdicts : Verdicts) (told : Words) (plan : PlanData) (steps steps' : History) (caches : Caches) (values : Values) (words : List ℕ) (seat : ℕ) (fh : FhId) (which : ℕ) (request : Option RequestId) (list : List ExtControl)
+    (touch : TouchedData) → IsKept verdicts told plan steps caches → IsSettable verdicts plan (past steps) fh which request list touch → meant (which_or (which_of which)) request ≡ None
+    → steps' ≡ steps ++ record { seat = seat; step = Set fh touch.pairs } ∷ []
     → values ≡ written plan caches.values touch.rows
     → AreRenewed told plan (cluster_changes plan caches.values touch.pairs touch.rows) (row_given touch.rows) caches.words words
     → IsKept verdicts told plan steps' (record caches { values = values; words = words })
-kept_set verdicts told plan steps steps' caches values words seat fh which list touch kept sets s v retold =
+kept_set verdicts told plan steps steps' caches values words seat fh which request list touch kept sets current s v retold =
     let many : length caches.values ≡ length plan.controls = ap length kept.values ∙ length_now verdicts plan (past steps) in
+    let present : AreJudged verdicts plan plan.controls (now verdicts plan (past steps)) touch.pairs touch.pairs touch.rows = own_judged verdicts plan (past steps) fh which request list touch sets current in
     let judged : AreJudged verdicts plan plan.controls caches.values touch.pairs touch.pairs touch.rows =
-    subst (λ (v : Values). AreJudged verdicts plan plan.controls v touch.pairs touch.pairs touch.rows) (sym kept.values) sets.judged in
-    let adds : step_of plan (past steps) (asks.SetCtrls fh which None list) ≡ Some (Set fh touch.pairs) = ap (λ (pairs : List Pair). Some (Set fh pairs)) (sym sets.own_pairs) in
-    let accepted : IsOk (set_list verdicts plan (past steps) fh which list) = accepted_set (set_list verdicts plan (past steps) fh which list) (Controls touch.answers) sets.accepted in
+    subst (λ (v : Values). AreJudged verdicts plan plan.controls v touch.pairs touch.pairs touch.rows) (sym kept.values) present in
+    let adds : step_of plan (past steps) (asks.SetCtrls fh which request list) ≡ Some (Set fh touch.pairs) =
+    ap Some (set_step (meant (which_or (which_of which)) request) fh (list_pairs plan (past steps) fh which list) current) ∙ ap (λ (pairs : List Pair). Some (Set fh pairs)) (sym sets.own_pairs) in
+    let accepted : IsOk (set_list_answer verdicts plan (past steps) fh which request list) = accepted_set (set_list_answer verdicts plan (past steps) fh which request list) (Controls touch.answers) sets.accepted in
     kept_add verdicts told plan steps steps' caches (record caches { values = values; words = words }) (record { seat = seat; step = Set fh touch.pairs }) kept (set_room steps sets.room)
-    (asks.SetCtrls fh which None list, unrefused (set_list verdicts plan (past steps) fh which list) accepted, adds) s
+    (asks.SetCtrls fh which request list, unrefused (set_list_answer verdicts plan (past steps) fh which request list) accepted, adds) s
     kept.file_handles kept.grabs
-    (v ∙ ap (λ (v : Values). written plan v touch.rows) kept.values ∙ sym (laid_written verdicts plan (now verdicts plan (past steps)) (grabbed plan (past steps)) touch.pairs touch.rows sets.plans sets.judged sets.free))
+    (v ∙ ap (λ (v : Values). written plan v touch.rows) kept.values ∙ sym (laid_written verdicts plan (now verdicts plan (past steps)) (grabbed plan (past steps)) touch.pairs touch.rows sets.plans present sets.free))
+    kept.frames
     (subst (λ (v : Values). HaveWords told plan v words) (laid_written verdicts plan caches.values (grabbed plan (past steps)) touch.pairs touch.rows sets.plans judged sets.free ∙ sym v)
     (words_after told verdicts plan caches.values (grabbed plan (past steps)) touch.pairs touch.rows caches.words words sets.plans many judged sets.free kept.words retold))
+
+-- a step about requests that lays nothing over the values
+pub kept_frames : (verdicts : Verdicts) (told : Words) (plan : PlanData) (steps steps' : History) (caches : Caches) (f : FramesData) (seat : ℕ) (step : Step)
+    → IsKept verdicts told plan steps caches → is_full (past steps) ≡ false → MayFollow verdicts plan (past steps) step → is_still step ≡ true → steps' ≡ steps ++ record { seat = seat; step = step } ∷ []
+    → f ≡ frames_after verdicts plan (past steps) (length steps) step caches.frames → IsKept verdicts told plan steps' (record caches { frames = f })
+kept_frames verdicts told plan steps steps' caches f seat step kept room may still s made =
+    kept_add verdicts told plan steps steps' caches (record caches { frames = f }) (record { seat = seat; step = step }) kept (set_room steps room) may s
+    (kept.file_handles ∙ sym (opened_still (length steps) step (opened (past steps)) still))
+    (kept.grabs ∙ sym (grabbed_still step (grabbed plan (past steps)) still))
+    (kept.values ∙ ap (λ (l : Option (List Pair)). now_after verdicts plan (grabbed plan (past steps)) l (now verdicts plan (past steps))) (sym (laid_still plan (past steps) step still)))
+    (made ∙ ap (frames_after verdicts plan (past steps) (length steps) step) kept.frames) kept.words

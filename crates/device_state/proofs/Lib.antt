@@ -1,3 +1,6 @@
+pub mod StillLemmas
+pub mod EnterLemmas
+pub mod BeginLemmas
 pub mod SetLemmas
 pub mod AnswerLemmas
 pub mod SettingLemmas

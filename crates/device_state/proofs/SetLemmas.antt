@@ -1,6 +1,6 @@
 -- What rows that a list's clusters get make of values and words.
 use Rattle.std.proofs.Common.{◌≡◌, ℕ, zero, suc, cond, ◌<◌, ◌+◌, ◌&&◌, ◌||◌, not, Bool, true, false, List, [], ◌∷◌, length, nat_eq, Option, None, Some, is_some, Result, Ok, count_by, slice_index, refl, sym, ap, subst, ◌∙◌, arith}
-use Rattle.std.specs.List.{All, list_any, range_with_len, sum_by}
+use Rattle.std.specs.List.{list_any, range_with_len}
 use Rattle.std.specs.Ordering.{int_eq}
 use Rattle.std.proofs.lemmas.Bool.Decides.{Decides-int_eq}
 use Rattle.std.proofs.lemmas.List.Sums.{sum_by-cons}
@@ -8,25 +8,23 @@ use Rattle.ctrl_types.specs.Flags.{contains}
 use Rattle.ctrl_types.specs.Values.{CtrlValue}
 use Rattle.ctrl_types.specs.declared.errno.Errno.{Errno}
 use Rattle.ctrl_types.specs.declared.flags.TheConstants.Flags.{EXECUTE_ON_WRITE}
-use Rattle.ctrl_types.specs.declared.ids.FhId.{FhId}
 use Rattle.ctrl_types.specs.declared.ids.Pair.{Pair}
 use Rattle.ctrl_calls.specs.Meanings.{Verdicts, Words}
 use Rattle.ctrl_settle.specs.Control.{Control}
-use Rattle.ctrl_handlers.specs.Plan.{PlanData, IsPlan, control, calls_of, cluster_of, members, names_twice}
+use Rattle.ctrl_handlers.specs.Plan.{PlanData, IsPlan, control, calls_of, members, names_twice}
 use Rattle.ctrl_handlers.proofs.ClusterLemmas.{cluster_of_within, or_false, or_false_right}
 use Rattle.ctrl_clusters.specs.Rows.{AreControlsOf, Values, value_at, row_of, Grabs, is_grabbed}
 use Rattle.ctrl_clusters.specs.Judging.{becomes}
 use Rattle.ctrl_clusters.specs.Overlay.{is_among, is_touched, row_after, overlay}
-use Rattle.ctrl_clusters.specs.NewRows.{clusters_of, row_among, row_given, AreNewRows, written}
+use Rattle.ctrl_clusters.specs.NewRows.{row_among, row_given, AreNewRows, written}
 use Rattle.ctrl_clusters.specs.Changes.{row_changes, cluster_changes}
 use Rattle.ctrl_clusters.specs.Notified.{MaySay, HaveWords, AreRenewed, notified_count}
 use Rattle.ctrl_clusters.specs.declared.new_row.NewRow.{NewRow}
 use Rattle.ctrl_clusters.proofs.NewRowLemmas.{has_row, row_met}
 use Rattle.ctrl_clusters.proofs.NotifyLemmas.{changes_none, same_row}
 use Rattle.ctrl_clusters.proofs.OverlayLemmas.{none_any, overlaid_row, overlay_written, row_after_free, held_none}
-use Rattle.ctrl_lists.specs.Touched.{touched, AreJudged}
+use Rattle.ctrl_lists.specs.Touched.{AreJudged}
 use Rattle.ctrl_lists.proofs.TouchedLemmas.{touched_is, touched_once}
-use Rattle.device_history.specs.declared.ask.Step.TheVariants.{Set}
 use Rattle.device_history.specs.Words.{changes}
 use Rattle.device_history.proofs.WordLemmas.{changed_row}
 
@@ -97,11 +95,11 @@ changes_same plan values pairs (c ∷ cs) free =
     (changes_same plan values pairs cs (or_false_right (is_among pairs c) (is_touched pairs cs) free))
 
 -- What a set changes of the members of a cluster is what the row that it gets changes.
-pub changes_written : (verdicts : Verdicts) (plan : PlanData) (values : Values) (grabs : Grabs) (fh : FhId) (pairs : List Pair) (rows : List NewRow) (k : ℕ) → IsPlan plan → length values ≡ length plan.controls → k < length plan.clusters
+pub changes_written : (verdicts : Verdicts) (plan : PlanData) (values : Values) (grabs : Grabs) (pairs : List Pair) (rows : List NewRow) (k : ℕ) → IsPlan plan → length values ≡ length plan.controls → k < length plan.clusters
     → AreJudged verdicts plan plan.controls values pairs pairs rows → list_any (λ p. is_grabbed grabs p.control) pairs ≡ false
-    → list_any (changes plan values (overlay verdicts plan plan.controls values grabs pairs) (Set fh pairs)) (members plan k) ≡ cluster_changes plan values pairs rows k
-changes_written verdicts plan values grabs fh pairs rows k is many lt judged free =
-    changed_row plan values (overlay verdicts plan plan.controls values grabs pairs) fh pairs (members plan k) ∙ by (row_among rows k) refl
+    → list_any (changes plan values (overlay verdicts plan plan.controls values grabs pairs) (Some pairs)) (members plan k) ≡ cluster_changes plan values pairs rows k
+changes_written verdicts plan values grabs pairs rows k is many lt judged free =
+    changed_row plan values (overlay verdicts plan plan.controls values grabs pairs) pairs (members plan k) ∙ by (row_among rows k) refl
   where
     by : (o : Option (List CtrlValue)) → row_among rows k ≡ o → row_changes plan values pairs (members plan k) (row_of (overlay verdicts plan plan.controls values grabs pairs) (members plan k)) ≡ cluster_changes plan values pairs rows k
     by None found =

@@ -1,5 +1,5 @@
 -- What a device is seen as, and what a call does to it (of this project).
-use Rattle.std.specs.Prelude.{◌≡◌, ℕ, Bool, false, ◌≤◌, [], ◌∷◌, ◌++◌, List, Option, None, Some, IsErr, IsOk, length, ◌<◌, slice_index}
+use Rattle.std.specs.Prelude.{◌≡◌, if◌then◌else◌, ℕ, Bool, false, ◌≤◌, [], ◌∷◌, ◌++◌, List, Option, None, Some, IsErr, IsOk, length, ◌<◌, slice_index}
 use Rattle.std.specs.List.{list_any}
 use Rattle.history.specs.Past.{past, entered}
 use Rattle.ctrl_calls.specs.declared.work.Work.{Work}
@@ -12,9 +12,12 @@ use Rattle.ctrl_clusters.specs.Notified.{notified_count}
 use Rattle.ctrl_lists.specs.Touched.{touched, judged_count, with_calls}
 use Rattle.device_history.specs.Steps.{History, Past}
 use Rattle.device_history.specs.Grabs.{grabbed}
-use Rattle.device_history.specs.Values.{now, now_after}
-use Rattle.device_history.specs.Words.{changes}
-use Rattle.device_history.specs.Refusals.{Answer}
+use Rattle.device_history.specs.Values.{laid, now, now_after}
+use Rattle.device_history.specs.Words.{acted, changes}
+use Rattle.device_history.specs.Requests.{asked}
+use Rattle.device_history.specs.Frames.{queue, running, first_of}
+use Rattle.ctrl_forecast.specs.Touched.{touched_count}
+use Rattle.device_history.specs.Refusals.{Answer, is_full}
 use Rattle.device_history.specs.Answers.{MayAnswer, taken}
 use Rattle.device_history.specs.Lists.{list_pairs}
 
@@ -33,22 +36,31 @@ with_step device seat step = record device { steps = device.steps ++ record { se
 -- whether a step changes a control, after a past
 abbrev pub step_changes : Verdicts → PlanData → Past → Option Step → ℕ → Bool
 step_changes verdicts plan past None c = false
-step_changes verdicts plan past (Some step) c = changes plan (now verdicts plan past) (now_after verdicts plan (grabbed plan past) step (now verdicts plan past)) step c
+step_changes verdicts plan past (Some step) c =
+    changes plan (now verdicts plan past) (now_after verdicts plan (grabbed plan past) (laid plan past step) (now verdicts plan past)) (acted verdicts plan past step) c
 
--- how many validators an ask may have asked: a set and a try one for each cluster that they touch, every other ask none
+-- how many clusters the pairs touch that a begin lays, where it isn't refused: no frame is being made, a request waits, and a further step is kept
+abbrev pub begin_asks : PlanData → Past → Option ℕ → Option ℕ → ℕ
+begin_asks plan past (Some runs) first = 0
+begin_asks plan past None None = 0
+begin_asks plan past None (Some r) = if is_full past then 0 else touched_count plan (asked plan past r)
+
+-- how many validators an ask may have asked: a set and a try one for each cluster that they touch, a begin one for each that its request
+-- names, every other ask none
 abbrev pub may_ask : PlanData → Past → Ask → ℕ
 may_ask plan past (asks.SetCtrls fh which request list) = length (touched plan (list_pairs plan past fh which list))
 may_ask plan past (asks.TryCtrls fh which request list) = length (touched plan (list_pairs plan past fh which list))
+may_ask plan past asks.Begin = begin_asks plan past (running past) (first_of (queue past))
 may_ask plan past _ = 0
 
--- how many it asks where it is accepted: the clusters with a validator among them
+-- how many a set and a try ask where they are accepted: the clusters with a validator among them
 abbrev pub must_ask : PlanData → Past → Ask → ℕ
 must_ask plan past (asks.SetCtrls fh which request list) = judged_count plan (touched plan (list_pairs plan past fh which list))
 must_ask plan past (asks.TryCtrls fh which request list) = judged_count plan (touched plan (list_pairs plan past fh which list))
 must_ask plan past _ = 0
 
 -- What a call at a seat does: the answer is one that the ask may get, and the steps grow by the one that it takes, or by none.
--- Each cluster with a changed member is told once, and the word of every other stays. Only a set and a try may ask validators.
+-- Each cluster with a changed member is told once, and the word of every other stays. Only a set, a try and a begin may ask validators.
 pub record Handles (verdicts : Verdicts) (old new : DeviceData) (seat : ℕ) (ask : Ask) (answer : Answer) : Type 0 where
   pub plan : new.plan ≡ old.plan
   pub answers : MayAnswer verdicts old.plan (past old.steps) old.words ask answer

@@ -8,7 +8,9 @@ use Rattle.device_history.specs.declared.limits.TheConstants.{MAX_STEPS}
 use Rattle.device_history.specs.Steps.{History}
 use Rattle.device_history.specs.Handles.{opened}
 use Rattle.device_history.specs.Grabs.{grabbed}
+use Rattle.device_history.specs.Snapshots.{frames}
 use Rattle.device_history.specs.Values.{now}
+use Rattle.frame_queue.specs.Frames.{FramesData}
 use Rattle.ctrl_clusters.specs.Notified.{HaveWords}
 use Rattle.device_history.specs.Legal.{IsLegal}
 
@@ -18,6 +20,8 @@ pub record Caches : Type 0 where
   pub file_handles : List (ℕ × ℕ)
   pub grabs : Grabs
   pub values : Values
+  -- the requests and the queue
+  pub frames : FramesData
   -- the words that clusters were told last
   pub words : List ℕ
 
@@ -29,4 +33,5 @@ pub record IsKept (verdicts : Verdicts) (told : Words) (plan : PlanData) (steps 
   pub file_handles : caches.file_handles ≡ opened (past steps)
   pub grabs : caches.grabs ≡ grabbed plan (past steps)
   pub values : caches.values ≡ now verdicts plan (past steps)
+  pub frames : caches.frames ≡ frames verdicts plan (past steps)
   pub words : HaveWords told plan caches.values caches.words

@@ -22,6 +22,11 @@ pub use Rattle.device_history.specs.Refusals
 pub use Rattle.device_history.specs.Handles
 pub use Rattle.device_history.specs.Grabs
 pub use Rattle.device_history.specs.Values
+pub use Rattle.device_history.specs.Requests
+pub use Rattle.device_history.specs.Frames
+pub use Rattle.device_history.specs.Snapshots
+pub use Rattle.device_history.specs.RequestAnswers
+pub use Rattle.device_history.specs.FrameSteps
 pub use Rattle.device_history.specs.Flags
 pub use Rattle.device_history.specs.Words
 pub use Rattle.device_history.specs.Lists
@@ -30,5 +35,7 @@ pub use Rattle.device_history.specs.Answers
 pub use Rattle.device_history.specs.Legal
 pub mod Device
 pub mod Setting
+pub mod Entering
+pub mod Beginning
 pub mod Kept
 pub mod Runs

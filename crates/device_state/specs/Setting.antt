@@ -1,34 +1,37 @@
 -- What an accepted list makes of the values, the words and the counts, one cluster after another (of this project).
-use Rattle.std.specs.Prelude.{◌≡◌, ℕ, false, ◌++◌, List, [], ◌∷◌, Ok}
-use Rattle.std.specs.List.{list_any}
+use Rattle.std.specs.Prelude.{◌≡◌, ◌<◌, ℕ, length, false, ◌++◌, List, [], ◌∷◌, Option, None, Some, Ok}
+use Rattle.std.specs.List.{All, list_any}
 use Rattle.history.specs.Past.{past}
 use Rattle.ctrl_types.specs.declared.ids.ExtControl.{ExtControl}
+use Rattle.ctrl_types.specs.Classes.{which_of}
 use Rattle.ctrl_types.specs.declared.ids.FhId.{FhId}
+use Rattle.ctrl_types.specs.declared.ids.RequestId.{RequestId}
 use Rattle.ctrl_calls.specs.Meanings.{Verdicts, Words}
 use Rattle.ctrl_handlers.specs.Plan.{PlanData, IsPlan}
 use Rattle.ctrl_lists.specs.Touched.{TouchedData, AreJudged}
 use Rattle.device_history.specs.declared.ask.Reply.TheVariants.{Controls}
-use Rattle.device_history.specs.declared.ask.Step.TheVariants.{Set}
+use Rattle.device_history.specs.declared.ask.Step.TheVariants.{Set, Store}
 use Rattle.ctrl_clusters.specs.Rows.{is_grabbed}
 use Rattle.device_history.specs.Grabs.{grabbed}
 use Rattle.device_history.specs.Steps.{Past}
 use Rattle.device_history.specs.Values.{now}
 use Rattle.device_history.specs.Refusals.{is_full}
-use Rattle.device_history.specs.Lists.{list_pairs, set_list}
-use Rattle.device_state.specs.Device.{DeviceData}
+use Rattle.device_history.specs.Lists.{earlier_pairs, list_pairs, meant, set_list_answer, which_or}
+use Rattle.device_state.specs.Device.{DeviceData, with_step}
 use Rattle.ctrl_clusters.specs.NewRows.{row_given}
 use Rattle.ctrl_clusters.specs.Changes.{cluster_changes}
 use Rattle.ctrl_clusters.specs.Notified.{AreRenewed, notified_count}
 
--- A list that is set: its pairs touch clusters that get rows, no control of it is grabbed, it is answered so, and one more step is
--- kept.
-pub record IsSettable (verdicts : Verdicts) (plan : PlanData) (older : Past) (fh : FhId) (which : ℕ) (list : List ExtControl) (touch : TouchedData) : Type 0 where
+-- A list that can be set: its pairs are laid behind what its request asks for, where it speaks of one; each touched cluster gets a row, off which
+-- the answers are read; none of its controls is grabbed; and there is room for a step.
+pub record IsSettable (verdicts : Verdicts) (plan : PlanData) (older : Past) (fh : FhId) (which : ℕ) (request : Option RequestId) (list : List ExtControl) (touch : TouchedData) : Type 0 where
   pub plans : IsPlan plan
   pub own_pairs : touch.pairs ≡ list_pairs plan older fh which list
-  pub judged : AreJudged verdicts plan plan.controls (now verdicts plan older) touch.pairs touch.pairs touch.rows
+  pub known : All (λ p. p.control < length plan.controls) touch.pairs
+  pub judged : AreJudged verdicts plan plan.controls (now verdicts plan older) (earlier_pairs plan older (meant (which_or (which_of which)) request) ++ touch.pairs) touch.pairs touch.rows
   pub free : list_any (λ p. is_grabbed (grabbed plan older) p.control) touch.pairs ≡ false
   pub room : is_full older ≡ false
-  pub accepted : set_list verdicts plan older fh which list ≡ Ok (Controls touch.answers)
+  pub accepted : set_list_answer verdicts plan older fh which request list ≡ Ok (Controls touch.answers)
 
 -- What setting it does: it adds its step, and each cluster is told its row where the row changes a member.
 pub record SetsAll (verdicts : Verdicts) (told : Words) (old new : DeviceData) (seat : ℕ) (fh : FhId) (touch : TouchedData) : Type 0 where
@@ -36,3 +39,8 @@ pub record SetsAll (verdicts : Verdicts) (told : Words) (old new : DeviceData) (
   pub steps : new.steps ≡ old.steps ++ record { seat = seat; step = Set fh touch.pairs } ∷ []
   pub words : AreRenewed told old.plan (cluster_changes old.plan (now verdicts old.plan (past old.steps)) touch.pairs touch.rows) (row_given touch.rows) old.words new.words
   pub work : new.work ≡ record old.work { told = notified_count old.plan (cluster_changes old.plan (now verdicts old.plan (past old.steps)) touch.pairs touch.rows) }
+
+-- what accepting a list does: it stores the pairs in the request that it speaks of, or sets it
+abbrev pub SetsList : Verdicts → Words → DeviceData → DeviceData → ℕ → FhId → Option RequestId → TouchedData → Type 0
+SetsList verdicts told old new seat fh None touch = SetsAll verdicts told old new seat fh touch
+SetsList verdicts told old new seat fh (Some r) touch = new ≡ with_step old seat (Store r touch.pairs)

@@ -12,18 +12,22 @@ ghost use Rattle.device_history.specs.Values.{defaults, now};
 ghost use Rattle.ctrl_clusters.specs.Notified.{HaveWords};
 ghost use Rattle.device_history.specs.Refusals.{refused, is_full};
 ghost use Rattle.device_history.specs.Queries.{query_answer, next_answer, told_answer};
+ghost use Rattle.device_history.specs.RequestAnswers.{state_answer};
 ghost use Rattle.device_history.specs.Answers.{MayAnswer};
 ghost use Rattle.device_history.specs.Legal.{IsLegal};
 ghost use Rattle.device_state.specs.Device.{Handles, with_step};
 
+mod begin;
 mod lists;
+mod requests;
 
 use crate::start::{first_values, no_grabs};
 use ctrl_calls::{Driver, Work};
 use ctrl_clusters::{first_words, flags_under};
 use ctrl_handlers::Plan;
-use ctrl_types::{CtrlId, Errno, Fault, FhId, Flags};
+use ctrl_types::{CtrlId, Errno, Fault, FhId, Flags, RequestId};
 use device_history::{Ask, CtrlInfo, MAX_FILE_HANDLES, MAX_STEPS, Reply, Step};
+use frame_queue::Frames;
 use history::Entry;
 use indexmap::IndexMap;
 use std::alloc::{AllocError, Global};
@@ -31,7 +35,7 @@ use std::marker::Model;
 
 /// The controls of one device (Linux driver API, "V4L2 Controls"), and the history of the steps that it accepted. Contracts
 /// see it as its plan, those steps, the words that its clusters were told last, and the counts of the last call: its open file
-/// handles, its grabs, its present values and flags are what the steps make of them, at every moment.
+/// handles, its grabs, its present values and flags, its requests and their queue are what the steps make of them, at every moment.
 pub struct Device<D: Driver> {
     plan: Plan<D>,
     // the open file handles, each with its handler, in the order of their opening
@@ -40,6 +44,8 @@ pub struct Device<D: Driver> {
     grabs: Vec<bool>,
     // the present values, by control
     values: Vec<i64>,
+    // the media requests, and the queue of frames
+    frames: Frames,
     // the words told last, by cluster
     words: Vec<u64>,
     steps: Vec<Entry<Step>>,
@@ -56,7 +62,7 @@ impl<D: Driver> Model for Device<D> {
 
     ghost view = { λ d. record { plan = d.plan; steps = d.steps.items; words = d.words.items; work = d.work } };
 
-    ghost invariant = { λ d. IsKept D.verdict D.told d.plan d.steps.items (record { file_handles = d.file_handles.entries; grabs = d.grabs.items; values = d.values.items; words = d.words.items }) };
+    ghost invariant = { λ d. IsKept D.verdict D.told d.plan d.steps.items (record { file_handles = d.file_handles.entries; grabs = d.grabs.items; values = d.values.items; frames = d.frames; words = d.words.items }) };
 }
 
 impl<D: Driver> Drop for Device<D> {
@@ -66,6 +72,7 @@ impl<D: Driver> Drop for Device<D> {
             file_handles: _,
             grabs: _,
             values: _,
+            frames: _,
             words: _,
             steps: _,
             work: _,
@@ -92,6 +99,9 @@ impl<D: Driver> Device<D> {
         let Ok(grabs) = no_grabs(alloc, plan.controls()) else {
             return Err((plan, Errno::ENOMEM));
         };
+        let Ok(frames) = Frames::new(alloc, plan.control_count()) else {
+            return Err((plan, Errno::ENOMEM));
+        };
         let Ok(words) = first_words(alloc, &plan, values.as_slice()) else {
             return Err((plan, Errno::ENOMEM));
         };
@@ -100,6 +110,7 @@ impl<D: Driver> Device<D> {
             file_handles: IndexMap::new(alloc),
             grabs,
             values,
+            frames,
             words,
             steps: Vec::new(alloc),
             work: Work::new(),
@@ -189,8 +200,31 @@ impl<D: Driver> Device<D> {
     /// kept, and with ENOMEM where a growth was refused; a file handle that was closed isn't opened again. `Grab` grabs a control,
     /// whatever its flags, or lets it go (Linux driver API, `v4l2_ctrl_grab`): as long as it is grabbed it has GRABBED and a set of
     /// it is refused; it is refused, without an index, with EINVAL where there is no such control, with ENOSPC where 1,000,000
-    /// steps are kept, and with ENOMEM where a growth was refused; a grab that holds already is accepted, and is a step. For the
-    /// refusals of lists, each with its index, see `get`, `set` and `try_set`; for those of `Query` and `Told` see `query` and
+    /// steps are kept, and with ENOMEM where a growth was refused; a grab that holds already is accepted, and is a step.
+    ///
+    /// Media requests (Linux userspace API, "Request API"; limits, buffers, begins, cancellations and freeing are of this project).
+    /// Each of these asks is refused without an index, in the order given, then with ENOSPC where 1,000,000 steps are kept, and last with
+    /// ENOMEM where a growth was refused:
+    ///
+    /// - `Alloc` makes a request: idle, without settings and buffer; its id is the number of its step. ENOSPC where there are 64.
+    /// - `AddBuffer` gives a request the number of a buffer. EINVAL where there is no such request; EBUSY (16) where it isn't idle, has a
+    ///   buffer, or where another request that isn't complete holds the number.
+    /// - `Queue` has a request wait for its frame, the last. EINVAL where there is no such request; EBUSY where it isn't idle; ENOENT (2)
+    ///   where it has no buffer.
+    /// - `Begin` begins the frame of the first that waits: what the request asks for is laid over the present values, cluster by cluster; a
+    ///   cluster of which the request names a grabbed control, or that settling or its validator refuses, keeps its row, and the reply names it. Each other cluster
+    ///   with a changed member is told its new row once. EBUSY where a frame is being made; ENOENT where no request waits. It asks at most
+    ///   one validator for each cluster that the request names.
+    /// - `Complete` ends the frame that is being made. ENOENT where none is.
+    /// - `Cancel` takes a request from the queue, without its frame being made. EINVAL where there is no such request; EBUSY where its frame
+    ///   is being made; EINVAL where it doesn't wait.
+    /// - `StreamOff` completes the request whose frame is being made and all that wait; the present values stay.
+    /// - `Reinit` makes a request as new, `Free` lets it go for good. EINVAL where there is no such request; EBUSY where it is queued or its
+    ///   frame is being made.
+    ///
+    /// `StateOf` reads a request's state. It is refused, without an index, with EINVAL where there is no such request, and takes no memory.
+    ///
+    /// For the refusals of lists, each with its index, see `get`, `set` and `try_set`; for those of `Query` and `Told` see `query` and
     /// `told`.
     ///
     /// `NextId` tells the least id that is shown to `fh` and greater than `id`, DISABLED controls counted (Linux userspace API,
@@ -234,6 +268,45 @@ impl<D: Driver> Device<D> {
                 list,
             } => self.try_set(*fh, *which, *request, list),
             Ask::Grab { control, on } => self.grab(seat, *control, *on),
+            Ask::Alloc => {
+                let refusal = self.alloc_refusal();
+                let request = RequestId(self.steps.len() as u32);
+                self.enter(seat, ask, refusal, Step::Alloc, Reply::Request(request))
+            }
+            Ask::AddBuffer { request, buffer } => {
+                let (request, buffer) = (*request, *buffer);
+                let refusal = self.buffer_refusal(request, buffer);
+                let step = Step::Buffer { request, buffer };
+                self.enter(seat, ask, refusal, step, Reply::Done)
+            }
+            Ask::Queue { request } => {
+                let request = *request;
+                let refusal = self.queue_refusal(request);
+                self.enter(seat, ask, refusal, Step::Queue { request }, Reply::Done)
+            }
+            Ask::Begin => self.begin(seat),
+            Ask::Complete => {
+                let refusal = self.complete_refusal();
+                let request = self.ended();
+                self.enter(seat, ask, refusal, Step::Complete { request }, Reply::Done)
+            }
+            Ask::Cancel { request } => {
+                let request = *request;
+                let refusal = self.cancel_refusal(request);
+                self.enter(seat, ask, refusal, Step::Cancel { request }, Reply::Done)
+            }
+            Ask::StreamOff => self.enter(seat, ask, None, Step::StreamOff, Reply::Done),
+            Ask::Reinit { request } => {
+                let request = *request;
+                let refusal = self.clear_refusal(request);
+                self.enter(seat, ask, refusal, Step::Reinit { request }, Reply::Done)
+            }
+            Ask::Free { request } => {
+                let request = *request;
+                let refusal = self.clear_refusal(request);
+                self.enter(seat, ask, refusal, Step::Free { request }, Reply::Done)
+            }
+            Ask::StateOf { request } => self.read_state(*request),
             Ask::Query { fh, id } => self.query(*fh, *id),
             Ask::NextId { fh, id } => self.next(*fh, *id),
             Ask::MenuItem { fh, id, index } => self.item(*fh, *id, *index),
@@ -270,6 +343,24 @@ impl<D: Driver> Device<D> {
     {
         self.work = Work::new();
         self.word(cluster)
+    }
+
+    // Answers an ask for a request's state.
+    fn read_state(&mut self, request: RequestId) -> Result<Reply, Fault>
+        ensures { (seat : ℕ) → Handles D.verdict self.old self.new seat (asks.StateOf request) result }
+    {
+        self.work = Work::new();
+        self.state(request)
+    }
+
+    // A request's state.
+    fn state(&self, request: RequestId) -> Result<Reply, Fault>
+        ensures { result ≡ state_answer (past self.now.steps) request }
+    {
+        match self.state_of(request) {
+            Ok(state) => Ok(Reply::State(state)),
+            Err(_) => refused(Errno::EINVAL),
+        }
     }
 
     // Answers an ask for the next id.

@@ -1,8 +1,8 @@
 //! What a device answers lists of controls: gets, sets and tries.
 
-ghost use Rattle.std.specs.Prelude.{◌≡◌, ◌≢◌, ◌≤◌, ◌+◌, ℕ, true, length, Option, None, Some, Ok, Err, IfOk, IfErr, OnOk, OnErr};
+ghost use Rattle.std.specs.Prelude.{◌≡◌, ◌≢◌, ◌≤◌, ◌+◌, ℕ, true, false, length, Option, None, Some, Ok, Err, IfOk, IfErr, IfSome, OnOk, OnErr};
 ghost use Rattle.history.specs.Past.{past};
-ghost use Rattle.ctrl_types.specs.declared.ids.RequestId.{RequestId as RequestIdOf};
+ghost use Rattle.ctrl_types.specs.Classes.{which_of};
 ghost use Rattle.ctrl_types.specs.declared.which.Which.TheVariants.{Defaults};
 ghost use Rattle.ctrl_clusters.specs.Rows.{AreControlsOf};
 ghost use Rattle.ctrl_lists.specs.Checks.{first_refusal};
@@ -10,37 +10,39 @@ ghost use Rattle.ctrl_lists.specs.Touched.{touched, judged_count, with_calls};
 ghost use Rattle.device_history.specs.declared.ask.Ask.TheVariants as asks;
 ghost use Rattle.device_history.specs.Values.{now};
 ghost use Rattle.ctrl_clusters.specs.Notified.{HaveWords};
-ghost use Rattle.device_history.specs.Lists.{is_refused, list_pairs, list_view, opening_checks};
+ghost use Rattle.device_history.specs.declared.ask.Step.TheVariants as steps;
+ghost use Rattle.device_history.specs.Handles.{handler_of};
+ghost use Rattle.device_history.specs.Lists.{earlier_pairs, handler_or, list_pairs, meant, opening_checks, read_view, request_refusal, through_refusal, values_read, which_or, write_view, writes_defaults};
+ghost use Rattle.device_history.specs.Snapshots.{request as request_of};
 ghost use Rattle.device_history.specs.Answers.{MayAnswer};
-ghost use Rattle.device_state.specs.Device.{Handles};
-ghost use Rattle.device_state.specs.Setting.{IsSettable, SetsAll};
+ghost use Rattle.device_state.specs.Device.{Handles, with_step};
+ghost use Rattle.device_state.specs.Setting.{IsSettable, SetsAll, SetsList};
 
 use super::Device;
 use ctrl_calls::{Driver, Work};
 use ctrl_clusters::{notify_changed, write_rows};
 use ctrl_lists::{ControlList, Touched, View, plan_set, read_list, try_list};
-use ctrl_types::{Errno, Fault, FhId, RequestId, Which};
+use ctrl_types::{CtrlValue, Errno, Fault, FhId, Pair, RequestId, Which};
 use device_history::{PairList, Reply, Step};
 use history::Entry;
-use std::alloc::AllocError;
 
 impl<D: Driver> Device<D> {
     /// Gets controls, as `handle` on `Ask::GetCtrls` of these fields at any seat does (Linux userspace API, "ioctl
     /// VIDIOC_G_EXT_CTRLS, VIDIOC_S_EXT_CTRLS, VIDIOC_TRY_EXT_CTRLS"; the order of the refusals, the index, and that neither a
     /// DISABLED control nor the default of a WRITE_ONLY one can be read are of this project). It changes nothing but the counts
-    /// of `work`. The answer has the entries of `list` with the present values of their controls, or the defaults where `which`
-    /// speaks of them.
+    /// of `work`. The answer has the entries of `list` with the present values of their controls, the defaults where `which`
+    /// speaks of them, or the values that a request's frame had where it speaks of a request (Linux userspace API, "Request API").
     ///
     /// - `fh`: the file handle; the controls that are shown to it can be named.
-    /// - `which`: the values, as `Which::read` reads it: the present ones, those of a class, or the defaults.
-    /// - `request`: ignored, as `which` can't speak of a request yet.
+    /// - `which`: the values, as `Which::read` reads it: the present ones, those of a class, the defaults, or those of a request.
+    /// - `request`: the request, where `which` speaks of one; else ignored.
     /// - `list`: at most 64 controls; their values are ignored. It is lent, and never changed.
     ///
-    /// Refused, in this order, with EBADF (9) where `fh` isn't open; EINVAL (22) where `which` can't be read, or speaks of a
-    /// request, since there is none; EINVAL where there are more than 64 entries; EINVAL where there are none and `which`
+    /// Refused, in this order, with EBADF (9) where `fh` isn't open; EINVAL (22) where `which` can't be read; where it speaks of a
+    /// request EINVAL where there is no such request, and EACCES (13) where it isn't complete; EINVAL where there are more than 64 entries; EINVAL where there are none and `which`
     /// speaks of a class of which no control is shown; EINVAL where an entry's id isn't shown, isn't of the class, or its
-    /// control is DISABLED; EACCES (13) where a control is WRITE_ONLY, also for the defaults. ENOMEM (12) may stand in place of
-    /// any answer from the fifth on, unless there are no entries. The index is the number of entries.
+    /// control is DISABLED; EACCES where a control is WRITE_ONLY, also for the defaults. ENOMEM (12) may stand in place of
+    /// any answer from that on the number of entries on, unless there are no entries. The index is the number of entries.
     pub fn get(
         &mut self,
         fh: FhId,
@@ -51,7 +53,7 @@ impl<D: Driver> Device<D> {
         ensures { (seat : ℕ) → Handles D.verdict self.old self.new seat (asks.GetCtrls fh which request list.now) result }
     {
         self.work = Work::new();
-        self.get_list(fh, which, list)
+        self.get_list(fh, which, request, list)
     }
 
     /// Sets controls to what their values become, all or none, as `handle` on `Ask::SetCtrls` of these fields does (Linux
@@ -63,21 +65,26 @@ impl<D: Driver> Device<D> {
     /// changed, that is where its value differs, or it acts on each write and was asked for, the cluster's notifier is told the
     /// new row, once, and its word is kept; the clusters are told in rising number. A list without entries is a step, too.
     ///
+    /// Where `which` speaks of a request the values are stored in it, as they were given, for its frame (Linux userspace API, "Request
+    /// API"); nothing else is changed, and nobody is told. Rows are judged all the same, over the present values with the earlier pairs
+    /// of the request laid before those of the list.
+    ///
     /// - `seat`: the number that the step is entered for.
     /// - `fh`: the file handle; the controls that are shown to it can be named.
-    /// - `which`: the values, as `Which::read` reads it: the present ones, or those of a class.
-    /// - `request`: ignored, as `which` can't speak of a request yet.
+    /// - `which`: the values, as `Which::read` reads it: the present ones, those of a class, or those of a request.
+    /// - `request`: the request, where `which` speaks of one; else ignored.
     /// - `list`: at most 64 controls with values. It is lent, and never changed.
     ///
     /// Refused, in this order, with EBADF (9) where `fh` isn't open; EINVAL (22) where `which` can't be read, or speaks of the
-    /// defaults, or of a request, since there is none; EINVAL where there are more than 64 entries; EINVAL where there are none
+    /// defaults; where it speaks of a request EINVAL where there is no such request, and EBUSY (16) where it isn't idle; EINVAL where
+    /// there are more than 64 entries; EINVAL where there are none
     /// and `which` speaks of a class of which no control is shown; EINVAL where an entry's id isn't shown, isn't of the class,
-    /// or its control is DISABLED; for the first control that can't be set EACCES (13) where it is READ_ONLY, EBUSY (16) where it
+    /// or its control is DISABLED; for the first control that can't be set EACCES (13) where it is READ_ONLY, EBUSY where it
     /// is grabbed, and where its value doesn't settle ERANGE (34) or EINVAL; for the first control whose cluster is refused the
     /// errno of the first member that doesn't settle, or else the validator's where it refuses with EACCES, EBUSY, EINVAL or
     /// ERANGE, and EINVAL where it refuses with another, or answers a row of another length or with a value that settling would
-    /// change or refuse; ENOSPC (28) where 1,000,000 steps are kept. ENOMEM (12) may stand in place of any answer from the fifth
-    /// on of a list with entries, and of success. The index is the number of entries. Nothing is changed then but the counts of
+    /// change or refuse; ENOSPC (28) where 1,000,000 steps are kept. ENOMEM (12) may stand in place of any answer from that on
+    /// the number of entries on, of a list with entries, and of success. The index is the number of entries. Nothing is changed then but the counts of
     /// `work`, and no notifier is told.
     pub fn set(
         &mut self,
@@ -90,7 +97,7 @@ impl<D: Driver> Device<D> {
         ensures handles { Handles D.verdict self.old self.new seat (asks.SetCtrls fh which request list.now) result }
         ensures words { HaveWords D.told self.new.plan (now D.verdict self.new.plan (past self.new.steps)) self.new.words }
     {
-        let answer = self.set_list(seat, fh, which, list);
+        let answer = self.set_list(seat, fh, which, request, list);
         // the words are such as were told, as the contract of `steps` says
         let _kept = self.steps();
         answer
@@ -103,7 +110,7 @@ impl<D: Driver> Device<D> {
     ///
     /// - `fh`, `which`, `request`, `list`: as of `set`.
     ///
-    /// Refused as `set` is, but never with EBUSY for a grab, and never with ENOSPC; ENOMEM (12) never where there are no
+    /// Refused as `set` is, through a request too, but never with EBUSY for a grab, and never with ENOSPC; ENOMEM (12) never where there are no
     /// entries. The index is the place of an entry, from 0, where the refusal stands at one: the entry that names no control;
     /// that of the first control that can't be written; and the first entry of the first cluster that is refused. Else, and with
     /// ENOMEM, it is the number of entries.
@@ -117,20 +124,24 @@ impl<D: Driver> Device<D> {
         ensures { (seat : ℕ) → Handles D.verdict self.old self.new seat (asks.TryCtrls fh which request list.now) result }
     {
         let mut work = Work::new();
-        let answer = self.try_list(fh, which, list, &mut work);
+        let answer = self.try_list(fh, which, request, list, &mut work);
         self.work = work;
         answer
     }
 
-    // What a list is read against, after its first checks.
-    fn view(&self, fh: FhId, which: u32, writes: bool) -> Result<View<'_>, Errno>
-        ensures passed { OnOk result (first_refusal (opening_checks (past self.now.steps) fh which writes) ≡ None) }
-        ensures err { IfErr result (λ errno. first_refusal (opening_checks (past self.now.steps) fh which writes) ≡ Some (record { errno = errno; place = None })) }
-        ensures view { IfOk result (λ view. view ≡ list_view D.verdict self.now.plan (past self.now.steps) fh which) }
-        ensures which { IfOk result (λ view. writes ≡ true → view.which ≢ Defaults) }
-        ensures controls { IfOk result (λ view. AreControlsOf self.now.plan view.controls) }
-        ensures values { IfOk result (λ view. length view.values ≡ length self.now.plan.controls) }
-        ensures grabs { IfOk result (λ view. length view.grabs ≡ length self.now.plan.controls) }
+    // The first checks of a list: the handler of its file handle, and which values it speaks of.
+    fn open_list(
+        &self,
+        fh: FhId,
+        which: u32,
+        request: Option<RequestId>,
+        writes: bool,
+    ) -> Result<(u32, Which), Errno>
+        ensures passed { OnOk result (first_refusal (opening_checks D.verdict self.now.plan (past self.now.steps) fh which request writes) ≡ None) }
+        ensures err { IfErr result (λ errno. first_refusal (opening_checks D.verdict self.now.plan (past self.now.steps) fh which request writes) ≡ Some (record { errno = errno; place = None })) }
+        ensures handler { IfOk result (λ r. r.0 ≡ handler_or (handler_of (past self.now.steps) fh)) }
+        ensures which { IfOk result (λ r. r.1 ≡ which_or (which_of which)) }
+        ensures writable { IfOk result (λ r. writes ≡ true → r.1 ≢ Defaults) }
     {
         let Some(handler) = self.handler_of(fh) else {
             return Err(Errno::EBADF);
@@ -138,24 +149,130 @@ impl<D: Driver> Device<D> {
         let Ok(which) = Which::read(which) else {
             return Err(Errno::EINVAL);
         };
-        if is_refused(writes, which) {
+        if writes_defaults(writes, which) {
             return Err(Errno::EINVAL);
         }
+        match self.through_refusal(writes, which, request) {
+            Some(errno) => Err(errno),
+            None => Ok((handler, which)),
+        }
+    }
+
+    // Why the request that a list speaks of refuses it.
+    fn through_refusal(
+        &self,
+        writes: bool,
+        which: Which,
+        request: Option<RequestId>,
+    ) -> Option<Errno>
+        ensures { result ≡ through_refusal D.verdict self.now.plan (past self.now.steps) writes which request }
+    {
+        match (which, request) {
+            (Which::Request, Some(request)) => self.request_refusal(writes, request),
+            (Which::Request, None) => Some(Errno::EINVAL),
+            _ => None,
+        }
+    }
+
+    // Why a request refuses a list.
+    fn request_refusal(&self, writes: bool, request: RequestId) -> Option<Errno>
+        ensures { result ≡ request_refusal writes (request_of D.verdict self.now.plan (past self.now.steps) request.0) }
+    {
+        if writes {
+            return self.store_refusal(request);
+        }
+        match self.frames.snapshot_values(request) {
+            Ok(_) => None,
+            Err(errno) => Some(errno),
+        }
+    }
+
+    // What a get is read against, after its first checks.
+    fn read_view(&self, fh: FhId, which: u32, request: Option<RequestId>) -> Result<View<'_>, Errno>
+        ensures passed { OnOk result (first_refusal (opening_checks D.verdict self.now.plan (past self.now.steps) fh which request false) ≡ None) }
+        ensures err { IfErr result (λ errno. first_refusal (opening_checks D.verdict self.now.plan (past self.now.steps) fh which request false) ≡ Some (record { errno = errno; place = None })) }
+        ensures view { IfOk result (λ view. view ≡ read_view D.verdict self.now.plan (past self.now.steps) fh which request) }
+        ensures controls { IfOk result (λ view. AreControlsOf self.now.plan view.controls) }
+        ensures values { IfOk result (λ view. length view.values ≡ length self.now.plan.controls) }
+        ensures grabs { IfOk result (λ view. length view.grabs ≡ length self.now.plan.controls) }
+    {
+        let (handler, which) = self.open_list(fh, which, request, false)?;
+        Ok(View::new(
+            handler,
+            which,
+            self.plan.controls(),
+            self.values_read(meant(which, request)),
+            self.grabs(),
+            &[],
+        ))
+    }
+
+    // The values that a get reads: the snapshot of the request that it speaks of, which the caller owes to be complete, or the present ones.
+    fn values_read(&self, request: Option<RequestId>) -> &[CtrlValue]
+        requires { IfSome request (λ r. request_refusal false (request_of D.verdict self.now.plan (past self.now.steps) r.0) ≡ None) }
+        ensures values { result.now ≡ values_read D.verdict self.now.plan (past self.now.steps) request }
+        ensures long { length result.now ≡ length self.now.plan.controls }
+    {
+        match request {
+            Some(request) => match self.frames.snapshot_values(request) {
+                Ok(values) => values,
+                Err(_) => self.values(),
+            },
+            None => self.values(),
+        }
+    }
+
+    // What a list that writes is judged against, after its first checks.
+    fn write_view(
+        &self,
+        fh: FhId,
+        which: u32,
+        request: Option<RequestId>,
+    ) -> Result<View<'_>, Errno>
+        ensures passed { OnOk result (first_refusal (opening_checks D.verdict self.now.plan (past self.now.steps) fh which request true) ≡ None) }
+        ensures err { IfErr result (λ errno. first_refusal (opening_checks D.verdict self.now.plan (past self.now.steps) fh which request true) ≡ Some (record { errno = errno; place = None })) }
+        ensures view { IfOk result (λ view. view ≡ write_view D.verdict self.now.plan (past self.now.steps) fh which request) }
+        ensures which { IfOk result (λ view. view.which ≢ Defaults) }
+        ensures controls { IfOk result (λ view. AreControlsOf self.now.plan view.controls) }
+        ensures values { IfOk result (λ view. length view.values ≡ length self.now.plan.controls) }
+        ensures grabs { IfOk result (λ view. length view.grabs ≡ length self.now.plan.controls) }
+    {
+        let (handler, which) = self.open_list(fh, which, request, true)?;
         Ok(View::new(
             handler,
             which,
             self.plan.controls(),
             self.values(),
             self.grabs(),
-            &[],
+            self.earlier_pairs(meant(which, request)),
         ))
     }
 
-    // Gets the controls of a list.
-    fn get_list(&self, fh: FhId, which: u32, list: &ControlList) -> Result<Reply, Fault>
-        ensures { (request : Option RequestIdOf) → MayAnswer D.verdict self.now.plan (past self.now.steps) self.now.words (asks.GetCtrls fh which request list.now) result }
+    // The pairs that are laid before those of a list: what the request asks for that it speaks of, which the caller owes to be there.
+    fn earlier_pairs(&self, request: Option<RequestId>) -> &[Pair]
+        requires { IfSome request (λ r. request_refusal true (request_of D.verdict self.now.plan (past self.now.steps) r.0) ≡ None) }
+        ensures { result.now ≡ earlier_pairs self.now.plan (past self.now.steps) request }
     {
-        let view = match self.view(fh, which, false) {
+        match request {
+            Some(request) => match self.asked(request) {
+                Ok(pairs) => pairs,
+                Err(_) => &[],
+            },
+            None => &[],
+        }
+    }
+
+    // Gets the controls of a list.
+    fn get_list(
+        &self,
+        fh: FhId,
+        which: u32,
+        request: Option<RequestId>,
+        list: &ControlList,
+    ) -> Result<Reply, Fault>
+        ensures { MayAnswer D.verdict self.now.plan (past self.now.steps) self.now.words (asks.GetCtrls fh which request list.now) result }
+    {
+        let view = match self.read_view(fh, which, request) {
             Ok(view) => view,
             Err(errno) => return Err(at(errno, list.len())),
         };
@@ -170,15 +287,16 @@ impl<D: Driver> Device<D> {
         &self,
         fh: FhId,
         which: u32,
+        request: Option<RequestId>,
         list: &ControlList,
         work: &mut Work,
     ) -> Result<Reply, Fault>
-        ensures answers { (request : Option RequestIdOf) → MayAnswer D.verdict self.now.plan (past self.now.steps) self.now.words (asks.TryCtrls fh which request list.now) result }
+        ensures answers { MayAnswer D.verdict self.now.plan (past self.now.steps) self.now.words (asks.TryCtrls fh which request list.now) result }
         ensures at_most { work.new.asked ≤ work.old.asked + length (touched self.now.plan (list_pairs self.now.plan (past self.now.steps) fh which list.now)) }
         ensures asked { OnOk result (work.new.asked ≡ with_calls (judged_count self.now.plan (touched self.now.plan (list_pairs self.now.plan (past self.now.steps) fh which list.now))) work.old.asked) }
         ensures told { work.new.told ≡ work.old.told }
     {
-        let view = match self.view(fh, which, true) {
+        let view = match self.write_view(fh, which, request) {
             Ok(view) => view,
             Err(errno) => return Err(at(errno, list.len())),
         };
@@ -194,18 +312,19 @@ impl<D: Driver> Device<D> {
         seat: u32,
         fh: FhId,
         which: u32,
+        request: Option<RequestId>,
         list: &ControlList,
     ) -> Result<Reply, Fault>
-        ensures { (request : Option RequestIdOf) → Handles D.verdict self.old self.new seat (asks.SetCtrls fh which request list.now) result }
+        ensures { Handles D.verdict self.old self.new seat (asks.SetCtrls fh which request list.now) result }
     {
         let mut work = Work::new();
-        let planned = self.plan_list(fh, which, list, &mut work);
+        let planned = self.plan_list(fh, which, request, list, &mut work);
         self.work = work;
         let touch = match planned {
             Ok(touch) => touch,
             Err(fault) => return Err(fault),
         };
-        match self.accept_list(seat, fh, which, list, touch) {
+        match self.accept_set(seat, fh, which, request, list, touch) {
             Ok(controls) => Ok(Reply::Controls(controls)),
             Err(_) => Err(at(Errno::ENOMEM, list.len())),
         }
@@ -216,16 +335,17 @@ impl<D: Driver> Device<D> {
         &self,
         fh: FhId,
         which: u32,
+        request: Option<RequestId>,
         list: &ControlList,
         work: &mut Work,
     ) -> Result<Touched, Fault>
-        ensures ok { IfOk result (λ touch. IsSettable D.verdict self.now.plan (past self.now.steps) fh which list.now touch) }
-        ensures err { IfErr result (λ fault. (request : Option RequestIdOf) → MayAnswer D.verdict self.now.plan (past self.now.steps) self.now.words (asks.SetCtrls fh which request list.now) (Err fault)) }
+        ensures ok { IfOk result (λ touch. IsSettable D.verdict self.now.plan (past self.now.steps) fh which request list.now touch) }
+        ensures err { IfErr result (λ fault. MayAnswer D.verdict self.now.plan (past self.now.steps) self.now.words (asks.SetCtrls fh which request list.now) (Err fault)) }
         ensures at_most { work.new.asked ≤ work.old.asked + length (touched self.now.plan (list_pairs self.now.plan (past self.now.steps) fh which list.now)) }
         ensures asked { OnOk result (work.new.asked ≡ with_calls (judged_count self.now.plan (touched self.now.plan (list_pairs self.now.plan (past self.now.steps) fh which list.now))) work.old.asked) }
         ensures told { work.new.told ≡ work.old.told }
     {
-        let view = match self.view(fh, which, true) {
+        let view = match self.write_view(fh, which, request) {
             Ok(view) => view,
             Err(errno) => return Err(at(errno, list.len())),
         };
@@ -247,16 +367,20 @@ impl<D: Driver> Device<D> {
         seat: u32,
         fh: FhId,
         which: u32,
+        request: Option<RequestId>,
         list: &ControlList,
         touch: Touched,
-    ) -> Result<ControlList, AllocError>
-        requires settable { IsSettable D.verdict self.old.plan (past self.old.steps) fh which list.now touch }
+    ) -> Result<ControlList, Errno>
+        requires settable { IsSettable D.verdict self.old.plan (past self.old.steps) fh which request list.now touch }
+        requires present { meant (which_or (which_of which)) request ≡ None }
         requires fresh { self.old.work.told ≡ 0 }
         ensures answers { IfOk result (λ controls. controls ≡ touch.answers) }
         ensures ok { OnOk result (SetsAll D.verdict D.told self.old self.new seat fh touch) }
         ensures err { OnErr result (self.new ≡ self.old) }
     {
-        self.steps.reserve(1)?;
+        if self.steps.reserve(1).is_err() {
+            return Err(Errno::ENOMEM);
+        }
         notify_changed(
             &self.plan,
             self.values.as_slice(),
@@ -276,16 +400,86 @@ impl<D: Driver> Device<D> {
         });
         Ok(controls)
     }
+
+    // Sets a list, or stores its pairs in the request that it speaks of, after the refusals.
+    fn accept_set(
+        &mut self,
+        seat: u32,
+        fh: FhId,
+        which: u32,
+        request: Option<RequestId>,
+        list: &ControlList,
+        touch: Touched,
+    ) -> Result<ControlList, Errno>
+        requires settable { IsSettable D.verdict self.old.plan (past self.old.steps) fh which request list.now touch }
+        requires fresh { self.old.work.told ≡ 0 }
+        ensures answers { IfOk result (λ controls. controls ≡ touch.answers) }
+        ensures ok { OnOk result (SetsList D.verdict D.told self.old self.new seat fh (meant (which_or (which_of which)) request) touch) }
+        ensures err { OnErr result (self.new ≡ self.old) }
+    {
+        match spoken(which, request) {
+            Some(stored) => self.accept_store(seat, fh, which, request, stored, list, touch),
+            None => self.accept_list(seat, fh, which, request, list, touch),
+        }
+    }
+
+    // Stores the pairs of a list in a request, after the refusals.
+    fn accept_store(
+        &mut self,
+        seat: u32,
+        fh: FhId,
+        which: u32,
+        request: Option<RequestId>,
+        stored: RequestId,
+        list: &ControlList,
+        touch: Touched,
+    ) -> Result<ControlList, Errno>
+        requires settable { IsSettable D.verdict self.old.plan (past self.old.steps) fh which request list.now touch }
+        requires through { meant (which_or (which_of which)) request ≡ Some stored }
+        ensures answers { IfOk result (λ controls. controls ≡ touch.answers) }
+        ensures ok { OnOk result (self.new ≡ with_step self.old seat (steps.Store stored touch.pairs)) }
+        ensures err { OnErr result (self.new ≡ self.old) }
+    {
+        let (controls, pairs) = touch.into_parts();
+        let pairs = PairList::from_vec(pairs);
+        self.accept(
+            seat,
+            Step::Store {
+                request: stored,
+                pairs,
+            },
+        )?;
+        Ok(controls)
+    }
 }
 
-// A list that writes can't speak of the defaults; and no request exists as yet.
-fn is_refused(writes: bool, which: Which) -> bool
-    ensures { result ≡ is_refused writes which }
+// The request that a list speaks of, where it does; the caller has read `which`.
+fn spoken(which: u32, request: Option<RequestId>) -> Option<RequestId>
+    ensures { result ≡ meant (which_or (which_of which)) request }
+{
+    match Which::read(which) {
+        Ok(which) => meant(which, request),
+        Err(_) => None,
+    }
+}
+
+// The same, where `which` was read.
+fn meant(which: Which, request: Option<RequestId>) -> Option<RequestId>
+    ensures { result ≡ meant which request }
+{
+    match which {
+        Which::Request => request,
+        Which::Current | Which::Class(_) | Which::Defaults => None,
+    }
+}
+
+// A list that writes can't speak of the defaults.
+fn writes_defaults(writes: bool, which: Which) -> bool
+    ensures { result ≡ writes_defaults writes which }
 {
     match which {
         Which::Defaults => writes,
-        Which::Request => true,
-        Which::Current | Which::Class(_) => false,
+        Which::Current | Which::Class(_) | Which::Request => false,
     }
 }
 

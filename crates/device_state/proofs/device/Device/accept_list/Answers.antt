@@ -25,20 +25,20 @@ pub notify_changed-requires-clause-rows : goal.notify_changed-requires-clause-ro
 notify_changed-requires-clause-rows g c =
     let device = c.self.inside in
     let sets = rw (← c.self.view_is) at c.requires.settable in
-    rw c.rows.ensures (new_rows g.D.Validates.verdict device.plan device.plan.controls _ c.args.touch.pairs c.args.touch.pairs c.args.touch.rows sets.judged)
+    rw c.rows.ensures (new_rows g.D.Validates.verdict device.plan device.plan.controls _ _ c.args.touch.pairs c.args.touch.rows sets.judged)
 
 pub write_rows-requires-clause-rows : goal.write_rows-requires-clause-rows
 write_rows-requires-clause-rows g c =
     let device = c.self.inside in
     let sets = rw (← c.self.view_is) at c.requires.settable in
-    rw c.rows-2.ensures (new_rows g.D.Validates.verdict device.plan device.plan.controls _ c.args.touch.pairs c.args.touch.pairs c.args.touch.rows sets.judged)
+    rw c.rows-2.ensures (new_rows g.D.Validates.verdict device.plan device.plan.controls _ _ c.args.touch.pairs c.args.touch.rows sets.judged)
 
 -- the members have the rows, and their clusters words of them
 pub invariant_of-self-2 : goal.invariant_of-self-2
 invariant_of-self-2 g c =
     let device = c.self.inside in
     let with : List Pair → Entry Step = λ pairs. record { seat = c.args.seat; step = Set c.args.fh pairs } in
-    kept_set g.D.Validates.verdict g.D.Notifies.told device.plan device.steps.items _ _ _ _ c.args.seat c.args.fh c.args.which c.args.list.now c.args.touch c.self.invariant (rw (← c.self.view_is) at c.requires.settable)
+    kept_set g.D.Validates.verdict g.D.Notifies.told device.plan device.steps.items _ _ _ _ c.args.seat c.args.fh c.args.which c.args.request c.args.list.now c.args.touch c.self.invariant (rw (← c.self.view_is) at c.requires.settable) c.requires.present
     (c.push_reserved.ensures.items
     ∙ ap (λ (s : List (Entry Step)). s ++ with c.from_vec.result ∷ []) c.reserve.ensures.items
     ∙ ap (λ (pairs : List Pair). device.steps.items ++ with pairs ∷ []) (c.from_vec.ensures ∙ c.into_parts-controls.ensures.pairs))

@@ -17,3 +17,6 @@ returns-in-MenuItem g c = rw c.in-MenuItem.is (c.item.ensures c.args.seat)
 
 pub returns-in-TryCtrls : goal.returns-in-TryCtrls
 returns-in-TryCtrls g c = rw c.in-TryCtrls.is (c.try_set.ensures c.args.seat)
+
+pub returns-in-StateOf : goal.returns-in-StateOf
+returns-in-StateOf g c = rw c.in-StateOf.is (c.read_state.ensures c.args.seat)

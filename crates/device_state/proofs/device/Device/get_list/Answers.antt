@@ -1,17 +1,21 @@
 use Rattle.history.specs.Past.{past}
-use Rattle.device_state.proofs.AnswerLemmas.{get_read, get_denied}
+use Rattle.device_state.proofs.AnswerLemmas.{get_read, get_denied, get_unread}
 use Rattle.device_state.proofs.device.Device.get_list.Goals as goal
 
 pub returns-in-Ok-read_list : goal.returns-in-Ok-read_list
-returns-in-Ok-read_list g c = λ request.
+returns-in-Ok-read_list g c =
     let device = c.self.inside in
     rw (← c.self.view_is)
-    (get_read g.D.Validates.verdict device.plan (past device.steps.items) device.words.items c.args.fh c.args.which request c.args.list.now c.in-Ok.view c.in-Ok-read_list.controls
+    (get_read g.D.Validates.verdict device.plan (past device.steps.items) device.words.items c.args.fh c.args.which c.args.request c.args.list.now c.in-Ok.view c.in-Ok-read_list.controls
     (rw (← c.self.view_is) at c.in-Ok.ensures.passed) (rw (← c.self.view_is) at c.in-Ok.ensures.view) c.in-Ok-read_list.ensures.ok)
 
 pub returns-in-Err-read_list : goal.returns-in-Err-read_list
-returns-in-Err-read_list g c = λ request.
+returns-in-Err-read_list g c =
     let device = c.self.inside in
     rw (← c.self.view_is)
-    (get_denied g.D.Validates.verdict device.plan (past device.steps.items) device.words.items c.args.fh c.args.which request c.args.list.now c.in-Ok.view c.in-Err-read_list.fault
+    (get_denied g.D.Validates.verdict device.plan (past device.steps.items) device.words.items c.args.fh c.args.which c.args.request c.args.list.now c.in-Ok.view c.in-Err-read_list.fault
     (rw (← c.self.view_is) at c.in-Ok.ensures.passed) (rw (← c.self.view_is) at c.in-Ok.ensures.view) c.in-Err-read_list.ensures.err)
+
+pub returns-in-Err : goal.returns-in-Err
+returns-in-Err g c =
+    rw (c.at.ensures, c.len.ensures) (get_unread g.D.Validates.verdict c.args.self.now.plan (past c.args.self.now.steps) c.args.self.now.words c.args.fh c.args.which c.args.request c.args.list.now c.in-Err.errno c.in-Err.ensures.err)

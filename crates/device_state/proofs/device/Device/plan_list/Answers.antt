@@ -5,17 +5,17 @@ use Rattle.device_state.proofs.SettingLemmas.{settable, read_asked}
 use Rattle.device_state.proofs.device.Device.plan_list.Goals as goal
 
 pub returns-in-Err-plan_set-clause-err : goal.returns-in-Err-plan_set-clause-err
-returns-in-Err-plan_set-clause-err g c = λ request.
+returns-in-Err-plan_set-clause-err g c =
     let device = c.self.inside in
     rw (← c.self.view_is)
-    (set_denied g.D.Validates.verdict device.plan (past device.steps.items) device.words.items c.args.fh c.args.which request c.args.list.now c.in-Ok.view c.in-Err-plan_set.refused
+    (set_denied g.D.Validates.verdict device.plan (past device.steps.items) device.words.items c.args.fh c.args.which c.args.request c.args.list.now c.in-Ok.view c.in-Err-plan_set.refused
     (rw (← c.self.view_is) at c.in-Ok.ensures.passed) (rw (← c.self.view_is) at c.in-Ok.ensures.view) c.in-Err-plan_set.ensures.err)
 
 pub returns-then-is_full-clause-err : goal.returns-then-is_full-clause-err
-returns-then-is_full-clause-err g c = λ request.
+returns-then-is_full-clause-err g c =
     let device = c.self.inside in
     rw (← c.self.view_is, c.at-then-is_full.ensures, c.len-then-is_full.ensures)
-    (set_full g.D.Validates.verdict device.plan (past device.steps.items) device.words.items c.args.fh c.args.which request c.args.list.now c.in-Ok.view c.in-Ok-plan_set.touch.answers
+    (set_full g.D.Validates.verdict device.plan (past device.steps.items) device.words.items c.args.fh c.args.which c.args.request c.args.list.now c.in-Ok.view c.in-Ok-plan_set.touch.answers
     (rw (← c.self.view_is) at c.in-Ok.ensures.passed) (rw (← c.self.view_is) at c.in-Ok.ensures.view) c.in-Ok-plan_set.ensures.ok
     (sym (rw (← c.self.view_is) at c.is_full.ensures) ∙ c.if-is_full.true))
 
@@ -24,7 +24,7 @@ pub returns-clause-ok : goal.returns-clause-ok
 returns-clause-ok g c =
     let device = c.self.inside in
     rw (← c.self.view_is)
-    (settable g.D.Validates.verdict device.plan (past device.steps.items) c.args.fh c.args.which c.args.list.now c.in-Ok.view c.in-Ok-plan_set.touch c.controls-plan.ensures.plan
+    (settable g.D.Validates.verdict device.plan (past device.steps.items) c.args.fh c.args.which c.args.request c.args.list.now c.in-Ok.view c.in-Ok-plan_set.touch c.controls-plan.ensures.plan
     (rw (← c.self.view_is) at c.in-Ok.ensures.passed) (rw (← c.self.view_is) at c.in-Ok.ensures.view) c.in-Ok-plan_set.ensures.ok c.in-Ok-plan_set.ensures.touched
     (sym (rw (← c.self.view_is) at c.is_full.ensures) ∙ c.if-is_full.false))
 
@@ -32,5 +32,5 @@ pub returns-clause-asked : goal.returns-clause-asked
 returns-clause-asked g c =
     let device = c.self.inside in
     rw (← c.self.view_is)
-    (read_asked g.D.Validates.verdict device.plan (past device.steps.items) c.args.fh c.args.which c.args.list.now c.in-Ok.view c.plan_set.new.work.asked c.args.work.now.asked
+    (read_asked g.D.Validates.verdict device.plan (past device.steps.items) c.args.fh c.args.which c.args.request c.args.list.now c.in-Ok.view c.plan_set.new.work.asked c.args.work.now.asked
     (rw (← c.self.view_is) at c.in-Ok.ensures.view) c.in-Ok-plan_set.ensures.asked)

@@ -1,25 +1,29 @@
 use Rattle.history.specs.Past.{past}
-use Rattle.device_state.proofs.AnswerLemmas.{try_judged, try_denied}
+use Rattle.device_state.proofs.AnswerLemmas.{try_judged, try_denied, try_unread}
 use Rattle.device_state.proofs.SettingLemmas.{read_asked}
 use Rattle.device_state.proofs.device.Device.try_list.Goals as goal
 
 pub returns-in-Ok-try_list-clause-answers : goal.returns-in-Ok-try_list-clause-answers
-returns-in-Ok-try_list-clause-answers g c = λ request.
+returns-in-Ok-try_list-clause-answers g c =
     let device = c.self.inside in
     rw (← c.self.view_is, c.into_parts.ensures.answers)
-    (try_judged g.D.Validates.verdict device.plan (past device.steps.items) device.words.items c.args.fh c.args.which request c.args.list.now c.in-Ok.view _
+    (try_judged g.D.Validates.verdict device.plan (past device.steps.items) device.words.items c.args.fh c.args.which c.args.request c.args.list.now c.in-Ok.view _
     (rw (← c.self.view_is) at c.in-Ok.ensures.passed) (rw (← c.self.view_is) at c.in-Ok.ensures.view) c.in-Ok-try_list.ensures.ok)
 
 pub returns-in-Err-try_list-clause-answers : goal.returns-in-Err-try_list-clause-answers
-returns-in-Err-try_list-clause-answers g c = λ request.
+returns-in-Err-try_list-clause-answers g c =
     let device = c.self.inside in
     rw (← c.self.view_is)
-    (try_denied g.D.Validates.verdict device.plan (past device.steps.items) device.words.items c.args.fh c.args.which request c.args.list.now c.in-Ok.view c.in-Err-try_list.fault
+    (try_denied g.D.Validates.verdict device.plan (past device.steps.items) device.words.items c.args.fh c.args.which c.args.request c.args.list.now c.in-Ok.view c.in-Err-try_list.fault
     (rw (← c.self.view_is) at c.in-Ok.ensures.passed) (rw (← c.self.view_is) at c.in-Ok.ensures.view) c.in-Err-try_list.ensures.err)
 
 pub returns-in-Ok-try_list-clause-asked : goal.returns-in-Ok-try_list-clause-asked
 returns-in-Ok-try_list-clause-asked g c =
     let device = c.self.inside in
     rw (← c.self.view_is)
-    (read_asked g.D.Validates.verdict device.plan (past device.steps.items) c.args.fh c.args.which c.args.list.now c.in-Ok.view c.try_list.new.work.asked c.args.work.now.asked
+    (read_asked g.D.Validates.verdict device.plan (past device.steps.items) c.args.fh c.args.which c.args.request c.args.list.now c.in-Ok.view c.try_list.new.work.asked c.args.work.now.asked
     (rw (← c.self.view_is) at c.in-Ok.ensures.view) c.in-Ok-try_list.ensures.asked)
+
+pub returns-in-Err-clause-answers : goal.returns-in-Err-clause-answers
+returns-in-Err-clause-answers g c =
+    rw (c.at.ensures, c.len.ensures) (try_unread g.D.Validates.verdict c.args.self.now.plan (past c.args.self.now.steps) c.args.self.now.words c.args.fh c.args.which c.args.request c.args.list.now c.in-Err.errno c.in-Err.ensures.err)

@@ -1,0 +1,149 @@
+-- What may follow a history fits the requests and the queue.
+use Rattle.std.proofs.Common.{◌≡◌, ℕ, Bool, true, not, List, [], ◌∷◌, ◌++◌, Option, None, Some, refl, ap, sym, subst, ◌∙◌}
+use Rattle.std.specs.Option.{option_map, is_none}
+use Rattle.std.specs.Result.{is_ok}
+use Rattle.ctrl_types.specs.Classes.{which_of}
+use Rattle.ctrl_types.specs.declared.errno.Errno.{Errno}
+use Rattle.ctrl_types.specs.declared.errno.Errno.TheVariants.{EBADF, EINVAL, ENOSPC}
+use Rattle.ctrl_types.specs.declared.errno.Fault.{Fault}
+use Rattle.ctrl_types.specs.declared.ids.ExtControl.{ExtControl}
+use Rattle.ctrl_types.specs.declared.ids.FhId.{FhId}
+use Rattle.ctrl_types.specs.declared.ids.Pair.{Pair}
+use Rattle.ctrl_types.specs.declared.ids.RequestId.{RequestId}
+use Rattle.ctrl_types.specs.declared.which.Which.{Which}
+use Rattle.ctrl_types.specs.declared.which.Which.TheVariants.{Current, Defaults, Class, Request}
+use Rattle.ctrl_calls.specs.Meanings.{Verdicts}
+use Rattle.ctrl_handlers.specs.Plan.{PlanData}
+use Rattle.frame_queue.specs.Frames.{begin_answer}
+use Rattle.ctrl_lists.specs.declared.refusal.Refusal.{Refusal}
+use Rattle.ctrl_lists.specs.Answers.{answered}
+use Rattle.ctrl_lists.specs.Checks.{first_refusal, refused_if, write_checks}
+use Rattle.device_history.specs.declared.ask.Ask.{Ask}
+use Rattle.device_history.specs.declared.ask.Ask.TheVariants as asks
+use Rattle.device_history.specs.declared.ask.Reply.{Reply}
+use Rattle.device_history.specs.declared.ask.Step.{Step}
+use Rattle.device_history.specs.declared.ask.Step.TheVariants as steps
+use Rattle.device_history.specs.Steps.{Past}
+use Rattle.device_history.specs.Refusals.{is_full, fault_of}
+use Rattle.device_history.specs.Handles.{handler_of}
+use Rattle.device_history.specs.Frames.{queue, running, first_of}
+use Rattle.device_history.specs.Snapshots.{frames}
+use Rattle.device_history.specs.RequestAnswers.{stepped, frame_answer}
+use Rattle.device_history.specs.Lists.{controls_of, meant, opening_checks, refused_with, through_refusal, which_or, writes_defaults, write_view, list_pairs, pairs_step}
+use Rattle.device_history.specs.Answers.{refusal, step_of}
+use Rattle.device_history.specs.Legal.{MayFollow, IsLegal}
+use Rattle.device_history.specs.FrameSteps.{FitsFrames}
+use Rattle.device_history.proofs.ListLemmas.{none_of_both, passes}
+use Rattle.device_history.proofs.AllFit.{AllFit}
+
+-- where nothing refuses an ask that adds a step, its own refusal is none
+unrefused_step : (o : Option Errno) (past : Past) (reply : Reply) → fault_of (stepped o past reply) ≡ None → o ≡ None
+unrefused_step None past reply h = refl
+unrefused_step (Some errno) past reply h = cc
+
+same_step : (a b : Step) → Some a ≡ Some b → a ≡ b
+same_step a b h = cc
+
+same_number : (a b : ℕ) → Some a ≡ Some b → a ≡ b
+same_number a b h = cc
+
+-- a list that is set passes its first checks
+list_opens : (fault : Refusal → Fault) (checks behind : List (Option Refusal)) (entries : List ExtControl) → fault_of (controls_of (answered fault (first_refusal (checks ++ behind)) entries)) ≡ None → first_refusal checks ≡ None
+list_opens fault checks behind entries h = (none_of_both checks behind (none (first_refusal (checks ++ behind)) h)).0
+  where
+    none : (first : Option Refusal) → fault_of (controls_of (answered fault first entries)) ≡ None → first ≡ None
+    none None h = refl
+    none (Some refusal) h = cc
+
+unrefused_with : (o : Option Errno) → refused_with o ≡ None → o ≡ None
+unrefused_with None h = refl
+unrefused_with (Some errno) h = cc
+
+-- a list that passes its first checks isn't refused by the request that it speaks of
+through : (verdicts : Verdicts) (plan : PlanData) (older : Past) (fh : FhId) (which : ℕ) (id : Option RequestId) (writes : Bool) → first_refusal (opening_checks verdicts plan older fh which id writes) ≡ None
+    → through_refusal verdicts plan older writes (which_or (which_of which)) id ≡ None
+through verdicts plan older fh which id writes h =
+    let last : Option Refusal = refused_with (through_refusal verdicts plan older writes (which_or (which_of which)) id) in
+    let defaults : Option Refusal = refused_if (writes_defaults writes (which_or (which_of which))) EINVAL in
+    let unread : Option Refusal = refused_if (not (is_ok (which_of which))) EINVAL in
+    let first = passes (refused_if (is_none (handler_of older fh)) EBADF) (unread ∷ defaults ∷ last ∷ []) h in
+    let second = passes unread (defaults ∷ last ∷ []) first.1 in
+    let third = passes defaults (last ∷ []) second.1 in
+    unrefused_with (through_refusal verdicts plan older writes (which_or (which_of which)) id) (passes last [] third.1).0
+
+-- a list that is set fits
+fits_list : (verdicts : Verdicts) (plan : PlanData) (older : Past) (fh : FhId) (which : Which) (id : Option RequestId) (pairs : List Pair) → through_refusal verdicts plan older true which id ≡ None
+    → FitsFrames verdicts plan older (pairs_step (meant which id) fh pairs)
+fits_list verdicts plan older fh Request (Some r) pairs h = h
+fits_list verdicts plan older fh Request None pairs h = tt
+fits_list verdicts plan older fh Current id pairs h = tt
+fits_list verdicts plan older fh Defaults id pairs h = tt
+fits_list verdicts plan older fh (Class n) id pairs h = tt
+
+-- a frame that is begun fits
+fits_begin : (verdicts : Verdicts) (plan : PlanData) (older : Past) (step : Step) → fault_of (frame_answer verdicts plan older (begin_answer (frames verdicts plan older))) ≡ None
+    → option_map (λ r. steps.Begin (record { 0 = r })) (first_of (queue older)) ≡ Some step → FitsFrames verdicts plan older step
+fits_begin verdicts plan older step unrefused adds = by (running older) (queue older) refl refl unrefused
+  where
+    by : (runs : Option ℕ) (waits : List ℕ) → running older ≡ runs → queue older ≡ waits → fault_of (frame_answer verdicts plan older (begin_answer (record (frames verdicts plan older) { queue = waits; running = runs }))) ≡ None
+        → FitsFrames verdicts plan older step
+    by (Some r) waits is_running is_queue h = cc
+    by None [] is_running is_queue h = cc
+    by None (r ∷ rest) is_running is_queue h =
+        subst (FitsFrames verdicts plan older) (same_step (steps.Begin (record { 0 = r })) step (sym (ap (λ (ids : List ℕ). option_map (λ i. steps.Begin (record { 0 = i })) (first_of ids)) is_queue) ∙ adds))
+        (is_running, ap first_of is_queue)
+
+-- a frame that is ended fits
+fits_complete : (verdicts : Verdicts) (plan : PlanData) (older : Past) (step : Step) → option_map (λ r. steps.Complete (record { 0 = r })) (running older) ≡ Some step → FitsFrames verdicts plan older step
+fits_complete verdicts plan older step adds = by (running older) refl
+  where
+    by : (runs : Option ℕ) → running older ≡ runs → FitsFrames verdicts plan older step
+    by None is = absurd (none (sym (ap (option_map (λ r. steps.Complete (record { 0 = r }))) is) ∙ adds))
+      where
+        none : None ≡ Some step → ⊥
+        none h = cc
+    by (Some r) is =
+        subst (FitsFrames verdicts plan older) (same_step (steps.Complete (record { 0 = r })) step (sym (ap (option_map (λ i. steps.Complete (record { 0 = i }))) is) ∙ adds)) is
+
+nothing : (verdicts : Verdicts) (plan : PlanData) (older : Past) (step : Step) → None ≡ Some step → FitsFrames verdicts plan older step
+nothing verdicts plan older step h = cc
+
+-- a step that may follow fits
+pub fits : (verdicts : Verdicts) (plan : PlanData) (older : Past) (step : Step) → MayFollow verdicts plan older step → FitsFrames verdicts plan older step
+fits verdicts plan older step may = by may.0 may.1 may.2
+  where
+    is : (own : Step) → FitsFrames verdicts plan older own → Some own ≡ Some step → FitsFrames verdicts plan older step
+    is own fit adds = subst (FitsFrames verdicts plan older) (same_step own step adds) fit
+
+    by : (ask : Ask) → refusal verdicts plan older ask ≡ None → step_of plan older ask ≡ Some step → FitsFrames verdicts plan older step
+    by (asks.OpenFh handler) h adds = is _ tt adds
+    by (asks.CloseFh fh) h adds = is _ tt adds
+    by (asks.GetCtrls fh which id list) h adds = nothing verdicts plan older step adds
+    by (asks.SetCtrls fh which id list) h adds =
+        is (pairs_step (meant (which_or (which_of which)) id) fh (list_pairs plan older fh which list))
+        (fits_list verdicts plan older fh (which_or (which_of which)) id (list_pairs plan older fh which list)
+        (through verdicts plan older fh which id true
+        (list_opens _ (opening_checks verdicts plan older fh which id true) (write_checks verdicts plan (write_view verdicts plan older fh which id) true list ++ refused_if (is_full older) ENOSPC ∷ []) _ h)))
+        adds
+    by (asks.TryCtrls fh which id list) h adds = nothing verdicts plan older step adds
+    by (asks.Grab c on) h adds = is _ tt adds
+    by asks.Alloc h adds = is _ tt adds
+    by (asks.AddBuffer r number) h adds = is (steps.Buffer r number) (unrefused_step _ older _ h) adds
+    by (asks.Queue r) h adds = is (steps.Queue r) (unrefused_step _ older _ h) adds
+    by asks.Begin h adds = fits_begin verdicts plan older step h adds
+    by asks.Complete h adds = fits_complete verdicts plan older step adds
+    by (asks.Cancel r) h adds = is (steps.Cancel r) (unrefused_step _ older _ h) adds
+    by asks.StreamOff h adds = is _ tt adds
+    by (asks.Reinit r) h adds = is (steps.Reinit r) (unrefused_step _ older _ h) adds
+    by (asks.Free r) h adds = is (steps.Free r) (unrefused_step _ older _ h) adds
+    by (asks.StateOf r) h adds = nothing verdicts plan older step adds
+    by (asks.Query fh id) h adds = nothing verdicts plan older step adds
+    by (asks.NextId fh id) h adds = nothing verdicts plan older step adds
+    by (asks.MenuItem fh id index) h adds = nothing verdicts plan older step adds
+    by (asks.Told cluster) h adds = nothing verdicts plan older step adds
+
+-- so does each step of a legal history
+pub all_fit : (verdicts : Verdicts) (plan : PlanData) (past : Past) → IsLegal verdicts plan past → AllFit verdicts plan past
+unfolding IsLegal AllFit
+all_fit verdicts plan [] legal = tt
+all_fit verdicts plan (e ∷ older) legal = (all_fit verdicts plan older legal.0, fits verdicts plan older e.step legal.1)

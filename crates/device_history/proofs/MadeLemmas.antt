@@ -1,0 +1,220 @@
+-- Requests as a list: the numbers of those that were ever made, and what a change of one, or of all, makes of those that are there.
+use Rattle.std.proofs.Common.{◌≡◌, ◌≢◌, ℕ, ◌<◌, ◌≤◌, ◌∙◌, ◌||◌, Bool, true, false, cond, inl, inr, List, [], ◌∷◌, ◌++◌, length, filter_map, Option, None, Some, nat_eq, nat_le, eq-eqb, refl, sym, ap, arith}
+use Rattle.std.specs.List.{list_any, cons_option}
+use Rattle.std.specs.Option.{option_map}
+use Rattle.std.proofs.lemmas.Bool.{or_from, or_parts}
+use Rattle.std.proofs.lemmas.Bool.Decides.{eqb_tells, nat_tests}
+use Rattle.std.proofs.lemmas.List.Folds.{list_any-append}
+use Rattle.ctrl_types.specs.Values.{CtrlValue}
+use Rattle.req_book.specs.Requests.{RequestData, RequestsData, find, with_request, without, completed}
+use Rattle.req_book.proofs.ObjectLemmas.{Tells}
+use Rattle.frame_queue.specs.Frames.{AreOnce, ended}
+use Rattle.device_history.specs.declared.ask.Step.{Step}
+use Rattle.device_history.specs.declared.ask.Step.TheVariants.{OpenFh, CloseFh, Set, Grab, Alloc, Store, Buffer, Queue, Begin, Complete, Cancel, StreamOff, Reinit, Free}
+use Rattle.device_history.specs.Steps.{Past}
+use Rattle.device_history.specs.Requests.{made, ever_made}
+use Rattle.device_history.specs.FrameSteps.{where_named}
+
+-- a number isn't another
+pub apart : (j k : ℕ) → k ≢ j → nat_eq j k ≡ false
+apart j k differ = by (eqb_tells j k)
+  where
+    by : Tells j k → nat_eq j k ≡ false
+    by (inl same) = absurd (differ (sym same.1))
+    by (inr other) = other.0
+
+-- the number that a step makes is its own
+made_own : (r n : ℕ) (step : Step) → nat_eq r n ≡ false → list_any (nat_eq r) (made n step) ≡ false
+made_own r n (OpenFh handler) off = refl
+made_own r n (CloseFh fh) off = refl
+made_own r n (Set fh pairs) off = refl
+made_own r n (Grab c on) off = refl
+made_own r n Alloc off = or_from (nat_eq r n) false off refl
+made_own r n (Store q pairs) off = refl
+made_own r n (Buffer q number) off = refl
+made_own r n (Queue q) off = refl
+made_own r n (Begin q) off = refl
+made_own r n (Complete q) off = refl
+made_own r n (Cancel q) off = refl
+made_own r n StreamOff off = refl
+made_own r n (Reinit q) off = refl
+made_own r n (Free q) off = refl
+
+-- no request has a number from that of the next step on
+pub not_made : (past : Past) (r : ℕ) → length past ≤ r → list_any (nat_eq r) (ever_made past) ≡ false
+unfolding ever_made
+not_made [] r le = refl
+not_made (e ∷ older) r le =
+    let off : nat_eq r (length older) ≡ false = grind (arith, nat_tests, le) in
+    list_any-append (nat_eq r) (ever_made older) (made (length older) e.step)
+    ∙ or_from (list_any (nat_eq r) (ever_made older)) (list_any (nat_eq r) (made (length older) e.step)) (not_made older r (omega (arith, le))) (made_own r (length older) e.step off)
+
+-- the number of the next step is no request's yet
+pub next_not_made : (past : Past) → list_any (nat_eq (length past)) (ever_made past) ≡ false
+next_not_made past = not_made past (length past) (omega arith)
+
+-- a request's number is that of a step that was made
+pub made_below : (past : Past) (r : ℕ) → list_any (nat_eq r) (ever_made past) ≡ true → r < length past
+made_below past r there = by (nat_le (length past) r) refl
+  where
+    clash : true ≡ false → r < length past
+    clash h = cc
+
+    by : (b : Bool) → nat_le (length past) r ≡ b → r < length past
+    by true is = clash (sym there ∙ not_made past r (grind (arith, nat_tests, is)))
+    by false is = grind (arith, nat_tests, is)
+
+-- a number behind others, of which it is none
+once_last : (ids : List ℕ) (id : ℕ) → AreOnce ids → list_any (nat_eq id) ids ≡ false → AreOnce (ids ++ id ∷ [])
+once_last [] id once none = (refl, tt)
+once_last (k ∷ ks) id once none =
+    let parts = or_parts (nat_eq id k) (list_any (nat_eq id) ks) none in
+    (list_any-append (nat_eq k) ks (id ∷ []) ∙ or_from (list_any (nat_eq k) ks) (nat_eq k id || false) once.0 (or_from (nat_eq k id) false (turned parts.0) refl), once_last ks id once.1 parts.1)
+  where
+    turned : nat_eq id k ≡ false → nat_eq k id ≡ false
+    turned off = grind (arith, nat_tests, off)
+
+once_append : (ids : List ℕ) → AreOnce ids → AreOnce (ids ++ [])
+once_append [] once = tt
+once_append (k ∷ ks) once = (list_any-append (nat_eq k) ks [] ∙ or_from (list_any (nat_eq k) ks) false once.0 refl, once_append ks once.1)
+
+-- no request is made twice
+pub made_once : (past : Past) → AreOnce (ever_made past)
+unfolding ever_made
+made_once [] = tt
+made_once (e ∷ older) = by e.step (made_once older)
+  where
+    by : (step : Step) → AreOnce (ever_made older) → AreOnce (ever_made older ++ made (length older) step)
+    by (OpenFh handler) once = once_append (ever_made older) once
+    by (CloseFh fh) once = once_append (ever_made older) once
+    by (Set fh pairs) once = once_append (ever_made older) once
+    by (Grab c on) once = once_append (ever_made older) once
+    by Alloc once = once_last (ever_made older) (length older) once (next_not_made older)
+    by (Store r pairs) once = once_append (ever_made older) once
+    by (Buffer r number) once = once_append (ever_made older) once
+    by (Queue r) once = once_append (ever_made older) once
+    by (Begin r) once = once_append (ever_made older) once
+    by (Complete r) once = once_append (ever_made older) once
+    by (Cancel r) once = once_append (ever_made older) once
+    by StreamOff once = once_append (ever_made older) once
+    by (Reinit r) once = once_append (ever_made older) once
+    by (Free r) once = once_append (ever_made older) once
+
+-- what a number gives has that number as its id
+abbrev pub AreNamed : (ℕ → Option RequestData) → Type 0
+AreNamed g = (j : ℕ) (q : RequestData) → g j ≡ Some q → q.id ≡ j
+
+-- the request that a number finds is what it gives, where the number is listed
+pub find_listed : (g : ℕ → Option RequestData) (ids : List ℕ) (r : ℕ) → AreNamed g → find (filter_map g ids) r ≡ cond (list_any (nat_eq r) ids) (g r) None
+find_listed g [] r named = refl
+find_listed g (j ∷ ids) r named = by (g j) refl (eqb_tells r j) (find_listed g ids r named)
+  where
+    both : (b : Bool) (o : Option RequestData) → o ≡ None → cond b o None ≡ None
+    both true o none = none
+    both false o none = refl
+
+    by : (o : Option RequestData) → g j ≡ o → Tells r j → find (filter_map g ids) r ≡ cond (list_any (nat_eq r) ids) (g r) None
+        → find (cons_option o (filter_map g ids)) r ≡ cond (nat_eq r j || list_any (nat_eq r) ids) (g r) None
+    by None is (inl same) rest =
+        let none : g r ≡ None = ap g same.1 ∙ is in
+        rest ∙ both (list_any (nat_eq r) ids) (g r) none ∙ sym (both (nat_eq r j || list_any (nat_eq r) ids) (g r) none)
+    by None is (inr other) rest = rw other.0 rest
+    by (Some q) is (inl same) rest =
+        let own : nat_eq r q.id ≡ true = ap (nat_eq r) (named j q is) ∙ same.0 in
+        rw (own, same.0) (sym (ap g same.1 ∙ is))
+    by (Some q) is (inr other) rest =
+        let off : nat_eq r q.id ≡ false = ap (nat_eq r) (named j q is) ∙ other.0 in
+        rw (off, other.0) rest
+
+-- numbers that give the same are the same list
+pub same_listed : (g h : ℕ → Option RequestData) (ids : List ℕ) → ((j : ℕ) → h j ≡ g j) → filter_map h ids ≡ filter_map g ids
+same_listed g h [] same = refl
+same_listed g h (j ∷ ids) same = rw (same j, same_listed g h ids same) refl
+
+-- the same, where they needn't agree on a number that isn't listed
+pub same_but : (g h : ℕ → Option RequestData) (r : ℕ) (ids : List ℕ) → ((j : ℕ) → nat_eq r j ≡ false → h j ≡ g j) → list_any (nat_eq r) ids ≡ false → filter_map h ids ≡ filter_map g ids
+same_but g h r [] same none = refl
+same_but g h r (j ∷ ids) same none =
+    let parts = or_parts (nat_eq r j) (list_any (nat_eq r) ids) none in
+    rw (same j parts.0, same_but g h r ids same parts.1) refl
+
+-- the request with an id is changed
+pub changed_listed : (g : ℕ → Option RequestData) (ids : List ℕ) (r : ℕ) (f : RequestData → RequestData) → AreNamed g → AreOnce ids
+    → filter_map (λ j. where_named r j f (g j)) ids ≡ with_request r f (filter_map g ids)
+changed_listed g [] r f named once = refl
+changed_listed g (j ∷ ids) r f named once = by (g j) refl (eqb_tells r j) (changed_listed g ids r f named once.1)
+  where
+    h : ℕ → Option RequestData
+    h k = where_named r k f (g k)
+
+    by : (o : Option RequestData) → g j ≡ o → Tells r j → filter_map h ids ≡ with_request r f (filter_map g ids)
+        → cons_option (where_named r j f o) (filter_map h ids) ≡ with_request r f (cons_option o (filter_map g ids))
+    by None is (inl same) rest = rw same.0 rest
+    by None is (inr other) rest = rw other.0 rest
+    by (Some q) is (inl same) rest =
+        let own : nat_eq r q.id ≡ true = ap (nat_eq r) (named j q is) ∙ same.0 in
+        let none : list_any (nat_eq r) ids ≡ false = ap (λ i. list_any (nat_eq i) ids) same.1 ∙ once.0 in
+        rw (own, same.0) (ap (λ qs. f q ∷ qs) (same_but g h r ids (λ k off. ap (λ b. cond b (option_map f (g k)) (g k)) off) none))
+    by (Some q) is (inr other) rest =
+        let off : nat_eq r q.id ≡ false = ap (nat_eq r) (named j q is) ∙ other.0 in
+        rw (off, other.0) (ap (λ qs. q ∷ qs) rest)
+
+-- the request with an id is let go
+pub freed_listed : (g : ℕ → Option RequestData) (ids : List ℕ) (r : ℕ) → AreNamed g → filter_map (λ j. cond (nat_eq r j) None (g j)) ids ≡ without r (filter_map g ids)
+freed_listed g [] r named = refl
+freed_listed g (j ∷ ids) r named = by (g j) refl (eqb_tells r j) (freed_listed g ids r named)
+  where
+    h : ℕ → Option RequestData
+    h k = cond (nat_eq r k) None (g k)
+
+    by : (o : Option RequestData) → g j ≡ o → Tells r j → filter_map h ids ≡ without r (filter_map g ids)
+        → cons_option (cond (nat_eq r j) None o) (filter_map h ids) ≡ without r (cons_option o (filter_map g ids))
+    by None is (inl same) rest = rw same.0 rest
+    by None is (inr other) rest = rw other.0 rest
+    by (Some q) is (inl same) rest =
+        let own : nat_eq r q.id ≡ true = ap (nat_eq r) (named j q is) ∙ same.0 in
+        rw (own, same.0) rest
+    by (Some q) is (inr other) rest =
+        let off : nat_eq r q.id ≡ false = ap (nat_eq r) (named j q is) ∙ other.0 in
+        rw (off, other.0) (ap (λ qs. q ∷ qs) rest)
+
+-- a request, complete where it is to be
+abbrev pub ended_if : List CtrlValue → Bool → RequestData → RequestData
+ended_if values b q = cond b (completed values q) q
+
+-- the requests of a device with so many controls
+abbrev pub whole : ℕ → List RequestData → RequestsData
+whole n rs = record { controls = n; all = rs }
+
+-- a change that keeps the id
+pub still_named : (g : ℕ → Option RequestData) (id : ℕ) (f : RequestData → RequestData) → ((q : RequestData) → (f q).id ≡ q.id) → AreNamed g → AreNamed (λ j. where_named id j f (g j))
+still_named g id f keeps named j q is = by (g j) (nat_eq id j) refl is
+  where
+    same : (a b : RequestData) → Some a ≡ Some b → a ≡ b
+    same a b h = cc
+
+    by : (o : Option RequestData) (b : Bool) → g j ≡ o → cond b (option_map f o) o ≡ Some q → q.id ≡ j
+    by None true before there = cc
+    by None false before there = cc
+    by (Some p) true before there = sym (ap (λ (x : RequestData). x.id) (same (f p) q there)) ∙ keeps p ∙ named j p before
+    by (Some p) false before there = sym (ap (λ (x : RequestData). x.id) (same p q there)) ∙ named j p before
+
+-- each request with an id among some is complete
+pub ended_listed : (values : List CtrlValue) (queue : List ℕ) (controls : ℕ) (g : ℕ → Option RequestData) (ids : List ℕ) → AreNamed g → AreOnce ids
+    → ended values queue (whole controls (filter_map g ids)) ≡ whole controls (filter_map (λ j. option_map (ended_if values (list_any (nat_eq j) queue)) (g j)) ids)
+ended_listed values [] controls g ids named once = ap (whole controls) (sym (same_listed g (λ j. option_map (ended_if values false) (g j)) ids (λ j. as_is (g j))))
+  where
+    as_is : (o : Option RequestData) → option_map (ended_if values false) o ≡ o
+    as_is None = refl
+    as_is (Some q) = refl
+ended_listed values (id ∷ queue) controls g ids named once =
+    ap (λ rs. ended values queue (whole controls rs)) (sym (changed_listed g ids id (completed values) named once))
+    ∙ ended_listed values queue controls (λ j. where_named id j (completed values) (g j)) ids (still_named g id (completed values) (λ q. refl) named) once
+    ∙ ap (whole controls) (same_listed (λ j. option_map (ended_if values (list_any (nat_eq j) (id ∷ queue))) (g j)) (λ j. option_map (ended_if values (list_any (nat_eq j) queue)) (where_named id j (completed values) (g j))) ids (λ j. both j (g j) (eqb_tells id j) (list_any (nat_eq j) queue)))
+  where
+    both : (j : ℕ) (o : Option RequestData) → Tells id j → (b : Bool) → option_map (ended_if values b) (where_named id j (completed values) o) ≡ option_map (ended_if values (nat_eq j id || b)) o
+    both j None (inl same) b = rw same.0 refl
+    both j None (inr other) b = rw other.0 refl
+    both j (Some q) (inl same) true = rw (same.0, eq-eqb j id (sym same.1)) refl
+    both j (Some q) (inl same) false = rw (same.0, eq-eqb j id (sym same.1)) refl
+    both j (Some q) (inr other) b = rw (other.0, apart j id other.1) refl

@@ -1,0 +1,84 @@
+-- The queue of frames after a history, and the frame that is being made (Linux userspace API, "Request API").
+use Rattle.std.specs.Prelude.{ℕ, not, nat_eq, cond, List, [], ◌∷◌, ◌++◌, filter, Option, None, Some}
+use Rattle.std.specs.Option.{option_or}
+use Rattle.req_book.specs.declared.state.RequestState.{RequestState}
+use Rattle.frame_queue.specs.Frames.{is_queued, is_running}
+use Rattle.device_history.specs.declared.ask.Step.{Step}
+use Rattle.device_history.specs.declared.ask.Step.TheVariants as steps
+use Rattle.device_history.specs.Steps.{Past}
+use Rattle.device_history.specs.Requests.{state, is_there, left_in}
+
+-- the request that a step queues
+abbrev pub queued_by : Step → Option ℕ
+queued_by (steps.Queue r) = Some r.0
+queued_by _ = None
+
+-- numbers without one
+abbrev pub all_but : ℕ → List ℕ → List ℕ
+all_but r ids = filter (λ j. not (nat_eq r j)) ids
+
+-- numbers, with one put last, where there is one
+abbrev pub with_last : Option ℕ → List ℕ → List ℕ
+with_last None ids = ids
+with_last (Some r) ids = all_but r ids ++ r ∷ []
+
+-- the requests that were ever queued, in the order of their last queueing
+unfoldable pub ever_queued : Past → List ℕ
+ever_queued [] = []
+ever_queued (e ∷ older) = with_last (queued_by e.step) (ever_queued older)
+
+-- The queue: the requests that are queued, in the order of their last queueing.
+abbrev pub queue : Past → List ℕ
+queue past = filter (λ r. is_there is_queued (state past r)) (ever_queued past)
+
+-- the request whose frame a step begins
+abbrev pub begun_by : Step → Option ℕ
+begun_by (steps.Begin r) = Some r.0
+begun_by _ = None
+
+-- the one whose frame was begun last
+unfoldable pub last_begun : Past → Option ℕ
+last_begun [] = None
+last_begun (e ∷ older) = option_or (begun_by e.step) (last_begun older)
+
+-- a request, if it is running
+abbrev pub if_running : Past → Option ℕ → Option ℕ
+if_running past None = None
+if_running past (Some r) = cond (is_there is_running (state past r)) (Some r) None
+
+-- The request whose frame is being made: the one whose frame was begun last, if it is running still.
+abbrev pub running : Past → Option ℕ
+running past = if_running past (last_begun past)
+
+-- the first of some numbers
+abbrev pub first_of : List ℕ → Option ℕ
+first_of [] = None
+first_of (r ∷ rest) = Some r
+
+-- numbers without the one that a step names
+abbrev pub but_named : Option (ℕ × Option RequestState) → List ℕ → List ℕ
+but_named None ids = ids
+but_named (Some named) ids = all_but named.0 ids
+
+-- What a step makes of the queue, as the law `queued_requests` says: it takes out the request that it names; a queueing puts it last; the end
+-- of the stream empties the queue.
+abbrev pub queue_after : ℕ → Step → List ℕ → List ℕ
+queue_after n steps.StreamOff ids = []
+queue_after n (steps.Queue r) ids = all_but r.0 ids ++ r.0 ∷ []
+queue_after n step ids = but_named (left_in n step) ids
+
+-- a number, unless it is this one
+abbrev pub unless_is : ℕ → Option ℕ → Option ℕ
+unless_is r None = None
+unless_is r (Some k) = cond (nat_eq r k) None (Some k)
+
+-- a number, unless a step names it
+abbrev pub unless_named : Option (ℕ × Option RequestState) → Option ℕ → Option ℕ
+unless_named None before = before
+unless_named (Some named) before = unless_is named.0 before
+
+-- What a step makes of the request whose frame is being made: its begin puts it there; a step that names it, and the end of the stream, end it.
+abbrev pub running_after : ℕ → Step → Option ℕ → Option ℕ
+running_after n steps.StreamOff before = None
+running_after n (steps.Begin r) before = Some r.0
+running_after n step before = unless_named (left_in n step) before

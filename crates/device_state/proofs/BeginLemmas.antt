@@ -1,0 +1,141 @@
+-- The begin of a frame: what it is answered, and what it leaves.
+use Rattle.std.proofs.Common.{◌≡◌, ℕ, ◌+◌, ◌≤◌, false, true, List, [], ◌∷◌, ◌++◌, length, Option, None, Some, Result, Ok, Err, refl, ap, sym, ◌∙◌, arith, inl, inr}
+use Rattle.std.specs.List.{list_any}
+use Rattle.history.specs.Past.{past}
+use Rattle.ctrl_types.specs.declared.errno.Errno.{Errno}
+use Rattle.ctrl_types.specs.declared.errno.Errno.TheVariants.{ENOMEM, ENOSPC}
+use Rattle.ctrl_types.specs.declared.ids.Pair.{Pair}
+use Rattle.ctrl_calls.specs.Meanings.{Verdicts, Words}
+use Rattle.ctrl_calls.specs.declared.work.Work.{Work}
+use Rattle.ctrl_handlers.specs.Plan.{PlanData, members}
+use Rattle.ctrl_clusters.specs.Rows.{Values, row_of}
+use Rattle.ctrl_clusters.specs.Changes.{members_change}
+use Rattle.ctrl_clusters.specs.Notified.{AreRenewed}
+use Rattle.ctrl_clusters.proofs.NotifyLemmas.{words_between}
+use Rattle.req_book.specs.Requests.{find}
+use Rattle.frame_queue.specs.Frames.{FramesData, after_begin, begin_answer, buffer_number}
+use Rattle.device_history.specs.declared.ask.Ask.TheVariants as asks
+use Rattle.device_history.specs.declared.ask.Reply.{Reply}
+use Rattle.device_history.specs.declared.ask.Reply.TheVariants.{Frame}
+use Rattle.device_history.specs.declared.ask.Step.{Step}
+use Rattle.device_history.specs.declared.ask.Step.TheVariants.{Begin}
+use Rattle.device_history.specs.Steps.{History, Past}
+use Rattle.device_history.specs.Refusals.{is_full, refused, fault_of}
+use Rattle.device_history.specs.Frames.{first_of, queue, running}
+use Rattle.device_history.specs.Values.{now}
+use Rattle.device_history.specs.Snapshots.{begun_pairs, begun_refused, begun_values, frames, requests}
+use Rattle.device_history.specs.RequestAnswers.{begin_frame_answer, frame_answer, stepped}
+use Rattle.device_history.specs.Answers.{MayAnswer, step_of, taken}
+use Rattle.device_history.specs.Legal.{MayFollow}
+use Rattle.ctrl_clusters.proofs.OverlayLemmas.{length_overlay}
+use Rattle.device_history.specs.Grabs.{grabbed}
+use Rattle.device_history.specs.Requests.{asked}
+use Rattle.device_history.proofs.PresentLemmas.{length_now}
+use Rattle.device_history.proofs.WordLemmas.{changed_row}
+use Rattle.device_state.specs.Beginning.{BeginsAll, IsBegun, begin_changes}
+use Rattle.device_state.specs.Device.{DeviceData, Handles, may_ask, step_changes}
+use Rattle.device_state.specs.Kept.{Caches, IsKept}
+use Rattle.device_state.proofs.HandleLemmas.{at_rest, asked_since}
+use Rattle.device_state.proofs.KeptLemmas.{kept_add, set_room}
+use Rattle.device_state.proofs.SetLemmas.{notified_same}
+
+-- what a begin is answered by its queue, where none runs
+answered_first : (verdicts : Verdicts) (plan : PlanData) (older : Past) (r : ℕ) → running older ≡ None → first_of (queue older) ≡ Some r
+    → begin_answer (frames verdicts plan older) ≡ Ok (r, buffer_number (find (requests verdicts plan older) r))
+answered_first verdicts plan older r free first = by (running older) (queue older) free first
+  where
+    by : (runs : Option ℕ) (waits : List ℕ) → runs ≡ None → first_of waits ≡ Some r → begin_answer (record (frames verdicts plan older) { queue = waits; running = runs }) ≡ Ok (r, buffer_number (find (requests verdicts plan older) r))
+    by None [] f h = cc
+    by None (k ∷ rest) f h = ap (λ (j : ℕ). Ok (j, buffer_number (find (requests verdicts plan older) j))) (same k r h)
+      where
+        same : (a b : ℕ) → Some a ≡ Some b → a ≡ b
+        same a b h = cc
+    by (Some k) waits f h = cc
+
+-- a refusal by the queue
+pub begin_refused : (verdicts : Verdicts) (plan : PlanData) (older : Past) (words : List ℕ) (errno : Errno) → begin_answer (frames verdicts plan older) ≡ Err errno → MayAnswer verdicts plan older words asks.Begin (refused errno)
+begin_refused verdicts plan older words errno is = inl (sym (ap (frame_answer verdicts plan older) is))
+
+-- the answer where a frame can begin
+begin_is : (verdicts : Verdicts) (plan : PlanData) (older : Past) (r : ℕ) → running older ≡ None → first_of (queue older) ≡ Some r
+    → begin_frame_answer verdicts plan older ≡ stepped None older (Frame (record { 0 = r }) (buffer_number (find (requests verdicts plan older) r)) (begun_refused verdicts plan older r))
+begin_is verdicts plan older r free first = ap (frame_answer verdicts plan older) (answered_first verdicts plan older r free first)
+
+-- no further step is kept
+pub begin_full : (verdicts : Verdicts) (plan : PlanData) (older : Past) (words : List ℕ) (r : ℕ) → running older ≡ None → first_of (queue older) ≡ Some r → is_full older ≡ true
+    → MayAnswer verdicts plan older words asks.Begin (refused ENOSPC)
+begin_full verdicts plan older words r free first full = inl (sym (begin_is verdicts plan older r free first ∙ rw full refl))
+
+-- it is accepted where there is room
+begin_accepted : (verdicts : Verdicts) (plan : PlanData) (older : Past) (r : ℕ) → running older ≡ None → first_of (queue older) ≡ Some r → is_full older ≡ false
+    → begin_frame_answer verdicts plan older ≡ Ok (Frame (record { 0 = r }) (buffer_number (find (requests verdicts plan older) r)) (begun_refused verdicts plan older r))
+begin_accepted verdicts plan older r free first room = begin_is verdicts plan older r free first ∙ rw room refl
+
+-- want of memory
+pub begin_lacks : (verdicts : Verdicts) (plan : PlanData) (older : Past) (words : List ℕ) (r : ℕ) → running older ≡ None → first_of (queue older) ≡ Some r → is_full older ≡ false
+    → MayAnswer verdicts plan older words asks.Begin (refused ENOMEM)
+begin_lacks verdicts plan older words r free first room = inr (rw (begin_accepted verdicts plan older r free first room) refl, refl)
+
+-- the reply
+pub begin_reply : (verdicts : Verdicts) (plan : PlanData) (older : Past) (r id buffer : ℕ) (f : FramesData) → running older ≡ None → first_of (queue older) ≡ Some r → is_full older ≡ false
+    → f ≡ frames verdicts plan older → begin_answer f ≡ Ok (id, buffer) → begin_frame_answer verdicts plan older ≡ Ok (Frame (record { 0 = r }) buffer (begun_refused verdicts plan older r))
+begin_reply verdicts plan older r id buffer f free first room own is =
+    begin_accepted verdicts plan older r free first room
+    ∙ ap (λ (n : ℕ). Ok (Frame (record { 0 = r }) n (begun_refused verdicts plan older r))) (same r (buffer_number (find (requests verdicts plan older) r)) id buffer (sym (answered_first verdicts plan older r free first) ∙ sym (ap begin_answer own) ∙ is))
+  where
+    number : Result (ℕ × ℕ) Errno → ℕ
+    number (Ok p) = p.1
+    number (Err e) = 0
+
+    same : (a b c d : ℕ) → ◌≡◌ {A = Result (ℕ × ℕ) Errno} (Ok (a, b)) (Ok (c, d)) → b ≡ d
+    same a b c d h = ap number h
+
+-- its step may follow
+begin_adds : (plan : PlanData) (older : Past) (r : ℕ) → first_of (queue older) ≡ Some r → step_of plan older asks.Begin ≡ Some (Begin (record { 0 = r }))
+begin_adds plan older r first = rw first refl
+
+pub begin_follows : (verdicts : Verdicts) (plan : PlanData) (older : Past) (r : ℕ) → running older ≡ None → first_of (queue older) ≡ Some r → is_full older ≡ false → MayFollow verdicts plan older (Begin (record { 0 = r }))
+begin_follows verdicts plan older r free first room = (asks.Begin, ap fault_of (begin_accepted verdicts plan older r free first room), begin_adds plan older r first)
+
+-- there is a value for each control
+pub length_begun : (verdicts : Verdicts) (plan : PlanData) (older : Past) (r : ℕ) → length (begun_values verdicts plan older r) ≡ length plan.controls
+length_begun verdicts plan older r = length_overlay verdicts plan plan.controls (now verdicts plan older) (grabbed plan older) (asked plan older r) ∙ length_now verdicts plan older
+
+-- what is kept after a begin
+pub kept_begin : (verdicts : Verdicts) (told : Words) (plan : PlanData) (entries entries' : History) (caches : Caches) (values : Values) (f : FramesData) (words refused : List ℕ) (applied : List Pair) (seat r : ℕ)
+    → IsKept verdicts told plan entries caches → IsBegun verdicts plan (past entries) r values refused applied → entries' ≡ entries ++ record { seat = seat; step = Begin (record { 0 = r }) } ∷ []
+    → f ≡ after_begin caches.frames applied → AreRenewed told plan (members_change plan caches.values values applied) (λ k. row_of values (members plan k)) caches.words words
+    → IsKept verdicts told plan entries' (record caches { values = values; frames = f; words = words })
+kept_begin verdicts told plan entries entries' caches values f words refused applied seat r kept begun s made renewed =
+    kept_add verdicts told plan entries entries' caches (record caches { values = values; frames = f; words = words }) (record { seat = seat; step = Begin (record { 0 = r }) }) kept (set_room entries begun.room)
+    (begin_follows verdicts plan (past entries) r begun.free begun.first begun.room) s kept.file_handles kept.grabs begun.are_values
+    (made ∙ ap (λ (g : FramesData). after_begin g applied) kept.frames ∙ ap (after_begin (frames verdicts plan (past entries))) begun.are_applied)
+    (words_between told plan caches.values values applied caches.words words kept.words renewed)
+
+-- what a begin changes of the members of a cluster
+begin_changing : (verdicts : Verdicts) (plan : PlanData) (older : Past) (r j : ℕ) (reply : Reply) → first_of (queue older) ≡ Some r
+    → list_any (step_changes verdicts plan older (taken plan older asks.Begin (Ok reply))) (members plan j) ≡ begin_changes verdicts plan older r j
+begin_changing verdicts plan older r j reply first =
+    ap (λ (o : Option Step). list_any (step_changes verdicts plan older o) (members plan j)) (begin_adds plan older r first)
+    ∙ changed_row plan (now verdicts plan older) (begun_values verdicts plan older r) (begun_pairs verdicts plan older r) (members plan j)
+
+-- a begin that is accepted
+pub handles_begin : (verdicts : Verdicts) (told : Words) (old between new : DeviceData) (start work : Work) (seat r : ℕ) (reply : Reply) → between ≡ record old { work = work } → start ≡ at_rest → work.told ≡ start.told
+    → work.asked ≤ start.asked + may_ask old.plan (past old.steps) asks.Begin → first_of (queue (past old.steps)) ≡ Some r → begin_frame_answer verdicts old.plan (past old.steps) ≡ Ok reply → BeginsAll verdicts told between new seat r
+    → Handles verdicts old new seat asks.Begin (Ok reply)
+handles_begin verdicts told old between new start work seat r reply begin rest untold asked first is does =
+    let done : BeginsAll verdicts told (record old { work = work }) new seat r = rw begin at does in
+    record {
+      plan = done.plan;
+      answers = inl (sym is);
+      refused = λ e. cc;
+      steps = done.steps ∙ rw (begin_adds old.plan (past old.steps) r first) refl;
+      words = λ j lt same. done.words.others j (λ _. sym (begin_changing verdicts old.plan (past old.steps) r j reply first) ∙ same);
+      notified =
+          ap (λ (w : Work). w.told) done.work
+          ∙ notified_same old.plan (begin_changes verdicts old.plan (past old.steps) r)
+          (λ k. list_any (step_changes verdicts old.plan (past old.steps) (taken old.plan (past old.steps) asks.Begin (Ok reply))) (members old.plan k))
+          (λ j lt. sym (begin_changing verdicts old.plan (past old.steps) r j reply first));
+      asked = omega (arith, ap (λ (w : Work). w.asked) done.work, asked_since start work _ rest asked);
+      asked_all = λ _. omega arith;
+    }

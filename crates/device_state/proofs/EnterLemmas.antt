@@ -1,0 +1,223 @@
+-- Steps about requests that leave the values: when they may follow, and what a call that adds one does.
+use Rattle.std.proofs.Common.{◌≡◌, ℕ, ◌+◌, ◌<◌, ◌≤◌, Bool, true, false, List, [], length, is_some, if◌then◌else◌, Option, None, Some, Ok, Err, IsOk, refl, ap, sym, subst, ◌∙◌, arith, inl, inr}
+use Rattle.std.specs.List.{All}
+use Rattle.history.specs.Past.{past}
+use Rattle.ctrl_types.specs.declared.errno.Errno.{Errno}
+use Rattle.ctrl_types.specs.declared.errno.Errno.TheVariants.{EINVAL, ENOMEM, ENOSPC}
+use Rattle.ctrl_types.specs.declared.ids.Pair.{Pair}
+use Rattle.ctrl_calls.specs.Meanings.{Verdicts, Words}
+use Rattle.ctrl_calls.specs.declared.work.Work.{Work}
+use Rattle.ctrl_handlers.specs.Plan.{PlanData}
+use Rattle.req_book.specs.Requests.{RequestData, find}
+use Rattle.req_book.specs.Refusals.{buffer_refusal, queue_refusal, clear_refusal}
+use Rattle.frame_queue.specs.Frames.{FramesData, cancel_refusal}
+use Rattle.device_history.specs.declared.ask.Ask.{Ask}
+use Rattle.device_history.specs.declared.ask.Reply.{Reply}
+use Rattle.device_history.specs.declared.ask.Step.{Step}
+use Rattle.device_history.specs.declared.ask.Step.TheVariants as steps
+use Rattle.device_history.specs.Steps.{History, Past}
+use Rattle.device_history.specs.Refusals.{is_full, refused, fault_of}
+use Rattle.device_history.specs.Grabs.{grabbed}
+use Rattle.device_history.specs.Values.{laid, now, now_after}
+use Rattle.device_history.specs.Words.{changes}
+use Rattle.device_history.specs.Snapshots.{applied, before_completion, request, request_in, requests, snapshot}
+use Rattle.device_history.specs.Requests.{asked, state}
+use Rattle.std.specs.Option.{option_map}
+use Rattle.req_book.specs.Refusals as book
+use Rattle.req_book.specs.declared.state.RequestState.{RequestState}
+use Rattle.device_history.specs.declared.ask.Reply.TheVariants.{Controls, State}
+use Rattle.device_history.specs.RequestAnswers.{stepped, state_reply}
+use Rattle.device_history.specs.Answers.{MayAnswer, MayLackMemory, answer_of, step_of, no_memory}
+use Rattle.device_history.specs.Legal.{MayFollow}
+use Rattle.device_history.proofs.FitLemmas.{fits}
+use Rattle.device_history.proofs.FrameLaw.{found_request, fresh_request}
+use Rattle.device_history.specs.FrameSteps.{FitsFrames}
+use Rattle.ctrl_lists.specs.Touched.{with_calls}
+use Rattle.device_state.specs.Device.{DeviceData, Handles, may_ask, must_ask, with_step, step_changes}
+use Rattle.device_state.specs.Entering.{is_still, FitsIn, IsEntered, StoresKnown}
+use Rattle.device_state.specs.Kept.{Caches, IsKept}
+use Rattle.device_state.proofs.HandleLemmas.{at_rest, asked_at_rest, told_since, asked_since, handles_set}
+use Rattle.device_state.proofs.SettingLemmas.{store_adds}
+use Rattle.device_state.specs.Setting.{IsSettable, SetsList}
+use Rattle.device_history.specs.Lists.{list_pairs, meant, which_or}
+use Rattle.ctrl_lists.specs.Touched.{TouchedData, touched, judged_count}
+use Rattle.ctrl_types.specs.Classes.{which_of}
+use Rattle.ctrl_types.specs.declared.ids.ExtControl.{ExtControl}
+use Rattle.ctrl_types.specs.declared.ids.FhId.{FhId}
+use Rattle.ctrl_types.specs.declared.ids.RequestId.{RequestId}
+use Rattle.device_history.specs.declared.ask.Ask.TheVariants as asks
+use Rattle.device_state.proofs.SetLemmas.{notified_none}
+use Rattle.req_book.specs.declared.state.RequestState.TheVariants.{Idle, Queued, Running, Complete}
+use Rattle.ctrl_types.specs.Values.{CtrlValue}
+use Rattle.req_book.proofs.SettingLemmas.{snapshot_long}
+use Rattle.device_history.proofs.PresentLemmas.{length_now}
+use Rattle.ctrl_lists.specs.Checks.{errno_of}
+use Rattle.device_state.proofs.StillLemmas.{acted_still}
+
+-- an ask that adds such a step, where its refusal was read
+pub entered : (verdicts : Verdicts) (plan : PlanData) (older : Past) (words : List ℕ) (ask : Ask) (refusal own : Option Errno) (step : Step) (reply : Reply) → refusal ≡ own → is_still step ≡ true
+    → answer_of verdicts plan older words ask ≡ stepped own older reply → answer_of verdicts plan older [] ask ≡ stepped own older reply → (own ≡ None → step_of plan older ask ≡ Some step)
+    → (IsOk (stepped own older reply) → MayLackMemory verdicts plan older ask) → no_memory ask ≡ refused ENOMEM → must_ask plan older ask ≡ 0 → StoresKnown (length plan.controls) step
+    → IsEntered verdicts plan older words ask refusal step reply
+entered verdicts plan older words ask refusal own step reply is still answers alone adds lacks plain nobody known =
+    subst (λ (o : Option Errno). IsEntered verdicts plan older words ask o step reply) (sym is)
+    (record { still = still; answers = answers; answers_alone = alone; adds = adds; lacks = lacks; plain = plain; asks_nobody = nobody; known = known })
+
+-- its own refusal
+pub entered_refused : (verdicts : Verdicts) (plan : PlanData) (older : Past) (words : List ℕ) (ask : Ask) (errno : Errno) (step : Step) (reply : Reply)
+    → IsEntered verdicts plan older words ask (Some errno) step reply → MayAnswer verdicts plan older words ask (refused errno)
+entered_refused verdicts plan older words ask errno step reply is = inl (sym is.answers)
+
+-- no further step is kept
+pub entered_full : (verdicts : Verdicts) (plan : PlanData) (older : Past) (words : List ℕ) (ask : Ask) (step : Step) (reply : Reply)
+    → IsEntered verdicts plan older words ask None step reply → is_full older ≡ true → MayAnswer verdicts plan older words ask (refused ENOSPC)
+entered_full verdicts plan older words ask step reply is full = inl (sym (is.answers ∙ rw full refl))
+
+-- want of memory
+pub entered_lacks : (verdicts : Verdicts) (plan : PlanData) (older : Past) (words : List ℕ) (ask : Ask) (step : Step) (reply : Reply)
+    → IsEntered verdicts plan older words ask None step reply → is_full older ≡ false → MayAnswer verdicts plan older words ask (refused ENOMEM)
+entered_lacks verdicts plan older words ask step reply is room = inr (is.lacks (rw room refl), sym is.plain)
+
+-- else its step may follow
+pub entered_follows : (verdicts : Verdicts) (plan : PlanData) (older : Past) (words : List ℕ) (ask : Ask) (step : Step) (reply : Reply)
+    → IsEntered verdicts plan older words ask None step reply → is_full older ≡ false → MayFollow verdicts plan older step
+entered_follows verdicts plan older words ask step reply is room = (ask, ap fault_of is.answers_alone ∙ nothing (is_full older) room, is.adds refl)
+  where
+    nothing : (b : Bool) → b ≡ false → fault_of (if b then refused ENOSPC else Ok reply) ≡ None
+    nothing true h = cc
+    nothing false h = refl
+
+-- such a step changes no control
+still_changes : (verdicts : Verdicts) (plan : PlanData) (older : Past) (step : Step) (c : ℕ) → is_still step ≡ true → step_changes verdicts plan older (Some step) c ≡ false
+still_changes verdicts plan older step c still =
+    ap (λ (l : Option (List Pair)). changes plan (now verdicts plan older) (now_after verdicts plan (grabbed plan older) (laid plan older step) (now verdicts plan older)) l c) (acted_still verdicts plan older step still)
+
+-- a call that adds one
+pub handles_still : (verdicts : Verdicts) (old : DeviceData) (work : Work) (seat : ℕ) (ask : Ask) (step : Step) (reply : Reply) → work.told ≡ 0 → work.asked ≤ may_ask old.plan (past old.steps) ask
+    → (with_calls (must_ask old.plan (past old.steps) ask) 0 ≤ work.asked) → MayAnswer verdicts old.plan (past old.steps) old.words ask (Ok reply)
+    → step_of old.plan (past old.steps) ask ≡ Some step → is_still step ≡ true
+    → Handles verdicts old (with_step (record old { work = work }) seat step) seat ask (Ok reply)
+handles_still verdicts old work seat ask step reply told asked all may adds still = record {
+  plan = refl;
+  answers = may;
+  refused = λ e. cc;
+  steps = rw adds refl;
+  words = λ k lt same. refl;
+  notified = told ∙ sym (rw adds (notified_none old.plan (step_changes verdicts old.plan (past old.steps) (Some step)) (λ c. still_changes verdicts old.plan (past old.steps) step c still)));
+  asked = asked;
+  asked_all = λ _. all;
+}
+
+pub handles_entered : (verdicts : Verdicts) (old : DeviceData) (work : Work) (seat : ℕ) (ask : Ask) (step : Step) (reply : Reply) → work ≡ at_rest
+    → IsEntered verdicts old.plan (past old.steps) old.words ask None step reply → is_full (past old.steps) ≡ false
+    → Handles verdicts old (with_step (record old { work = work }) seat step) seat ask (Ok reply)
+handles_entered verdicts old work seat ask step reply rest is room =
+    handles_still verdicts old work seat ask step reply (ap (λ (w : Work). w.told) rest) (asked_at_rest work _ rest) (rw is.asks_nobody (omega arith)) (inl (sym (is.answers ∙ rw room refl))) (is.adds refl) is.still
+
+-- the request that is kept under an id
+pub found : (verdicts : Verdicts) (told : Words) (plan : PlanData) (entries : History) (caches : Caches) (r : ℕ) → IsKept verdicts told plan entries caches
+    → find caches.frames.requests.all r ≡ request verdicts plan (past entries) r
+found verdicts told plan entries caches r kept = ap (λ (f : FramesData). find f.requests.all r) kept.frames ∙ found_request verdicts plan (past entries) r kept.legal
+
+-- a step that may follow can change what is kept
+pub fits_in : (verdicts : Verdicts) (told : Words) (plan : PlanData) (entries : History) (caches : Caches) (step : Step) → IsKept verdicts told plan entries caches → MayFollow verdicts plan (past entries) step
+    → is_still step ≡ true → StoresKnown (length plan.controls) step → FitsIn (length entries) step caches.frames
+fits_in verdicts told plan entries caches step kept may still known = by step (fits verdicts plan (past entries) step may) still known
+  where
+    by : (step : Step) → FitsFrames verdicts plan (past entries) step → is_still step ≡ true → StoresKnown (length plan.controls) step → FitsIn (length entries) step caches.frames
+    by steps.Alloc fit still known = found verdicts told plan entries caches (length entries) kept ∙ fresh_request verdicts plan entries kept.legal
+    by (steps.Store r pairs) fit still known = subst (λ (f : FramesData). All (λ p. p.control < f.requests.controls) pairs) (sym kept.frames) known
+    by (steps.Buffer r number) fit still known =
+        ap (λ (f : FramesData). buffer_refusal f.requests.all number (find f.requests.all r.0)) kept.frames
+        ∙ ap (buffer_refusal (requests verdicts plan (past entries)) number) (found_request verdicts plan (past entries) r.0 kept.legal) ∙ fit
+    by (steps.Queue r) fit still known = ap queue_refusal (found verdicts told plan entries caches r.0 kept) ∙ fit
+    by (steps.Complete r) fit still known = ap (λ (f : FramesData). f.running) kept.frames ∙ fit
+    by (steps.Cancel r) fit still known = ap cancel_refusal (found verdicts told plan entries caches r.0 kept) ∙ fit
+    by steps.StreamOff fit still known = tt
+    by (steps.Reinit r) fit still known = ap clear_refusal (found verdicts told plan entries caches r.0 kept) ∙ fit
+    by (steps.Free r) fit still known = ap clear_refusal (found verdicts told plan entries caches r.0 kept) ∙ fit
+    by (steps.OpenFh handler) fit still known = cc
+    by (steps.CloseFh fh) fit still known = cc
+    by (steps.Set fh pairs) fit still known = cc
+    by (steps.Grab c on) fit still known = cc
+    by (steps.Begin r) fit still known = cc
+
+-- a state that was read
+pub state_read : (verdicts : Verdicts) (plan : PlanData) (older : Past) (r : ℕ) (s : RequestState) → Ok s ≡ book.state_answer (request verdicts plan older r) → Ok (State s) ≡ state_reply (state older r)
+unfolding request
+state_read verdicts plan older r s is = by (state older r) is
+  where
+    by : (o : Option RequestState) → Ok s ≡ book.state_answer (option_map (request_in verdicts plan older r) o) → Ok (State s) ≡ state_reply o
+    by None h = cc
+    by (Some t) h = cc
+
+pub state_unread : (verdicts : Verdicts) (plan : PlanData) (older : Past) (r : ℕ) (errno : Errno) → Err errno ≡ book.state_answer (request verdicts plan older r) → refused EINVAL ≡ state_reply (state older r)
+unfolding request
+state_unread verdicts plan older r errno is = by (state older r) is
+  where
+    by : (o : Option RequestState) → Err errno ≡ book.state_answer (option_map (request_in verdicts plan older r) o) → refused EINVAL ≡ state_reply o
+    by None h = refl
+    by (Some t) h = cc
+
+-- a list that stores its pairs in a request
+pub handles_store : (verdicts : Verdicts) (old : DeviceData) (start work : Work) (seat : ℕ) (fh : FhId) (which : ℕ) (request : Option RequestId) (stored : RequestId) (list : List ExtControl) (touch : TouchedData) (controls : List ExtControl)
+    → start ≡ at_rest → work.told ≡ start.told → work.asked ≤ start.asked + length (touched old.plan (list_pairs old.plan (past old.steps) fh which list))
+    → IsSettable verdicts old.plan (past old.steps) fh which request list touch → meant (which_or (which_of which)) request ≡ Some stored → controls ≡ touch.answers
+    → with_calls (judged_count old.plan (touched old.plan (list_pairs old.plan (past old.steps) fh which list))) 0 ≤ work.asked
+    → Handles verdicts old (with_step (record old { work = work }) seat (steps.Store stored touch.pairs)) seat (asks.SetCtrls fh which request list) (Ok (Controls controls))
+handles_store verdicts old start work seat fh which request stored list touch controls rest untold asked sets through reply all =
+    handles_still verdicts old work seat (asks.SetCtrls fh which request list) (steps.Store stored touch.pairs) (Controls controls) (told_since start work rest untold) (asked_since start work _ rest asked) all
+    (inl (ap (λ (l : List ExtControl). Ok (Controls l)) reply ∙ sym sets.accepted)) (store_adds verdicts old.plan (past old.steps) fh which request stored list touch sets through) refl
+
+-- a list that is accepted
+pub handles_list : (verdicts : Verdicts) (told : Words) (old between new : DeviceData) (start work : Work) (seat : ℕ) (fh : FhId) (which : ℕ) (request : Option RequestId) (list : List ExtControl) (touch : TouchedData) (controls : List ExtControl)
+    → between ≡ record old { work = work } → start ≡ at_rest → work.told ≡ start.told → work.asked ≤ start.asked + length (touched old.plan (list_pairs old.plan (past old.steps) fh which list))
+    → IsSettable verdicts old.plan (past old.steps) fh which request list touch → controls ≡ touch.answers → with_calls (judged_count old.plan (touched old.plan (list_pairs old.plan (past old.steps) fh which list))) 0 ≤ work.asked
+    → SetsList verdicts told between new seat fh (meant (which_or (which_of which)) request) touch
+    → Handles verdicts old new seat (asks.SetCtrls fh which request list) (Ok (Controls controls))
+handles_list verdicts told old between new start work seat fh which request list touch controls begin rest untold asked sets reply all does = by (meant (which_or (which_of which)) request) refl does
+  where
+    by : (o : Option RequestId) → meant (which_or (which_of which)) request ≡ o → SetsList verdicts told between new seat fh o touch → Handles verdicts old new seat (asks.SetCtrls fh which request list) (Ok (Controls controls))
+    by None is h = handles_set verdicts told old between new start work seat fh which request list touch controls begin rest untold asked sets is reply all h
+    by (Some stored) is h = rw (h, begin) (handles_store verdicts old start work seat fh which request stored list touch controls rest untold asked sets is reply all)
+
+-- the values that were read of a complete request are its snapshot
+pub snapshot_is : (verdicts : Verdicts) (plan : PlanData) (older : Past) (r : ℕ) (values : List CtrlValue) → book.snapshot_answer (request verdicts plan older r) ≡ Ok values → values ≡ snapshot verdicts plan older r
+unfolding request
+snapshot_is verdicts plan older r values is = by (state older r) is
+  where
+    by : (o : Option RequestState) → book.snapshot_answer (option_map (request_in verdicts plan older r) o) ≡ Ok values → values ≡ snapshot verdicts plan older r
+    by None h = cc
+    by (Some Idle) h = cc
+    by (Some Queued) h = cc
+    by (Some Running) h = cc
+    by (Some Complete) h = cc
+
+-- there is one for each control
+pub snapshot_each : (verdicts : Verdicts) (plan : PlanData) (older : Past) (r : ℕ) → length (snapshot verdicts plan older r) ≡ length plan.controls
+snapshot_each verdicts plan older r = snapshot_long (applied verdicts plan older r) (now verdicts plan (before_completion r older)) ∙ length_now verdicts plan (before_completion r older)
+
+-- the pairs that were read of a request are what it asks for
+pub asked_is : (verdicts : Verdicts) (plan : PlanData) (older : Past) (r : ℕ) (pairs : List Pair) → book.asked_answer (request verdicts plan older r) ≡ Ok pairs → pairs ≡ asked plan older r
+unfolding request
+asked_is verdicts plan older r pairs is = by (state older r) is
+  where
+    by : (o : Option RequestState) → book.asked_answer (option_map (request_in verdicts plan older r) o) ≡ Ok pairs → pairs ≡ asked plan older r
+    by None h = cc
+    by (Some s) h = cc
+
+-- what a request doesn't refuse is there
+pub not_denied : (o : Option RequestData) (errno : Errno) → errno_of (book.snapshot_answer o) ≡ None → book.snapshot_answer o ≡ Err errno → ⊥
+not_denied o errno passes is = clash (ap errno_of (sym is) ∙ passes)
+  where
+    clash : Some errno ≡ None → ⊥
+    clash h = cc
+
+-- what a request asks for that is there can be read
+pub asked_there : (verdicts : Verdicts) (plan : PlanData) (older : Past) (r : ℕ) (errno : Errno) → is_some (state older r) ≡ true → book.asked_answer (request verdicts plan older r) ≡ Err errno → ⊥
+unfolding request
+asked_there verdicts plan older r errno there is = by (state older r) there is
+  where
+    by : (o : Option RequestState) → is_some o ≡ true → book.asked_answer (option_map (request_in verdicts plan older r) o) ≡ Err errno → ⊥
+    by None h e = cc
+    by (Some s) h e = cc

@@ -1,0 +1,163 @@
+//! How a device begins a frame.
+
+ghost use Rattle.std.specs.Prelude.{◌≡◌, ◌≤◌, ◌+◌, true, false, None, Some, Ok, Err, is_some, IfOk, IfErr, OnOk, OnErr};
+ghost use Rattle.history.specs.Past.{past};
+ghost use Rattle.frame_queue.specs.Frames.{begin_answer};
+ghost use Rattle.ctrl_forecast.specs.Touched.{touched_count};
+ghost use Rattle.device_history.specs.declared.ask.Ask.TheVariants as asks;
+ghost use Rattle.device_history.specs.Answers.{MayAnswer};
+ghost use Rattle.device_history.specs.Frames.{first_of, queue, running};
+ghost use Rattle.device_history.specs.RequestAnswers.{begin_frame_answer};
+ghost use Rattle.device_history.specs.Requests.{asked as asked_of, state};
+ghost use Rattle.device_history.specs.Snapshots.{begun_pairs, begun_refused, begun_values, frames};
+ghost use Rattle.device_state.specs.Beginning.{BeginsAll, IsBegun};
+ghost use Rattle.device_state.specs.Device.{Handles, may_ask};
+
+use super::{Device, plain, refused};
+use ctrl_calls::{Driver, Work};
+use ctrl_clusters::notify_between;
+use ctrl_forecast::{Overlaid, applied, overlay};
+use ctrl_types::{Errno, Fault, Pair, RequestId};
+use device_history::{Reply, Step};
+use history::Entry;
+use std::alloc::AllocError;
+
+// A frame that can begin: its request, what the request's pairs make of the values, and those that are applied.
+#[derive(Drop)]
+struct Begun {
+    request: RequestId,
+    overlaid: Overlaid,
+    applied: Vec<Pair>,
+}
+
+impl<D: Driver> Device<D> {
+    // Answers an ask for the begin of a frame.
+    pub(super) fn begin(&mut self, seat: u32) -> Result<Reply, Fault>
+        ensures { Handles D.verdict self.old self.new seat asks.Begin result }
+    {
+        let mut work = Work::new();
+        let planned = self.plan_begin(&mut work);
+        self.work = work;
+        let begun = match planned {
+            Ok(begun) => begun,
+            Err(fault) => return Err(fault),
+        };
+        match self.accept_begin(seat, begun) {
+            Ok(reply) => Ok(reply),
+            Err(_) => refused(Errno::ENOMEM),
+        }
+    }
+
+    // The refusals of a begin; else what it makes of the values.
+    fn plan_begin(&self, work: &mut Work) -> Result<Begun, Fault>
+        ensures ok { IfOk result (λ b. IsBegun D.verdict self.now.plan (past self.now.steps) b.request.0 b.overlaid.values b.overlaid.refused b.applied.items) }
+        ensures err { IfErr result (λ fault. MayAnswer D.verdict self.now.plan (past self.now.steps) self.now.words asks.Begin (Err fault)) }
+        ensures asked { work.new.asked ≤ work.old.asked + may_ask self.now.plan (past self.now.steps) asks.Begin }
+        ensures told { work.new.told ≡ work.old.told }
+    {
+        let request = match self.next_frame() {
+            Ok(request) => request,
+            Err(errno) => return Err(plain(errno)),
+        };
+        if self.is_full() {
+            return Err(plain(Errno::ENOSPC));
+        }
+        match self.lay(request, work) {
+            Ok(begun) => Ok(begun),
+            Err(_) => Err(plain(Errno::ENOMEM)),
+        }
+    }
+
+    // The request whose frame is next, or why none can begin.
+    fn next_frame(&self) -> Result<RequestId, Errno>
+        ensures free { OnOk result (running (past self.now.steps) ≡ None) }
+        ensures first { IfOk result (λ request. first_of (queue (past self.now.steps)) ≡ Some request.0) }
+        ensures err { IfErr result (λ errno. begin_answer (frames D.verdict self.now.plan (past self.now.steps)) ≡ Err errno) }
+    {
+        if self.frames.running().is_some() {
+            return Err(Errno::EBUSY);
+        }
+        match self.frames.queued(0) {
+            Some(request) => Ok(request),
+            None => Err(Errno::ENOENT),
+        }
+    }
+
+    // What a request asks for, which the caller owes to be there.
+    fn asked_by(&self, request: RequestId) -> &[Pair]
+        requires { is_some (state (past self.now.steps) request.0) ≡ true }
+        ensures { result.now ≡ asked_of self.now.plan (past self.now.steps) request.0 }
+    {
+        match self.asked(request) {
+            Ok(pairs) => pairs,
+            Err(_) => &[],
+        }
+    }
+
+    // Lays what a request asks for over the present values.
+    fn lay(&self, request: RequestId, work: &mut Work) -> Result<Begun, AllocError>
+        requires { first_of (queue (past self.now.steps)) ≡ Some request.0 }
+        ensures request { IfOk result (λ b. b.request ≡ request) }
+        ensures values { IfOk result (λ b. b.overlaid.values ≡ begun_values D.verdict self.now.plan (past self.now.steps) request.0) }
+        ensures refused { IfOk result (λ b. b.overlaid.refused ≡ begun_refused D.verdict self.now.plan (past self.now.steps) request.0) }
+        ensures applied { IfOk result (λ b. b.applied.items ≡ begun_pairs D.verdict self.now.plan (past self.now.steps) request.0) }
+        ensures asked { work.new.asked ≤ work.old.asked + touched_count self.now.plan (asked_of self.now.plan (past self.now.steps) request.0) }
+        ensures told { work.new.told ≡ work.old.told }
+    {
+        let pairs = self.asked_by(request);
+        let overlaid = overlay(
+            self.alloc,
+            &self.plan,
+            self.plan.controls(),
+            self.values(),
+            self.grabs(),
+            pairs,
+            work,
+        )?;
+        let applied = applied(self.alloc, &self.plan, &overlaid, pairs)?;
+        Ok(Begun {
+            request,
+            overlaid,
+            applied,
+        })
+    }
+
+    // Begins a frame, after the refusals.
+    fn accept_begin(&mut self, seat: u32, begun: Begun) -> Result<Reply, AllocError>
+        requires begun { IsBegun D.verdict self.old.plan (past self.old.steps) begun.request.0 begun.overlaid.values begun.overlaid.refused begun.applied.items }
+        requires fresh { self.old.work.told ≡ 0 }
+        ensures reply { IfOk result (λ reply. begin_frame_answer D.verdict self.old.plan (past self.old.steps) ≡ Ok reply) }
+        ensures ok { OnOk result (BeginsAll D.verdict D.told self.old self.new seat begun.request.0) }
+        ensures err { OnErr result (self.new ≡ self.old) }
+    {
+        self.steps.reserve(1)?;
+        let Begun {
+            request,
+            overlaid,
+            applied,
+        } = begun;
+        let Overlaid { values, refused } = overlaid;
+        notify_between(
+            &self.plan,
+            self.values.as_slice(),
+            values.as_slice(),
+            applied.as_slice(),
+            &mut self.words,
+            &mut self.work,
+        );
+        self.values = values.into_vec();
+        let buffer = match self.frames.begin(applied.as_slice()) {
+            Ok((_, buffer)) => buffer,
+            Err(_) => 0,
+        };
+        self.steps.push_reserved(Entry {
+            seat,
+            step: Step::Begin { request },
+        });
+        Ok(Reply::Frame {
+            request,
+            buffer,
+            refused,
+        })
+    }
+}

@@ -1,0 +1,216 @@
+//! What a device answers about media requests and its queue of frames, but for the begin of a frame.
+
+ghost use Rattle.std.specs.Prelude.{◌≡◌, false, true, [], length, None, Some, Ok, Err, MatchResult, OnOk, OnErr, slice_get};
+ghost use Rattle.std.specs.Option.{option_map};
+ghost use Rattle.history.specs.Past.{past};
+ghost use Rattle.req_book.specs.Refusals.{alloc_refusal, store_refusal, buffer_refusal, queue_refusal, clear_refusal, state_answer, buffer_answer, asked_answer, value_answer};
+ghost use Rattle.frame_queue.specs.Frames.{complete_refusal, cancel_refusal};
+ghost use Rattle.device_history.specs.Frames.{queue, running};
+ghost use Rattle.device_history.specs.FrameSteps.{frames_changed};
+ghost use Rattle.device_history.specs.Legal.{MayFollow};
+ghost use Rattle.device_history.specs.Refusals.{is_full};
+ghost use Rattle.device_history.specs.Snapshots.{frames, request as request_of, requests};
+ghost use Rattle.device_state.specs.Device.{Handles, with_step};
+ghost use Rattle.device_state.specs.Entering.{is_still, FitsIn, IsEntered, StoresKnown};
+
+use super::{Device, refused};
+use ctrl_calls::{Driver, Work};
+use ctrl_types::{CtrlValue, Errno, Fault, Pair, RequestId};
+use device_history::{Ask, Reply, Step};
+use frame_queue::{Frames, RequestState};
+use history::Entry;
+
+impl<D: Driver> Device<D> {
+    /// A request's state, for a driver's own use (Linux userspace API, "Request API"): that in which the last step that names it left it;
+    /// but complete where that is queued or running and the stream was stopped since. EINVAL (22) where there is no such request. It takes no memory.
+    ///
+    /// - `request`: any request, there or not.
+    pub fn state_of(&self, request: RequestId) -> Result<RequestState, Errno>
+        ensures { result ≡ state_answer (request_of D.verdict self.now.plan (past self.now.steps) request.0) }
+    {
+        self.frames.state_of(request)
+    }
+
+    /// The number of a request's buffer, where it was given one since it was made, or made as new, for a driver's own use. EINVAL (22)
+    /// where there is no such request. It takes no memory.
+    ///
+    /// - `request`: any request, there or not.
+    pub fn buffer_of(&self, request: RequestId) -> Result<Option<u32>, Errno>
+        ensures { result ≡ buffer_answer (request_of D.verdict self.now.plan (past self.now.steps) request.0) }
+    {
+        self.frames.buffer_of(request)
+    }
+
+    /// What a request asks for, for a driver's own use: of each control the last pair that was stored since the request was made, or made
+    /// as new, in order of control numbers. EINVAL (22) where there is no such request. It takes no memory.
+    ///
+    /// - `request`: any request, there or not.
+    pub fn asked(&self, request: RequestId) -> Result<&[Pair], Errno>
+        ensures { MatchResult result (λ pairs. asked_answer (request_of D.verdict self.now.plan (past self.now.steps) request.0) ≡ Ok pairs.now) (λ errno. asked_answer (request_of D.verdict self.now.plan (past self.now.steps) request.0) ≡ Err errno) }
+    {
+        self.frames.asked(request)
+    }
+
+    /// The value of a control in the snapshot of a complete request, for a driver's own use: of a control that the request asks for and
+    /// whose cluster wasn't refused, its value after the begin of the frame; of any other, the value in force when the request became complete,
+    /// as its frame ended, it was cancelled, or the stream was stopped. EINVAL (22) where there is no such request or no such control, EACCES
+    /// (13) where the request isn't complete. It takes no memory.
+    ///
+    /// - `request`: any request, there or not.
+    /// - `control`: any number, of a control or not.
+    pub fn snapshot(&self, request: RequestId, control: u32) -> Result<CtrlValue, Errno>
+        ensures { result ≡ value_answer (length self.now.plan.controls) control (request_of D.verdict self.now.plan (past self.now.steps) request.0) }
+    {
+        self.frames.snapshot(request, control)
+    }
+
+    /// The request that waits at a place of the queue, for a driver's own use: the queued ones, in the order of their last queueing; none
+    /// where no request waits there. It takes no memory.
+    ///
+    /// - `place`: any place, from 0.
+    pub fn queued(&self, place: usize) -> Option<RequestId>
+        ensures { option_map (λ id. id.0) result ≡ slice_get (queue (past self.now.steps)) place }
+    {
+        self.frames.queued(place)
+    }
+
+    /// The request whose frame is being made, for a driver's own use; none where none is. It takes no memory.
+    pub fn running(&self) -> Option<RequestId>
+        ensures { option_map (λ id. id.0) result ≡ running (past self.now.steps) }
+    {
+        self.frames.running()
+    }
+
+    // Why no further request is made.
+    pub(super) fn alloc_refusal(&self) -> Option<Errno>
+        ensures { result ≡ alloc_refusal (requests D.verdict self.now.plan (past self.now.steps)) }
+    {
+        self.frames.alloc_refusal()
+    }
+
+    // Why a request takes no settings.
+    pub(super) fn store_refusal(&self, request: RequestId) -> Option<Errno>
+        ensures { result ≡ store_refusal (request_of D.verdict self.now.plan (past self.now.steps) request.0) }
+    {
+        self.frames.store_refusal(request)
+    }
+
+    // Why a request takes no buffer.
+    pub(super) fn buffer_refusal(&self, request: RequestId, buffer: u32) -> Option<Errno>
+        ensures { result ≡ buffer_refusal (requests D.verdict self.now.plan (past self.now.steps)) buffer (request_of D.verdict self.now.plan (past self.now.steps) request.0) }
+    {
+        self.frames.buffer_refusal(request, buffer)
+    }
+
+    // Why a request isn't queued.
+    pub(super) fn queue_refusal(&self, request: RequestId) -> Option<Errno>
+        ensures { result ≡ queue_refusal (request_of D.verdict self.now.plan (past self.now.steps) request.0) }
+    {
+        self.frames.queue_refusal(request)
+    }
+
+    // Why a request is neither made as new nor let go.
+    pub(super) fn clear_refusal(&self, request: RequestId) -> Option<Errno>
+        ensures { result ≡ clear_refusal (request_of D.verdict self.now.plan (past self.now.steps) request.0) }
+    {
+        self.frames.clear_refusal(request)
+    }
+
+    // Why a request isn't taken from the queue.
+    pub(super) fn cancel_refusal(&self, request: RequestId) -> Option<Errno>
+        ensures { result ≡ cancel_refusal (request_of D.verdict self.now.plan (past self.now.steps) request.0) }
+    {
+        self.frames.cancel_refusal(request)
+    }
+
+    // Why no frame is ended.
+    pub(super) fn complete_refusal(&self) -> Option<Errno>
+        ensures { result ≡ complete_refusal (frames D.verdict self.now.plan (past self.now.steps)) }
+    {
+        match self.frames.running() {
+            Some(_) => None,
+            None => Some(Errno::ENOENT),
+        }
+    }
+
+    // The request whose frame is being made, or any where none is.
+    pub(super) fn ended(&self) -> RequestId
+        ensures { complete_refusal (frames D.verdict self.now.plan (past self.now.steps)) ≡ None → running (past self.now.steps) ≡ Some result.0 }
+    {
+        match self.frames.running() {
+            Some(request) => request,
+            None => RequestId(0),
+        }
+    }
+
+    // Answers an ask that adds a step about requests which leaves the values: its own refusal, that no further step is kept, or the reply.
+    pub(super) fn enter(
+        &mut self,
+        seat: u32,
+        ask: &Ask,
+        refusal: Option<Errno>,
+        step: Step,
+        reply: Reply,
+    ) -> Result<Reply, Fault>
+        requires { IsEntered D.verdict self.old.plan (past self.old.steps) self.old.words ask.now refusal step reply }
+        ensures { Handles D.verdict self.old self.new seat ask.now result }
+    {
+        self.work = Work::new();
+        if let Some(errno) = refusal {
+            return refused(errno);
+        }
+        if self.is_full() {
+            return refused(Errno::ENOSPC);
+        }
+        match self.accept(seat, step) {
+            Ok(()) => Ok(reply),
+            Err(_) => refused(Errno::ENOMEM),
+        }
+    }
+
+    // Adds such a step, after the refusals.
+    pub(super) fn accept(&mut self, seat: u32, step: Step) -> Result<(), Errno>
+        requires still { is_still step ≡ true }
+        requires follows { MayFollow D.verdict self.old.plan (past self.old.steps) step }
+        requires room { is_full (past self.old.steps) ≡ false }
+        requires known { StoresKnown (length self.old.plan.controls) step }
+        ensures ok { OnOk result (self.new ≡ with_step self.old seat step) }
+        ensures err { OnErr result (self.new ≡ self.old) }
+    {
+        let number = self.steps.len() as u32;
+        if self.steps.reserve(1).is_err() {
+            return Err(Errno::ENOMEM);
+        }
+        change(&mut self.frames, self.values.as_slice(), number, &step)?;
+        self.steps.push_reserved(Entry { seat, step });
+        Ok(())
+    }
+}
+
+// What a step makes of the requests and the queue.
+fn change(frames: &mut Frames, values: &[CtrlValue], number: u32, step: &Step) -> Result<(), Errno>
+    requires fits { FitsIn number step.now frames.old }
+    requires values { length values.now ≡ frames.old.requests.controls }
+    ensures ok { OnOk result (frames.new ≡ frames_changed values.now [] number step.now frames.old) }
+    ensures err { OnErr result (frames.new ≡ frames.old) }
+{
+    match step {
+        Step::Alloc => frames.alloc(RequestId(number)),
+        Step::Store { request, pairs } => frames.store(*request, pairs.as_slice()),
+        Step::Buffer { request, buffer } => frames.add_buffer(*request, *buffer),
+        Step::Queue { request } => frames.queue(*request),
+        Step::Complete { .. } => frames.complete(values),
+        Step::Cancel { request } => frames.cancel(*request, values),
+        Step::StreamOff => {
+            frames.stream_off(values);
+            Ok(())
+        }
+        Step::Reinit { request } => frames.reinit(*request),
+        Step::Free { request } => frames.free(*request),
+        Step::OpenFh { .. }
+        | Step::CloseFh { .. }
+        | Step::Set { .. }
+        | Step::Grab { .. }
+        | Step::Begin { .. } => Ok(()),
+    }
+}
