@@ -25,7 +25,13 @@ type Judge = Box<dyn Fn(ClusterRow) -> Verdict + Send>;
 type Teller = Box<dyn Fn(ClusterRow) -> u64 + Send>;
 
 // The files that are read, in this order.
-const FILES: [&str; 4] = ["sample.txt", "words.txt", "lists.txt", "examples.txt"];
+const FILES: [&str; 5] = [
+    "sample.txt",
+    "words.txt",
+    "lists.txt",
+    "requests.txt",
+    "examples.txt",
+];
 
 fn main(rt: HostRuntime) -> io::Result<ExitCode> {
     let texts = read_files(&rt)?;

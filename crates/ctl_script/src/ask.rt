@@ -1,7 +1,7 @@
 use crate::names::Bindings;
 use ctrl_types::RequestId;
 use device_state::{Ask, ControlList};
-use script_lines::{Command, EntryList, WhichWord};
+use script_lines::{Command, EntryList, Name, WhichWord};
 
 // the number by which a list speaks of a request's values
 const REQUEST_VALUES: u32 = 0x0f01_0000;
@@ -11,33 +11,9 @@ pub fn ask_of(command: Command, names: &Bindings) -> Ask {
     match command {
         Command::Open { fh: _, handler } => Ask::OpenFh { handler },
         Command::Close { fh } => Ask::CloseFh { fh: names.fh(fh) },
-        Command::Get { fh, which, list } => {
-            let (which, request) = which_of(which, names);
-            Ask::GetCtrls {
-                fh: names.fh(fh),
-                which,
-                request,
-                list: controls(list),
-            }
-        }
-        Command::Set { fh, which, list } => {
-            let (which, request) = which_of(which, names);
-            Ask::SetCtrls {
-                fh: names.fh(fh),
-                which,
-                request,
-                list: controls(list),
-            }
-        }
-        Command::Try { fh, which, list } => {
-            let (which, request) = which_of(which, names);
-            Ask::TryCtrls {
-                fh: names.fh(fh),
-                which,
-                request,
-                list: controls(list),
-            }
-        }
+        Command::Get { fh, which, list } => get_of(names, fh, which, list),
+        Command::Set { fh, which, list } => set_of(names, fh, which, list),
+        Command::Try { fh, which, list } => try_of(names, fh, which, list),
         Command::Grab { control, on } => Ask::Grab { control, on },
         Command::Query { fh, id } => Ask::Query {
             fh: names.fh(fh),
@@ -53,6 +29,59 @@ pub fn ask_of(command: Command, names: &Bindings) -> Ask {
             index,
         },
         Command::Told { cluster } => Ask::Told { cluster },
+        Command::Alloc { request: _ } => Ask::Alloc,
+        Command::Buffer { request, buffer } => Ask::AddBuffer {
+            request: names.request(request),
+            buffer,
+        },
+        Command::Queue { request } => Ask::Queue {
+            request: names.request(request),
+        },
+        Command::Cancel { request } => Ask::Cancel {
+            request: names.request(request),
+        },
+        Command::Reinit { request } => Ask::Reinit {
+            request: names.request(request),
+        },
+        Command::Free { request } => Ask::Free {
+            request: names.request(request),
+        },
+        Command::State { request } => Ask::StateOf {
+            request: names.request(request),
+        },
+        Command::Begin => Ask::Begin,
+        Command::Complete => Ask::Complete,
+        Command::Off => Ask::StreamOff,
+    }
+}
+
+fn get_of(names: &Bindings, fh: Name, which: WhichWord, list: EntryList) -> Ask {
+    let (which, request) = which_of(which, names);
+    Ask::GetCtrls {
+        fh: names.fh(fh),
+        which,
+        request,
+        list: controls(list),
+    }
+}
+
+fn set_of(names: &Bindings, fh: Name, which: WhichWord, list: EntryList) -> Ask {
+    let (which, request) = which_of(which, names);
+    Ask::SetCtrls {
+        fh: names.fh(fh),
+        which,
+        request,
+        list: controls(list),
+    }
+}
+
+fn try_of(names: &Bindings, fh: Name, which: WhichWord, list: EntryList) -> Ask {
+    let (which, request) = which_of(which, names);
+    Ask::TryCtrls {
+        fh: names.fh(fh),
+        which,
+        request,
+        list: controls(list),
     }
 }
 
@@ -60,10 +89,7 @@ pub fn ask_of(command: Command, names: &Bindings) -> Ask {
 fn which_of(which: WhichWord, names: &Bindings) -> (u32, Option<RequestId>) {
     match which {
         WhichWord::Number(number) => (number, None),
-        WhichWord::Request(name) => {
-            let id = RequestId(names.requests.id_of(name));
-            (REQUEST_VALUES, Some(id))
-        }
+        WhichWord::Request(name) => (REQUEST_VALUES, Some(names.request(name))),
     }
 }
 

@@ -14,6 +14,8 @@ pub enum Binding {
     None,
     /// A file handle.
     FileHandle(Name),
+    /// A request.
+    Request(Name),
 }
 
 impl Binding {
@@ -23,6 +25,7 @@ impl Binding {
     {
         match command {
             Command::Open { fh, .. } => Binding::FileHandle(*fh),
+            Command::Alloc { request } => Binding::Request(*request),
             _ => Binding::None,
         }
     }
@@ -32,13 +35,18 @@ impl Binding {
         match self {
             Binding::None => Ok(()),
             Binding::FileHandle(name) => names.file_handles.enter(name),
+            Binding::Request(name) => names.requests.enter(name),
         }
     }
 
     /// Binds what the answer gives. A refused command binds nothing, and an earlier binding stays.
     pub fn bind(self, names: &mut Bindings, answer: &Result<Reply, Fault>) {
-        if let (Binding::FileHandle(name), Ok(Reply::Fh(fh))) = (self, answer) {
-            names.file_handles.bind(name, fh.0);
+        match (self, answer) {
+            (Binding::FileHandle(name), Ok(Reply::Fh(fh))) => names.file_handles.bind(name, fh.0),
+            (Binding::Request(name), Ok(Reply::Request(request))) => {
+                names.requests.bind(name, request.0)
+            }
+            _ => {}
         }
     }
 }

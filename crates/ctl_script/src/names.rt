@@ -1,4 +1,4 @@
-use ctrl_types::FhId;
+use ctrl_types::{FhId, RequestId};
 use indexmap::IndexMap;
 use script_lines::Name;
 use std::alloc::{AllocError, Global};
@@ -62,5 +62,10 @@ impl Bindings {
     /// The file handle that a name stands for.
     pub fn fh(&self, name: Name) -> FhId {
         FhId(self.file_handles.id_of(name))
+    }
+
+    /// The request that a name stands for.
+    pub fn request(&self, name: Name) -> RequestId {
+        RequestId(self.requests.id_of(name))
     }
 }

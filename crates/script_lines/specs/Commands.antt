@@ -9,7 +9,7 @@ use Rattle.sample_device.specs.Words.{sample_number}
 use Rattle.script_lines.specs.Lexemes.{after, control_id, decimal_i64, decimal_u32, hexadecimal_u32}
 use Rattle.script_lines.specs.Names.{name_of}
 use Rattle.script_lines.specs.declared.command.Command.{Command}
-use Rattle.script_lines.specs.declared.command.Command.TheVariants.{Open, Close, Get, Set, Try, Grab, Query, Next, Menu, Told}
+use Rattle.script_lines.specs.declared.command.Command.TheVariants.{Open, Close, Get, Set, Try, Grab, Query, Next, Menu, Told, Alloc, Buffer, Queue, Cancel, Reinit, Free, State, Begin, Complete, Off}
 use Rattle.script_lines.specs.declared.command.WhichWord.{WhichWord}
 use Rattle.script_lines.specs.declared.command.WhichWord.TheVariants.{Number, Request}
 use Rattle.script_lines.specs.declared.fault.LineFault.{LineFault}
@@ -17,6 +17,8 @@ use Rattle.script_lines.specs.declared.fault.LineFault.TheVariants.{NotACommand,
 use Rattle.script_lines.specs.declared.name.Name.{Name}
 use Rattle.script_lines.specs.declared.parse.EntryForm.{EntryForm}
 use Rattle.script_lines.specs.declared.parse.EntryForm.TheVariants.{Control, ControlWithValue}
+use Rattle.script_lines.specs.declared.parse.RequestVerb.{RequestVerb}
+use Rattle.script_lines.specs.declared.parse.RequestVerb.TheVariants as request_verbs
 use Rattle.script_lines.specs.declared.parse.Verb.{Verb}
 use Rattle.script_lines.specs.declared.parse.Verb.TheVariants as verbs
 
@@ -150,13 +152,49 @@ abbrev pub told_of : List (List ℕ) → Option Command
 told_of (cluster ∷ []) = option_map (λ n. Told n) (decimal_u32 cluster)
 told_of _ = None
 
+abbrev pub buffer_parts : Option Name → Option ℕ → Option Command
+buffer_parts (Some request) (Some buffer) = Some (Buffer request buffer)
+buffer_parts (Some request) None = None
+buffer_parts None buffer = None
+
+-- the operands of `buffer`
+abbrev pub buffer_of : List (List ℕ) → Option Command
+buffer_of (request ∷ buffer ∷ []) = buffer_parts (name_of request) (decimal_u32 buffer)
+buffer_of _ = None
+
+-- the command of a verb on the request with this name
+abbrev pub on_request : RequestVerb → Name → Command
+on_request request_verbs.Alloc request = Alloc request
+on_request request_verbs.Queue request = Queue request
+on_request request_verbs.Cancel request = Cancel request
+on_request request_verbs.Reinit request = Reinit request
+on_request request_verbs.Free request = Free request
+on_request request_verbs.State request = State request
+
+-- the operand of a command with a request and nothing else
+abbrev pub request_of : RequestVerb → List (List ℕ) → Option Command
+request_of verb (request ∷ []) = option_map (λ name. on_request verb name) (name_of request)
+request_of verb _ = None
+
+-- a command that has no operand
+abbrev pub bare_of : Command → List (List ℕ) → Option Command
+bare_of command [] = Some command
+bare_of command _ = None
+
 -- the first words of commands
 abbrev pub verb_words : List (List ℕ)
-verb_words = codes "open" ∷ codes "close" ∷ codes "get" ∷ codes "set" ∷ codes "try" ∷ codes "grab" ∷ codes "query" ∷ codes "next" ∷ codes "menu" ∷ codes "told" ∷ []
+verb_words =
+    codes "open" ∷ codes "close" ∷ codes "get" ∷ codes "set" ∷ codes "try" ∷ codes "grab" ∷ codes "query" ∷ codes "next" ∷ codes "menu" ∷ codes "told"
+    ∷ codes "alloc" ∷ codes "buffer" ∷ codes "queue" ∷ codes "cancel" ∷ codes "reinit" ∷ codes "free" ∷ codes "state" ∷ codes "begin" ∷ codes "complete"
+    ∷ codes "off" ∷ []
 
 -- what they stand for, in the same order
 abbrev pub verbs_meant : List Verb
-verbs_meant = verbs.Open ∷ verbs.Close ∷ verbs.Get ∷ verbs.Set ∷ verbs.Try ∷ verbs.Grab ∷ verbs.Query ∷ verbs.Next ∷ verbs.Menu ∷ verbs.Told ∷ []
+verbs_meant =
+    verbs.Open ∷ verbs.Close ∷ verbs.Get ∷ verbs.Set ∷ verbs.Try ∷ verbs.Grab ∷ verbs.Query ∷ verbs.Next ∷ verbs.Menu ∷ verbs.Told
+    ∷ verbs.OfRequest request_verbs.Alloc ∷ verbs.Buffer ∷ verbs.OfRequest request_verbs.Queue ∷ verbs.OfRequest request_verbs.Cancel
+    ∷ verbs.OfRequest request_verbs.Reinit ∷ verbs.OfRequest request_verbs.Free ∷ verbs.OfRequest request_verbs.State ∷ verbs.Begin ∷ verbs.Complete
+    ∷ verbs.Off ∷ []
 
 -- what the first word of a command stands for
 abbrev pub verb_of : List ℕ → Option Verb
@@ -174,6 +212,11 @@ command_of (Some verbs.Query) operands = query_of operands
 command_of (Some verbs.Next) operands = next_of operands
 command_of (Some verbs.Menu) operands = menu_of operands
 command_of (Some verbs.Told) operands = told_of operands
+command_of (Some verbs.Buffer) operands = buffer_of operands
+command_of (Some (verbs.OfRequest verb)) operands = request_of verb operands
+command_of (Some verbs.Begin) operands = bare_of Begin operands
+command_of (Some verbs.Complete) operands = bare_of Complete operands
+command_of (Some verbs.Off) operands = bare_of Off operands
 command_of None operands = None
 
 -- What was read of a line is what it writes; only want of memory may take its place.

@@ -88,4 +88,47 @@ pub enum Command {
         /// The cluster's number.
         cluster: u32,
     },
+    /// `alloc REQ`: makes a media request.
+    Alloc {
+        /// What the request is called.
+        request: Name,
+    },
+    /// `buffer REQ N`: gives a request a buffer.
+    Buffer {
+        /// The request.
+        request: Name,
+        /// The buffer's number.
+        buffer: u32,
+    },
+    /// `queue REQ`: queues a request.
+    Queue {
+        /// The request.
+        request: Name,
+    },
+    /// `cancel REQ`: takes a request out of the queue.
+    Cancel {
+        /// The request.
+        request: Name,
+    },
+    /// `reinit REQ`: makes a request as new.
+    Reinit {
+        /// The request.
+        request: Name,
+    },
+    /// `free REQ`: gives a request up.
+    Free {
+        /// The request.
+        request: Name,
+    },
+    /// `state REQ`: reads the state of a request.
+    State {
+        /// The request.
+        request: Name,
+    },
+    /// `begin`: begins the frame of the first request that is queued.
+    Begin,
+    /// `complete`: completes the frame that is being made.
+    Complete,
+    /// `off`: ends the stream.
+    Off,
 }

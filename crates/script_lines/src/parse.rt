@@ -1,5 +1,5 @@
 ghost use Rattle.std.specs.Prelude.{◌≡◌, ◌+◌, ◌<◌, ◌≤◌, ◌^◌, ◌∷◌, ◌==◌, length, map, position, vec_len, IfOk, IfSome};
-ghost use Rattle.script_lines.specs.Commands.{IsRead, words as words_in, line_of, command_of, verb_of, open_of, close_of, grab_of, on_or_off as on_or_off_of, query_of, next_of, menu_of, told_of, list_command_of, which_of, fixed_which_of, entry_of, entry_at, list_of};
+ghost use Rattle.script_lines.specs.Commands.{IsRead, words as words_in, line_of, command_of, verb_of, open_of, close_of, grab_of, on_or_off as on_or_off_of, query_of, next_of, menu_of, told_of, buffer_of, request_of, on_request, bare_of, list_command_of, which_of, fixed_which_of, entry_of, entry_at, list_of};
 ghost use Rattle.script_lines.specs.declared.command.Command.TheVariants as commands;
 
 use crate::command::{Command, WhichWord};
@@ -62,14 +62,49 @@ enum Verb {
     Next,
     Menu,
     Told,
+    Buffer,
+    OfRequest(RequestVerb),
+    Begin,
+    Complete,
+    Off,
+}
+
+// Those of commands with a request and nothing else.
+#[derive(Clone, Copy, Debug, PartialEq, Eq)]
+enum RequestVerb {
+    Alloc,
+    Queue,
+    Cancel,
+    Reinit,
+    Free,
+    State,
 }
 
 // The words that stand for them, in the same order as `VERBS`.
-const VERB_WORDS: [&[u8]; 10] = [
-    b"open", b"close", b"get", b"set", b"try", b"grab", b"query", b"next", b"menu", b"told",
+const VERB_WORDS: [&[u8]; 20] = [
+    b"open",
+    b"close",
+    b"get",
+    b"set",
+    b"try",
+    b"grab",
+    b"query",
+    b"next",
+    b"menu",
+    b"told",
+    b"alloc",
+    b"buffer",
+    b"queue",
+    b"cancel",
+    b"reinit",
+    b"free",
+    b"state",
+    b"begin",
+    b"complete",
+    b"off",
 ];
 
-const VERBS: [Verb; 10] = [
+const VERBS: [Verb; 20] = [
     Verb::Open,
     Verb::Close,
     Verb::Get,
@@ -80,6 +115,16 @@ const VERBS: [Verb; 10] = [
     Verb::Next,
     Verb::Menu,
     Verb::Told,
+    Verb::OfRequest(RequestVerb::Alloc),
+    Verb::Buffer,
+    Verb::OfRequest(RequestVerb::Queue),
+    Verb::OfRequest(RequestVerb::Cancel),
+    Verb::OfRequest(RequestVerb::Reinit),
+    Verb::OfRequest(RequestVerb::Free),
+    Verb::OfRequest(RequestVerb::State),
+    Verb::Begin,
+    Verb::Complete,
+    Verb::Off,
 ];
 
 fn read_verb(word: &[u8]) -> Option<Verb>
@@ -104,6 +149,11 @@ fn read_command(alloc: Global, verb: &[u8], operands: &[&[u8]]) -> Result<Comman
         Some(Verb::Next) => read_next(operands),
         Some(Verb::Menu) => read_menu(operands),
         Some(Verb::Told) => read_told(operands),
+        Some(Verb::Buffer) => read_buffer(operands),
+        Some(Verb::OfRequest(verb)) => read_of_request(verb, operands),
+        Some(Verb::Begin) => read_bare(Command::Begin, operands),
+        Some(Verb::Complete) => read_bare(Command::Complete, operands),
+        Some(Verb::Off) => read_bare(Command::Off, operands),
         None => Err(LineFault::NotACommand),
     }
 }
@@ -199,6 +249,53 @@ fn read_told(operands: &[&[u8]]) -> Result<Command, LineFault>
     match decimal_u32(*cluster) {
         Some(cluster) => Ok(Command::Told { cluster }),
         None => Err(LineFault::NotACommand),
+    }
+}
+
+fn read_buffer(operands: &[&[u8]]) -> Result<Command, LineFault>
+    ensures { IsRead result (buffer_of (map (λ w. w.now) operands.now)) }
+{
+    let [request, buffer] = operands else {
+        return Err(LineFault::NotACommand);
+    };
+    match (Name::read(*request), decimal_u32(*buffer)) {
+        (Some(request), Some(buffer)) => Ok(Command::Buffer { request, buffer }),
+        _ => Err(LineFault::NotACommand),
+    }
+}
+
+fn read_of_request(verb: RequestVerb, operands: &[&[u8]]) -> Result<Command, LineFault>
+    ensures { IsRead result (request_of verb (map (λ w. w.now) operands.now)) }
+{
+    let [request] = operands else {
+        return Err(LineFault::NotACommand);
+    };
+    match Name::read(*request) {
+        Some(request) => Ok(command_on(verb, request)),
+        None => Err(LineFault::NotACommand),
+    }
+}
+
+fn command_on(verb: RequestVerb, request: Name) -> Command
+    ensures { result ≡ on_request verb request }
+{
+    match verb {
+        RequestVerb::Alloc => Command::Alloc { request },
+        RequestVerb::Queue => Command::Queue { request },
+        RequestVerb::Cancel => Command::Cancel { request },
+        RequestVerb::Reinit => Command::Reinit { request },
+        RequestVerb::Free => Command::Free { request },
+        RequestVerb::State => Command::State { request },
+    }
+}
+
+// A command without operands.
+fn read_bare(command: Command, operands: &[&[u8]]) -> Result<Command, LineFault>
+    ensures { IsRead result (bare_of command (map (λ w. w.now) operands.now)) }
+{
+    match operands {
+        [] => Ok(command),
+        _ => Err(LineFault::NotACommand),
     }
 }
 

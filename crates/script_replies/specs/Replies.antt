@@ -9,9 +9,11 @@ use Rattle.ctrl_types.specs.declared.ids.CtrlId.{CtrlId}
 use Rattle.ctrl_types.specs.declared.ids.ExtControl.{ExtControl}
 use Rattle.menu_items.specs.declared.item.MenuItem.{MenuItem}
 use Rattle.menu_items.specs.declared.item.MenuItem.TheVariants.{Name, Number}
+use Rattle.req_book.specs.declared.state.RequestState.{RequestState}
+use Rattle.req_book.specs.declared.state.RequestState.TheVariants.{Idle, Queued, Running, Complete}
 use Rattle.device_history.specs.declared.info.CtrlInfo.{CtrlInfo}
 use Rattle.device_history.specs.declared.ask.Reply.{Reply}
-use Rattle.device_history.specs.declared.ask.Reply.TheVariants.{Fh, Done, Controls, Info, Id, Item, Word}
+use Rattle.device_history.specs.declared.ask.Reply.TheVariants.{Fh, Done, Controls, Request, State, Frame, Info, Id, Item, Word}
 use Rattle.script_replies.specs.declared.outcome.Outcome.{Outcome}
 use Rattle.script_replies.specs.declared.outcome.Outcome.TheVariants.{Finished, BadLine, TooLong, ReadFault, WriteFault, NoSecond, Memory}
 
@@ -51,15 +53,42 @@ abbrev pub item_text : MenuItem → List ℕ
 item_text (Name name) = name
 item_text (Number number) = signed_decimal number
 
+-- the state of a request
+abbrev pub state_line : RequestState → List ℕ
+state_line Idle = codes "ok idle\n"
+state_line Queued = codes "ok queued\n"
+state_line Running = codes "ok running\n"
+state_line Complete = codes "ok complete\n"
+
+-- a number behind a comma
+abbrev pub further_text : ℕ → List ℕ
+further_text cluster = 44 ∷ decimal cluster
+
+-- numbers of clusters, joined by commas; where there is none, `-`
+abbrev pub clusters_text : List ℕ → List ℕ
+clusters_text [] = codes "-"
+clusters_text (first ∷ more) = decimal first ++ flat_map further_text more
+
+-- a frame that was begun: its buffer, and the clusters that were refused
+abbrev pub frame_line : ℕ → List ℕ → List ℕ
+frame_line buffer refused = codes "ok buffer " ++ (decimal buffer ++ (codes " refused " ++ (clusters_text refused ++ codes "\n")))
+
+-- the line of a reply
+abbrev pub line_of : Reply → List ℕ
+line_of (Fh fh) = codes "ok\n"
+line_of Done = codes "ok\n"
+line_of (Controls list) = codes "ok" ++ (flat_map value_text list ++ codes "\n")
+line_of (Request request) = codes "ok\n"
+line_of (State state) = state_line state
+line_of (Frame request buffer refused) = frame_line buffer refused
+line_of (Info info) = info_line info
+line_of (Id id) = codes "ok " ++ (id_text id ++ codes "\n")
+line_of (Item item) = codes "ok " ++ (item_text item ++ codes "\n")
+line_of (Word word) = codes "ok " ++ (decimal word ++ codes "\n")
+
 -- the line of an answer
 abbrev pub answer_line : Result Reply Fault → List ℕ
-answer_line (Ok (Fh fh)) = codes "ok\n"
-answer_line (Ok Done) = codes "ok\n"
-answer_line (Ok (Controls list)) = codes "ok" ++ (flat_map value_text list ++ codes "\n")
-answer_line (Ok (Info info)) = info_line info
-answer_line (Ok (Id id)) = codes "ok " ++ (id_text id ++ codes "\n")
-answer_line (Ok (Item item)) = codes "ok " ++ (item_text item ++ codes "\n")
-answer_line (Ok (Word word)) = codes "ok " ++ (decimal word ++ codes "\n")
+answer_line (Ok reply) = line_of reply
 answer_line (Err fault) = refusal_line (errno_number fault.errno) fault.index
 
 -- the line of an outcome; some print none

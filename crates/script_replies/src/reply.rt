@@ -1,14 +1,15 @@
-ghost use Rattle.std.specs.Prelude.{◌≡◌, OnOk, ◌++◌, codes};
+ghost use Rattle.std.specs.Prelude.{◌≡◌, OnOk, ◌++◌, ◌∷◌, codes};
 ghost use Rattle.std.specs.Io.KnownBytes.{Appends};
 ghost use Rattle.std.specs.List.{flat_map};
 ghost use Rattle.ctrl_types.specs.Numbers.{errno_number};
-ghost use Rattle.script_replies.specs.Replies.{answer_line, info_line, id_text, item_text, range_text, flags_text, outcome_line, refusal_line, value_text};
+ghost use Rattle.script_replies.specs.Replies.{answer_line, clusters_text, flags_text, frame_line, further_text, id_text, info_line, item_text, line_of, outcome_line, range_text, refusal_line, state_line, value_text};
 
 use crate::outcome::Outcome;
 use bitflags::Flags as FlagSet;
 use ctrl_handlers::MenuItem;
 use ctrl_types::{CtrlId, ExtControl, Fault, Flags};
 use device_history::{CtrlInfo, Reply};
+use req_book::RequestState;
 use std::io;
 use std::io::Write;
 
@@ -17,16 +18,30 @@ pub fn print_answer<W: Write>(out: &mut W, answer: &Result<Reply, Fault>) -> io:
     ensures { OnOk result (Appends (W.contents out.old) (W.contents out.new) (answer_line answer.now)) }
 {
     match answer {
-        Ok(Reply::Fh(_) | Reply::Done) => writeln!(out, "ok"),
-        Ok(Reply::Controls(list)) => print_values(out, list.as_slice()),
-        Ok(Reply::Info(info)) => print_info(out, *info),
-        Ok(Reply::Id(id)) => print_next(out, *id),
-        Ok(Reply::Item(item)) => print_item(out, item),
-        Ok(Reply::Word(word)) => {
+        Ok(reply) => print_reply(out, reply),
+        Err(fault) => print_fault(out, *fault),
+    }
+}
+
+fn print_reply<W: Write>(out: &mut W, reply: &Reply) -> io::Result<()>
+    ensures { OnOk result (Appends (W.contents out.old) (W.contents out.new) (line_of reply.now)) }
+{
+    match reply {
+        Reply::Fh(_) | Reply::Done | Reply::Request(_) => writeln!(out, "ok"),
+        Reply::Controls(list) => print_values(out, list.as_slice()),
+        Reply::State(state) => print_state(out, *state),
+        Reply::Frame {
+            buffer,
+            refused,
+            ..
+        } => print_frame(out, *buffer, refused.as_slice()),
+        Reply::Info(info) => print_info(out, *info),
+        Reply::Id(id) => print_next(out, *id),
+        Reply::Item(item) => print_item(out, item),
+        Reply::Word(word) => {
             let word = *word;
             writeln!(out, "ok {word}")
         }
-        Err(fault) => print_fault(out, *fault),
     }
 }
 
@@ -39,6 +54,48 @@ fn print_values<W: Write>(out: &mut W, list: &[ExtControl]) -> io::Result<()>
         write!(out, " {value}")?;
     }
     writeln!(out)
+}
+
+// The state of a request.
+fn print_state<W: Write>(out: &mut W, state: RequestState) -> io::Result<()>
+    ensures { OnOk result (Appends (W.contents out.old) (W.contents out.new) (state_line state)) }
+{
+    match state {
+        RequestState::Idle => writeln!(out, "ok idle"),
+        RequestState::Queued => writeln!(out, "ok queued"),
+        RequestState::Running => writeln!(out, "ok running"),
+        RequestState::Complete => writeln!(out, "ok complete"),
+    }
+}
+
+// A frame that was begun: its buffer, and the clusters that were refused.
+fn print_frame<W: Write>(out: &mut W, buffer: u32, refused: &[u32]) -> io::Result<()>
+    ensures { OnOk result (Appends (W.contents out.old) (W.contents out.new) (frame_line buffer refused.now)) }
+{
+    write!(out, "ok buffer {buffer} refused ")?;
+    print_clusters(out, refused)?;
+    writeln!(out)
+}
+
+// Numbers of clusters, joined by commas; where there is none, `-`.
+fn print_clusters<W: Write>(out: &mut W, clusters: &[u32]) -> io::Result<()>
+    ensures { OnOk result (Appends (W.contents out.old) (W.contents out.new) (clusters_text clusters.now)) }
+{
+    match clusters {
+        [] => write!(out, "-"),
+        [first, more @ ..] => print_joined(out, *first, more),
+    }
+}
+
+fn print_joined<W: Write>(out: &mut W, first: u32, more: &[u32]) -> io::Result<()>
+    ensures { OnOk result (Appends (W.contents out.old) (W.contents out.new) (clusters_text (first ∷ more.now))) }
+{
+    write!(out, "{first}")?;
+    for cluster in more {
+        let cluster = *cluster;
+        write!(out, ",{cluster}")?;
+    }
+    Ok(())
 }
 
 fn print_info<W: Write>(out: &mut W, info: CtrlInfo) -> io::Result<()>

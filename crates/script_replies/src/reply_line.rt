@@ -14,7 +14,7 @@ use std::io::{ErrorKind, Write};
 use std::marker::Model;
 
 /// How many bytes a reply line may have: 72 for each control that a device can have, and 64 beside them. The longest is that of a list,
-/// `ok` and at most 21 bytes for each of at most 64 values.
+/// `ok` and at most 21 bytes for each of at most 64 values; that of a frame has at most 29 bytes and 4 for each of at most 256 clusters.
 pub const MAX_LINE: usize = 64 + 72 * MAX_CONTROLS as usize;
 
 /// Where a reply line is put together, so that it is written at once. Contracts see the bytes so far.

@@ -3,6 +3,7 @@
 use ctrl_lists::ControlList;
 use ctrl_types::{CtrlId, Errno, ExtControl, Fault};
 use device_history::Reply;
+use req_book::RequestState;
 use script_replies::{Outcome, ReplyLine, write_answer, write_no_memory, write_outcome};
 use std::alloc::Global;
 use std::io;
@@ -43,6 +44,7 @@ enum Line {
     Done,
     NoValues,
     Values(i64, i64),
+    State(RequestState),
     Next(u32),
     Word(u64),
     Refused(Errno, Option<u32>),
@@ -67,6 +69,10 @@ const CASES: &[Case] = &[
     Case::Whole(Line::Done, b"ok\n"),
     Case::Whole(CUT, b"ok -64 250\n"),
     Case::Whole(Line::NoValues, b"ok\n"),
+    Case::Whole(Line::State(RequestState::Idle), b"ok idle\n"),
+    Case::Whole(Line::State(RequestState::Queued), b"ok queued\n"),
+    Case::Whole(Line::State(RequestState::Running), b"ok running\n"),
+    Case::Whole(Line::State(RequestState::Complete), b"ok complete\n"),
     Case::Whole(Line::Next(0x0098_0900), b"ok 0x00980900\n"),
     Case::Whole(Line::Word(u64::MAX), b"ok 18446744073709551615\n"),
     Case::Whole(Line::Refused(Errno::ENOENT, None), b"error 2\n"),
@@ -100,6 +106,7 @@ fn write_line(
             let list = vec![in alloc; entry(first), entry(second)]?;
             Ok(Reply::Controls(ControlList::from_vec(list)))
         }
+        Line::State(state) => Ok(Reply::State(state)),
         Line::Next(id) => Ok(Reply::Id(CtrlId(id))),
         Line::Word(word) => Ok(Reply::Word(word)),
         Line::Refused(errno, index) => Err(Fault { errno, index }),

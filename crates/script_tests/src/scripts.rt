@@ -47,6 +47,42 @@ const COMMANDS: Script = Script {
     outcome: Outcome::Finished,
 };
 
+/// Each command on requests and frames.
+const REQUESTS: Script = Script {
+    kept: Kept::Sample,
+    lines: &[
+        ("open f 1", "ok", true),
+        ("alloc r", "ok", true),
+        ("alloc s", "ok", true),
+        ("set f req:r red=200 brightness=6", "ok 200 8", true),
+        ("set f req:r", "ok", true),
+        ("try f req:r blue=7 red=9", "ok 7 9", false),
+        ("set f req:s gain=7", "ok 7", true),
+        ("buffer r 1", "ok", true),
+        ("buffer s 1", "error 16", false),
+        ("buffer s 2", "ok", true),
+        ("queue r", "ok", true),
+        ("queue s", "ok", true),
+        ("state r", "ok queued", false),
+        ("set f req:r red=1", "error 16 index 1", false),
+        ("grab red on", "ok", true),
+        ("begin", "ok buffer 1 refused 1", true),
+        ("begin", "error 16", false),
+        ("complete", "ok", true),
+        ("get f req:r red brightness", "ok 128 8", false),
+        ("cancel s", "ok", true),
+        ("get f req:s gain", "ok 16", false),
+        ("reinit r", "ok", true),
+        ("off", "ok", true),
+        ("free s", "ok", true),
+        ("state s", "error 22", false),
+        ("alloc s", "ok", true),
+        ("state s", "ok idle", false),
+    ],
+    is_cut: false,
+    outcome: Outcome::Finished,
+};
+
 /// The last line is cut off inside a word.
 const CUT: Script = Script {
     kept: Kept::Sample,
@@ -80,7 +116,7 @@ const ITEMS: Script = Script {
 };
 
 /// Each script.
-pub const SCRIPTS: &[Script] = &[COMMANDS, CUT, ITEMS];
+pub const SCRIPTS: &[Script] = &[COMMANDS, REQUESTS, CUT, ITEMS];
 
 impl Script {
     /// Its bytes. The line with the number `left_out`, from 0, is empty in place of a command.
