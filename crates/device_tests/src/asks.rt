@@ -1,9 +1,11 @@
 //! Asks and their answers as data.
 
 use crate::closures::Counting;
+use crate::looks::Look;
 use bitflags::Flags as FlagSet;
-use ctrl_types::{CtrlId, Errno, ExtControl, Fault, FhId, Kind, RequestId};
+use ctrl_types::{CtrlId, Errno, ExtControl, Fault, FhId, Kind, Pair, RequestId};
 use device_state::{Ask, ControlList, CtrlInfo, Device, MenuItem, Reply, Step};
+use frame_queue::RequestState;
 use std::alloc::{AllocError, Global};
 
 /// What is asked of a list.
@@ -41,6 +43,24 @@ pub enum Question {
     /// A list of ids and values, in each of these forms.
     List(&'static [Form], At, &'static [(u32, i64)]),
     Grab(u32, bool),
+    /// So many requests that are made.
+    Alloc(u32),
+    /// A request and the number of its buffer.
+    Buffer(u32, u32),
+    Queue(u32),
+    Begin,
+    Complete,
+    Cancel(u32),
+    StreamOff,
+    Reinit(u32),
+    Free(u32),
+    State(u32),
+    /// So many requests, down to 0, each of which is given the buffer of its own number and queued.
+    Wait(u32),
+    /// So many frames, each of which is begun and ended.
+    Run(u32),
+    /// No ask: what the readers of requests and frames tell.
+    See(&'static [Look]),
     Query(u32, u32),
     Next(u32, u32),
     Item(u32, u32, u32),
@@ -56,6 +76,14 @@ pub enum Want {
     /// The file handle whose id is the number of the step.
     Opened,
     Done,
+    /// The request whose id is the number of the step.
+    Made,
+    State(RequestState),
+    /// The frame of a request, with its buffer, and the clusters that are refused.
+    Frame(u32, u32, &'static [u32]),
+    /// The end of a frame; or a frame that refuses no cluster, whose request has the number of its buffer: twice that and the number of the
+    /// step make this sum.
+    Turn(usize),
     /// The controls of the list, in order, with these values.
     Values(&'static [i64]),
     Info(Info),
@@ -83,8 +111,19 @@ impl Question {
     pub fn count(&self) -> usize {
         match *self {
             Question::Open(_, count) => count as usize,
+            Question::Alloc(count) => count as usize,
             Question::List(forms, _, _) => forms.len(),
+            Question::Wait(count) | Question::Run(count) => (count as usize).saturating_mul(2),
+            Question::See(_) => 0,
             _ => 1,
+        }
+    }
+
+    /// The looks, where it is some.
+    pub fn looks(&self) -> &'static [Look] {
+        match *self {
+            Question::See(looks) => looks,
+            _ => &[],
         }
     }
 
@@ -97,6 +136,37 @@ impl Question {
                 return list_ask(alloc, form_at(forms, number), at, pairs);
             }
             Question::Grab(control, on) => Ask::Grab { control, on },
+            Question::Alloc(_) => Ask::Alloc,
+            Question::Buffer(request, buffer) => Ask::AddBuffer {
+                request: RequestId(request),
+                buffer,
+            },
+            Question::Queue(request) => Ask::Queue {
+                request: RequestId(request),
+            },
+            Question::Begin => Ask::Begin,
+            Question::Complete => Ask::Complete,
+            Question::Cancel(request) => Ask::Cancel {
+                request: RequestId(request),
+            },
+            Question::Wait(count) => wait_ask(count, number),
+            Question::Run(_) => {
+                if number % 2 == 0 {
+                    Ask::Begin
+                } else {
+                    Ask::Complete
+                }
+            }
+            Question::StreamOff | Question::See(_) => Ask::StreamOff,
+            Question::Reinit(request) => Ask::Reinit {
+                request: RequestId(request),
+            },
+            Question::Free(request) => Ask::Free {
+                request: RequestId(request),
+            },
+            Question::State(request) => Ask::StateOf {
+                request: RequestId(request),
+            },
             Question::Query(fh, id) => Ask::Query {
                 fh: FhId(fh),
                 id: CtrlId(id),
@@ -112,6 +182,17 @@ impl Question {
             },
             Question::Told(cluster) => Ask::Told { cluster },
         })
+    }
+}
+
+fn wait_ask(count: u32, number: usize) -> Ask {
+    let place = u32::try_from(number / 2).unwrap_or(0);
+    let buffer = count.wrapping_sub(1).wrapping_sub(place);
+    let request = RequestId(buffer);
+    if number % 2 == 0 {
+        Ask::AddBuffer { request, buffer }
+    } else {
+        Ask::Queue { request }
     }
 }
 
@@ -213,12 +294,30 @@ pub fn is_wanted(ask: &Ask, answer: &Result<Reply, Fault>, want: Want, number: u
 fn is_reply(ask: &Ask, reply: &Reply, want: Want, number: usize) -> bool {
     match reply {
         Reply::Fh(fh) => matches!(want, Want::Opened) && fh.0 as usize == number,
-        Reply::Done => matches!(want, Want::Done),
+        Reply::Done => matches!(want, Want::Done | Want::Turn(_)),
         Reply::Controls(list) => match want {
             Want::Values(values) => match list_in(ask) {
                 Some(entries) => has_values(entries.as_slice(), list.as_slice(), values),
                 None => false,
             },
+            _ => false,
+        },
+        Reply::Request(request) => matches!(want, Want::Made) && request.0 as usize == number,
+        Reply::State(state) => matches!(want, Want::State(wanted) if *state == wanted),
+        Reply::Frame {
+            request,
+            buffer,
+            refused,
+        } => match want {
+            Want::Frame(wanted, held, clusters) => {
+                request.0 == wanted && *buffer == held && refused.as_slice() == clusters
+            }
+            Want::Turn(sum) => {
+                let double = (request.0 as usize).wrapping_mul(2);
+                double.wrapping_add(number) == sum
+                    && *buffer == request.0
+                    && refused.as_slice().is_empty()
+            }
             _ => false,
         },
         Reply::Info(info) => is_info(info, want),
@@ -278,7 +377,7 @@ pub fn is_refused_growth(ask: &Ask, answer: &Result<Reply, Fault>) -> bool {
 fn takes_memory(ask: &Ask) -> bool {
     match ask {
         Ask::GetCtrls { list, .. } | Ask::TryCtrls { list, .. } => list.len() > 0,
-        Ask::Query { .. } | Ask::NextId { .. } | Ask::Told { .. } => false,
+        Ask::StateOf { .. } | Ask::Query { .. } | Ask::NextId { .. } | Ask::Told { .. } => false,
         _ => true,
     }
 }
@@ -316,38 +415,90 @@ fn has_values(asked: &[ExtControl], answered: &[ExtControl], values: &[i64]) -> 
 
 /// Whether an accepted ask adds a step.
 pub fn is_step(ask: &Ask) -> bool {
-    matches!(
+    !matches!(
         ask,
-        Ask::OpenFh { .. } | Ask::CloseFh { .. } | Ask::SetCtrls { .. } | Ask::Grab { .. }
+        Ask::GetCtrls { .. }
+            | Ask::TryCtrls { .. }
+            | Ask::StateOf { .. }
+            | Ask::Query { .. }
+            | Ask::NextId { .. }
+            | Ask::MenuItem { .. }
+            | Ask::Told { .. }
     )
 }
 
-/// Whether a step is the one that the ask adds: a set keeps the values as they were given, each under its control's number.
+/// Whether a step is the one that the ask added: a set keeps the values as they were given, each under its control's number. The request
+/// of a begin runs then, and that of a completion is complete.
 pub fn is_step_of(device: &Device<Counting>, step: &Step, ask: &Ask) -> bool {
-    match step {
-        Step::OpenFh { handler } => {
-            matches!(ask, Ask::OpenFh { handler: asked } if asked == handler)
+    match ask {
+        Ask::SetCtrls {
+            fh,
+            which,
+            request,
+            list,
+        } => {
+            let named = if *which == 0x0f01_0000 {
+                *request
+            } else {
+                None
+            };
+            let place = match named {
+                Some(request) => (5, request.0, 0),
+                None => (3, fh.0, 0),
+            };
+            kind_of(step) == place && has_pairs(device, pairs_of(step), list.as_slice())
         }
-        Step::CloseFh { fh } => matches!(ask, Ask::CloseFh { fh: asked } if asked == fh),
-        Step::Grab { control, on } => {
-            matches!(ask, Ask::Grab { control: asked, on: way } if asked == control && way == on)
-        }
-        Step::Set { fh, pairs } => match ask {
-            Ask::SetCtrls {
-                fh: asked,
-                list,
-                ..
-            } => asked == fh && has_pairs(device, pairs.as_slice(), list.as_slice()),
+        Ask::OpenFh { handler } => kind_of(step) == (0, *handler, 0),
+        Ask::CloseFh { fh } => kind_of(step) == (1, fh.0, 0),
+        Ask::Grab { control, on } => kind_of(step) == (2, *control, u32::from(*on)),
+        Ask::Alloc => kind_of(step) == (4, 0, 0),
+        Ask::AddBuffer { request, buffer } => kind_of(step) == (6, request.0, *buffer),
+        Ask::Queue { request } => kind_of(step) == (7, request.0, 0),
+        Ask::Begin => match device.running() {
+            Some(request) => kind_of(step) == (8, request.0, 0),
+            None => false,
+        },
+        Ask::Complete => match step {
+            Step::Complete { request } => device.state_of(*request) == Ok(RequestState::Complete),
             _ => false,
         },
+        Ask::Cancel { request } => kind_of(step) == (10, request.0, 0),
+        Ask::StreamOff => kind_of(step) == (11, 0, 0),
+        Ask::Reinit { request } => kind_of(step) == (12, request.0, 0),
+        Ask::Free { request } => kind_of(step) == (13, request.0, 0),
+        _ => false,
     }
 }
 
-fn has_pairs(
-    device: &Device<Counting>,
-    pairs: &[ctrl_types::Pair],
-    entries: &[ExtControl],
-) -> bool {
+/// A number for the kind of a step, and what it names beside its pairs.
+pub fn kind_of(step: &Step) -> (u32, u32, u32) {
+    match step {
+        Step::OpenFh { handler } => (0, *handler, 0),
+        Step::CloseFh { fh } => (1, fh.0, 0),
+        Step::Grab { control, on } => (2, *control, u32::from(*on)),
+        Step::Set { fh, .. } => (3, fh.0, 0),
+        Step::Alloc => (4, 0, 0),
+        Step::Store { request, .. } => (5, request.0, 0),
+        Step::Buffer { request, buffer } => (6, request.0, *buffer),
+        Step::Queue { request } => (7, request.0, 0),
+        Step::Begin { request } => (8, request.0, 0),
+        Step::Complete { request } => (9, request.0, 0),
+        Step::Cancel { request } => (10, request.0, 0),
+        Step::StreamOff => (11, 0, 0),
+        Step::Reinit { request } => (12, request.0, 0),
+        Step::Free { request } => (13, request.0, 0),
+    }
+}
+
+/// The pairs of a step that has some.
+pub fn pairs_of(step: &Step) -> &[Pair] {
+    match step {
+        Step::Set { pairs, .. } | Step::Store { pairs, .. } => pairs.as_slice(),
+        _ => &[],
+    }
+}
+
+fn has_pairs(device: &Device<Counting>, pairs: &[Pair], entries: &[ExtControl]) -> bool {
     if pairs.len() != entries.len() {
         return false;
     }

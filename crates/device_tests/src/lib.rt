@@ -19,6 +19,8 @@ mod handles;
 #[cfg(test)]
 mod lists;
 #[cfg(test)]
+mod looks;
+#[cfg(test)]
 mod menus;
 #[cfg(test)]
 mod mirrors;
@@ -26,6 +28,8 @@ mod mirrors;
 mod plan;
 #[cfg(test)]
 mod play;
+#[cfg(test)]
+mod requests;
 #[cfg(test)]
 mod sample;
 #[cfg(test)]

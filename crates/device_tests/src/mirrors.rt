@@ -391,7 +391,7 @@ const WHOLE: &[Row] = &[
     (Question::List(SET, NOW, &[]), Want::Values(&[]), &[]),
 ];
 
-const BOTH: Table = Table {
+pub const BOTH: Table = Table {
     controls: &[Control { id: 1, ..DIGIT }, Control { id: 2, ..DIGIT }],
     clusters: &[Cluster {
         members: &[0, 1],

@@ -1,7 +1,8 @@
 //! Makes the asks of a table.
 
-use crate::asks::{Question, Row, asked, is_refused_growth, is_step, is_step_of, is_wanted};
+use crate::asks::{Row, asked, is_refused_growth, is_step, is_step_of, is_wanted};
 use crate::closures::Counter;
+use crate::looks::all_tell;
 use crate::plan::{Scene, Table, Trouble, scene_of};
 use crate::twin::are_alike;
 use ctrl_calls::Work;
@@ -45,6 +46,9 @@ fn play(
                 by_handle,
             };
             play_ask(alloc, &mut scene, row, place, refused)?;
+        }
+        if !all_tell(&scene.device, row.0.looks()) {
+            return Err(Trouble::Seen(number));
         }
     }
     Ok(())

@@ -5,23 +5,23 @@ use crate::plan::{Cluster, Control, DIGIT, PRESS, Table};
 use crate::play::expect;
 use ctrl_types::{Errno, Kind};
 
-const AUTOGAIN: u32 = 0x0098_0912;
+pub const AUTOGAIN: u32 = 0x0098_0912;
 
-const GAIN: u32 = 0x0098_0913;
+pub const GAIN: u32 = 0x0098_0913;
 
-const HFLIP: u32 = 0x0098_0914;
+pub const HFLIP: u32 = 0x0098_0914;
 
-const HUE: u32 = 0x0098_0903;
+pub const HUE: u32 = 0x0098_0903;
 
-const BRIGHTNESS: u32 = 0x0098_0900;
+pub const BRIGHTNESS: u32 = 0x0098_0900;
 
 const POWER: u32 = 0x0098_0918;
 
-const BUTTON: u32 = 0x0098_090d;
+pub const BUTTON: u32 = 0x0098_090d;
 
-const RED: u32 = 0x0098_090e;
+pub const RED: u32 = 0x0098_090e;
 
-const BLUE: u32 = 0x0098_090f;
+pub const BLUE: u32 = 0x0098_090f;
 
 const FLIP: Control = Control {
     kind: Kind::Boolean,
@@ -117,7 +117,7 @@ const CLUSTERS: &[Cluster] = &[
     },
 ];
 
-const SAMPLE: Table = Table {
+pub const SAMPLE: Table = Table {
     handlers: 2,
     controls: CONTROLS,
     added: &[(1, 0)],

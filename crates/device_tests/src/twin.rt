@@ -1,13 +1,13 @@
 //! Two devices of one plan, compared in all their parts.
 
-use crate::asks::list_of;
+use crate::asks::{kind_of, list_of, pairs_of};
 use crate::closures::Counting;
 use crate::plan::{Table, Trouble};
-use ctrl_types::{CtrlId, Fault, FhId};
+use ctrl_types::{CtrlId, Fault, FhId, RequestId};
 use device_state::{Device, Entry, Reply, Step};
 use std::alloc::Global;
 
-/// Whether two devices of a table are alike: in their steps, in the words told, and, through each file handle that the steps could
+/// Whether two devices of a table are alike: in their steps, their requests and frames, in the words told, and, through each file handle that the steps could
 /// have opened and one more, in the values of the controls and in what a query tells of them, with its flags and grabs.
 pub fn are_alike(
     alloc: Global,
@@ -15,7 +15,7 @@ pub fn are_alike(
     one: &mut Device<Counting>,
     other: &mut Device<Counting>,
 ) -> Result<bool, Trouble> {
-    if !have_like_steps(one.steps(), other.steps()) {
+    if !have_like_steps(one.steps(), other.steps()) || !have_like_requests(one, other) {
         return Ok(false);
     }
     for cluster in 0..one.plan().cluster_count() {
@@ -61,17 +61,30 @@ fn have_like_steps(one: &[Entry<Step>], other: &[Entry<Step>]) -> bool {
 }
 
 fn are_like_steps(one: &Step, other: &Step) -> bool {
-    match one {
-        Step::OpenFh { handler } => matches!(other, Step::OpenFh { handler: h } if h == handler),
-        Step::CloseFh { fh } => matches!(other, Step::CloseFh { fh: f } if f == fh),
-        Step::Grab { control, on } => {
-            matches!(other, Step::Grab { control: c, on: o } if c == control && o == on)
-        }
-        Step::Set { fh, pairs } => match other {
-            Step::Set { fh: f, pairs: p } => f == fh && p.as_slice() == pairs.as_slice(),
-            _ => false,
-        },
+    kind_of(one) == kind_of(other) && pairs_of(one) == pairs_of(other)
+}
+
+// Whether the requests that the steps could have made and one more, the queue and the frame that is being made are alike.
+fn have_like_requests(one: &Device<Counting>, other: &Device<Counting>) -> bool {
+    if one.running() != other.running() {
+        return false;
     }
+    for number in 0..=one.steps().len() {
+        let request = RequestId(u32::try_from(number).unwrap_or(0));
+        if one.queued(number) != other.queued(number)
+            || one.state_of(request) != other.state_of(request)
+            || one.buffer_of(request) != other.buffer_of(request)
+            || one.asked(request) != other.asked(request)
+        {
+            return false;
+        }
+        for control in 0..=one.plan().control_count() {
+            if one.snapshot(request, control) != other.snapshot(request, control) {
+                return false;
+            }
+        }
+    }
+    true
 }
 
 // Of answers to reads alone.

@@ -1,0 +1,90 @@
+//! What the readers of requests and frames are to tell, as data.
+
+use crate::closures::Counting;
+use ctrl_types::{Errno, Pair, RequestId};
+use device_state::Device;
+use frame_queue::RequestState;
+
+/// What a reader is to tell.
+#[derive(Clone, Copy)]
+pub enum Look {
+    /// Of a request its state.
+    State(u32, Result<RequestState, Errno>),
+    /// Its buffer.
+    Buffer(u32, Result<Option<u32>, Errno>),
+    /// What it asks for, each a control and a value.
+    Asked(u32, Result<&'static [(u32, i64)], Errno>),
+    /// The values of all controls that its frame had.
+    Snapshot(u32, Result<&'static [i64], Errno>),
+    /// The requests that wait, in order.
+    Queue(&'static [u32]),
+    /// The request whose frame is being made.
+    Running(Option<u32>),
+}
+
+/// Whether each reader tells that.
+pub fn all_tell(device: &Device<Counting>, looks: &[Look]) -> bool {
+    for look in looks {
+        if !tells(device, *look) {
+            return false;
+        }
+    }
+    true
+}
+
+fn tells(device: &Device<Counting>, look: Look) -> bool {
+    match look {
+        Look::State(request, want) => device.state_of(RequestId(request)) == want,
+        Look::Buffer(request, want) => device.buffer_of(RequestId(request)) == want,
+        Look::Asked(request, want) => match device.asked(RequestId(request)) {
+            Ok(pairs) => matches!(want, Ok(wanted) if are_pairs(pairs, wanted)),
+            Err(errno) => want == Err(errno),
+        },
+        Look::Snapshot(request, want) => has_snapshot(device, RequestId(request), want),
+        Look::Queue(wanted) => is_queue(device, wanted),
+        Look::Running(want) => match device.running() {
+            Some(request) => want == Some(request.0),
+            None => want == None,
+        },
+    }
+}
+
+fn are_pairs(pairs: &[Pair], wanted: &[(u32, i64)]) -> bool {
+    for (pair, &(control, value)) in pairs.iter().zip(wanted) {
+        if pair.control != control || pair.value != value {
+            return false;
+        }
+    }
+    pairs.len() == wanted.len()
+}
+
+// Whether a request has these values, or the refusal for each control; there are no other controls.
+fn has_snapshot(
+    device: &Device<Counting>,
+    request: RequestId,
+    want: Result<&[i64], Errno>,
+) -> bool {
+    let count = device.plan().control_count();
+    for control in 0..count {
+        let wanted = match want {
+            Ok(values) => match values.get(control as usize) {
+                Some(value) => Ok(*value),
+                None => return false,
+            },
+            Err(errno) => Err(errno),
+        };
+        if device.snapshot(request, control) != wanted {
+            return false;
+        }
+    }
+    device.snapshot(request, count) == Err(Errno::EINVAL)
+}
+
+fn is_queue(device: &Device<Counting>, wanted: &[u32]) -> bool {
+    for (place, request) in wanted.iter().enumerate() {
+        if device.queued(place) != Some(RequestId(*request)) {
+            return false;
+        }
+    }
+    device.queued(wanted.len()) == None
+}
