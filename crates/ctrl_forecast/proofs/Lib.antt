@@ -1,2 +1,3 @@
 pub mod LayingLemmas
 pub mod ApplyingLemmas
+pub mod BoardLemmas

@@ -2,3 +2,4 @@ pub use Rattle.ctrl_clusters.specs.Rows
 pub use Rattle.ctrl_clusters.specs.Overlay
 pub mod Touched
 pub mod Applied
+pub mod Forecasts

@@ -3,9 +3,11 @@
 #![tactic(auto)]
 
 mod applying;
+mod board;
 mod laying;
 mod lists;
 
 pub use applying::applied;
+pub use board::{Board, Forecast, Queued};
 pub use laying::{Overlaid, overlay};
 pub use lists::{ClusterList, ValueRow};

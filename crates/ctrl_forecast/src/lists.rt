@@ -2,7 +2,7 @@ use ctrl_types::CtrlValue;
 use std::marker::Model;
 
 /// A value for each control, in the order of their numbers (of this project). Contracts see it as the list of them.
-#[derive(Drop)]
+#[derive(Debug, Drop)]
 pub struct ValueRow {
     values: Vec<CtrlValue>,
 }
