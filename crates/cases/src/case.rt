@@ -2,9 +2,20 @@
 
 use std::alloc::{AllocError, Global};
 
+/// What runs a script.
+#[derive(Clone, Copy)]
+pub enum Program {
+    /// `run_script`.
+    Run,
+    /// `run_board`.
+    Board,
+}
+
 /// A script, and what is to come of it.
 #[derive(Drop)]
 pub struct Case<'a> {
+    /// What runs it.
+    pub program: Program,
     /// What it shows, in words.
     pub name: &'a str,
     /// The script.
@@ -30,8 +41,9 @@ impl From<AllocError> for CaseFault {
 }
 
 impl<'a> Case<'a> {
-    fn new(alloc: Global, name: &'a str, outcome: &'a str) -> Case<'a> {
+    fn new(alloc: Global, program: Program, name: &'a str, outcome: &'a str) -> Case<'a> {
         Case {
+            program,
             name,
             script: Vec::new(alloc),
             lines: Vec::new(alloc),
@@ -101,17 +113,22 @@ struct Head<'a> {
     is_each: bool,
 }
 
+// Of scripts that are to end as scripts mostly do.
+fn head_of(name: &str, is_each: bool) -> Head<'_> {
+    Head {
+        name,
+        outcome: "Finished",
+        is_each,
+    }
+}
+
 /// Adds the cases of a file to others.
 pub fn read_cases<'a>(
     alloc: Global,
     text: &'a str,
     cases: &mut Vec<Case<'a>>,
 ) -> Result<(), CaseFault> {
-    let mut head = Head {
-        name: "",
-        outcome: "",
-        is_each: false,
-    };
+    let mut head = head_of("", false);
     let mut number = 0u32;
     for line in text.lines() {
         number = number.saturating_add(1);
@@ -133,20 +150,17 @@ fn read_line<'a>(
         return Ok(Some(()));
     }
     if let Some(name) = line.strip_prefix("case: ") {
-        *head = Head {
-            name,
-            outcome: "Finished",
-            is_each: false,
-        };
-        cases.push(Case::new(alloc, name, "Finished"))?;
+        *head = head_of(name, false);
+        cases.push(Case::new(alloc, Program::Run, name, head.outcome))?;
+        return Ok(Some(()));
+    }
+    if let Some(name) = line.strip_prefix("board: ") {
+        *head = head_of(name, false);
+        cases.push(Case::new(alloc, Program::Board, name, head.outcome))?;
         return Ok(Some(()));
     }
     if let Some(name) = line.strip_prefix("each: ") {
-        *head = Head {
-            name,
-            outcome: "Finished",
-            is_each: true,
-        };
+        *head = head_of(name, true);
         return Ok(Some(()));
     }
     if let Some(outcome) = line.strip_prefix("outcome: ") {
@@ -162,7 +176,7 @@ fn read_line<'a>(
         return Ok(None);
     };
     if head.is_each {
-        cases.push(Case::new(alloc, head.name, head.outcome))?;
+        cases.push(Case::new(alloc, Program::Run, head.name, head.outcome))?;
     }
     match cases.last_mut() {
         Some(case) => case.add(command, reply),

@@ -7,10 +7,10 @@ mod case;
 
 ghost use Rattle.ctrl_calls.specs.Meanings.{JudgesBy, TellsBy};
 
-use crate::case::{Case, CaseFault, read_cases};
+use crate::case::{Case, CaseFault, Program, read_cases};
 use ctl_script::{
     BALANCE_LIMIT, BRIGHTNESS_WORDS, BUTTON_WORDS, GAIN_LIMIT, Outcome, PAIR_WORDS, Sample,
-    balance_verdict, brightness_word, button_word, gain_verdict, pair_word, run_script,
+    balance_verdict, brightness_word, button_word, gain_verdict, pair_word, run_board, run_script,
     sample_plan,
 };
 use ctrl_calls::{Calls, ClusterRow, Driver, Notifier, Validator, Verdict};
@@ -25,11 +25,12 @@ type Judge = Box<dyn Fn(ClusterRow) -> Verdict + Send>;
 type Teller = Box<dyn Fn(ClusterRow) -> u64 + Send>;
 
 // The files that are read, in this order.
-const FILES: [&str; 5] = [
+const FILES: [&str; 6] = [
     "sample.txt",
     "words.txt",
     "lists.txt",
     "requests.txt",
+    "forecasts.txt",
     "examples.txt",
 ];
 
@@ -48,6 +49,7 @@ fn main(rt: HostRuntime) -> io::Result<ExitCode> {
         let brightness: Teller = Box::new(rt.alloc(), |row: ClusterRow| brightness_word(&row))?;
         let (printed, outcome) = run::<Sample>(
             rt.alloc(),
+            case.program,
             case.script.as_slice(),
             (limit, sum),
             (gain, balance, button, brightness),
@@ -92,6 +94,7 @@ fn cases_of<'a, R: AllocGlobal + Print>(
 // first validator and the first notifier, of red and blue the second ones, of the button and of brightness the last notifiers.
 fn run<D: Driver>(
     alloc: Global,
+    program: Program,
     script: &[u8],
     judges: (D::Judge, D::Judge),
     tellers: (D::Teller, D::Teller, D::Teller, D::Teller),
@@ -135,7 +138,10 @@ fn run<D: Driver>(
     };
     let mut printed = Vec::new(alloc);
     let mut reader = script;
-    let (_, outcome) = run_script(alloc, device, &mut reader, &mut printed);
+    let (_, outcome) = match program {
+        Program::Run => run_script(alloc, device, &mut reader, &mut printed),
+        Program::Board => run_board(alloc, device, &mut reader, &mut printed),
+    };
     Ok((printed, outcome))
 }
 

@@ -1,10 +1,10 @@
-ghost use Rattle.std.specs.Prelude.{◌≡◌, map};
-ghost use Rattle.clap.specs.Words.{FailsBy, fault_of};
-ghost use Rattle.command_line.specs.Modes.{Answers, tool as tool_of};
+ghost use Rattle.std.specs.Prelude.{◌≡◌, IfOk, Some, map};
+ghost use Rattle.clap.specs.Words.{FailsBy, app_of, fault_of};
+ghost use Rattle.command_line.specs.Modes.{Answers, name_of, subcommand_named, tool as tool_of};
 
 use clap::error::ErrorKind;
 use clap::{Command, Error};
-use std::alloc::Global;
+use std::alloc::{AllocError, Global};
 use std::convert::AsStr;
 use thiserror::Error as ErrorType;
 
@@ -13,6 +13,8 @@ use thiserror::Error as ErrorType;
 pub enum Mode {
     /// Answers a script line by line.
     Run,
+    /// Runs a script and prints what its queued frames will have.
+    Board,
 }
 
 /// Why a command line names no mode.
@@ -32,8 +34,7 @@ pub fn mode_of<S: AsStr>(alloc: Global, words: &[S]) -> Result<Mode, ModeFault>
     ensures { Answers result (map S.text words.now) }
 {
     match find_subcommand(alloc, words) {
-        // there is one subcommand
-        Ok(()) => Ok(Mode::Run),
+        Ok(mode) => Ok(mode),
         Err(error) => match error.kind() {
             ErrorKind::OutOfMemory => Err(ModeFault::Memory),
             _ => Err(ModeFault::Usage),
@@ -41,15 +42,27 @@ pub fn mode_of<S: AsStr>(alloc: Global, words: &[S]) -> Result<Mode, ModeFault>
     }
 }
 
-fn find_subcommand<S: AsStr>(alloc: Global, words: &[S]) -> Result<(), Error>
-    ensures { FailsBy (fault_of tool_of (map S.text words.now)) result }
+fn find_subcommand<S: AsStr>(alloc: Global, words: &[S]) -> Result<Mode, Error>
+    ensures fails { FailsBy (fault_of tool_of (map S.text words.now)) result }
+    ensures named { IfOk result (λ mode. subcommand_named (map S.text words.now) ≡ Some (name_of mode)) }
 {
-    let run = Command::new(alloc, "run");
-    let tool = Command::new(alloc, "ctl_tool")
-        .subcommand_required(true)
-        .subcommand(run)?;
-    match tool.try_get_matches_from(words) {
-        Ok(_) => Ok(()),
+    match tool(alloc)?.try_get_matches_from(words) {
+        // each command line of the tool names one of the two
+        Ok(matches) => match matches.subcommand_name() {
+            Some("board") => Ok(Mode::Board),
+            _ => Ok(Mode::Run),
+        },
         Err(error) => Err(error),
     }
+}
+
+fn tool<'a>(alloc: Global) -> Result<Command<'a>, AllocError>
+    ensures { IfOk result (λ command. app_of command ≡ tool_of) }
+{
+    let run = Command::new(alloc, "run");
+    let board = Command::new(alloc, "board");
+    Command::new(alloc, "ctl_tool")
+        .subcommand_required(true)
+        .subcommand(run)?
+        .subcommand(board)
 }

@@ -49,6 +49,7 @@ pub fn ask_of(command: Command, names: &Bindings) -> Ask {
         Command::State { request } => Ask::StateOf {
             request: names.request(request),
         },
+        Command::Row { place } => Ask::Forecast { place },
         Command::Begin => Ask::Begin,
         Command::Complete => Ask::Complete,
         Command::Off => Ask::StreamOff,

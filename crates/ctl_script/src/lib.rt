@@ -1,13 +1,16 @@
-//! The run of a script on a device: names and what they stand for, what a command asks, and the lines in order.
+//! The run of a script on a device: names and what they stand for, what a command asks, and the lines in order; and the board of what the
+//! queued frames will have.
 #![tactic(auto)]
 
 mod ask;
 mod binding;
+mod board;
 mod fault;
 mod input;
 mod names;
 mod run;
 
+pub use board::run_board;
 pub use input::{MAX_INPUT, MAX_READS};
 pub use run::run_script;
 pub use sample_device::{

@@ -49,7 +49,7 @@ pub fn run_script<D: Driver, R: Read, W: Write>(
 }
 
 // The outcome where no room for a line could be made; its line needs none.
-fn without_line<W: Write>(writer: &mut W) -> Outcome
+pub(crate) fn without_line<W: Write>(writer: &mut W) -> Outcome
     ensures memory { result ≢ Outcome.WriteFault → result ≡ Outcome.Memory }
     ensures line { result ≢ Outcome.WriteFault → Appends (W.contents writer.old) (W.contents writer.new) (outcome_line Outcome.Memory) }
 {
@@ -60,7 +60,11 @@ fn without_line<W: Write>(writer: &mut W) -> Outcome
 }
 
 // Writes the line of an outcome, if it has one.
-fn with_line<W: Write>(writer: &mut W, reply: &mut ReplyLine, outcome: Outcome) -> Outcome
+pub(crate) fn with_line<W: Write>(
+    writer: &mut W,
+    reply: &mut ReplyLine,
+    outcome: Outcome,
+) -> Outcome
     ensures same { result ≢ Outcome.WriteFault → result ≡ outcome }
     ensures line { result ≢ Outcome.WriteFault → Appends (W.contents writer.old) (W.contents writer.new) (outcome_line outcome) }
 {
@@ -72,7 +76,7 @@ fn with_line<W: Write>(writer: &mut W, reply: &mut ReplyLine, outcome: Outcome) 
 
 // Reads a script whole, and then answers it.
 #[tactic(auto, using(crate::proofs::Runs::still))]
-fn read_and_answer<D: Driver, R: Read, W: Write>(
+pub(crate) fn read_and_answer<D: Driver, R: Read, W: Write>(
     alloc: Global,
     device: &mut Device<D>,
     reader: &mut R,
@@ -159,13 +163,14 @@ fn answer_line<D: Driver, W: Write>(
     if binding.enter(names).is_err() {
         return Err(LineEnd::Memory);
     }
-    let answer = device.handle(SEAT, &ask_of(command, names));
+    let ask = ask_of(command, names);
+    let answer = device.handle(SEAT, &ask);
     binding.bind(names, &answer);
-    match write_answer(writer, reply, &answer) {
+    match write_answer(writer, reply, &ask, &answer) {
         Ok(()) => Ok(()),
         Err(_) => Err(LineEnd::WriteFault),
     }
 }
 
 // the seat at which a script's commands are asked
-const SEAT: u32 = 0;
+pub(crate) const SEAT: u32 = 0;

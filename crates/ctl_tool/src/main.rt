@@ -1,5 +1,5 @@
 //! The control interface of a sample video device, driven by scripts: reads a script on standard input and writes a
-//! reply line for each command.
+//! reply line for each command, or at the end a line for each frame that is queued.
 #![tactic(auto)]
 
 ghost use Rattle.ctrl_calls.specs.Meanings.{JudgesBy, TellsBy};
@@ -7,7 +7,7 @@ ghost use Rattle.ctrl_calls.specs.Meanings.{JudgesBy, TellsBy};
 use command_line::{Mode, ModeFault, mode_of};
 use ctl_script::{
     BALANCE_LIMIT, BRIGHTNESS_WORDS, BUTTON_WORDS, GAIN_LIMIT, PAIR_WORDS, Sample, balance_verdict,
-    brightness_word, button_word, gain_verdict, pair_word, run_script, sample_plan,
+    brightness_word, button_word, gain_verdict, pair_word, run_board, run_script, sample_plan,
 };
 use ctrl_calls::{Calls, ClusterRow, Driver, Notifier, Validator, Verdict};
 use device_state::Device;
@@ -29,37 +29,37 @@ fn main(rt: HostRuntime) -> ExitCode {
     let Ok(words) = words else {
         return no_memory(&rt);
     };
-    match mode_of(rt.alloc(), words.as_slice()) {
-        Ok(Mode::Run) => {
-            let limit = Box::new(rt.alloc(), |row: ClusterRow| gain_verdict(&row));
-            let sum = Box::new(rt.alloc(), |row: ClusterRow| balance_verdict(&row));
-            let gain = Box::new(rt.alloc(), |row: ClusterRow| pair_word(&row));
-            let balance = Box::new(rt.alloc(), |row: ClusterRow| pair_word(&row));
-            let button = Box::new(rt.alloc(), |row: ClusterRow| button_word(&row));
-            let brightness = Box::new(rt.alloc(), |row: ClusterRow| brightness_word(&row));
-            let (Ok(limit), Ok(sum)) = (limit, sum) else {
-                return no_memory(&rt);
-            };
-            let (Ok(gain), Ok(balance)) = (gain, balance) else {
-                return no_memory(&rt);
-            };
-            let (Ok(button), Ok(brightness)) = (button, brightness) else {
-                return no_memory(&rt);
-            };
-            let (limit, sum): (Judge, Judge) = (limit, sum);
-            let (gain, balance): (Teller, Teller) = (gain, balance);
-            let (button, brightness): (Teller, Teller) = (button, brightness);
-            run::<Sample, HostRuntime>(&rt, limit, sum, gain, balance, button, brightness)
-        }
-        Err(ModeFault::Usage) => usage(&rt),
-        Err(ModeFault::Memory) => no_memory(&rt),
-    }
+    let mode = match mode_of(rt.alloc(), words.as_slice()) {
+        Ok(mode) => mode,
+        Err(ModeFault::Usage) => return usage(&rt),
+        Err(ModeFault::Memory) => return no_memory(&rt),
+    };
+    let limit = Box::new(rt.alloc(), |row: ClusterRow| gain_verdict(&row));
+    let sum = Box::new(rt.alloc(), |row: ClusterRow| balance_verdict(&row));
+    let gain = Box::new(rt.alloc(), |row: ClusterRow| pair_word(&row));
+    let balance = Box::new(rt.alloc(), |row: ClusterRow| pair_word(&row));
+    let button = Box::new(rt.alloc(), |row: ClusterRow| button_word(&row));
+    let brightness = Box::new(rt.alloc(), |row: ClusterRow| brightness_word(&row));
+    let (Ok(limit), Ok(sum)) = (limit, sum) else {
+        return no_memory(&rt);
+    };
+    let (Ok(gain), Ok(balance)) = (gain, balance) else {
+        return no_memory(&rt);
+    };
+    let (Ok(button), Ok(brightness)) = (button, brightness) else {
+        return no_memory(&rt);
+    };
+    let (limit, sum): (Judge, Judge) = (limit, sum);
+    let (gain, balance): (Teller, Teller) = (gain, balance);
+    let (button, brightness): (Teller, Teller) = (button, brightness);
+    run::<Sample, HostRuntime>(&rt, mode, limit, sum, gain, balance, button, brightness)
 }
 
-// Runs the script on standard input on a fresh sample device, whose clusters have these closures: `limit` and `gain` are the
+// Runs the script on standard input, as the mode says, on a fresh sample device, whose clusters have these closures: `limit` and `gain` are the
 // validator and the notifier of autogain and gain, `sum` and `balance` those of red and blue.
 fn run<D: Driver, R: AllocGlobal + Input + Print>(
     rt: &R,
+    mode: Mode,
     limit: D::Judge,
     sum: D::Judge,
     gain: D::Teller,
@@ -104,7 +104,10 @@ fn run<D: Driver, R: AllocGlobal + Input + Print>(
     };
     let mut reader = rt.reader();
     let mut writer = io::writer(rt);
-    let (_, outcome) = run_script(rt.alloc(), device, &mut reader, &mut writer);
+    let (_, outcome) = match mode {
+        Mode::Run => run_script(rt.alloc(), device, &mut reader, &mut writer),
+        Mode::Board => run_board(rt.alloc(), device, &mut reader, &mut writer),
+    };
     ExitCode::from(outcome.status())
 }
 

@@ -137,6 +137,7 @@ fits verdicts plan older step may = by may.0 may.1 may.2
     by (asks.Reinit r) h adds = is (steps.Reinit r) (unrefused_step _ older _ h) adds
     by (asks.Free r) h adds = is (steps.Free r) (unrefused_step _ older _ h) adds
     by (asks.StateOf r) h adds = nothing verdicts plan older step adds
+    by (asks.Forecast place) h adds = nothing verdicts plan older step adds
     by (asks.Query fh id) h adds = nothing verdicts plan older step adds
     by (asks.NextId fh id) h adds = nothing verdicts plan older step adds
     by (asks.MenuItem fh id index) h adds = nothing verdicts plan older step adds

@@ -1,5 +1,5 @@
 -- The requests, the queue and the running frame after one more entry, and what the store of a legal history has under an id.
-use Rattle.std.proofs.Common.{◌≡◌, ℕ, ◌<◌, false, nat_eq, [], ◌∷◌, ◌++◌, length, Option, None, Some, refl, subst, sym, ap, ◌∙◌, arith, length-append}
+use Rattle.std.proofs.Common.{◌≡◌, ℕ, ◌<◌, false, nat_eq, [], ◌∷◌, ◌++◌, length, Option, None, Some, refl, subst, ap, ◌∙◌, arith, length-append}
 use Rattle.std.specs.List.{list_any}
 use Rattle.std.proofs.lemmas.Bool.Decides.{nat_tests}
 use Rattle.std.proofs.lemmas.List.{reverse-append}

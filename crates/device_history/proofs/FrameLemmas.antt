@@ -204,7 +204,7 @@ runs_on r (Some k) off =
 abbrev pub AtRest : Option RequestData → Type 0
 AtRest o = (is_in is_queued o ≡ false) × (is_in is_running o ≡ false)
 
-idle_rests : (o : Option RequestData) → is_in is_idle o ≡ true → AtRest o
+pub idle_rests : (o : Option RequestData) → is_in is_idle o ≡ true → AtRest o
 idle_rests None is = (refl, refl)
 idle_rests (Some q) is = by q.state is
   where
@@ -214,7 +214,7 @@ idle_rests (Some q) is = by q.state is
     by states.Running is = cc
     by states.Complete is = (refl, refl)
 
-store_idle : (o : Option RequestData) → store_refusal o ≡ None → is_in is_idle o ≡ true
+pub store_idle : (o : Option RequestData) → store_refusal o ≡ None → is_in is_idle o ≡ true
 store_idle None fits = cc
 store_idle (Some q) fits = by (is_idle q.state) fits
   where
@@ -222,7 +222,7 @@ store_idle (Some q) fits = by (is_idle q.state) fits
     by true h = refl
     by false h = cc
 
-buffer_idle : (rs : List RequestData) (number : ℕ) (o : Option RequestData) → buffer_refusal rs number o ≡ None → is_in is_idle o ≡ true
+pub buffer_idle : (rs : List RequestData) (number : ℕ) (o : Option RequestData) → buffer_refusal rs number o ≡ None → is_in is_idle o ≡ true
 buffer_idle rs number None fits = cc
 buffer_idle rs number (Some q) fits = by (is_idle q.state) refl
   where
@@ -267,7 +267,7 @@ runs_only (Some q) is = by q.state is
     by states.Complete is = refl
 
 -- the first that waits, where a begin is of it
-first_waits : (ids : List ℕ) (r : ℕ) → first_of ids ≡ Some r → (rest : List ℕ) × (ids ≡ r ∷ rest)
+pub first_waits : (ids : List ℕ) (r : ℕ) → first_of ids ≡ Some r → (rest : List ℕ) × (ids ≡ r ∷ rest)
 first_waits [] r is = cc
 first_waits (k ∷ rest) r is = (rest, ap (λ i. i ∷ rest) (same k r is))
   where
@@ -275,11 +275,11 @@ first_waits (k ∷ rest) r is = (rest, ap (λ i. i ∷ rest) (same k r is))
     same a b h = cc
 
 -- what is left of a begin, and of an end
-begin_is : (f : FramesData) (applied : List Pair) (id : ℕ) (ids : List ℕ) → f.running ≡ None → f.queue ≡ id ∷ ids
+pub begin_is : (f : FramesData) (applied : List Pair) (id : ℕ) (ids : List ℕ) → f.running ≡ None → f.queue ≡ id ∷ ids
     → after_begin f applied ≡ record { requests = changed f.requests id (begun f.requests.controls applied); queue = ids; running = Some id }
 begin_is f applied id ids none first = rw (none, first) refl
 
-complete_is : (f : FramesData) (values : List CtrlValue) (id : ℕ) → f.running ≡ Some id
+pub complete_is : (f : FramesData) (values : List CtrlValue) (id : ℕ) → f.running ≡ Some id
     → after_complete f values ≡ record { requests = changed f.requests id (completed values); queue = f.queue; running = None }
 complete_is f values id runs = rw runs refl
 

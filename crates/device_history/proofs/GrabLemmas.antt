@@ -55,7 +55,7 @@ one_held made c on n = set_in (held made) (held ((c, on) ∷ made)) c on c 0 n (
     others d other = let differ : nat_eq d c ≡ false = grind (arith, nat_tests, other) in rw differ refl
 
 -- after one more entry
-grabbed_more : (plan : PlanData) (e : Entry Step) (older : Past) → grabbed plan (e ∷ older) ≡ grabbed_after e.step (grabbed plan older)
+pub grabbed_more : (plan : PlanData) (e : Entry Step) (older : Past) → grabbed plan (e ∷ older) ≡ grabbed_after e.step (grabbed plan older)
 unfolding grabbed grabs_made
 grabbed_more plan e older = by e.step refl
   where

@@ -1,5 +1,5 @@
 -- A refusal has an index exactly where the ask is one about a list.
-use Rattle.std.proofs.Common.{◌≡◌, ℕ, Bool, true, false, if◌then◌else◌, List, length, Option, None, Some, Result, Ok, Err, is_some, refl, sym, subst, inl, inr}
+use Rattle.std.proofs.Common.{◌≡◌, ℕ, Bool, true, false, if◌then◌else◌, List, length, Option, None, Some, Result, Ok, Err, is_some, slice_get, refl, sym, subst, inl, inr}
 use Rattle.ctrl_types.specs.declared.errno.Errno.{Errno}
 use Rattle.ctrl_types.specs.declared.errno.Fault.{Fault}
 use Rattle.ctrl_types.specs.declared.ids.CtrlId.{CtrlId}
@@ -19,6 +19,8 @@ use Rattle.device_history.specs.Refusals.{Answer, refused, refused_at, is_full}
 use Rattle.device_history.specs.Answers.{answer_of, is_list, no_memory, MayAnswer}
 use Rattle.device_history.specs.Lists.{controls_of}
 use Rattle.device_history.specs.Requests.{state}
+use Rattle.device_history.specs.Forecasts.{forecast, forecast_reply}
+use Rattle.ctrl_forecast.specs.declared.board.Forecast.{Forecast}
 use Rattle.device_history.specs.Snapshots.{frames}
 use Rattle.device_history.specs.RequestAnswers.{stepped, frame_answer, state_reply}
 use Rattle.frame_queue.specs.Frames.{begin_answer}
@@ -86,6 +88,10 @@ frame : (verdicts : Verdicts) (plan : PlanData) (past : Past) (first : Result (�
 frame verdicts plan past (Ok first) = stepped_so None past _
 frame verdicts plan past (Err errno) = plain errno
 
+foretold : (row : Option Forecast) → HasIndex false (forecast_reply row)
+foretold None = plain _
+foretold (Some row) = accepted false _
+
 state_so : (s : Option RequestState) → HasIndex false (state_reply s)
 state_so None = plain _
 state_so (Some s) = accepted false _
@@ -107,6 +113,7 @@ told_so verdicts plan past words asks.StreamOff = stepped_so None past _
 told_so verdicts plan past words (asks.Reinit r) = stepped_so _ past _
 told_so verdicts plan past words (asks.Free r) = stepped_so _ past _
 told_so verdicts plan past words (asks.StateOf r) = state_so (state past r.0)
+told_so verdicts plan past words (asks.Forecast place) = foretold (slice_get (forecast verdicts plan past) place)
 told_so verdicts plan past words (asks.Query fh id) = search (either, plain, queried)
 told_so verdicts plan past words (asks.NextId fh id) = next plan id (handler_of past fh)
 told_so verdicts plan past words (asks.MenuItem fh id index) = search (either, plain, item)
@@ -129,6 +136,7 @@ lacking asks.StreamOff = plain _
 lacking (asks.Reinit r) = plain _
 lacking (asks.Free r) = plain _
 lacking (asks.StateOf r) = plain _
+lacking (asks.Forecast place) = plain _
 lacking (asks.Query fh id) = plain _
 lacking (asks.NextId fh id) = plain _
 lacking (asks.MenuItem fh id index) = plain _

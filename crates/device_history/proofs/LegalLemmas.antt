@@ -36,6 +36,7 @@ refusal_of verdicts plan past words asks.StreamOff = refl
 refusal_of verdicts plan past words (asks.Reinit r) = refl
 refusal_of verdicts plan past words (asks.Free r) = refl
 refusal_of verdicts plan past words (asks.StateOf r) = refl
+refusal_of verdicts plan past words (asks.Forecast place) = refl
 refusal_of verdicts plan past words (asks.Query fh id) = refl
 refusal_of verdicts plan past words (asks.NextId fh id) = refl
 refusal_of verdicts plan past words (asks.MenuItem fh id index) = refl

@@ -14,3 +14,4 @@ pub mod IndexLemmas
 pub mod LegalLemmas
 pub mod FitLemmas
 pub mod FrameLaw
+pub mod StretchLemmas

@@ -16,6 +16,7 @@ use Rattle.device_history.specs.Handles.{open_answer, close_answer}
 use Rattle.device_history.specs.Grabs.{grab_answer}
 use Rattle.device_history.specs.Frames.{queue, running, first_of}
 use Rattle.device_history.specs.RequestAnswers.{alloc_answer, buffer_answer, queue_answer, begin_frame_answer, complete_answer, cancel_answer, off_answer, clear_answer, state_answer}
+use Rattle.device_history.specs.Forecasts.{forecast_answer}
 use Rattle.device_history.specs.Lists.{get_list_answer, set_list_answer, try_list_answer, list_step, MayLackList, MayLackSet}
 use Rattle.device_history.specs.Queries.{query_answer, next_answer, item_answer, told_answer}
 
@@ -37,6 +38,7 @@ answer_of verdicts plan past words asks.StreamOff = off_answer past
 answer_of verdicts plan past words (asks.Reinit r) = clear_answer verdicts plan past r
 answer_of verdicts plan past words (asks.Free r) = clear_answer verdicts plan past r
 answer_of verdicts plan past words (asks.StateOf r) = state_answer past r
+answer_of verdicts plan past words (asks.Forecast place) = forecast_answer verdicts plan past place
 answer_of verdicts plan past words (asks.Query fh id) = query_answer verdicts plan past fh id
 answer_of verdicts plan past words (asks.NextId fh id) = next_answer plan past fh id
 answer_of verdicts plan past words (asks.MenuItem fh id index) = item_answer plan past fh id index

@@ -22,6 +22,7 @@ pub use Rattle.req_book.specs.Requests as RequestData
 pub use Rattle.req_book.specs.Refusals as RequestRefusals
 pub use Rattle.frame_queue.specs.Frames as FrameData
 pub use Rattle.ctrl_forecast.specs.Applied
+pub use Rattle.ctrl_forecast.specs.Forecasts as QueuedForecasts
 pub use Rattle.ctrl_lists.specs.View
 pub use Rattle.ctrl_lists.specs.Checks
 pub use Rattle.ctrl_lists.specs.Touched
@@ -39,6 +40,8 @@ pub mod Words
 pub mod Lists
 pub mod RequestAnswers
 pub mod FrameSteps
+pub mod Forecasts
 pub mod Queries
 pub mod Answers
 pub mod Legal
+pub mod Stretches

@@ -1,6 +1,6 @@
 use crate::info::CtrlInfo;
 use crate::pair_list::PairList;
-use ctrl_forecast::ClusterList;
+use ctrl_forecast::{ClusterList, Forecast};
 use ctrl_handlers::MenuItem;
 use ctrl_lists::ControlList;
 use ctrl_types::{CtrlId, FhId, RequestId};
@@ -100,6 +100,11 @@ pub enum Ask {
         /// The request.
         request: RequestId,
     },
+    /// Reads what the queued frame at a place will have, as things stand (of this project).
+    Forecast {
+        /// The place in the queue, from 0.
+        place: u32,
+    },
     /// Reads what a control is like (`VIDIOC_QUERY_EXT_CTRL`).
     Query {
         /// The file handle.
@@ -152,6 +157,8 @@ pub enum Reply {
         /// The clusters that were refused, which keep their rows, in rising order.
         refused: ClusterList,
     },
+    /// What the queued frame will have.
+    Forecast(Forecast),
     /// What the control is like.
     Info(CtrlInfo),
     /// The next id.

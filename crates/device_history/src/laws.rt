@@ -1,7 +1,7 @@
-//! What the definitions over the history say of one more entry. Each function is a law that its contract states; none has
-//! anything to do.
+//! What the definitions over the history say of one more entry, and what a whole stretch of a history makes of a forecast. Each function is a
+//! law that its contract states; none has anything to do.
 
-ghost use Rattle.std.specs.Prelude.{◌≡◌, ◌<◌, ℕ, Option, true, false, [], ◌∷◌, ◌++◌, List, length, map, is_some, None, Ok, Err};
+ghost use Rattle.std.specs.Prelude.{◌≡◌, ◌<◌, ◌+◌, ℕ, Option, true, false, [], ◌∷◌, ◌++◌, List, length, map, is_some, slice_get, None, Some, Ok, Err};
 ghost use Rattle.std.specs.List.{list_any};
 ghost use Rattle.history.specs.declared.entry.Entry.{Entry};
 ghost use Rattle.history.specs.Past.{past};
@@ -13,9 +13,10 @@ ghost use Rattle.ctrl_types.specs.declared.ids.FhId.{FhId};
 ghost use Rattle.ctrl_types.specs.declared.ids.RequestId.{RequestId};
 ghost use Rattle.ctrl_types.specs.declared.ids.Pair.{Pair};
 ghost use Rattle.device_history.specs.declared.ask.Ask.{Ask};
-ghost use Rattle.device_history.specs.declared.ask.Reply.TheVariants.{Controls};
+ghost use Rattle.device_history.specs.declared.ask.Ask.TheVariants as asks;
+ghost use Rattle.device_history.specs.declared.ask.Reply.TheVariants.{Controls, Frame};
 ghost use Rattle.device_history.specs.declared.ask.Step.{Step};
-ghost use Rattle.device_history.specs.declared.ask.Step.TheVariants.{CloseFh};
+ghost use Rattle.device_history.specs.declared.ask.Step.TheVariants.{Begin, CloseFh};
 ghost use Rattle.ctrl_handlers.specs.Plan.{PlanData, IsPlan, calls_of, control, members};
 ghost use Rattle.ctrl_clusters.specs.Rows.{Grabs, Values, value_at, row_of};
 ghost use Rattle.device_history.specs.Grabs.{grabbed, grabbed_after};
@@ -35,6 +36,9 @@ ghost use Rattle.device_history.specs.Requests.{asked, asked_after, buffer, buff
 ghost use Rattle.device_history.specs.Frames.{queue, queue_after, running, running_after};
 ghost use Rattle.device_history.specs.Snapshots.{frames, request, requests};
 ghost use Rattle.device_history.specs.FrameSteps.{frames_after, request_after};
+ghost use Rattle.device_history.specs.Forecasts.{forecast};
+ghost use Rattle.device_history.specs.Stretches.{all_go_on, begins};
+ghost use Rattle.ctrl_forecast.specs.declared.board.Forecast.{Forecast};
 ghost use Rattle.frame_queue.specs.Frames.{FramesData, AreFrames};
 ghost use Rattle.req_book.specs.Requests.{find};
 
@@ -161,4 +165,20 @@ pub fn kept_frames()
         → frames verdicts plan (past (steps ++ e ∷ [])) ≡ frames_after verdicts plan (past steps) (length steps) e.step (frames verdicts plan (past steps)) }
     ensures queue { (verdicts : Verdicts) (plan : PlanData) (older : Past) → IsLegal verdicts plan older → AreFrames (frames verdicts plan older) }
     ensures found { (verdicts : Verdicts) (plan : PlanData) (older : Past) (r : ℕ) → IsLegal verdicts plan older → find (requests verdicts plan older) r ≡ request verdicts plan older r }
+{}
+
+/// What is forecast comes about, whichever seats make the steps. A forecast has a row for each queued request, in the order of the queue. While a
+/// legal history goes on by steps none of which sets present values, grabs a control or lets it go, takes a request from the queue or ends the
+/// stream, the rows stand as they are, and each begin of a frame moves them up by one. So the begin behind i others is of the request of row i,
+/// counted from 0; it makes the present values those of the row, and its answer is the row's request, buffer and refused clusters.
+pub fn frames_as_forecast()
+    ensures rows { (verdicts : Verdicts) (plan : PlanData) (older : Past) → map (λ row. row.request.0) (forecast verdicts plan older) ≡ queue older }
+    ensures stand { (verdicts : Verdicts) (plan : PlanData) (steps more : History) (i : ℕ) (row : Forecast) → IsLegal verdicts plan (past (steps ++ more)) → all_go_on more ≡ true
+        → slice_get (forecast verdicts plan (past steps)) (begins more + i) ≡ Some row → slice_get (forecast verdicts plan (past (steps ++ more))) i ≡ Some row }
+    ensures request { (verdicts : Verdicts) (plan : PlanData) (steps more : History) (e : Entry Step) (r : RequestId) (row : Forecast) → IsLegal verdicts plan (past (steps ++ more ++ e ∷ [])) → all_go_on more ≡ true → e.step ≡ Begin r
+        → slice_get (forecast verdicts plan (past steps)) (begins more) ≡ Some row → r ≡ row.request }
+    ensures values { (verdicts : Verdicts) (plan : PlanData) (steps more : History) (e : Entry Step) (r : RequestId) (row : Forecast) → IsLegal verdicts plan (past (steps ++ more ++ e ∷ [])) → all_go_on more ≡ true → e.step ≡ Begin r
+        → slice_get (forecast verdicts plan (past steps)) (begins more) ≡ Some row → now verdicts plan (past (steps ++ more ++ e ∷ [])) ≡ row.values }
+    ensures reply { (verdicts : Verdicts) (plan : PlanData) (steps more : History) (e : Entry Step) (r : RequestId) (row : Forecast) → IsLegal verdicts plan (past (steps ++ more ++ e ∷ [])) → all_go_on more ≡ true → e.step ≡ Begin r
+        → slice_get (forecast verdicts plan (past steps)) (begins more) ≡ Some row → (words : List ℕ) → answer_of verdicts plan (past (steps ++ more)) words asks.Begin ≡ Ok (Frame row.request row.buffer row.refused) }
 {}

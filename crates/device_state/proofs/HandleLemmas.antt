@@ -203,6 +203,11 @@ pub taken_try : (plan : PlanData) (older : Past) (fh : FhId) (which : ℕ) (requ
 taken_try plan older fh which request list (Ok reply) = refl
 taken_try plan older fh which request list (Err fault) = refl
 
+-- a forecast takes no step
+pub taken_forecast : (plan : PlanData) (older : Past) (place : ℕ) (answer : Answer) → taken plan older (asks.Forecast place) answer ≡ None
+taken_forecast plan older place (Ok reply) = refl
+taken_forecast plan older place (Err fault) = refl
+
 -- what a set changes of the members of a cluster: what the row that it gets changes
 set_changing : (verdicts : Verdicts) (plan : PlanData) (older : Past) (fh : FhId) (which : ℕ) (request : Option RequestId) (list : List ExtControl) (touch : TouchedData) (reply : Reply)
     → IsSettable verdicts plan older fh which request list touch → meant (which_or (which_of which)) request ≡ None → (j : ℕ) → j < length plan.clusters

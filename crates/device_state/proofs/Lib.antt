@@ -1,3 +1,4 @@
+pub mod ForecastLemmas
 pub mod StillLemmas
 pub mod EnterLemmas
 pub mod BeginLemmas

@@ -1,5 +1,5 @@
 -- What a device is seen as, and what a call does to it (of this project).
-use Rattle.std.specs.Prelude.{◌≡◌, if◌then◌else◌, ℕ, Bool, false, ◌≤◌, [], ◌∷◌, ◌++◌, List, Option, None, Some, IsErr, IsOk, length, ◌<◌, slice_index}
+use Rattle.std.specs.Prelude.{◌≡◌, nat_le, if◌then◌else◌, ℕ, Bool, false, ◌≤◌, [], ◌∷◌, ◌++◌, List, Option, None, Some, IsErr, IsOk, length, ◌<◌, slice_index}
 use Rattle.std.specs.List.{list_any}
 use Rattle.history.specs.Past.{past, entered}
 use Rattle.ctrl_calls.specs.declared.work.Work.{Work}
@@ -17,6 +17,8 @@ use Rattle.device_history.specs.Words.{acted, changes}
 use Rattle.device_history.specs.Requests.{asked}
 use Rattle.device_history.specs.Frames.{queue, running, first_of}
 use Rattle.ctrl_forecast.specs.Touched.{touched_count}
+use Rattle.ctrl_forecast.specs.Forecasts.{touched_by_all}
+use Rattle.device_history.specs.Forecasts.{queued_frames}
 use Rattle.device_history.specs.Refusals.{Answer, is_full}
 use Rattle.device_history.specs.Answers.{MayAnswer, taken}
 use Rattle.device_history.specs.Lists.{list_pairs}
@@ -45,11 +47,16 @@ begin_asks plan past (Some runs) first = 0
 begin_asks plan past None None = 0
 begin_asks plan past None (Some r) = if is_full past then 0 else touched_count plan (asked plan past r)
 
+-- how many clusters the queued frames touch, each for itself, where one is queued at a place
+abbrev pub forecast_asks : PlanData → Past → ℕ → ℕ
+forecast_asks plan past place = if nat_le (length (queue past)) place then 0 else touched_by_all plan (queued_frames plan past)
+
 -- how many validators an ask may have asked: a set and a try one for each cluster that they touch, a begin one for each that its request
--- names, every other ask none
+-- names, a forecast one for each queued frame and each cluster that its request names, every other ask none
 abbrev pub may_ask : PlanData → Past → Ask → ℕ
 may_ask plan past (asks.SetCtrls fh which request list) = length (touched plan (list_pairs plan past fh which list))
 may_ask plan past (asks.TryCtrls fh which request list) = length (touched plan (list_pairs plan past fh which list))
+may_ask plan past (asks.Forecast place) = forecast_asks plan past place
 may_ask plan past asks.Begin = begin_asks plan past (running past) (first_of (queue past))
 may_ask plan past _ = 0
 
@@ -60,7 +67,7 @@ must_ask plan past (asks.TryCtrls fh which request list) = judged_count plan (to
 must_ask plan past _ = 0
 
 -- What a call at a seat does: the answer is one that the ask may get, and the steps grow by the one that it takes, or by none.
--- Each cluster with a changed member is told once, and the word of every other stays. Only a set, a try and a begin may ask validators.
+-- Each cluster with a changed member is told once, and the word of every other stays. Only a set, a try, a begin and a forecast may ask validators.
 pub record Handles (verdicts : Verdicts) (old new : DeviceData) (seat : ℕ) (ask : Ask) (answer : Answer) : Type 0 where
   pub plan : new.plan ≡ old.plan
   pub answers : MayAnswer verdicts old.plan (past old.steps) old.words ask answer

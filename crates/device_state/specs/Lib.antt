@@ -27,6 +27,8 @@ pub use Rattle.device_history.specs.Frames
 pub use Rattle.device_history.specs.Snapshots
 pub use Rattle.device_history.specs.RequestAnswers
 pub use Rattle.device_history.specs.FrameSteps
+pub use Rattle.device_history.specs.Forecasts
+pub use Rattle.device_history.specs.Stretches
 pub use Rattle.device_history.specs.Flags
 pub use Rattle.device_history.specs.Words
 pub use Rattle.device_history.specs.Lists

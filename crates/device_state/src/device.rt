@@ -18,6 +18,7 @@ ghost use Rattle.device_history.specs.Legal.{IsLegal};
 ghost use Rattle.device_state.specs.Device.{Handles, with_step};
 
 mod begin;
+mod forecasts;
 mod lists;
 mod requests;
 
@@ -222,6 +223,8 @@ impl<D: Driver> Device<D> {
     /// - `Reinit` makes a request as new, `Free` lets it go for good. EINVAL where there is no such request; EBUSY where it is queued or its
     ///   frame is being made.
     ///
+    /// `Forecast` tells what the queued frame at a place will have, see `forecast`.
+    ///
     /// `StateOf` reads a request's state. It is refused, without an index, with EINVAL where there is no such request, and takes no memory.
     ///
     /// For the refusals of lists, each with its index, see `get`, `set` and `try_set`; for those of `Query` and `Told` see `query` and
@@ -307,6 +310,7 @@ impl<D: Driver> Device<D> {
                 self.enter(seat, ask, refusal, Step::Free { request }, Reply::Done)
             }
             Ask::StateOf { request } => self.read_state(*request),
+            Ask::Forecast { place } => self.forecast(*place),
             Ask::Query { fh, id } => self.query(*fh, *id),
             Ask::NextId { fh, id } => self.next(*fh, *id),
             Ask::MenuItem { fh, id, index } => self.item(*fh, *id, *index),

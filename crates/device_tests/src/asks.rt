@@ -55,6 +55,8 @@ pub enum Question {
     Reinit(u32),
     Free(u32),
     State(u32),
+    /// What the queued frame at a place will have.
+    Row(u32),
     /// So many requests, down to 0, each of which is given the buffer of its own number and queued.
     Wait(u32),
     /// So many frames, each of which is begun and ended.
@@ -81,6 +83,8 @@ pub enum Want {
     State(RequestState),
     /// The frame of a request, with its buffer, and the clusters that are refused.
     Frame(u32, u32, &'static [u32]),
+    /// What the frame of a request will have: its buffer, the values of all controls, and the clusters that are refused.
+    Row(u32, u32, &'static [i64], &'static [u32]),
     /// The end of a frame; or a frame that refuses no cluster, whose request has the number of its buffer: twice that and the number of the
     /// step make this sum.
     Turn(usize),
@@ -167,6 +171,7 @@ impl Question {
             Question::State(request) => Ask::StateOf {
                 request: RequestId(request),
             },
+            Question::Row(place) => Ask::Forecast { place },
             Question::Query(fh, id) => Ask::Query {
                 fh: FhId(fh),
                 id: CtrlId(id),
@@ -279,6 +284,7 @@ pub fn asked(
         } => device.try_set(*fh, *which, *request, list),
         Ask::Query { fh, id } => device.query(*fh, *id),
         Ask::Told { cluster } => device.told(*cluster),
+        Ask::Forecast { place } => device.forecast(*place),
         _ => device.handle(seat, ask),
     }
 }
@@ -317,6 +323,15 @@ fn is_reply(ask: &Ask, reply: &Reply, want: Want, number: usize) -> bool {
                 double.wrapping_add(number) == sum
                     && *buffer == request.0
                     && refused.as_slice().is_empty()
+            }
+            _ => false,
+        },
+        Reply::Forecast(row) => match want {
+            Want::Row(wanted, held, values, clusters) => {
+                row.request.0 == wanted
+                    && row.buffer == held
+                    && row.values.as_slice() == values
+                    && row.refused.as_slice() == clusters
             }
             _ => false,
         },
@@ -420,6 +435,7 @@ pub fn is_step(ask: &Ask) -> bool {
         Ask::GetCtrls { .. }
             | Ask::TryCtrls { .. }
             | Ask::StateOf { .. }
+            | Ask::Forecast { .. }
             | Ask::Query { .. }
             | Ask::NextId { .. }
             | Ask::MenuItem { .. }

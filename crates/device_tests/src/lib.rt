@@ -13,6 +13,8 @@ mod closures;
 #[cfg(test)]
 mod flags;
 #[cfg(test)]
+mod forecasts;
+#[cfg(test)]
 mod handlers;
 #[cfg(test)]
 mod handles;

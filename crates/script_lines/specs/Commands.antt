@@ -9,7 +9,7 @@ use Rattle.sample_device.specs.Words.{sample_number}
 use Rattle.script_lines.specs.Lexemes.{after, control_id, decimal_i64, decimal_u32, hexadecimal_u32}
 use Rattle.script_lines.specs.Names.{name_of}
 use Rattle.script_lines.specs.declared.command.Command.{Command}
-use Rattle.script_lines.specs.declared.command.Command.TheVariants.{Open, Close, Get, Set, Try, Grab, Query, Next, Menu, Told, Alloc, Buffer, Queue, Cancel, Reinit, Free, State, Begin, Complete, Off}
+use Rattle.script_lines.specs.declared.command.Command.TheVariants.{Open, Close, Get, Set, Try, Grab, Query, Next, Menu, Told, Alloc, Buffer, Queue, Cancel, Reinit, Free, State, Row, Begin, Complete, Off}
 use Rattle.script_lines.specs.declared.command.WhichWord.{WhichWord}
 use Rattle.script_lines.specs.declared.command.WhichWord.TheVariants.{Number, Request}
 use Rattle.script_lines.specs.declared.fault.LineFault.{LineFault}
@@ -176,6 +176,11 @@ abbrev pub request_of : RequestVerb → List (List ℕ) → Option Command
 request_of verb (request ∷ []) = option_map (λ name. on_request verb name) (name_of request)
 request_of verb _ = None
 
+-- the operand of `row`
+abbrev pub row_of : List (List ℕ) → Option Command
+row_of (place ∷ []) = option_map (λ n. Row n) (decimal_u32 place)
+row_of _ = None
+
 -- a command that has no operand
 abbrev pub bare_of : Command → List (List ℕ) → Option Command
 bare_of command [] = Some command
@@ -185,16 +190,16 @@ bare_of command _ = None
 abbrev pub verb_words : List (List ℕ)
 verb_words =
     codes "open" ∷ codes "close" ∷ codes "get" ∷ codes "set" ∷ codes "try" ∷ codes "grab" ∷ codes "query" ∷ codes "next" ∷ codes "menu" ∷ codes "told"
-    ∷ codes "alloc" ∷ codes "buffer" ∷ codes "queue" ∷ codes "cancel" ∷ codes "reinit" ∷ codes "free" ∷ codes "state" ∷ codes "begin" ∷ codes "complete"
-    ∷ codes "off" ∷ []
+    ∷ codes "alloc" ∷ codes "buffer" ∷ codes "queue" ∷ codes "cancel" ∷ codes "reinit" ∷ codes "free" ∷ codes "state" ∷ codes "row" ∷ codes "begin"
+    ∷ codes "complete" ∷ codes "off" ∷ []
 
 -- what they stand for, in the same order
 abbrev pub verbs_meant : List Verb
 verbs_meant =
     verbs.Open ∷ verbs.Close ∷ verbs.Get ∷ verbs.Set ∷ verbs.Try ∷ verbs.Grab ∷ verbs.Query ∷ verbs.Next ∷ verbs.Menu ∷ verbs.Told
     ∷ verbs.OfRequest request_verbs.Alloc ∷ verbs.Buffer ∷ verbs.OfRequest request_verbs.Queue ∷ verbs.OfRequest request_verbs.Cancel
-    ∷ verbs.OfRequest request_verbs.Reinit ∷ verbs.OfRequest request_verbs.Free ∷ verbs.OfRequest request_verbs.State ∷ verbs.Begin ∷ verbs.Complete
-    ∷ verbs.Off ∷ []
+    ∷ verbs.OfRequest request_verbs.Reinit ∷ verbs.OfRequest request_verbs.Free ∷ verbs.OfRequest request_verbs.State ∷ verbs.Row ∷ verbs.Begin
+    ∷ verbs.Complete ∷ verbs.Off ∷ []
 
 -- what the first word of a command stands for
 abbrev pub verb_of : List ℕ → Option Verb
@@ -214,6 +219,7 @@ command_of (Some verbs.Menu) operands = menu_of operands
 command_of (Some verbs.Told) operands = told_of operands
 command_of (Some verbs.Buffer) operands = buffer_of operands
 command_of (Some (verbs.OfRequest verb)) operands = request_of verb operands
+command_of (Some verbs.Row) operands = row_of operands
 command_of (Some verbs.Begin) operands = bare_of Begin operands
 command_of (Some verbs.Complete) operands = bare_of Complete operands
 command_of (Some verbs.Off) operands = bare_of Off operands

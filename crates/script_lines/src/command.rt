@@ -125,6 +125,11 @@ pub enum Command {
         /// The request.
         request: Name,
     },
+    /// `row N`: reads what a queued frame will have.
+    Row {
+        /// The frame's place in the queue, from 0.
+        place: u32,
+    },
     /// `begin`: begins the frame of the first request that is queued.
     Begin,
     /// `complete`: completes the frame that is being made.

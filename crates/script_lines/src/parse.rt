@@ -1,5 +1,5 @@
 ghost use Rattle.std.specs.Prelude.{◌≡◌, ◌+◌, ◌<◌, ◌≤◌, ◌^◌, ◌∷◌, ◌==◌, length, map, position, vec_len, IfOk, IfSome};
-ghost use Rattle.script_lines.specs.Commands.{IsRead, words as words_in, line_of, command_of, verb_of, open_of, close_of, grab_of, on_or_off as on_or_off_of, query_of, next_of, menu_of, told_of, buffer_of, request_of, on_request, bare_of, list_command_of, which_of, fixed_which_of, entry_of, entry_at, list_of};
+ghost use Rattle.script_lines.specs.Commands.{IsRead, words as words_in, line_of, command_of, verb_of, open_of, close_of, grab_of, on_or_off as on_or_off_of, query_of, next_of, menu_of, told_of, buffer_of, request_of, on_request, row_of, bare_of, list_command_of, which_of, fixed_which_of, entry_of, entry_at, list_of};
 ghost use Rattle.script_lines.specs.declared.command.Command.TheVariants as commands;
 
 use crate::command::{Command, WhichWord};
@@ -64,6 +64,7 @@ enum Verb {
     Told,
     Buffer,
     OfRequest(RequestVerb),
+    Row,
     Begin,
     Complete,
     Off,
@@ -81,7 +82,7 @@ enum RequestVerb {
 }
 
 // The words that stand for them, in the same order as `VERBS`.
-const VERB_WORDS: [&[u8]; 20] = [
+const VERB_WORDS: [&[u8]; 21] = [
     b"open",
     b"close",
     b"get",
@@ -99,12 +100,13 @@ const VERB_WORDS: [&[u8]; 20] = [
     b"reinit",
     b"free",
     b"state",
+    b"row",
     b"begin",
     b"complete",
     b"off",
 ];
 
-const VERBS: [Verb; 20] = [
+const VERBS: [Verb; 21] = [
     Verb::Open,
     Verb::Close,
     Verb::Get,
@@ -122,6 +124,7 @@ const VERBS: [Verb; 20] = [
     Verb::OfRequest(RequestVerb::Reinit),
     Verb::OfRequest(RequestVerb::Free),
     Verb::OfRequest(RequestVerb::State),
+    Verb::Row,
     Verb::Begin,
     Verb::Complete,
     Verb::Off,
@@ -151,6 +154,7 @@ fn read_command(alloc: Global, verb: &[u8], operands: &[&[u8]]) -> Result<Comman
         Some(Verb::Told) => read_told(operands),
         Some(Verb::Buffer) => read_buffer(operands),
         Some(Verb::OfRequest(verb)) => read_of_request(verb, operands),
+        Some(Verb::Row) => read_row(operands),
         Some(Verb::Begin) => read_bare(Command::Begin, operands),
         Some(Verb::Complete) => read_bare(Command::Complete, operands),
         Some(Verb::Off) => read_bare(Command::Off, operands),
@@ -286,6 +290,18 @@ fn command_on(verb: RequestVerb, request: Name) -> Command
         RequestVerb::Reinit => Command::Reinit { request },
         RequestVerb::Free => Command::Free { request },
         RequestVerb::State => Command::State { request },
+    }
+}
+
+fn read_row(operands: &[&[u8]]) -> Result<Command, LineFault>
+    ensures { IsRead result (row_of (map (λ w. w.now) operands.now)) }
+{
+    let [place] = operands else {
+        return Err(LineFault::NotACommand);
+    };
+    match decimal_u32(*place) {
+        Some(place) => Ok(Command::Row { place }),
+        None => Err(LineFault::NotACommand),
     }
 }
 

@@ -1,5 +1,5 @@
 -- The lines that the tool prints (of this project), as bytes.
-use Rattle.std.specs.Prelude.{ℕ, ◌-◌, List, [], ◌∷◌, ◌++◌, length, replicate, Option, None, Some, Result, Ok, Err, false, codes}
+use Rattle.std.specs.Prelude.{ℕ, ℤ, ◌-◌, List, [], ◌∷◌, ◌++◌, length, replicate, Option, None, Some, Result, Ok, Err, false, codes}
 use Rattle.std.specs.Fmt.{decimal, signed_decimal, digits}
 use Rattle.std.specs.List.{flat_map}
 use Rattle.ctrl_types.specs.Numbers.{errno_number, kind_number}
@@ -12,8 +12,12 @@ use Rattle.menu_items.specs.declared.item.MenuItem.TheVariants.{Name, Number}
 use Rattle.req_book.specs.declared.state.RequestState.{RequestState}
 use Rattle.req_book.specs.declared.state.RequestState.TheVariants.{Idle, Queued, Running, Complete}
 use Rattle.device_history.specs.declared.info.CtrlInfo.{CtrlInfo}
+use Rattle.ctrl_forecast.specs.declared.board.Forecast.{Forecast}
+use Rattle.device_history.specs.declared.ask.Ask.{Ask}
+use Rattle.device_history.specs.declared.ask.Ask.TheVariants as asks
 use Rattle.device_history.specs.declared.ask.Reply.{Reply}
 use Rattle.device_history.specs.declared.ask.Reply.TheVariants.{Fh, Done, Controls, Request, State, Frame, Info, Id, Item, Word}
+use Rattle.device_history.specs.declared.ask.Reply.TheVariants as replies
 use Rattle.script_replies.specs.declared.outcome.Outcome.{Outcome}
 use Rattle.script_replies.specs.declared.outcome.Outcome.TheVariants.{Finished, BadLine, TooLong, ReadFault, WriteFault, NoSecond, Memory}
 
@@ -73,23 +77,42 @@ clusters_text (first ∷ more) = decimal first ++ flat_map further_text more
 abbrev pub frame_line : ℕ → List ℕ → List ℕ
 frame_line buffer refused = codes "ok buffer " ++ (decimal buffer ++ (codes " refused " ++ (clusters_text refused ++ codes "\n")))
 
--- the line of a reply
-abbrev pub line_of : Reply → List ℕ
-line_of (Fh fh) = codes "ok\n"
-line_of Done = codes "ok\n"
-line_of (Controls list) = codes "ok" ++ (flat_map value_text list ++ codes "\n")
-line_of (Request request) = codes "ok\n"
-line_of (State state) = state_line state
-line_of (Frame request buffer refused) = frame_line buffer refused
-line_of (Info info) = info_line info
-line_of (Id id) = codes "ok " ++ (id_text id ++ codes "\n")
-line_of (Item item) = codes "ok " ++ (item_text item ++ codes "\n")
-line_of (Word word) = codes "ok " ++ (decimal word ++ codes "\n")
+-- a number behind a space
+abbrev pub number_text : ℤ → List ℕ
+number_text value = 32 ∷ signed_decimal value
 
--- the line of an answer
-abbrev pub answer_line : Result Reply Fault → List ℕ
-answer_line (Ok reply) = line_of reply
-answer_line (Err fault) = refusal_line (errno_number fault.errno) fault.index
+-- what a queued frame will have: its place in the queue, its buffer, the clusters that will be refused, and the values of all controls
+abbrev pub forecast_line : ℕ → ℕ → List ℕ → List ℤ → List ℕ
+forecast_line place buffer refused values = codes "frame " ++ (decimal place ++ (codes " buffer " ++ (decimal buffer
+    ++ (codes " refused " ++ (clusters_text refused ++ (codes " values" ++ (flat_map number_text values ++ codes "\n")))))))
+
+-- no frame is queued
+abbrev pub no_frames_line : List ℕ
+no_frames_line = codes "no frames\n"
+
+-- the place in the queue that an ask names; 0 where it names none
+abbrev pub place_of : Ask → ℕ
+place_of (asks.Forecast place) = place
+place_of _ = 0
+
+-- the line of a reply to an ask
+abbrev pub line_of : Ask → Reply → List ℕ
+line_of ask (Fh fh) = codes "ok\n"
+line_of ask Done = codes "ok\n"
+line_of ask (Controls list) = codes "ok" ++ (flat_map value_text list ++ codes "\n")
+line_of ask (Request request) = codes "ok\n"
+line_of ask (State state) = state_line state
+line_of ask (Frame request buffer refused) = frame_line buffer refused
+line_of ask (replies.Forecast row) = forecast_line (place_of ask) row.buffer row.refused row.values
+line_of ask (Info info) = info_line info
+line_of ask (Id id) = codes "ok " ++ (id_text id ++ codes "\n")
+line_of ask (Item item) = codes "ok " ++ (item_text item ++ codes "\n")
+line_of ask (Word word) = codes "ok " ++ (decimal word ++ codes "\n")
+
+-- the line of an answer to an ask
+abbrev pub answer_line : Ask → Result Reply Fault → List ℕ
+answer_line ask (Ok reply) = line_of ask reply
+answer_line ask (Err fault) = refusal_line (errno_number fault.errno) fault.index
 
 -- the line of an outcome; some print none
 abbrev pub outcome_line : Outcome → List ℕ

@@ -6,4 +6,6 @@ mod reply;
 mod reply_line;
 
 pub use outcome::Outcome;
-pub use reply_line::{MAX_LINE, ReplyLine, write_answer, write_no_memory, write_outcome};
+pub use reply_line::{
+    MAX_LINE, ReplyLine, write_answer, write_no_frames, write_no_memory, write_outcome,
+};

@@ -2,29 +2,34 @@ ghost use Rattle.std.specs.Prelude.{◌≡◌, OnOk, ◌++◌, ◌∷◌, codes}
 ghost use Rattle.std.specs.Io.KnownBytes.{Appends};
 ghost use Rattle.std.specs.List.{flat_map};
 ghost use Rattle.ctrl_types.specs.Numbers.{errno_number};
-ghost use Rattle.script_replies.specs.Replies.{answer_line, clusters_text, flags_text, frame_line, further_text, id_text, info_line, item_text, line_of, outcome_line, range_text, refusal_line, state_line, value_text};
+ghost use Rattle.script_replies.specs.Replies.{answer_line, clusters_text, flags_text, forecast_line, frame_line, further_text, id_text, info_line, item_text, line_of, number_text, outcome_line, place_of as asked_place, range_text, refusal_line, state_line, value_text};
 
 use crate::outcome::Outcome;
 use bitflags::Flags as FlagSet;
+use ctrl_forecast::Forecast;
 use ctrl_handlers::MenuItem;
-use ctrl_types::{CtrlId, ExtControl, Fault, Flags};
-use device_history::{CtrlInfo, Reply};
+use ctrl_types::{CtrlId, CtrlValue, ExtControl, Fault, Flags};
+use device_history::{Ask, CtrlInfo, Reply};
 use req_book::RequestState;
 use std::io;
 use std::io::Write;
 
-/// Prints the line of an answer to a writer, piece by piece. It takes no memory.
-pub fn print_answer<W: Write>(out: &mut W, answer: &Result<Reply, Fault>) -> io::Result<()>
-    ensures { OnOk result (Appends (W.contents out.old) (W.contents out.new) (answer_line answer.now)) }
+/// Prints the line of an answer to an ask to a writer, piece by piece. It takes no memory.
+pub fn print_answer<W: Write>(
+    out: &mut W,
+    ask: &Ask,
+    answer: &Result<Reply, Fault>,
+) -> io::Result<()>
+    ensures { OnOk result (Appends (W.contents out.old) (W.contents out.new) (answer_line ask.now answer.now)) }
 {
     match answer {
-        Ok(reply) => print_reply(out, reply),
+        Ok(reply) => print_reply(out, ask, reply),
         Err(fault) => print_fault(out, *fault),
     }
 }
 
-fn print_reply<W: Write>(out: &mut W, reply: &Reply) -> io::Result<()>
-    ensures { OnOk result (Appends (W.contents out.old) (W.contents out.new) (line_of reply.now)) }
+fn print_reply<W: Write>(out: &mut W, ask: &Ask, reply: &Reply) -> io::Result<()>
+    ensures { OnOk result (Appends (W.contents out.old) (W.contents out.new) (line_of ask.now reply.now)) }
 {
     match reply {
         Reply::Fh(_) | Reply::Done | Reply::Request(_) => writeln!(out, "ok"),
@@ -35,6 +40,7 @@ fn print_reply<W: Write>(out: &mut W, reply: &Reply) -> io::Result<()>
             refused,
             ..
         } => print_frame(out, *buffer, refused.as_slice()),
+        Reply::Forecast(row) => print_forecast(out, place_of(ask), row),
         Reply::Info(info) => print_info(out, *info),
         Reply::Id(id) => print_next(out, *id),
         Reply::Item(item) => print_item(out, item),
@@ -74,6 +80,38 @@ fn print_frame<W: Write>(out: &mut W, buffer: u32, refused: &[u32]) -> io::Resul
 {
     write!(out, "ok buffer {buffer} refused ")?;
     print_clusters(out, refused)?;
+    writeln!(out)
+}
+
+// The place in the queue that an ask names; 0 where it names none.
+fn place_of(ask: &Ask) -> u32
+    ensures { result ≡ asked_place ask.now }
+{
+    match ask {
+        Ask::Forecast { place } => *place,
+        _ => 0,
+    }
+}
+
+// What a queued frame will have: its place, its buffer, the clusters that will be refused, and the values of all controls.
+fn print_forecast<W: Write>(out: &mut W, place: u32, row: &Forecast) -> io::Result<()>
+    ensures { OnOk result (Appends (W.contents out.old) (W.contents out.new) (forecast_line place row.now.buffer row.now.refused row.now.values)) }
+{
+    let buffer = row.buffer;
+    write!(out, "frame {place} buffer {buffer} refused ")?;
+    print_clusters(out, row.refused.as_slice())?;
+    print_row(out, row.values.as_slice())
+}
+
+// The values of a frame, and the end of its line.
+fn print_row<W: Write>(out: &mut W, values: &[CtrlValue]) -> io::Result<()>
+    ensures { OnOk result (Appends (W.contents out.old) (W.contents out.new) (codes " values" ++ (flat_map number_text values.now ++ codes "\n"))) }
+{
+    write!(out, " values")?;
+    for value in values {
+        let value = *value;
+        write!(out, " {value}")?;
+    }
     writeln!(out)
 }
 

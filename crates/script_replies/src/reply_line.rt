@@ -1,20 +1,20 @@
 ghost use Rattle.std.specs.Prelude.{◌≡◌, [], IfOk, OnOk, Some};
 ghost use Rattle.std.specs.Io.KnownBytes.{Appends};
-ghost use Rattle.script_replies.specs.Replies.{answer_line, outcome_line};
+ghost use Rattle.script_replies.specs.Replies.{answer_line, no_frames_line, outcome_line};
 ghost use Rattle.script_replies.specs.declared.outcome.Outcome.TheVariants as outcomes;
 
 use crate::outcome::Outcome;
 use crate::reply::{print_answer, print_outcome};
 use ctrl_handlers::MAX_CONTROLS;
 use ctrl_types::Fault;
-use device_history::Reply;
+use device_history::{Ask, Reply};
 use std::alloc::{AllocError, Global};
 use std::io;
 use std::io::{ErrorKind, Write};
 use std::marker::Model;
 
-/// How many bytes a reply line may have: 72 for each control that a device can have, and 64 beside them. The longest is that of a list,
-/// `ok` and at most 21 bytes for each of at most 64 values; that of a frame has at most 29 bytes and 4 for each of at most 256 clusters.
+/// How many bytes a reply line may have: 72 for each control that a device can have, and 64 beside them. The longest is that of a
+/// forecast: at most 51 bytes, 4 for each of at most 256 clusters, and 21 for each of at most 256 values.
 pub const MAX_LINE: usize = 64 + 72 * MAX_CONTROLS as usize;
 
 /// Where a reply line is put together, so that it is written at once. Contracts see the bytes so far.
@@ -70,7 +70,7 @@ impl Write for ReplyLine {
     }
 }
 
-/// Writes the line of an answer. It takes no memory.
+/// Writes the line of an answer to an ask. It takes no memory.
 ///
 /// - `writer`: is given the whole line, and what is left of it after a short write.
 /// - `line`: where it is put together; what was there is forgotten.
@@ -80,12 +80,13 @@ impl Write for ReplyLine {
 pub fn write_answer<W: Write>(
     writer: &mut W,
     line: &mut ReplyLine,
+    ask: &Ask,
     answer: &Result<Reply, Fault>,
 ) -> io::Result<()>
-    ensures { OnOk result (Appends (W.contents writer.old) (W.contents writer.new) (answer_line answer.now)) }
+    ensures { OnOk result (Appends (W.contents writer.old) (W.contents writer.new) (answer_line ask.now answer.now)) }
 {
     line.clear();
-    print_answer(line, answer)?;
+    print_answer(line, ask, answer)?;
     write_whole(writer, line.as_slice())
 }
 
@@ -107,6 +108,13 @@ pub fn write_no_memory<W: Write>(writer: &mut W) -> io::Result<()>
     ensures { OnOk result (Appends (W.contents writer.old) (W.contents writer.new) (outcome_line outcomes.Memory)) }
 {
     write_whole(writer, b"no memory\n")
+}
+
+/// Writes the line that tells that no frame is queued. It takes no memory. Errors are those of `write_answer`.
+pub fn write_no_frames<W: Write>(writer: &mut W) -> io::Result<()>
+    ensures { OnOk result (Appends (W.contents writer.old) (W.contents writer.new) no_frames_line) }
+{
+    write_whole(writer, b"no frames\n")
 }
 
 // Writes a text whole. An error, an interruption too, and a write that takes no byte are faults.

@@ -5,9 +5,11 @@ use command_line::{Mode, ModeFault, mode_of};
 // The words of a command line, and what they ask for; the first is the program.
 const COMMAND_LINES: &[(&[&str], Result<Mode, ModeFault>)] = &[
     (&["ctl_tool", "run"], Ok(Mode::Run)),
+    (&["ctl_tool", "board"], Ok(Mode::Board)),
+    (&["run", "board"], Ok(Mode::Board)),
+    (&["board", "run"], Ok(Mode::Run)),
     (&[], Err(ModeFault::Usage)),
     (&["ctl_tool"], Err(ModeFault::Usage)),
-    (&["ctl_tool", "board"], Err(ModeFault::Usage)),
     (&["ctl_tool", "pair"], Err(ModeFault::Usage)),
     (&["ctl_tool", "ru"], Err(ModeFault::Usage)),
     (&["ctl_tool", "Run"], Err(ModeFault::Usage)),
@@ -24,6 +26,13 @@ const COMMAND_LINES: &[(&[&str], Result<Mode, ModeFault>)] = &[
     (&["ctl_tool", "run", "--help"], Err(ModeFault::Usage)),
     (&["ctl_tool", "run", "-h"], Err(ModeFault::Usage)),
     (&["ctl_tool", "run", "help"], Err(ModeFault::Usage)),
+    (&["ctl_tool", "run", "board"], Err(ModeFault::Usage)),
+    (&["ctl_tool", "board", "run"], Err(ModeFault::Usage)),
+    (&["ctl_tool", "board", "--help"], Err(ModeFault::Usage)),
+    (&["ctl_tool", "help", "board"], Err(ModeFault::Usage)),
+    (&["ctl_tool", "--", "board"], Err(ModeFault::Usage)),
+    (&["ctl_tool", "boar"], Err(ModeFault::Usage)),
+    (&["ctl_tool", "Board"], Err(ModeFault::Usage)),
 ];
 
 #[test]

@@ -2,9 +2,11 @@
 
 use ctrl_lists::ControlList;
 use ctrl_types::{CtrlId, Errno, ExtControl, Fault};
-use device_history::Reply;
+use device_history::{Ask, Reply};
 use req_book::RequestState;
-use script_replies::{Outcome, ReplyLine, write_answer, write_no_memory, write_outcome};
+use script_replies::{
+    Outcome, ReplyLine, write_answer, write_no_frames, write_no_memory, write_outcome,
+};
 use std::alloc::Global;
 use std::io;
 use std::io::{ErrorKind, Write};
@@ -50,6 +52,7 @@ enum Line {
     Refused(Errno, Option<u32>),
     Ended(Outcome),
     NoMemory,
+    NoFrames,
 }
 
 #[derive(Clone, Copy, Debug)]
@@ -83,6 +86,7 @@ const CASES: &[Case] = &[
     Case::Whole(Line::Ended(Outcome::NoSecond), b"no second script\n"),
     Case::Whole(Line::Ended(Outcome::Memory), b"no memory\n"),
     Case::Whole(Line::NoMemory, b"no memory\n"),
+    Case::Whole(Line::NoFrames, b"no frames\n"),
     Case::Silent(Outcome::Finished),
     Case::Silent(Outcome::WriteFault),
     Case::Cut(4, 0, b"ok -64 250\n", 3),
@@ -112,8 +116,10 @@ fn write_line(
         Line::Refused(errno, index) => Err(Fault { errno, index }),
         Line::Ended(outcome) => return Ok(write_outcome(sink, reply, outcome)),
         Line::NoMemory => return Ok(write_no_memory(sink)),
+        Line::NoFrames => return Ok(write_no_frames(sink)),
     };
-    Ok(write_answer(sink, reply, &answer))
+    // none of these lines has to do with its ask
+    Ok(write_answer(sink, reply, &Ask::Begin, &answer))
 }
 
 fn entry(value: i64) -> ExtControl {

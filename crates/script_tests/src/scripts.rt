@@ -63,6 +63,17 @@ const REQUESTS: Script = Script {
         ("buffer s 2", "ok", true),
         ("queue r", "ok", true),
         ("queue s", "ok", true),
+        (
+            "row 0",
+            "frame 0 buffer 1 refused - values 1 16 0 0 0 8 1 0 200 128",
+            false,
+        ),
+        (
+            "row 1",
+            "frame 1 buffer 2 refused - values 1 7 0 0 0 8 1 0 200 128",
+            false,
+        ),
+        ("row 2", "error 2", false),
         ("state r", "ok queued", false),
         ("set f req:r red=1", "error 16 index 1", false),
         ("grab red on", "ok", true),

@@ -84,7 +84,7 @@ impl<D: Driver> Device<D> {
     }
 
     // What a request asks for, which the caller owes to be there.
-    fn asked_by(&self, request: RequestId) -> &[Pair]
+    pub(super) fn asked_by(&self, request: RequestId) -> &[Pair]
         requires { is_some (state (past self.now.steps) request.0) ≡ true }
         ensures { result.now ≡ asked_of self.now.plan (past self.now.steps) request.0 }
     {

@@ -74,6 +74,13 @@ impl<D: Driver> Device<D> {
         self.frames.queued(place)
     }
 
+    /// How many requests wait, for a driver's own use. It takes no memory.
+    pub fn queued_count(&self) -> usize
+        ensures { result ≡ length (queue (past self.now.steps)) }
+    {
+        self.frames.queue_len()
+    }
+
     /// The request whose frame is being made, for a driver's own use; none where none is. It takes no memory.
     pub fn running(&self) -> Option<RequestId>
         ensures { option_map (λ id. id.0) result ≡ running (past self.now.steps) }

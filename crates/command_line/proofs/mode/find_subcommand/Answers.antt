@@ -1,26 +1,36 @@
-use Rattle.std.proofs.Common.{◌≡◌, ◌∙◌, true, ap, ap₂, sym, refl, map, subst}
+use Rattle.std.proofs.Common.{rules, ◌≡◌, ◌∙◌, Option, Some, None, codes, map, unwrap_or, true, refl, ap, subst, []}
 use Rattle.clap.proofs.OnLiterals.{clap_on_literals}
-use Rattle.clap.specs.Simple.{app_of_fields}
-use Rattle.clap.specs.Words.{App, HasKind, app_of, fault_of, is_simple_and_free, with_subcommand}
-use Rattle.command_line.specs.Modes.{tool, with_required}
+use Rattle.clap.specs.Words.{App, Text, fault_of, is_simple_and_free, is_simple, subcommand_of}
+use Rattle.command_line.specs.Modes.{tool}
+use Rattle.command_line.proofs.Named.{run_named}
+use Rattle.command_line.proofs.mode.find_subcommand.Goals.{in_default-via-in-Some+in_default, in_default-via-in_default}
 use Rattle.command_line.proofs.mode.find_subcommand.Goals as goal
 
 simple : is_simple_and_free tool ≡ true
 unfolding clap_on_literals
 simple = refl
 
-pub returns-in-Ok : goal.returns-in-Ok
-returns-in-Ok g c =
-    let required_is : app_of c.subcommand_required.result ≡ with_required (app_of c.new.result) = ap app_of_fields c.subcommand_required.ensures in
-    let tool_is : app_of c.in_ok-tool.tool ≡ tool = c.in_ok-tool.ensures.shape c.new-run.ensures.local
-    ∙ ap₂ with_subcommand (required_is ∙ ap with_required c.new.ensures.app) (ap (λ (a : App). a.top) c.new-run.ensures.app) in
-    let kinds = c.in-Ok.ensures.kinds (ap is_simple_and_free tool_is ∙ simple) in
-    sym (ap (λ (a : App). fault_of a (map g.S.AsStr.text c.args.words.now)) tool_is) ∙ kinds
+pub returns-in-Some-board-clause-fails : goal.returns-in-Some-board-clause-fails
+returns-in-Some-board-clause-fails g c =
+    subst (λ (a : App). fault_of a (map g.S.AsStr.text c.args.words.now) ≡ []) c.in_ok-tool.ensures
+    (c.in-Ok.ensures.kinds (ap is_simple_and_free c.in_ok-tool.ensures ∙ simple))
 
-pub returns : goal.returns
-returns g c =
-    let required_is : app_of c.subcommand_required.result ≡ with_required (app_of c.new.result) = ap app_of_fields c.subcommand_required.ensures in
-    let tool_is : app_of c.in_ok-tool.tool ≡ tool = c.in_ok-tool.ensures.shape c.new-run.ensures.local
-    ∙ ap₂ with_subcommand (required_is ∙ ap with_required c.new.ensures.app) (ap (λ (a : App). a.top) c.new-run.ensures.app) in
-    let kinds = c.in-Err.ensures.kinds (ap is_simple_and_free tool_is ∙ simple) in
-    subst (λ (a : App). HasKind (fault_of a (map g.S.AsStr.text c.args.words.now)) c.in-Err.error) tool_is kinds
+pub returns-in-Ok-clause-fails : goal.returns-in-Ok-clause-fails
+returns-in-Ok-clause-fails g c =
+    subst (λ (a : App). fault_of a (map g.S.AsStr.text c.args.words.now) ≡ []) c.in_ok-tool.ensures
+    (c.in-Ok.ensures.kinds (ap is_simple_and_free c.in_ok-tool.ensures ∙ simple))
+
+pub returns-in-Ok-clause-named : goal.returns-in-Ok-clause-named
+returns-in-Ok-clause-named g c =
+    let words = map g.S.AsStr.text c.args.words.now in
+    let rows = (c.in-Ok.ensures.matches (ap is_simple c.in_ok-tool.ensures)).1 ∙ ap (λ (a : App). subcommand_of a words) c.in_ok-tool.ensures in
+    run_named words c.in-Ok.matches c.subcommand_name.result (returns-in-Ok-clause-fails g c) rows c.subcommand_name.ensures
+    (λ is. elim c.in_default.branch [
+      | in_default-via-in-Some+in_default w ↦
+          let same : Some w.in_default.field-0.now ≡ Some (codes "board") = rw w.in_default.is at is in
+          let text : w.in_default.field-0.now ≡ codes "board" = ap (λ (o : Option Text). unwrap_or o []) same in
+          search (rules, text, w.in_default.not-board)
+      | in_default-via-in_default w ↦
+          let none : None ≡ Some (codes "board") = rw w.in_default.is at is in
+          cc
+    ])

@@ -20,3 +20,6 @@ returns-in-TryCtrls g c = rw c.in-TryCtrls.is (c.try_set.ensures c.args.seat)
 
 pub returns-in-StateOf : goal.returns-in-StateOf
 returns-in-StateOf g c = rw c.in-StateOf.is (c.read_state.ensures c.args.seat)
+
+pub returns-in-Forecast : goal.returns-in-Forecast
+returns-in-Forecast g c = rw c.in-Forecast.is (c.forecast.ensures c.args.seat)

@@ -1,0 +1,114 @@
+ghost use Rattle.std.specs.Prelude.{◌≡◌, ◌≢◌, IfErr};
+ghost use Rattle.ctl_script.specs.Run.{GoesOn};
+
+use crate::run::{SEAT, read_and_answer, with_line, without_line};
+use ctrl_calls::Driver;
+use device_state::{Ask, Device};
+use script_replies::{Outcome, ReplyLine, write_answer, write_no_frames};
+use std::alloc::Global;
+use std::io;
+use std::io::{Read, Write};
+
+/// Asks the commands of a script as `run_script` does, but prints none of their replies; at last it prints what each queued frame will have, in
+/// the order of the queue, or `no frames` where none is queued. It hands the device back (of this project).
+///
+/// - `device`: what the commands are asked of, at seat 0; it may have steps.
+/// - `reader`: gives the script, as it gives that of `run_script`.
+/// - `writer`: is given each line whole, and what is left of it after a short write. It isn't flushed.
+///
+/// The outcome and its line are those of `run_script`; where a line is no command, this is all that is printed. Where a forecast lacks
+/// memory at last, the outcome is `Memory`. The device has the plan that was handed in, and its steps begin with those that it had.
+pub fn run_board<D: Driver, R: Read, W: Write>(
+    alloc: Global,
+    mut device: Device<D>,
+    reader: &mut R,
+    writer: &mut W,
+) -> (Device<D>, Outcome)
+    ensures device { GoesOn device result.0 }
+    ensures one_script { result.1 ≢ Outcome.NoSecond }
+{
+    let Ok(mut line) = ReplyLine::new(alloc) else {
+        return (device, without_line(writer));
+    };
+    let outcome = read_and_print(alloc, &mut device, reader, writer, &mut line);
+    (device, with_line(writer, &mut line, outcome))
+}
+
+// Asks the commands of a script, and prints the frames that are queued then.
+#[tactic(auto, using(crate::proofs::Runs::onward))]
+fn read_and_print<D: Driver, R: Read, W: Write>(
+    alloc: Global,
+    device: &mut Device<D>,
+    reader: &mut R,
+    writer: &mut W,
+    line: &mut ReplyLine,
+) -> Outcome
+    ensures device { GoesOn device.old device.new }
+    ensures one_script { result ≢ Outcome.NoSecond }
+{
+    match read_and_answer(alloc, device, reader, &mut Unheard, line) {
+        Outcome::Finished => print_frames(device, writer, line),
+        outcome => outcome,
+    }
+}
+
+// Prints what each queued frame will have.
+#[tactic(auto, using(crate::proofs::Runs::still, crate::proofs::Runs::onward))]
+fn print_frames<D: Driver, W: Write>(
+    device: &mut Device<D>,
+    writer: &mut W,
+    line: &mut ReplyLine,
+) -> Outcome
+    ensures device { GoesOn device.old device.new }
+    ensures one_script { result ≢ Outcome.NoSecond }
+{
+    if device.queued_count() == 0 {
+        return match write_no_frames(writer) {
+            Ok(()) => Outcome::Finished,
+            Err(_) => Outcome::WriteFault,
+        };
+    }
+    for place in 0..u32::try_from(device.queued_count()).unwrap_or(u32::MAX) {
+        match print_frame(device, place, writer, line) {
+            Ok(()) => {}
+            Err(outcome) => return outcome,
+        }
+    }
+    Outcome::Finished
+}
+
+// Prints what the queued frame at a place will have. The error is the outcome.
+#[tactic(auto, using(crate::proofs::Runs::handled))]
+fn print_frame<D: Driver, W: Write>(
+    device: &mut Device<D>,
+    place: u32,
+    writer: &mut W,
+    line: &mut ReplyLine,
+) -> Result<(), Outcome>
+    ensures device { GoesOn device.old device.new }
+    ensures one_script { IfErr result (λ outcome. outcome ≢ Outcome.NoSecond) }
+{
+    let ask = Ask::Forecast { place };
+    let answer = device.handle(SEAT, &ask);
+    if answer.is_err() {
+        return Err(Outcome::Memory);
+    }
+    match write_answer(writer, line, &ask, &answer) {
+        Ok(()) => Ok(()),
+        Err(_) => Err(Outcome::WriteFault),
+    }
+}
+
+// A writer that takes whatever it is given, and keeps nothing.
+#[derive(Drop)]
+struct Unheard;
+
+impl Write for Unheard {
+    fn write(&mut self, buf: &[u8]) -> io::Result<usize> {
+        Ok(buf.len())
+    }
+
+    fn flush(&mut self) -> io::Result<()> {
+        Ok(())
+    }
+}

@@ -1,0 +1,339 @@
+-- What becomes of a forecast while a history goes on, and of the frames that it is of.
+use Rattle.std.proofs.Common.{◌≡◌, ℕ, ◌+◌, zero, suc, ◌∙◌, Bool, true, false, cond, inl, inr, List, [], ◌∷◌, ◌++◌, length, map, filter, Option, None, Some, is_some, slice_get, unwrap_or, nat_eq, Ok, refl, sym, ap, subst, arith, append-nil, append_assoc, if◌then◌else◌}
+use Rattle.std.specs.Option.{option_map}
+use Rattle.std.proofs.lemmas.Bool.{and_parts}
+use Rattle.std.proofs.lemmas.Bool.Decides.{eqb_tells}
+use Rattle.std.proofs.lemmas.List.{map-append}
+use Rattle.history.specs.declared.entry.Entry.{Entry}
+use Rattle.history.specs.Past.{past}
+use Rattle.history.proofs.Pasts.{past_add}
+use Rattle.ctrl_types.specs.Classes.{which_of}
+use Rattle.ctrl_types.specs.declared.errno.Errno.TheVariants.{ENOSPC}
+use Rattle.ctrl_types.specs.declared.ids.FhId.{FhId}
+use Rattle.ctrl_types.specs.declared.ids.Pair.{Pair}
+use Rattle.ctrl_types.specs.declared.ids.RequestId.{RequestId}
+use Rattle.ctrl_calls.specs.Meanings.{Verdicts}
+use Rattle.ctrl_settle.specs.Control.{Control}
+use Rattle.ctrl_handlers.specs.Plan.{PlanData}
+use Rattle.ctrl_clusters.specs.Rows.{Values, Grabs}
+use Rattle.ctrl_clusters.specs.Overlay.{overlay}
+use Rattle.ctrl_forecast.specs.declared.board.Forecast.{Forecast}
+use Rattle.ctrl_forecast.specs.Forecasts.{QueuedData, forecast_over, forecasts}
+use Rattle.req_book.specs.declared.state.RequestState.{RequestState}
+use Rattle.req_book.specs.declared.state.RequestState.TheVariants as states
+use Rattle.req_book.specs.Requests.{RequestData, find}
+use Rattle.req_book.proofs.ObjectLemmas.{Tells}
+use Rattle.frame_queue.specs.Frames.{FramesData, is_in, is_queued, begin_answer, buffer_number, first_waiting}
+use Rattle.frame_queue.proofs.FrameLemmas.{rests}
+use Rattle.device_history.specs.declared.ask.Ask.{Ask}
+use Rattle.device_history.specs.declared.ask.Ask.TheVariants as asks
+use Rattle.device_history.specs.declared.ask.Reply.{Reply}
+use Rattle.device_history.specs.declared.ask.Reply.TheVariants as replies
+use Rattle.device_history.specs.declared.ask.Step.{Step}
+use Rattle.device_history.specs.declared.ask.Step.TheVariants as steps
+use Rattle.device_history.specs.Steps.{History, Past}
+use Rattle.device_history.specs.Refusals.{refused, is_full, fault_of}
+use Rattle.device_history.specs.Grabs.{grabbed, grabbed_after}
+use Rattle.device_history.specs.Requests.{is_there, state, asked, asked_after, buffer, buffer_after}
+use Rattle.device_history.specs.Frames.{begun_by, ever_queued, queue, running}
+use Rattle.device_history.specs.Values.{laid, now, now_after}
+use Rattle.device_history.specs.Snapshots.{request, request_in, requests, frames, begun_refused, begun_pairs}
+use Rattle.device_history.specs.RequestAnswers.{begin_frame_answer, frame_answer}
+use Rattle.device_history.specs.Lists.{list_pairs, meant, pairs_step, which_or}
+use Rattle.device_history.specs.Answers.{refusal, step_of, answer_of}
+use Rattle.device_history.specs.Legal.{IsLegal, MayFollow}
+use Rattle.device_history.specs.FrameSteps.{FitsFrames, frames_after}
+use Rattle.device_history.specs.Forecasts.{queued_frame, queued_frames, forecast}
+use Rattle.device_history.specs.Stretches.{goes_on, all_go_on, begins}
+use Rattle.device_history.proofs.AllFit.{AllFit}
+use Rattle.device_history.proofs.StateLemmas.{asked_more, asked_same, buffer_more}
+use Rattle.device_history.proofs.RequestLemmas.{request_some, first_queued}
+use Rattle.device_history.proofs.FrameLemmas.{idle_rests, store_idle, buffer_idle, next_none, find_request, frames_more, first_waits, begin_is, complete_is}
+use Rattle.device_history.proofs.GrabLemmas.{grabbed_more}
+use Rattle.device_history.proofs.PastLemmas.{legal_front, legal_last}
+use Rattle.device_history.proofs.FitLemmas.{fits, all_fit}
+
+-- a queued frame after one more step, each field by itself
+abbrev frame_after : PlanData → Past → Step → ℕ → QueuedData
+frame_after plan older step j = record {
+  request = record { 0 = j };
+  buffer = unwrap_or (buffer_after (length older) step j (buffer older j)) 0;
+  asked = asked_after plan (length older) step j (asked plan older j);
+}
+
+frame_more : (plan : PlanData) (e : Entry Step) (older : Past) (j : ℕ) → queued_frame plan (e ∷ older) j ≡ frame_after plan older e.step j
+frame_more plan e older j = rw (asked_more plan e older j, buffer_more e older j) refl
+
+-- a request is queued where its state says so
+queued_state : (verdicts : Verdicts) (plan : PlanData) (older : Past) (j : ℕ) → is_in is_queued (request verdicts plan older j) ≡ is_there is_queued (state older j)
+unfolding request
+queued_state verdicts plan older j = by (state older j)
+  where
+    by : (o : Option RequestState) → is_in is_queued (option_map (request_in verdicts plan older j) o) ≡ is_there is_queued o
+    by None = refl
+    by (Some s) = refl
+
+-- a request that isn't queued is none that is
+others : (verdicts : Verdicts) (plan : PlanData) (older : Past) (r j : ℕ) → is_in is_queued (request verdicts plan older r) ≡ false → is_there is_queued (state older j) ≡ true → nat_eq r j ≡ false
+others verdicts plan older r j off waits = by (eqb_tells r j)
+  where
+    clash : true ≡ false → nat_eq r j ≡ false
+    clash h = cc
+
+    by : Tells r j → nat_eq r j ≡ false
+    by (inr other) = other.0
+    by (inl same) = clash (sym waits ∙ sym (queued_state verdicts plan older j) ∙ ap (λ (i : ℕ). is_in is_queued (request verdicts plan older i)) (sym same.1) ∙ off)
+
+-- what a request asks for and its buffer stand while it is queued
+frame_stands : (verdicts : Verdicts) (plan : PlanData) (older : Past) (step : Step) (j : ℕ) → AllFit verdicts plan older → FitsFrames verdicts plan older step → is_there is_queued (state older j) ≡ true
+    → frame_after plan older step j ≡ queued_frame plan older j
+frame_stands verdicts plan older (steps.OpenFh handler) j fit fits waits = rw (asked_same plan older j) refl
+frame_stands verdicts plan older (steps.CloseFh fh) j fit fits waits = rw (asked_same plan older j) refl
+frame_stands verdicts plan older (steps.Set fh pairs) j fit fits waits = rw (asked_same plan older j) refl
+frame_stands verdicts plan older (steps.Grab c on) j fit fits waits = rw (asked_same plan older j) refl
+frame_stands verdicts plan older steps.Alloc j fit fits waits =
+    let other : nat_eq (length older) j ≡ false = others verdicts plan older (length older) j (ap (is_in is_queued) (next_none verdicts plan older fit)) waits in
+    rw (other, asked_same plan older j) refl
+frame_stands verdicts plan older (steps.Store r pairs) j fit fits waits =
+    let other : nat_eq r.0 j ≡ false = others verdicts plan older r.0 j (idle_rests (request verdicts plan older r.0) (store_idle (request verdicts plan older r.0) fits)).0 waits in
+    rw (other, asked_same plan older j) refl
+frame_stands verdicts plan older (steps.Buffer r number) j fit fits waits =
+    let other : nat_eq r.0 j ≡ false = others verdicts plan older r.0 j (idle_rests (request verdicts plan older r.0) (buffer_idle (requests verdicts plan older) number (request verdicts plan older r.0) fits)).0 waits in
+    rw (other, asked_same plan older j) refl
+frame_stands verdicts plan older (steps.Queue r) j fit fits waits = rw (asked_same plan older j) refl
+frame_stands verdicts plan older (steps.Begin r) j fit fits waits = rw (asked_same plan older j) refl
+frame_stands verdicts plan older (steps.Complete r) j fit fits waits = rw (asked_same plan older j) refl
+frame_stands verdicts plan older (steps.Cancel r) j fit fits waits = rw (asked_same plan older j) refl
+frame_stands verdicts plan older steps.StreamOff j fit fits waits = rw (asked_same plan older j) refl
+frame_stands verdicts plan older (steps.Reinit r) j fit fits waits =
+    let other : nat_eq r.0 j ≡ false = others verdicts plan older r.0 j (rests (request verdicts plan older r.0) fits).0 waits in
+    rw (other, asked_same plan older j) refl
+frame_stands verdicts plan older (steps.Free r) j fit fits waits = rw (asked_same plan older j) refl
+
+-- numbers that pass a test, of which two functions make the same
+same_frames : (f g : ℕ → QueuedData) (test : ℕ → Bool) (ids : List ℕ) → ((j : ℕ) → test j ≡ true → f j ≡ g j) → map f (filter test ids) ≡ map g (filter test ids)
+same_frames f g test [] same = refl
+same_frames f g test (j ∷ ids) same = by (test j) refl (same_frames f g test ids same)
+  where
+    by : (b : Bool) → test j ≡ b → map f (filter test ids) ≡ map g (filter test ids) → map f (cond b (j ∷ filter test ids) (filter test ids)) ≡ map g (cond b (j ∷ filter test ids) (filter test ids))
+    by true is rest = rw (same j is, rest) refl
+    by false is rest = rest
+
+-- the frames that are queued stand as they did
+frames_stand : (verdicts : Verdicts) (plan : PlanData) (e : Entry Step) (older : Past) → AllFit verdicts plan older → FitsFrames verdicts plan older e.step → map (queued_frame plan (e ∷ older)) (queue older) ≡ queued_frames plan older
+frames_stand verdicts plan e older fit fits = same_frames (queued_frame plan (e ∷ older)) (queued_frame plan older) (λ j. is_there is_queued (state older j)) (ever_queued older) one
+  where
+    one : (j : ℕ) → is_there is_queued (state older j) ≡ true → queued_frame plan (e ∷ older) j ≡ queued_frame plan older j
+    one j h = frame_more plan e older j ∙ frame_stands verdicts plan older e.step j fit fits h
+
+-- a row stands as it did where further frames are queued
+row_stands : (verdicts : Verdicts) (plan : PlanData) (controls : List Control) (grabs : Grabs) (values : Values) (qs more : List QueuedData) (i : ℕ) (row : Forecast)
+    → slice_get (forecasts verdicts plan controls grabs values qs) i ≡ Some row → slice_get (forecasts verdicts plan controls grabs values (qs ++ more)) i ≡ Some row
+unfolding forecasts
+row_stands verdicts plan controls grabs values [] more i row is = cc
+row_stands verdicts plan controls grabs values (q ∷ qs) more zero row is = is
+row_stands verdicts plan controls grabs values (q ∷ qs) more (suc i) row is = row_stands verdicts plan controls grabs (overlay verdicts plan controls values grabs q.asked) qs more i row is
+
+-- a forecast is of the grabs, the present values and the queued frames
+forecast_of : (verdicts : Verdicts) (plan : PlanData) (a b : Grabs) (v w : Values) (q p : List QueuedData) → a ≡ b → v ≡ w → q ≡ p → forecasts verdicts plan plan.controls a v q ≡ forecasts verdicts plan plan.controls b w p
+forecast_of verdicts plan a b v w q p x y z = rw (x, y, z) refl
+
+-- the frames behind the first
+frames_behind : (q p : QueuedData) (qs ps : List QueuedData) → q ∷ qs ≡ p ∷ ps → qs ≡ ps
+frames_behind q p qs ps h = cc
+
+-- the forecast, where a request is the first of the queue
+first_row : (verdicts : Verdicts) (plan : PlanData) (older : Past) (r : ℕ) (ids : List ℕ) → queue older ≡ r ∷ ids
+    → forecast verdicts plan older ≡ forecast_over verdicts plan plan.controls (grabbed plan older) (now verdicts plan older) (queued_frame plan older r)
+    ∷ forecasts verdicts plan plan.controls (grabbed plan older) (overlay verdicts plan plan.controls (now verdicts plan older) (grabbed plan older) (asked plan older r)) (map (queued_frame plan older) ids)
+unfolding forecasts
+first_row verdicts plan older r ids is = ap (λ (js : List ℕ). forecasts verdicts plan plan.controls (grabbed plan older) (now verdicts plan older) (map (queued_frame plan older) js)) is
+
+-- the present values once a frame is begun
+begun_now : (verdicts : Verdicts) (plan : PlanData) (e : Entry Step) (older : Past) (r : RequestId) → e.step ≡ steps.Begin r
+    → now verdicts plan (e ∷ older) ≡ overlay verdicts plan plan.controls (now verdicts plan older) (grabbed plan older) (asked plan older r.0)
+unfolding now
+begun_now verdicts plan e older r is = ap (λ (s : Step). now_after verdicts plan (grabbed plan older) (laid plan older s) (now verdicts plan older)) is
+
+-- a row of a forecast once a history goes on by one more step: a begin moves it up
+next_row : (verdicts : Verdicts) (plan : PlanData) (e : Entry Step) (older : Past) (i : ℕ) (row : Forecast) → AllFit verdicts plan older → FitsFrames verdicts plan older e.step → goes_on e.step ≡ true
+    → slice_get (forecast verdicts plan older) (cond (is_some (begun_by e.step)) (suc i) i) ≡ Some row → slice_get (forecast verdicts plan (e ∷ older)) i ≡ Some row
+unfolding now
+next_row verdicts plan e older i row fit fits on stood = by e.step refl fits on stood
+  where
+    turn : (step : Step) → e.step ≡ step → queue (e ∷ older) ≡ (frames_after verdicts plan older (length older) step (frames verdicts plan older)).queue
+    turn step is = ap (λ (f : FramesData). f.queue) (frames_more verdicts plan e older fit fits) ∙ ap (λ (s : Step). (frames_after verdicts plan older (length older) s (frames verdicts plan older)).queue) is
+
+    stays : (step : Step) → e.step ≡ step → (added : List ℕ) → queue (e ∷ older) ≡ queue older ++ added
+        → grabbed_after step (grabbed plan older) ≡ grabbed plan older → now_after verdicts plan (grabbed plan older) (laid plan older step) (now verdicts plan older) ≡ now verdicts plan older
+        → slice_get (forecast verdicts plan older) i ≡ Some row → slice_get (forecast verdicts plan (e ∷ older)) i ≡ Some row
+    stays step is added line grabs values stood =
+        ap (λ (rows : List Forecast). slice_get rows i)
+        (forecast_of verdicts plan (grabbed plan (e ∷ older)) (grabbed plan older) (now verdicts plan (e ∷ older)) (now verdicts plan older) (queued_frames plan (e ∷ older)) (queued_frames plan older ++ map (queued_frame plan (e ∷ older)) added)
+        (grabbed_more plan e older ∙ ap (λ (s : Step). grabbed_after s (grabbed plan older)) is ∙ grabs)
+        (ap (λ (s : Step). now_after verdicts plan (grabbed plan older) (laid plan older s) (now verdicts plan older)) is ∙ values)
+        (ap (map (queued_frame plan (e ∷ older))) line ∙ map-append (queued_frame plan (e ∷ older)) (queue older) added ∙ ap (λ (qs : List QueuedData). qs ++ map (queued_frame plan (e ∷ older)) added) (frames_stand verdicts plan e older fit fits)))
+        ∙ row_stands verdicts plan plan.controls (grabbed plan older) (now verdicts plan older) (queued_frames plan older) (map (queued_frame plan (e ∷ older)) added) i row stood
+
+    same : (step : Step) → e.step ≡ step → (frames_after verdicts plan older (length older) step (frames verdicts plan older)).queue ≡ queue older
+        → grabbed_after step (grabbed plan older) ≡ grabbed plan older → now_after verdicts plan (grabbed plan older) (laid plan older step) (now verdicts plan older) ≡ now verdicts plan older
+        → slice_get (forecast verdicts plan older) i ≡ Some row → slice_get (forecast verdicts plan (e ∷ older)) i ≡ Some row
+    same step is line grabs values stood = stays step is [] (turn step is ∙ line ∙ sym (append-nil (queue older))) grabs values stood
+
+    begun : (r : RequestId) → e.step ≡ steps.Begin r → FitsFrames verdicts plan older (steps.Begin r) → slice_get (forecast verdicts plan older) (suc i) ≡ Some row → slice_get (forecast verdicts plan (e ∷ older)) i ≡ Some row
+    begun r is fits_it stood =
+        let first = first_waits (queue older) r.0 fits_it.1 in
+        ap (λ (rows : List Forecast). slice_get rows i)
+        (forecast_of verdicts plan (grabbed plan (e ∷ older)) (grabbed plan older) (now verdicts plan (e ∷ older)) (overlay verdicts plan plan.controls (now verdicts plan older) (grabbed plan older) (asked plan older r.0)) (queued_frames plan (e ∷ older)) (map (queued_frame plan older) first.0)
+        (grabbed_more plan e older ∙ ap (λ (s : Step). grabbed_after s (grabbed plan older)) is)
+        (begun_now verdicts plan e older r is)
+        (ap (map (queued_frame plan (e ∷ older))) (turn (steps.Begin r) is ∙ ap (λ (f : FramesData). f.queue) (begin_is (frames verdicts plan older) (begun_pairs verdicts plan older r.0) r.0 first.0 fits_it.0 first.1))
+        ∙ frames_behind (queued_frame plan (e ∷ older) r.0) (queued_frame plan older r.0) (map (queued_frame plan (e ∷ older)) first.0) (map (queued_frame plan older) first.0)
+        (sym (ap (map (queued_frame plan (e ∷ older))) first.1) ∙ frames_stand verdicts plan e older fit fits ∙ ap (map (queued_frame plan older)) first.1)))
+        ∙ sym (ap (λ (rows : List Forecast). slice_get rows (suc i)) (first_row verdicts plan older r.0 first.0 first.1)) ∙ stood
+
+    by : (step : Step) → e.step ≡ step → FitsFrames verdicts plan older step → goes_on step ≡ true
+        → slice_get (forecast verdicts plan older) (cond (is_some (begun_by step)) (suc i) i) ≡ Some row → slice_get (forecast verdicts plan (e ∷ older)) i ≡ Some row
+    by (steps.OpenFh handler) is fits_it on stood = same _ is refl refl refl stood
+    by (steps.CloseFh fh) is fits_it on stood = same _ is refl refl refl stood
+    by (steps.Set fh pairs) is fits_it on stood = cc
+    by (steps.Grab c on_it) is fits_it on stood = cc
+    by steps.Alloc is fits_it on stood = same _ is refl refl refl stood
+    by (steps.Store r pairs) is fits_it on stood = same _ is refl refl refl stood
+    by (steps.Buffer r number) is fits_it on stood = same _ is refl refl refl stood
+    by (steps.Queue r) is fits_it on stood = stays _ is (r.0 ∷ []) (turn _ is) refl refl stood
+    by (steps.Begin r) is fits_it on stood = begun r is fits_it stood
+    by (steps.Complete r) is fits_it on stood = same _ is (ap (λ (f : FramesData). f.queue) (complete_is (frames verdicts plan older) (now verdicts plan older) r.0 fits_it)) refl refl stood
+    by (steps.Cancel r) is fits_it on stood = cc
+    by steps.StreamOff is fits_it on stood = cc
+    by (steps.Reinit r) is fits_it on stood = same _ is refl refl refl stood
+    by (steps.Free r) is fits_it on stood = same _ is refl refl refl stood
+
+-- the rows of a forecast stand while a legal history goes on; each frame that is begun moves them up
+pub rows_stand : (verdicts : Verdicts) (plan : PlanData) (entries more : History) (i : ℕ) (row : Forecast) → IsLegal verdicts plan (past (entries ++ more)) → all_go_on more ≡ true
+    → slice_get (forecast verdicts plan (past entries)) (begins more + i) ≡ Some row → slice_get (forecast verdicts plan (past (entries ++ more))) i ≡ Some row
+rows_stand verdicts plan entries [] i row legal on stood =
+    let none : 0 + i ≡ i = omega arith in
+    rw (append-nil entries) (rw none at stood)
+rows_stand verdicts plan entries (e ∷ more) i row legal on stood =
+    let on_each = and_parts (goes_on e.step) (all_go_on more) on in
+    let joined : (entries ++ e ∷ []) ++ more ≡ entries ++ e ∷ more = append_assoc entries (e ∷ []) more in
+    let legal_joined : IsLegal verdicts plan (past ((entries ++ e ∷ []) ++ more)) = subst (λ (es : History). IsLegal verdicts plan (past es)) (sym joined) legal in
+    let legal_one : IsLegal verdicts plan (past (entries ++ e ∷ [])) = legal_front verdicts plan (entries ++ e ∷ []) more legal_joined in
+    let legal_start : IsLegal verdicts plan (past entries) = legal_front verdicts plan entries (e ∷ []) legal_one in
+    subst (λ (es : History). slice_get (forecast verdicts plan (past es)) i ≡ Some row) joined
+    (rows_stand verdicts plan (entries ++ e ∷ []) more i row legal_joined on_each.1
+    (subst (λ (p : Past). slice_get (forecast verdicts plan p) (begins more + i) ≡ Some row) (sym (past_add entries e))
+    (next_row verdicts plan e (past entries) (begins more + i) row (all_fit verdicts plan (past entries) legal_start) (fits verdicts plan (past entries) e.step (legal_last verdicts plan entries e legal_one)) on_each.0
+    (place (is_some (begun_by e.step)) stood))))
+  where
+    place : (b : Bool) → slice_get (forecast verdicts plan (past entries)) (length (cond b (e ∷ filter (λ x. is_some (begun_by x.step)) more) (filter (λ x. is_some (begun_by x.step)) more)) + i) ≡ Some row
+        → slice_get (forecast verdicts plan (past entries)) (cond b (suc (begins more + i)) (begins more + i)) ≡ Some row
+    place true h = let next : suc (begins more) + i ≡ suc (begins more + i) = omega arith in rw next at h
+    place false h = h
+
+-- each row is of the request at its place
+rows_named : (verdicts : Verdicts) (plan : PlanData) (controls : List Control) (grabs : Grabs) (values : Values) (qs : List QueuedData) → map (λ row. row.request.0) (forecasts verdicts plan controls grabs values qs) ≡ map (λ q. q.request.0) qs
+unfolding forecasts
+rows_named verdicts plan controls grabs values [] = refl
+rows_named verdicts plan controls grabs values (q ∷ qs) = ap (λ (ids : List ℕ). q.request.0 ∷ ids) (rows_named verdicts plan controls grabs (overlay verdicts plan controls values grabs q.asked) qs)
+
+frames_named : (plan : PlanData) (older : Past) (ids : List ℕ) → map (λ q. q.request.0) (map (queued_frame plan older) ids) ≡ ids
+frames_named plan older [] = refl
+frames_named plan older (j ∷ ids) = ap (λ (js : List ℕ). j ∷ js) (frames_named plan older ids)
+
+-- a forecast has a row for each queued request
+pub rows_queued : (verdicts : Verdicts) (plan : PlanData) (older : Past) → map (λ row. row.request.0) (forecast verdicts plan older) ≡ queue older
+rows_queued verdicts plan older = rows_named verdicts plan plan.controls (grabbed plan older) (now verdicts plan older) (queued_frames plan older) ∙ frames_named plan older (queue older)
+
+-- the row of the frame that is begun next
+begun_row : (verdicts : Verdicts) (plan : PlanData) (older : Past) (r : RequestId) (row : Forecast) → FitsFrames verdicts plan older (steps.Begin r) → slice_get (forecast verdicts plan older) 0 ≡ Some row
+    → row ≡ forecast_over verdicts plan plan.controls (grabbed plan older) (now verdicts plan older) (queued_frame plan older r.0)
+begun_row verdicts plan older r row fit stood =
+    let first = first_waits (queue older) r.0 fit.1 in
+    same row _ (sym stood ∙ ap (λ (rows : List Forecast). slice_get rows 0) (first_row verdicts plan older r.0 first.0 first.1))
+  where
+    same : (a b : Forecast) → Some a ≡ Some b → a ≡ b
+    same a b h = cc
+
+-- nothing refuses a begin that may follow
+begin_unrefused : (verdicts : Verdicts) (plan : PlanData) (older : Past) (r : RequestId) → MayFollow verdicts plan older (steps.Begin r) → fault_of (begin_frame_answer verdicts plan older) ≡ None
+begin_unrefused verdicts plan older r may = by may.0 may.1 may.2
+  where
+    list : (o : Option RequestId) (fh : FhId) (pairs : List Pair) → Some (pairs_step o fh pairs) ≡ Some (steps.Begin r) → fault_of (begin_frame_answer verdicts plan older) ≡ None
+    list None fh pairs adds = cc
+    list (Some id) fh pairs adds = cc
+
+    ends : (o : Option ℕ) → option_map (λ k. steps.Complete (record { 0 = k })) o ≡ Some (steps.Begin r) → fault_of (begin_frame_answer verdicts plan older) ≡ None
+    ends None adds = cc
+    ends (Some k) adds = cc
+
+    by : (ask : Ask) → refusal verdicts plan older ask ≡ None → step_of plan older ask ≡ Some (steps.Begin r) → fault_of (begin_frame_answer verdicts plan older) ≡ None
+    by (asks.OpenFh handler) h adds = cc
+    by (asks.CloseFh fh) h adds = cc
+    by (asks.GetCtrls fh which id list) h adds = cc
+    by (asks.SetCtrls fh which id entries) h adds = list (meant (which_or (which_of which)) id) fh (list_pairs plan older fh which entries) adds
+    by (asks.TryCtrls fh which id list) h adds = cc
+    by (asks.Grab c on) h adds = cc
+    by asks.Alloc h adds = cc
+    by (asks.AddBuffer id number) h adds = cc
+    by (asks.Queue id) h adds = cc
+    by asks.Begin h adds = h
+    by asks.Complete h adds = ends (running older) adds
+    by (asks.Cancel id) h adds = cc
+    by asks.StreamOff h adds = cc
+    by (asks.Reinit id) h adds = cc
+    by (asks.Free id) h adds = cc
+    by (asks.StateOf id) h adds = cc
+    by (asks.Forecast place) h adds = cc
+    by (asks.Query fh id) h adds = cc
+    by (asks.NextId fh id) h adds = cc
+    by (asks.MenuItem fh id index) h adds = cc
+    by (asks.Told cluster) h adds = cc
+
+-- what a begin that may follow is answered
+begin_replies : (verdicts : Verdicts) (plan : PlanData) (older : Past) (r : RequestId) → AllFit verdicts plan older → MayFollow verdicts plan older (steps.Begin r)
+    → begin_frame_answer verdicts plan older ≡ Ok (replies.Frame r (unwrap_or (buffer older r.0) 0) (begun_refused verdicts plan older r.0))
+begin_replies verdicts plan older r fit may =
+    answered ∙ kept (is_full older) _ (sym (ap fault_of answered) ∙ begin_unrefused verdicts plan older r may)
+  where
+    kept : (full : Bool) (reply : Reply) → fault_of (if full then refused ENOSPC else Ok reply) ≡ None → (if full then refused ENOSPC else Ok reply) ≡ Ok reply
+    kept true reply h = cc
+    kept false reply h = refl
+
+    fit_it : FitsFrames verdicts plan older (steps.Begin r)
+    fit_it = fits verdicts plan older (steps.Begin r) may
+
+    found : find (requests verdicts plan older) r.0 ≡ Some (request_in verdicts plan older r.0 states.Queued)
+    found = find_request verdicts plan older r.0 fit ∙ request_some verdicts plan older r.0 states.Queued (first_queued older r.0 fit_it.1)
+
+    first : begin_answer (frames verdicts plan older) ≡ Ok (r.0, unwrap_or (buffer older r.0) 0)
+    first =
+        let front = first_waits (queue older) r.0 fit_it.1 in
+        ap (λ (o : Option ℕ). begin_answer (record (frames verdicts plan older) { running = o })) fit_it.0 ∙ ap (first_waiting (requests verdicts plan older)) front.1 ∙ ap (λ (o : Option RequestData). Ok (r.0, buffer_number o)) found
+
+    answered : begin_frame_answer verdicts plan older ≡ (if is_full older then refused ENOSPC else Ok (replies.Frame r (unwrap_or (buffer older r.0) 0) (begun_refused verdicts plan older r.0)))
+    answered = ap (frame_answer verdicts plan older) first
+
+-- The frame that is begun next is of the row that stood as many places down as frames were begun since.
+module _ (verdicts : Verdicts) (plan : PlanData) (entries more : History) (e : Entry Step) (r : RequestId) (row : Forecast) (legal : IsLegal verdicts plan (past (entries ++ more ++ e ∷ []))) (on : all_go_on more ≡ true)
+    (is : e.step ≡ steps.Begin r) (stood : slice_get (forecast verdicts plan (past entries)) (begins more) ≡ Some row) where
+  may : MayFollow verdicts plan (past (entries ++ more)) (steps.Begin r)
+  may = subst (MayFollow verdicts plan (past (entries ++ more))) is (legal_last verdicts plan (entries ++ more) e legal)
+
+  legal_then : IsLegal verdicts plan (past (entries ++ more))
+  legal_then = legal_front verdicts plan (entries ++ more) (e ∷ []) legal
+
+  row_is : row ≡ forecast_over verdicts plan plan.controls (grabbed plan (past (entries ++ more))) (now verdicts plan (past (entries ++ more))) (queued_frame plan (past (entries ++ more)) r.0)
+  row_is =
+      let none : begins more ≡ begins more + 0 = omega arith in
+      begun_row verdicts plan (past (entries ++ more)) r row (fits verdicts plan (past (entries ++ more)) (steps.Begin r) may) (rows_stand verdicts plan entries more 0 row legal_then on (rw none at stood))
+
+  pub frame_request : r ≡ row.request
+  frame_request = sym (ap (λ (f : Forecast). f.request) row_is)
+
+  pub frame_values : now verdicts plan (past (entries ++ more ++ e ∷ [])) ≡ row.values
+  frame_values = ap (now verdicts plan) (past_add (entries ++ more) e) ∙ begun_now verdicts plan e (past (entries ++ more)) r is ∙ sym (ap (λ (f : Forecast). f.values) row_is)
+
+  pub frame_reply : (words : List ℕ) → answer_of verdicts plan (past (entries ++ more)) words asks.Begin ≡ Ok (replies.Frame row.request row.buffer row.refused)
+  frame_reply words = begin_replies verdicts plan (past (entries ++ more)) r (all_fit verdicts plan (past (entries ++ more)) legal_then) may ∙ sym (ap (λ (f : Forecast). Ok (replies.Frame f.request f.buffer f.refused)) row_is)

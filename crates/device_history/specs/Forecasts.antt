@@ -1,0 +1,35 @@
+-- What the queued frames will have, as they stand (of this project).
+use Rattle.std.specs.Prelude.{ℕ, List, map, unwrap_or, Option, None, Some, slice_get, Ok}
+use Rattle.ctrl_types.specs.declared.errno.Errno.TheVariants.{ENOENT}
+use Rattle.ctrl_calls.specs.Meanings.{Verdicts}
+use Rattle.ctrl_handlers.specs.Plan.{PlanData}
+use Rattle.ctrl_forecast.specs.Forecasts.{QueuedData, forecasts}
+use Rattle.ctrl_forecast.specs.declared.board.Forecast.{Forecast}
+use Rattle.device_history.specs.declared.ask.Reply.TheVariants as replies
+use Rattle.device_history.specs.Steps.{Past}
+use Rattle.device_history.specs.Refusals.{Answer, refused}
+use Rattle.device_history.specs.Grabs.{grabbed}
+use Rattle.device_history.specs.Requests.{asked, buffer}
+use Rattle.device_history.specs.Frames.{queue}
+use Rattle.device_history.specs.Values.{now}
+
+-- the frame of a request that is queued; each one that is queued has a buffer
+abbrev pub queued_frame : PlanData → Past → ℕ → QueuedData
+queued_frame plan past r = record { request = record { 0 = r }; buffer = unwrap_or (buffer past r) 0; asked = asked plan past r }
+
+-- the queued frames, in the order of the queue
+abbrev pub queued_frames : PlanData → Past → List QueuedData
+queued_frames plan past = map (queued_frame plan past) (queue past)
+
+-- What the queued frames will have: the first over the present values, each other over what the one before leaves, all under the present
+-- grabs.
+abbrev pub forecast : Verdicts → PlanData → Past → List Forecast
+forecast verdicts plan past = forecasts verdicts plan plan.controls (grabbed plan past) (now verdicts plan past) (queued_frames plan past)
+
+-- A forecast at a place of the queue: ENOENT where no frame is queued there. Neither a running frame nor the limit of steps refuses it.
+abbrev pub forecast_reply : Option Forecast → Answer
+forecast_reply None = refused ENOENT
+forecast_reply (Some row) = Ok (replies.Forecast row)
+
+abbrev pub forecast_answer : Verdicts → PlanData → Past → ℕ → Answer
+forecast_answer verdicts plan past place = forecast_reply (slice_get (forecast verdicts plan past) place)

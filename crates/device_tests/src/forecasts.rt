@@ -1,0 +1,211 @@
+//! What the queued frames will have, and that the frames then have it.
+
+use crate::asks::{At, NOW, Question, Row, SET, Want, list_of};
+use crate::plan::{Scene, Trouble, scene_of};
+use crate::play::expect;
+use crate::sample::{AUTOGAIN, BLUE, BRIGHTNESS, BUTTON, GAIN, RED, SAMPLE};
+use ctrl_types::{Errno, Fault, FhId};
+use device_state::{Ask, Reply};
+use std::alloc::Global;
+
+// Through a request, at the file handle 0.
+const ONE: At = At(0, 0x0f01_0000, Some(1));
+
+const TWO: At = At(0, 0x0f01_0000, Some(2));
+
+const NONE: Want = Want::Refused(Errno::ENOENT);
+
+// A row asks at most one validator for each queued frame and each cluster that its request names, and none where no frame is queued at the
+// place. It tells nobody.
+const ROWS: &[Row] = &[
+    (Question::Open(1, 1), Want::Opened, &[]),
+    (Question::Alloc(2), Want::Made, &[]),
+    (Question::Buffer(1, 7), Want::Done, &[]),
+    (Question::Buffer(2, 8), Want::Done, &[]),
+    (
+        Question::List(SET, ONE, &[(RED, 200)]),
+        Want::Values(&[200]),
+        &[(1, 1, 0)],
+    ),
+    (
+        Question::List(SET, TWO, &[(BLUE, 200), (GAIN, 250), (BUTTON, 1)]),
+        Want::Values(&[200, 200, 0]),
+        &[(0, 1, 0), (1, 1, 0)],
+    ),
+    (Question::Row(0), NONE, &[]),
+    (Question::Queue(1), Want::Done, &[]),
+    (Question::Queue(2), Want::Done, &[]),
+    (
+        Question::Row(0),
+        Want::Row(1, 7, &[1, 16, 0, 0, 0, 0, 1, 0, 200, 128], &[]),
+        &[(0, 1, 0), (1, 2, 0)],
+    ),
+    // what was accepted when it was stored is refused behind the first frame
+    (
+        Question::Row(1),
+        Want::Row(2, 8, &[1, 200, 0, 0, 0, 0, 1, 0, 200, 128], &[1]),
+        &[(0, 1, 0), (1, 2, 0)],
+    ),
+    (Question::Row(2), NONE, &[]),
+    (Question::Row(u32::MAX), NONE, &[]),
+    // nobody is asked about a cluster that a grab refuses; behind it the second has its blue
+    (Question::Grab(8, true), Want::Done, &[]),
+    (
+        Question::Row(0),
+        Want::Row(1, 7, &[1, 16, 0, 0, 0, 0, 1, 0, 128, 128], &[1]),
+        &[(0, 1, 0), (1, 1, 0)],
+    ),
+    (
+        Question::Row(1),
+        Want::Row(2, 8, &[1, 200, 0, 0, 0, 0, 1, 0, 128, 200], &[]),
+        &[(0, 1, 0), (1, 1, 0)],
+    ),
+    (Question::Grab(8, false), Want::Done, &[]),
+    // a set shows at once
+    (
+        Question::List(SET, NOW, &[(AUTOGAIN, 0), (BLUE, 185)]),
+        Want::Values(&[0, 185]),
+        &[(0, 1, 1), (1, 1, 1)],
+    ),
+    (
+        Question::Row(0),
+        Want::Row(1, 7, &[0, 16, 0, 0, 0, 0, 1, 0, 128, 185], &[1]),
+        &[(0, 1, 0), (1, 2, 0)],
+    ),
+    // a frame that runs is no row any more, and refuses none
+    (Question::Begin, Want::Frame(1, 7, &[1]), &[(1, 1, 0)]),
+    (
+        Question::Row(0),
+        Want::Row(2, 8, &[0, 200, 0, 0, 0, 0, 1, 0, 128, 200], &[]),
+        &[(0, 1, 0), (1, 1, 0)],
+    ),
+    (Question::Cancel(2), Want::Done, &[]),
+    (Question::Row(0), NONE, &[]),
+];
+
+#[test]
+fn rows_ask_for_each_frame_and_tell_nobody(rt: HostRuntime) {
+    expect(&rt, &SAMPLE, ROWS);
+}
+
+// What the requests ask for in turn, each a control and a value, to which the number of the request is added.
+const ASKED: &[&[(u32, i64)]] = &[
+    &[(RED, 180)],
+    &[(BLUE, 190), (GAIN, 250)],
+    &[(AUTOGAIN, -60), (GAIN, 30), (BUTTON, 1)],
+    &[(BRIGHTNESS, -40), (RED, 10)],
+    &[(RED, 90), (BLUE, 160)],
+    &[(RED, 240)],
+    &[],
+    &[(BLUE, -63), (BRIGHTNESS, 3), (BRIGHTNESS, -99)],
+];
+
+// How many requests there may be.
+const MOST: u32 = 64;
+
+// A device whose queue has the most requests; the gain is grabbed.
+fn crowd(alloc: Global) -> Result<Scene, Trouble> {
+    let mut scene = scene_of(alloc, &SAMPLE, &mut 0)?;
+    make(&mut scene, &Ask::OpenFh { handler: 1 }, 0)?;
+    for number in 0..MOST {
+        let request = match make(&mut scene, &Ask::Alloc, number)? {
+            Reply::Request(request) => request,
+            _ => return Err(Trouble::Answer(number as usize)),
+        };
+        let mut pairs = Vec::new(alloc);
+        for &(id, value) in ASKED[number as usize % ASKED.len()] {
+            if pairs
+                .push((id, value.wrapping_add(i64::from(number))))
+                .is_err()
+            {
+                return Err(Trouble::Memory);
+            }
+        }
+        let store = Ask::SetCtrls {
+            fh: FhId(0),
+            which: 0x0f01_0000,
+            request: Some(request),
+            list: list_of(alloc, pairs.as_slice())?,
+        };
+        let add_buffer = Ask::AddBuffer {
+            request,
+            buffer: number,
+        };
+        for ask in [store, add_buffer, Ask::Queue { request }].iter() {
+            make(&mut scene, ask, number)?;
+        }
+    }
+    let grab = Ask::Grab {
+        control: 1,
+        on: true,
+    };
+    make(&mut scene, &grab, MOST)?;
+    Ok(scene)
+}
+
+// Makes an ask that is to be accepted.
+fn make(scene: &mut Scene, ask: &Ask, number: u32) -> Result<Reply, Trouble> {
+    match scene.device.handle(0, ask) {
+        Ok(reply) => Ok(reply),
+        Err(fault) if fault.errno == Errno::ENOMEM => Err(Trouble::Memory),
+        Err(_) => Err(Trouble::Answer(number as usize)),
+    }
+}
+
+// Whether each frame has what was forecast of it on a device on which no frame runs; and how many of them refuse a cluster.
+fn come_true(alloc: Global) -> Result<Option<u32>, Trouble> {
+    let (mut waiting, mut running) = (crowd(alloc)?, crowd(alloc)?);
+    let mut refusing = 0u32;
+    for place in 0..MOST {
+        let foretold = make(&mut waiting, &Ask::Forecast { place }, place)?;
+        let begun = make(&mut running, &Ask::Begin, place)?;
+        if !is_alike(&foretold, &begun, running.device.values()) {
+            return Ok(None);
+        }
+        if is_refusing(&begun) {
+            refusing = refusing.saturating_add(1);
+        }
+        make(&mut running, &Ask::Complete, place)?;
+    }
+    let none = Fault {
+        errno: Errno::ENOENT,
+        index: None,
+    };
+    match waiting.device.forecast(MOST) {
+        Err(fault) if fault == none => Ok(Some(refusing)),
+        _ => Ok(None),
+    }
+}
+
+// Whether a forecast is of the frame that was begun, and of the values that are present since.
+fn is_alike(foretold: &Reply, begun: &Reply, values: &[i64]) -> bool {
+    match (foretold, begun) {
+        (
+            Reply::Forecast(row),
+            Reply::Frame {
+                request,
+                buffer,
+                refused,
+            },
+        ) => {
+            row.request == *request
+                && row.buffer == *buffer
+                && row.refused.as_slice() == refused.as_slice()
+                && row.values.as_slice() == values
+        }
+        _ => false,
+    }
+}
+
+fn is_refusing(begun: &Reply) -> bool {
+    matches!(begun, Reply::Frame { refused, .. } if !refused.as_slice().is_empty())
+}
+
+#[test]
+fn frames_have_what_was_forecast(rt: HostRuntime) {
+    let mut refusing = come_true(rt.alloc());
+    if matches!(refusing, Err(Trouble::Memory)) {
+        refusing = come_true(rt.alloc());
+    }
+    assert!(rt; matches!(refusing, Ok(Some(24))), "{refusing:?}");
+}
