@@ -9,15 +9,15 @@ use std::alloc::Global;
 use std::io;
 use std::io::{Read, Write};
 
-/// Asks the commands of a script as `run_script` does, but prints none of their replies; at last it prints what each queued frame will have, in
-/// the order of the queue, or `no frames` where none is queued. It hands the device back (of this project).
+/// Asks the commands of a script as `run_script` does, but prints none of their replies; at the end it prints what each queued frame will
+/// have, in the order of the queue, or `no frames` where none is queued. It hands the device back (of this project).
 ///
 /// - `device`: what the commands are asked of, at seat 0; it may have steps.
 /// - `reader`: gives the script, as it gives that of `run_script`.
 /// - `writer`: is given each line whole, and what is left of it after a short write. It isn't flushed.
 ///
-/// The outcome and its line are those of `run_script`; where a line is no command, this is all that is printed. Where a forecast lacks
-/// memory at last, the outcome is `Memory`. The device has the plan that was handed in, and its steps begin with those that it had.
+/// The outcome and its line are those of `run_script`; where a line is no command, this is all that is printed. Where a forecast
+/// at the end finds no memory, the outcome is `Memory`, and its line follows those of the frames before. The device has the plan that was handed in, and its steps begin with those that it had.
 pub fn run_board<D: Driver, R: Read, W: Write>(
     alloc: Global,
     mut device: Device<D>,

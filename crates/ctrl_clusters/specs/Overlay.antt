@@ -1,5 +1,5 @@
 -- Pairs laid over values, cluster by cluster (of this project; what a cluster makes of a row is of the Linux driver API, "V4L2 Controls",
--- "Control Clusters"). Whatever lays pairs over values does so in this one way: sets, tries and begins do.
+-- "Control Clusters"). Whatever lays pairs over values does so in this one way: sets, tries, begins and forecasts do.
 use Rattle.std.specs.Prelude.{ℕ, Bool, not, ◌==◌, ◌&&◌, if◌then◌else◌, List, [], length, map, filter, Option, None, Some, unwrap_or, Result, Ok, Err, is_err}
 use Rattle.std.specs.List.{list_any, range_with_len}
 use Rattle.ctrl_types.specs.Values.{CtrlValue}

@@ -105,7 +105,7 @@ impl Board {
         self.rows.len()
     }
 
-    /// What the frame at a place will have, and the other frames let go; none where there is none. It takes no memory.
+    /// What the frame at a place will have; none where there is none. The other rows are let go. It takes no memory.
     ///
     /// - `place`: any place, from 0.
     pub fn into_row(mut self, place: usize) -> Option<Forecast>

@@ -13,7 +13,7 @@ use Rattle.device_history.specs.Requests.{asked, buffer}
 use Rattle.device_history.specs.Frames.{queue}
 use Rattle.device_history.specs.Values.{now}
 
--- the frame of a request that is queued; each one that is queued has a buffer
+-- the frame of a request that is queued; in a legal history each one has a buffer, and 0 stands in else
 abbrev pub queued_frame : PlanData → Past → ℕ → QueuedData
 queued_frame plan past r = record { request = record { 0 = r }; buffer = unwrap_or (buffer past r) 0; asked = asked plan past r }
 

@@ -6,8 +6,8 @@ use Rattle.device_history.specs.declared.ask.Step.TheVariants as steps
 use Rattle.device_history.specs.Steps.{History}
 use Rattle.device_history.specs.Frames.{begun_by}
 
--- A step after which what the queued frames will have stands as it did, but for a frame that is begun or queued: none that sets present values,
--- grabs a control or lets it go, takes a request from the queue or ends the stream.
+-- A step that leaves the rows of a forecast as they stand, but that a begin takes the first and a queueing adds one last: any but a set of present
+-- values, a grab or its release, a cancellation and the end of the stream.
 abbrev pub goes_on : Step → Bool
 goes_on (steps.Set fh pairs) = false
 goes_on (steps.Grab c on) = false

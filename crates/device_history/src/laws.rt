@@ -167,10 +167,11 @@ pub fn kept_frames()
     ensures found { (verdicts : Verdicts) (plan : PlanData) (older : Past) (r : ℕ) → IsLegal verdicts plan older → find (requests verdicts plan older) r ≡ request verdicts plan older r }
 {}
 
-/// What is forecast comes about, whichever seats make the steps. A forecast has a row for each queued request, in the order of the queue. While a
-/// legal history goes on by steps none of which sets present values, grabs a control or lets it go, takes a request from the queue or ends the
-/// stream, the rows stand as they are, and each begin of a frame moves them up by one. So the begin behind i others is of the request of row i,
-/// counted from 0; it makes the present values those of the row, and its answer is the row's request, buffer and refused clusters.
+/// What is forecast is what a begin then makes, whichever seats make the steps, as long as no set of present values, no grab or release, no
+/// cancellation and no end of the stream comes between. A forecast has a row for each queued request, in the order of the queue. While a legal
+/// history goes on without these steps, the rows stand as they are, and each begin of a frame moves them up by one. So the begin behind i others
+/// is of the request of row i, counted from 0; it makes the present values those of the row, and its answer is the row's request, buffer and
+/// refused clusters.
 pub fn frames_as_forecast()
     ensures rows { (verdicts : Verdicts) (plan : PlanData) (older : Past) → map (λ row. row.request.0) (forecast verdicts plan older) ≡ queue older }
     ensures stand { (verdicts : Verdicts) (plan : PlanData) (steps more : History) (i : ℕ) (row : Forecast) → IsLegal verdicts plan (past (steps ++ more)) → all_go_on more ≡ true

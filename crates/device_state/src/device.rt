@@ -223,7 +223,7 @@ impl<D: Driver> Device<D> {
     /// - `Reinit` makes a request as new, `Free` lets it go for good. EINVAL where there is no such request; EBUSY where it is queued or its
     ///   frame is being made.
     ///
-    /// `Forecast` tells what the queued frame at a place will have, see `forecast`.
+    /// `Forecast` says what the queued frame at a place will have, see `forecast`.
     ///
     /// `StateOf` reads a request's state. It is refused, without an index, with EINVAL where there is no such request, and takes no memory.
     ///

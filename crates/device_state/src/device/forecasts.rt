@@ -1,4 +1,4 @@
-//! What a device tells of the frames that are queued.
+//! What a device says of the frames that are queued.
 
 ghost use Rattle.std.specs.Prelude.{◌≡◌, ◌<◌, ◌≤◌, ◌+◌, ℕ, true, is_some, unwrap_or, IfOk, length, slice_index};
 ghost use Rattle.history.specs.Past.{past};
@@ -19,11 +19,12 @@ use std::alloc::AllocError;
 
 impl<D: Driver> Device<D> {
     /// What the queued frame at a place will have, as `handle` on `Ask::Forecast` of it at any seat does (of this project): its request, its
-    /// buffer, the values of all controls, and the clusters that will be refused. They are those that really running the queue would give, if
-    /// no set, grab, cancellation or end of the stream came between: what the first queued request asks for is laid over the present values,
-    /// under the present grabs, and what each other asks for over what the one before leaves.
+    /// buffer, the values of all controls, and the clusters that will be refused: what the first queued request asks for is laid over the present
+    /// values, under the present grabs, and what each other asks for over what the one before leaves. Running the queue gives just that, as long
+    /// as no set of present values, no grab or release, no cancellation and no end of the stream comes between (the law `frames_as_forecast`
+    /// of `device_history`).
     ///
-    /// - `place`: any place in the queue, from 0.
+    /// - `place`: any number; places in the queue count from 0.
     ///
     /// It asks at most one validator for each queued frame and each cluster that its request names, and tells nobody. Refused, without an
     /// index, with ENOENT (2) where no frame is queued there, before anybody is asked, and with ENOMEM (12) where a growth was refused.
