@@ -41,7 +41,7 @@ unrefused_step : (o : Option Errno) (past : Past) (reply : Reply) → fault_of (
 unrefused_step None past reply h = refl
 unrefused_step (Some errno) past reply h = cc
 
-same_step : (a b : Step) → Some a ≡ Some b → a ≡ b
+pub same_step : (a b : Step) → Some a ≡ Some b → a ≡ b
 same_step a b h = cc
 
 same_number : (a b : ℕ) → Some a ≡ Some b → a ≡ b
@@ -60,7 +60,7 @@ unrefused_with None h = refl
 unrefused_with (Some errno) h = cc
 
 -- a list that passes its first checks isn't refused by the request that it speaks of
-through : (verdicts : Verdicts) (plan : PlanData) (older : Past) (fh : FhId) (which : ℕ) (id : Option RequestId) (writes : Bool) → first_refusal (opening_checks verdicts plan older fh which id writes) ≡ None
+pub through : (verdicts : Verdicts) (plan : PlanData) (older : Past) (fh : FhId) (which : ℕ) (id : Option RequestId) (writes : Bool) → first_refusal (opening_checks verdicts plan older fh which id writes) ≡ None
     → through_refusal verdicts plan older writes (which_or (which_of which)) id ≡ None
 through verdicts plan older fh which id writes h =
     let last : Option Refusal = refused_with (through_refusal verdicts plan older writes (which_or (which_of which)) id) in

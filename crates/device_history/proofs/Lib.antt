@@ -13,5 +13,7 @@ pub mod WordLemmas
 pub mod IndexLemmas
 pub mod LegalLemmas
 pub mod FitLemmas
+pub mod NamingLemmas
+pub mod AskingLemmas
 pub mod FrameLaw
 pub mod StretchLemmas

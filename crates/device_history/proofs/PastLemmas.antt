@@ -194,12 +194,12 @@ pub opened_fresh : (past : Past) → lookup (nat_eq (length past)) (opened past)
 opened_fresh past = absent (length past) (length past) (opened past) (omega arith) (opened_below past)
 
 -- each entry has a number above n as its key
-pub AreAbove : ℕ → List (ℕ × ℕ) → Type 0
+unfoldable pub AreAbove : ℕ → List (ℕ × ℕ) → Type 0
 AreAbove n [] = Unit {0}
 AreAbove n (o ∷ os) = (n < o.0) × AreAbove n os
 
 -- the keys rise
-pub AreRising : List (ℕ × ℕ) → Type 0
+unfoldable pub AreRising : List (ℕ × ℕ) → Type 0
 AreRising [] = Unit {0}
 AreRising (o ∷ os) = AreAbove o.0 os × AreRising os
 

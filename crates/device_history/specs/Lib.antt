@@ -44,4 +44,5 @@ pub mod Forecasts
 pub mod Queries
 pub mod Answers
 pub mod Legal
+pub mod Asking
 pub mod Stretches

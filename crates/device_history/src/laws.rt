@@ -28,9 +28,10 @@ ghost use Rattle.device_history.specs.Steps.{History, Past};
 ghost use Rattle.device_history.specs.Refusals.{fault_of};
 ghost use Rattle.device_history.specs.Handles.{opened, opened_after, handler_of};
 ghost use Rattle.device_history.specs.Values.{defaults, laid, now, now_after};
-ghost use Rattle.device_history.specs.Answers.{MayAnswer, answer_of, is_list, refusal};
+ghost use Rattle.device_history.specs.Answers.{MayAnswer, answer_of, is_list, refusal, step_of};
 ghost use Rattle.device_history.specs.Lists.{list_pairs, meant, set_list_answer, values_set, which_or};
 ghost use Rattle.device_history.specs.Legal.{IsLegal, MayFollow};
+ghost use Rattle.device_history.specs.Asking.{ask_by};
 ghost use Rattle.device_history.specs.Words.{acted, changes};
 ghost use Rattle.device_history.specs.Requests.{asked, asked_after, buffer, buffer_after, state, state_after};
 ghost use Rattle.device_history.specs.Frames.{queue, queue_after, running, running_after};
@@ -115,6 +116,14 @@ pub fn legal_histories()
     ensures one_more { (verdicts : Verdicts) (plan : PlanData) (steps : History) (e : Entry Step) → IsLegal verdicts plan (past steps) → MayFollow verdicts plan (past steps) e.step → IsLegal verdicts plan (past (steps ++ e ∷ [])) }
     ensures last { (verdicts : Verdicts) (plan : PlanData) (steps : History) (e : Entry Step) → IsLegal verdicts plan (past (steps ++ e ∷ [])) → MayFollow verdicts plan (past steps) e.step }
     ensures front { (verdicts : Verdicts) (plan : PlanData) (steps more : History) → IsLegal verdicts plan (past (steps ++ more)) → IsLegal verdicts plan (past steps) }
+{}
+
+/// Whether a step may follow a history is told by one ask, which is made of the step: the step may follow where nothing refuses this ask and it
+/// adds the step, and only there.
+pub fn deciding_asks()
+    ensures enough { (verdicts : Verdicts) (plan : PlanData) (older : Past) (step : Step) → refusal verdicts plan older (ask_by plan older step) ≡ None → step_of plan older (ask_by plan older step) ≡ Some step → MayFollow verdicts plan older step }
+    ensures needed { (verdicts : Verdicts) (plan : PlanData) (older : Past) (step : Step) → MayFollow verdicts plan older step
+        → (refusal verdicts plan older (ask_by plan older step) ≡ None) × (step_of plan older (ask_by plan older step) ≡ Some step) }
 {}
 
 /// At first there is no request; one more entry makes of each request's state what its step makes of it.
