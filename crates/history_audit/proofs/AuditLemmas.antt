@@ -1,0 +1,65 @@
+-- What each try to replay an entry says of the whole history.
+use Rattle.std.proofs.Common.{◌≡◌, ℕ, suc, zero, ◌+◌, ◌<◌, ◌≤◌, true, false, [], ◌∷◌, length, take, get_or, slice_get, Some, Result, Ok, Err, IfOk, Bool, refl, ap, sym, ◌∙◌, subst, arith}
+use Rattle.std.specs.declared.alloc.AllocError.{AllocError}
+use Rattle.std.proofs.lemmas.Option.{slice_get_read}
+use Rattle.history.specs.declared.entry.Entry.{Entry}
+use Rattle.history.specs.Past.{past}
+use Rattle.ctrl_calls.specs.Meanings.{Verdicts}
+use Rattle.ctrl_handlers.specs.Plan.{PlanData}
+use Rattle.device_history.specs.declared.ask.Step.{Step}
+use Rattle.device_history.specs.Steps.{History}
+use Rattle.device_history.specs.Legal.{IsLegal}
+use Rattle.history_audit.specs.Fault.{StopsAt}
+use Rattle.history_audit.specs.Replay.{IsNext, ReplayData, Replayed}
+use Rattle.history_audit.proofs.MadeLemmas.{replayed_next, taken_many}
+
+-- an entry stands at each place
+stands : (xs : History) (n : ℕ) → n < length xs → (e : Entry Step) × (slice_get xs n ≡ Some e)
+stands [] n h = absurd (omega (arith, h))
+stands (x ∷ xs) zero h = (x, refl)
+stands (x ∷ xs) (suc n) h = stands xs n (omega (arith, h))
+
+-- so many steps of a history were replayed
+abbrev pub at : PlanData → History → ℕ → ReplayData
+at plan all n = record { plan = plan; steps = take n all; all = all }
+
+-- the entry that stands behind them is the next one
+next_at : (plan : PlanData) (all : History) (n : ℕ) (e : Entry Step) → n ≤ length all → slice_get all n ≡ Some e → IsNext (at plan all n) e
+next_at plan all n e h is = subst (λ (m : ℕ). slice_get all m ≡ Some e) (sym (taken_many all n h)) is
+
+pub next_read : (plan : PlanData) (all : History) (n : ℕ) (e : Entry Step) → n ≤ length all → length (take n all) < length all → e ≡ get_or all n e → IsNext (at plan all n) e
+next_read plan all n e within more is =
+    let less : n < length all = subst (λ (m : ℕ). m < length all) (taken_many all n within) more in
+    next_at plan all n e within (slice_get_read all (length all) n e refl less is)
+
+-- it alone is
+pub replayed_each : (verdicts : Verdicts) (old new : ReplayData) (e : Entry Step) (done : Result Bool AllocError) → IsNext old e → IfOk done (λ is. Replayed verdicts old new e is)
+    → IfOk done (λ is. (other : Entry Step) → IsNext old other → Replayed verdicts old new other is)
+replayed_each verdicts old new e (Ok is) here does = λ other there. subst (λ (x : Entry Step). Replayed verdicts old new x is) (same e other (sym here ∙ there)) does
+  where
+    same : (a b : Entry Step) → Some a ≡ Some b → a ≡ b
+    same a b h = cc
+replayed_each verdicts old new e (Err err) here does = does
+
+-- one more was replayed
+pub audit_next : (verdicts : Verdicts) (plan : PlanData) (all : History) (old new : ReplayData) (n : ℕ) → old ≡ at plan all n → n < length all
+    → ((e : Entry Step) → IsNext old e → Replayed verdicts old new e true) → new ≡ at plan all (n + 1)
+audit_next verdicts plan all old new n is h replays =
+    let s = stands all n h in
+    let here : IsNext (at plan all n) s.0 = next_at plan all n s.0 (omega (arith, h)) s.1 in
+    let does : Replayed verdicts (at plan all n) new s.0 true = subst (λ (r : ReplayData). Replayed verdicts r new s.0 true) is (replays s.0 (subst (λ (r : ReplayData). IsNext r s.0) (sym is) here)) in
+    does.1 ∙ ap (λ (steps : History). (let d : ReplayData = record { plan = plan; steps = steps; all = all } in d)) (sym (replayed_next all n s.0 (omega (arith, h)) here).0)
+
+-- the next one may not follow
+pub audit_stops : (verdicts : Verdicts) (plan : PlanData) (all : History) (old new : ReplayData) (n : ℕ) → old ≡ at plan all n → n < length all
+    → ((e : Entry Step) → IsNext old e → Replayed verdicts old new e false) → IsLegal verdicts new.plan (past new.steps) → StopsAt verdicts plan all n
+audit_stops verdicts plan all old new n is h replays legal =
+    let s = stands all n h in
+    let does : (e : Entry Step) → IsNext (at plan all n) e → Replayed verdicts (at plan all n) new e false =
+    subst (λ (r : ReplayData). (e : Entry Step) → IsNext r e → Replayed verdicts r new e false) is replays in
+    let same : new ≡ at plan all n = (does s.0 (next_at plan all n s.0 (omega (arith, h)) s.1)).1 in
+    record {
+      within = h;
+      legal = subst (λ (r : ReplayData). IsLegal verdicts r.plan (past r.steps)) same legal;
+      ends = λ e here. (does e (next_at plan all n e (omega (arith, h)) here)).0;
+    }

@@ -1,0 +1,208 @@
+-- Whether a step that gives no pairs may follow is read off the parts.
+use Rattle.std.proofs.Common.{◌≡◌, ℕ, ◌<◌, Bool, true, false, not, ◌&&◌, cond, nat_eq, nat_le, nat_lt, if◌then◌else◌, List, [], ◌∷◌, length, Option, None, Some, is_some, Result, Ok, Err, refl, ap, sym, ◌∙◌, subst, arith}
+use Rattle.std.proofs.lemmas.Bool.Decides.{nat_tests}
+use Rattle.ctrl_types.specs.declared.errno.Errno.{Errno}
+use Rattle.ctrl_types.specs.declared.errno.Errno.TheVariants.{EBADF, EINVAL, ENOSPC}
+use Rattle.ctrl_calls.specs.Meanings.{Verdicts}
+use Rattle.ctrl_handlers.specs.Plan.{PlanData}
+use Rattle.req_book.specs.Requests.{find, is_number}
+use Rattle.frame_queue.specs.Frames.{begin_answer, buffer_number, complete_refusal}
+use Rattle.device_history.specs.declared.ask.Ask.TheVariants as asks
+use Rattle.device_history.specs.declared.ask.Reply.{Reply}
+use Rattle.device_history.specs.declared.ask.Reply.TheVariants.{Fh, Frame, Done}
+use Rattle.device_history.specs.declared.ask.Step.{Step}
+use Rattle.device_history.specs.declared.ask.Step.TheVariants as steps
+use Rattle.device_history.specs.Steps.{Past}
+use Rattle.device_history.specs.Refusals.{is_full, refused, fault_of}
+use Rattle.device_history.specs.Handles.{are_all_open, handler_of}
+use Rattle.device_history.specs.Frames.{first_of, queue, running}
+use Rattle.device_history.specs.Snapshots.{begun_refused, frames, request, requests}
+use Rattle.device_history.specs.FrameSteps.{FitsFrames}
+use Rattle.device_history.specs.RequestAnswers.{begin_frame_answer, frame_answer, stepped}
+use Rattle.device_history.specs.Answers.{step_of, refusal}
+use Rattle.device_history.specs.Asking.{ask_by}
+use Rattle.device_history.specs.Legal.{MayFollow}
+use Rattle.device_history.proofs.FitLemmas.{fits}
+use Rattle.device_history.proofs.RequestLemmas.{first_queued}
+use Rattle.device_history.specs.Requests.{state}
+use Rattle.ctrl_types.specs.declared.ids.RequestId.{RequestId}
+use Rattle.device_history.proofs.AskingLemmas.{may_decided}
+use Rattle.history_audit.specs.Replay.{gives_pairs}
+use Rattle.history_audit.specs.Changing.{fits_parts, lacks}
+
+both : (a b : Bool) → (a && b) ≡ true → (a ≡ true) × (b ≡ true)
+both true b h = (refl, h)
+both false b h = cc
+
+joined : (a b : Bool) → a ≡ true → b ≡ true → (a && b) ≡ true
+joined true b h k = k
+joined false b h k = cc
+
+is_not : (b : Bool) → not b ≡ true → b ≡ false
+is_not true h = cc
+is_not false h = refl
+
+none_is : (o : Option Errno) → lacks o ≡ true → o ≡ None
+none_is None h = refl
+none_is (Some e) h = cc
+
+no_number : (o : Option ℕ) → lacks o ≡ true → o ≡ None
+no_number None h = refl
+no_number (Some n) h = cc
+
+number_is : (o : Option ℕ) (n : ℕ) → is_number o n ≡ true → o ≡ Some n
+number_is None n h = cc
+number_is (Some m) n h = ap Some (equal m n h)
+  where
+    equal : (m n : ℕ) → is_number (Some m) n ≡ true → m ≡ n
+    equal m n h = grind (arith, nat_tests, h)
+
+own_number : (n : ℕ) → is_number (Some n) n ≡ true
+own_number n = grind (arith, nat_tests)
+
+-- an answer that is no refusal
+twice : (a b : Bool) (x y : Errno) (reply : Reply) → a ≡ false → b ≡ false → fault_of (if a then refused x else if b then refused y else Ok reply) ≡ None
+twice false false x y reply h k = refl
+twice true b x y reply h k = cc
+twice false true x y reply h k = cc
+
+twice_back : (a b : Bool) (x y : Errno) (reply : Reply) → fault_of (if a then refused x else if b then refused y else Ok reply) ≡ None → (a ≡ false) × (b ≡ false)
+twice_back false false x y reply h = (refl, refl)
+twice_back true b x y reply h = cc
+twice_back false true x y reply h = cc
+
+thrice : (a b c : Bool) (x y z : Errno) (reply : Reply) → a ≡ false → b ≡ false → c ≡ false → fault_of (if a then refused x else if b then refused y else if c then refused z else Ok reply) ≡ None
+thrice false b c x y z reply h k l = twice b c y z reply k l
+thrice true b c x y z reply h k l = cc
+
+thrice_back : (a b c : Bool) (x y z : Errno) (reply : Reply) → fault_of (if a then refused x else if b then refused y else if c then refused z else Ok reply) ≡ None → (a ≡ false) × (b ≡ false) × (c ≡ false)
+thrice_back false b c x y z reply h = let rest = twice_back b c y z reply h in (refl, rest.0, rest.1)
+thrice_back true b c x y z reply h = cc
+
+closes : (a b : Bool) (x y : Errno) (reply : Reply) → a ≡ true → b ≡ false → fault_of (if a then (if b then refused x else Ok reply) else refused y) ≡ None
+closes true false x y reply h k = refl
+closes true true x y reply h k = cc
+closes false b x y reply h k = cc
+
+closes_back : (a b : Bool) (x y : Errno) (reply : Reply) → fault_of (if a then (if b then refused x else Ok reply) else refused y) ≡ None → (a ≡ true) × (b ≡ false)
+closes_back true false x y reply h = (refl, refl)
+closes_back true true x y reply h = cc
+closes_back false b x y reply h = cc
+
+unlimited : (b : Bool) (reply : Reply) → b ≡ false → fault_of (if b then refused ENOSPC else Ok reply) ≡ None
+unlimited false reply h = refl
+unlimited true reply h = cc
+
+unlimited_back : (b : Bool) (reply : Reply) → fault_of (if b then refused ENOSPC else Ok reply) ≡ None → b ≡ false
+unlimited_back false reply h = refl
+unlimited_back true reply h = cc
+
+free : (o : Option Errno) (past : Past) (reply : Reply) → o ≡ None → is_full past ≡ false → fault_of (stepped o past reply) ≡ None
+free None past reply h room = unlimited (is_full past) reply room
+free (Some e) past reply h room = cc
+
+free_back : (o : Option Errno) (past : Past) (reply : Reply) → fault_of (stepped o past reply) ≡ None → (is_full past ≡ false) × (lacks o ≡ true)
+free_back None past reply h = (unlimited_back (is_full past) reply h, refl)
+free_back (Some e) past reply h = cc
+
+-- what a begin is answered where none runs and one waits
+begin_is : (verdicts : Verdicts) (plan : PlanData) (older : Past) (r : ℕ) → running older ≡ None → first_of (queue older) ≡ Some r
+    → begin_frame_answer verdicts plan older ≡ stepped None older (Frame (record { 0 = r }) (buffer_number (find (requests verdicts plan older) r)) (begun_refused verdicts plan older r))
+begin_is verdicts plan older r none first = ap (frame_answer verdicts plan older) (by (running older) (queue older) none first)
+  where
+    by : (runs : Option ℕ) (waits : List ℕ) → runs ≡ None → first_of waits ≡ Some r → begin_answer (record (frames verdicts plan older) { queue = waits; running = runs }) ≡ Ok (r, buffer_number (find (requests verdicts plan older) r))
+    by None [] f h = cc
+    by None (k ∷ rest) f h = ap (λ (j : ℕ). Ok (j, buffer_number (find (requests verdicts plan older) j))) (same k r h)
+      where
+        same : (a b : ℕ) → Some a ≡ Some b → a ≡ b
+        same a b h = cc
+    by (Some k) waits f h = cc
+
+-- an end is refused by nothing where one runs
+runs_free : (verdicts : Verdicts) (plan : PlanData) (older : Past) (r : ℕ) → running older ≡ Some r → complete_refusal (frames verdicts plan older) ≡ None
+runs_free verdicts plan older r is = rw is refl
+
+-- where the parts fit, the step may follow
+pub fits_may : (verdicts : Verdicts) (plan : PlanData) (past : Past) (step : Step) → gives_pairs step ≡ false → is_full past ≡ false → fits_parts verdicts plan past step ≡ true → MayFollow verdicts plan past step
+fits_may verdicts plan past (steps.OpenFh handler) plain room h =
+    let parts = both (nat_lt handler (length plan.handlers)) (not (are_all_open past)) h in
+    (asks.OpenFh handler, thrice (nat_le (length plan.handlers) handler) (are_all_open past) (is_full past) EINVAL ENOSPC ENOSPC (Fh (record { 0 = length past })) (below handler (length plan.handlers) parts.0) (is_not (are_all_open past) parts.1) room, refl)
+  where
+    below : (a b : ℕ) → nat_lt a b ≡ true → nat_le b a ≡ false
+    below a b h = grind (arith, nat_tests, h)
+fits_may verdicts plan past (steps.CloseFh fh) plain room h = (asks.CloseFh fh, closes (is_some (handler_of past fh)) (is_full past) ENOSPC EBADF Done h room, refl)
+fits_may verdicts plan past (steps.Set fh pairs) plain room h = cc
+fits_may verdicts plan past (steps.Grab c on) plain room h = (asks.Grab c on, twice (nat_le (length plan.controls) c) (is_full past) EINVAL ENOSPC Done (below c (length plan.controls) h) room, refl)
+  where
+    below : (a b : ℕ) → nat_lt a b ≡ true → nat_le b a ≡ false
+    below a b h = grind (arith, nat_tests, h)
+fits_may verdicts plan past steps.Alloc plain room h = (asks.Alloc, free _ past _ (none_is _ h) room, refl)
+fits_may verdicts plan past (steps.Store r pairs) plain room h = cc
+fits_may verdicts plan past (steps.Buffer r number) plain room h = (asks.AddBuffer r number, free _ past _ (none_is _ h) room, refl)
+fits_may verdicts plan past (steps.Queue r) plain room h = (asks.Queue r, free _ past _ (none_is _ h) room, refl)
+fits_may verdicts plan past (steps.Begin r) plain room h =
+    let parts = both (lacks (running past)) (is_number (first_of (queue past)) r.0) h in
+    let none = no_number (running past) parts.0 in
+    let first = number_is (first_of (queue past)) r.0 parts.1 in
+    (asks.Begin, ap fault_of (begin_is verdicts plan past r.0 none first) ∙ free None past _ refl room, rw first refl)
+fits_may verdicts plan past (steps.Complete r) plain room h =
+    let is = number_is (running past) r.0 h in
+    (asks.Complete, free _ past _ (runs_free verdicts plan past r.0 is) room, rw is refl)
+fits_may verdicts plan past (steps.Cancel r) plain room h = (asks.Cancel r, free _ past _ (none_is _ h) room, refl)
+fits_may verdicts plan past steps.StreamOff plain room h = (asks.StreamOff, free None past _ refl room, refl)
+fits_may verdicts plan past (steps.Reinit r) plain room h = (asks.Reinit r, free _ past _ (none_is _ h) room, refl)
+fits_may verdicts plan past (steps.Free r) plain room h = (asks.Free r, free _ past _ (none_is _ h) room, refl)
+
+-- and a step that may follow finds the parts so
+pub may_fits : (verdicts : Verdicts) (plan : PlanData) (past : Past) (step : Step) → gives_pairs step ≡ false → MayFollow verdicts plan past step → (is_full past ≡ false) × (fits_parts verdicts plan past step ≡ true)
+may_fits verdicts plan past step plain may = by step plain (may_decided verdicts plan past step may).0 (fits verdicts plan past step may)
+  where
+    above : (a b : ℕ) → nat_le b a ≡ false → nat_lt a b ≡ true
+    above a b h = grind (arith, nat_tests, h)
+
+    by : (step : Step) → gives_pairs step ≡ false → refusal verdicts plan past (ask_by plan past step) ≡ None → FitsFrames verdicts plan past step → (is_full past ≡ false) × (fits_parts verdicts plan past step ≡ true)
+    by (steps.OpenFh handler) plain h fit =
+        let parts = thrice_back (nat_le (length plan.handlers) handler) (are_all_open past) (is_full past) EINVAL ENOSPC ENOSPC (Fh (record { 0 = length past })) h in
+        (parts.2, joined (nat_lt handler (length plan.handlers)) (not (are_all_open past)) (above handler (length plan.handlers) parts.0) (ap not parts.1))
+    by (steps.CloseFh fh) plain h fit = let parts = closes_back (is_some (handler_of past fh)) (is_full past) ENOSPC EBADF Done h in (parts.1, parts.0)
+    by (steps.Set fh pairs) plain h fit = cc
+    by (steps.Grab c on) plain h fit = let parts = twice_back (nat_le (length plan.controls) c) (is_full past) EINVAL ENOSPC Done h in (parts.1, above c (length plan.controls) parts.0)
+    by steps.Alloc plain h fit = free_back _ past _ h
+    by (steps.Store r pairs) plain h fit = cc
+    by (steps.Buffer r number) plain h fit = free_back _ past _ h
+    by (steps.Queue r) plain h fit = free_back _ past _ h
+    by (steps.Begin r) plain h fit = (
+      (free_back None past _ (ap fault_of (sym (begin_is verdicts plan past r.0 fit.0 fit.1)) ∙ h)).0,
+      joined (lacks (running past)) (is_number (first_of (queue past)) r.0) (ap (λ (o : Option ℕ). lacks o) fit.0) (ap (λ (o : Option ℕ). is_number o r.0) fit.1 ∙ own_number r.0),
+    )
+    by (steps.Complete r) plain h fit = ((free_back _ past _ h).0, ap (λ (o : Option ℕ). is_number o r.0) fit ∙ own_number r.0)
+    by (steps.Cancel r) plain h fit = free_back _ past _ h
+    by steps.StreamOff plain h fit = free_back None past _ h
+    by (steps.Reinit r) plain h fit = free_back _ past _ h
+    by (steps.Free r) plain h fit = free_back _ past _ h
+
+-- a control that is grabbed is there
+pub grab_known : (verdicts : Verdicts) (plan : PlanData) (past : Past) (c : ℕ) (on : Bool) → MayFollow verdicts plan past (steps.Grab c on) → c < length plan.controls
+grab_known verdicts plan past c on may = below c (length plan.controls) (may_fits verdicts plan past (steps.Grab c on) refl may).1
+  where
+    below : (a b : ℕ) → nat_lt a b ≡ true → a < b
+    below a b h = grind (arith, nat_tests, h)
+
+-- whether there is none, as it is read
+pub none_read : (o : Option Errno) (b : Bool) → is_some o ≡ not b → b ≡ lacks o
+none_read None true h = refl
+none_read None false h = cc
+none_read (Some e) true h = cc
+none_read (Some e) false h = refl
+
+-- what is read says whether the step may follow
+pub full_not : (verdicts : Verdicts) (plan : PlanData) (past : Past) (step : Step) → gives_pairs step ≡ false → is_full past ≡ true → MayFollow verdicts plan past step → ⊥
+full_not verdicts plan past step plain full may = clash (sym full ∙ (may_fits verdicts plan past step plain may).0)
+  where
+    clash : true ≡ false → ⊥
+    clash h = cc
+
+-- a request whose frame begins is there
+pub begin_there : (verdicts : Verdicts) (plan : PlanData) (past : Past) (step : Step) (r : RequestId) → step ≡ steps.Begin r → MayFollow verdicts plan past step → is_some (state past r.0) ≡ true
+begin_there verdicts plan past step r is may =
+    ap is_some (first_queued past r.0 (fits verdicts plan past (steps.Begin r) (subst (λ (s : Step). MayFollow verdicts plan past s) is may)).1)

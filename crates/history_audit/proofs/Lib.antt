@@ -1,0 +1,10 @@
+pub mod StillLemmas
+pub mod MadeLemmas
+pub mod FollowLemmas
+pub mod ShowLemmas
+pub mod PairLemmas
+pub mod JudgedLemmas
+pub mod ReadLemmas
+pub mod WriteLemmas
+pub mod EvaluateLemmas
+pub mod AuditLemmas

@@ -1,0 +1,7 @@
+use Rattle.std.proofs.Common.{◌≡◌}
+use Rattle.history_audit.proofs.AuditLemmas.{at}
+use Rattle.history_audit.proofs.auditing.audit.Given as goal
+
+-- the steps so far were replayed
+abbrev pub invariant-loop-index : goal.invariant-loop-index
+invariant-loop-index g l = l.replay ≡ at l.plan l.steps l.index

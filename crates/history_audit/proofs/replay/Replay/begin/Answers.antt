@@ -1,0 +1,75 @@
+use Rattle.std.proofs.Common.{◌≡◌, ℕ, ◌+◌, ◌<◌, List, ◌++◌, length, take, is_some, ap, sym, subst, ◌∙◌, arith}
+use Rattle.std.specs.List.{All}
+use Rattle.history.specs.declared.entry.Entry.{Entry}
+use Rattle.history.specs.Past.{past}
+use Rattle.ctrl_types.specs.declared.ids.Pair.{Pair}
+use Rattle.ctrl_clusters.specs.Rows.{Values}
+use Rattle.ctrl_clusters.proofs.OverlayLemmas.{length_overlay}
+use Rattle.ctrl_forecast.specs.Applied.{applied_pairs}
+use Rattle.req_book.proofs.SettingLemmas.{known_latest}
+use Rattle.frame_queue.specs.Frames.{FramesData, after_begin}
+use Rattle.device_history.specs.declared.ask.Step.{Step}
+use Rattle.device_history.specs.declared.ask.Step.TheVariants as steps
+use Rattle.device_history.specs.Grabs.{grabbed}
+use Rattle.device_history.specs.Requests.{asked, since, stored}
+use Rattle.device_history.specs.Snapshots.{begun_pairs, begun_refused, begun_values}
+use Rattle.device_history.specs.Values.{now}
+use Rattle.device_history.proofs.PresentLemmas.{length_now}
+use Rattle.history_audit.specs.Replay.{ReplayData}
+use Rattle.history_audit.proofs.FollowLemmas.{begin_there}
+use Rattle.history_audit.proofs.MadeLemmas.{replay_add, replayed_next}
+use Rattle.history_audit.proofs.replay.Replay.begin.Goals as goal
+
+-- the request is there
+pub lay-requires : goal.lay-requires
+lay-requires g c = begin_there g.D.Validates.verdict c.args.self.now.plan (past c.args.self.now.steps) c.args.entry.now.step c.args.request c.requires.step c.requires.follows
+
+pub asked_by-requires : goal.asked_by-requires
+asked_by-requires g c = begin_there g.D.Validates.verdict c.args.self.now.plan (past c.args.self.now.steps) c.args.entry.now.step c.args.request c.requires.step c.requires.follows
+
+-- there is a value for each control
+pub applied-requires-clause-values : goal.applied-requires-clause-values
+applied-requires-clause-values g c =
+    let r = c.self.inside in
+    let P : List (Entry Step) = past (take r.count r.steps.now) in
+    let values = rw (← c.self.view_is) at c.in_ok-overlaid.ensures.values in
+    ap length values
+    ∙ length_overlay g.D.Validates.verdict r.plan.now r.plan.now.controls (now g.D.Validates.verdict r.plan.now P) (grabbed r.plan.now P) (asked r.plan.now P c.args.request.0)
+    ∙ length_now g.D.Validates.verdict r.plan.now P
+
+-- it asks for controls that are there
+pub applied-requires-clause-pairs : goal.applied-requires-clause-pairs
+applied-requires-clause-pairs g c =
+    let r = c.self.inside in
+    let asks = rw (← c.self.view_is) at c.asked_by.ensures in
+    subst (λ (l : List Pair). All (λ p. p.control < length r.plan.now.controls) l) (sym asks)
+    (known_latest (length r.plan.now.controls) (stored c.args.request.0 (since c.args.request.0 (past (take r.count r.steps.now)))))
+
+-- the values are those after the begin, and its frame is being made
+pub invariant_of-self : goal.invariant_of-self
+invariant_of-self g c =
+    let r = c.self.inside in
+    let P : List (Entry Step) = past (take r.count r.steps.now) in
+    let n : ℕ = c.args.request.0 in
+    let made = c.self.invariant.made in
+    let step : c.args.entry.now.step ≡ steps.Begin c.args.request = c.requires.step in
+    let values = rw (← c.self.view_is) at c.in_ok-overlaid.ensures.values in
+    let refused = rw (← c.self.view_is) at c.in_ok-overlaid.ensures.refused in
+    let asks = rw (← c.self.view_is) at c.asked_by.ensures in
+    replay_add g.D.Validates.verdict r.plan.now r.steps.now r.count _ _ c.args.entry.now c.self.invariant (rw (← c.self.view_is) at c.requires.next) (rw (← c.self.view_is) at c.requires.room) (rw (← c.self.view_is) at c.requires.follows)
+    (rw step made.file_handles) (rw step made.grabs) (rw step (c.into_vec.ensures ∙ values))
+    (rw step
+    (c.begin.ensures.frames
+    ∙ ap (after_begin r.frames)
+    (c.as_slice.ensures.value ∙ c.in_ok-given.ensures
+    ∙ ap (λ (v : Values). applied_pairs r.plan.now v c.in_ok-overlaid.overlaid.refused c.asked_by.result.now) values
+    ∙ ap (λ (l : List ℕ). applied_pairs r.plan.now (begun_values g.D.Validates.verdict r.plan.now P n) l c.asked_by.result.now) refused
+    ∙ ap (λ (ps : List Pair). applied_pairs r.plan.now (begun_values g.D.Validates.verdict r.plan.now P n) (begun_refused g.D.Validates.verdict r.plan.now P n) ps) asks)
+    ∙ ap (λ (f : FramesData). after_begin f (begun_pairs g.D.Validates.verdict r.plan.now P n)) made.frames))
+
+-- one more step was replayed
+pub returns-clause-ok : goal.returns-clause-ok
+returns-clause-ok g c =
+    let r = c.self.inside in
+    let next = rw (← c.self.view_is) at c.requires.next in
+    rw (← c.self.view_is) (ap (λ (s : List (Entry Step)). (let d : ReplayData = record { plan = r.plan.now; steps = s; all = r.steps.now } in d)) (replayed_next r.steps.now r.count c.args.entry.now c.self.invariant.within next).0)

@@ -1,0 +1,23 @@
+use Rattle.std.proofs.Common.{◌≡◌, ℕ, Bool, true, false, ◌+◌, ◌<◌, ◌≤◌, List, [], ◌∷◌, ◌++◌, length, take, map, Option, None, Some, unwrap_or, slice_get, slice_set, nat_eq, refl, ap, sym, subst, ◌∙◌, arith}
+use Rattle.history.specs.declared.entry.Entry.{Entry}
+use Rattle.history.specs.Past.{past}
+use Rattle.device_history.specs.declared.ask.Step.{Step}
+use Rattle.req_book.specs.Refusals.{buffer_answer}
+use Rattle.history_audit.proofs.MadeLemmas.{found}
+use Rattle.history_audit.proofs.ReadLemmas.{buffer_is, buffer_there}
+use Rattle.history_audit.proofs.replay.Replay.buffer_number.Goals as goal
+
+pub returns-in-Ok : goal.returns-in-Ok
+returns-in-Ok g c =
+    let r = c.self.inside in
+    rw (← c.self.view_is)
+    (c.unwrap_or.ensures
+    ∙ ap (λ (o : Option ℕ). unwrap_or o 0)
+    (buffer_is g.D.Validates.verdict r.plan.now (past (take r.count r.steps.now)) c.args.request.0 c.in-Ok.number (c.in-Ok.ensures ∙ ap buffer_answer (found g.D.Validates.verdict r.plan.now (take r.count r.steps.now) _ c.args.request.0 c.self.invariant.made))))
+
+pub returns-in-Err : goal.returns-in-Err
+returns-in-Err g c =
+    let r = c.self.inside in
+    absurd
+    (buffer_there g.D.Validates.verdict r.plan.now (past (take r.count r.steps.now)) c.args.request.0 _ (rw (← c.self.view_is) at c.requires)
+    (c.in-Err.ensures ∙ ap buffer_answer (found g.D.Validates.verdict r.plan.now (take r.count r.steps.now) _ c.args.request.0 c.self.invariant.made)))

@@ -1,0 +1,26 @@
+pub use Rattle.history.specs.Past
+pub use Rattle.ctrl_calls.specs.Meanings
+pub use Rattle.ctrl_handlers.specs.Plan
+pub use Rattle.ctrl_clusters.specs.Rows
+pub use Rattle.ctrl_lists.specs.View
+pub use Rattle.ctrl_lists.specs.Checks
+pub use Rattle.ctrl_lists.specs.Touched
+pub use Rattle.ctrl_lists.specs.Answers as ListAnswers
+pub use Rattle.device_history.specs.Steps
+pub use Rattle.device_history.specs.Refusals
+pub use Rattle.device_history.specs.Handles
+pub use Rattle.device_history.specs.Grabs
+pub use Rattle.device_history.specs.Values
+pub use Rattle.device_history.specs.Requests
+pub use Rattle.device_history.specs.Frames
+pub use Rattle.device_history.specs.Snapshots
+pub use Rattle.device_history.specs.FrameSteps
+pub use Rattle.device_history.specs.Forecasts
+pub use Rattle.device_history.specs.Flags
+pub use Rattle.device_history.specs.Legal
+pub use Rattle.device_history.specs.Asking
+pub mod Scratch
+pub mod Replay
+pub mod Judged
+pub mod Changing
+pub mod Fault

@@ -1,0 +1,65 @@
+-- A replay: a history whose first steps were replayed, and what they made of the parts of a device (of this project).
+use Rattle.std.specs.Prelude.{◌≡◌, ℕ, ◌≤◌, Bool, true, false, List, [], ◌∷◌, ◌++◌, length, take, Some, slice_get}
+use Rattle.history.specs.declared.entry.Entry.{Entry}
+use Rattle.history.specs.Past.{past}
+use Rattle.ctrl_calls.specs.Meanings.{Verdicts}
+use Rattle.ctrl_handlers.specs.Plan.{PlanData}
+use Rattle.ctrl_clusters.specs.Rows.{Grabs, Values}
+use Rattle.frame_queue.specs.Frames.{FramesData}
+use Rattle.device_history.specs.declared.ask.Step.{Step}
+use Rattle.device_history.specs.declared.ask.Step.TheVariants as steps
+use Rattle.device_history.specs.declared.limits.TheConstants.{MAX_STEPS}
+use Rattle.device_history.specs.Steps.{History}
+use Rattle.device_history.specs.Handles.{opened}
+use Rattle.device_history.specs.Grabs.{grabbed}
+use Rattle.device_history.specs.Snapshots.{frames}
+use Rattle.device_history.specs.Values.{now}
+use Rattle.device_history.specs.Legal.{IsLegal, MayFollow}
+
+-- what is replayed: the plan of the device, the steps that were replayed, and all that there are
+pub record ReplayData : Type 0 where
+  pub plan : PlanData
+  pub steps : History
+  pub all : History
+
+-- an entry is the next one to be replayed
+abbrev pub IsNext : ReplayData → Entry Step → Type 0
+IsNext replay e = slice_get replay.all (length replay.steps) ≡ Some e
+
+-- the replay behind one more entry
+abbrev pub with_next : ReplayData → Entry Step → ReplayData
+with_next replay e = record replay { steps = replay.steps ++ e ∷ [] }
+
+-- What a try to replay an entry does: where its step may follow, it is replayed; where it may not, nothing changes.
+abbrev pub Replayed : Verdicts → ReplayData → ReplayData → Entry Step → Bool → Type 0
+Replayed verdicts old new e true = MayFollow verdicts old.plan (past old.steps) e.step × (new ≡ with_next old e)
+Replayed verdicts old new e false = (MayFollow verdicts old.plan (past old.steps) e.step → ⊥) × (new ≡ old)
+
+-- what a replay keeps of the device
+pub record Parts : Type 0 where
+  -- the open file handles, each with its handler
+  pub file_handles : List (ℕ × ℕ)
+  pub grabs : Grabs
+  pub values : Values
+  -- the requests and the queue
+  pub frames : FramesData
+
+-- Steps came about, and each part is what they make of it.
+pub record AreMade (verdicts : Verdicts) (plan : PlanData) (steps : History) (parts : Parts) : Type 0 where
+  pub legal : IsLegal verdicts plan (past steps)
+  pub file_handles : parts.file_handles ≡ opened (past steps)
+  pub grabs : parts.grabs ≡ grabbed plan (past steps)
+  pub values : parts.values ≡ now verdicts plan (past steps)
+  pub frames : parts.frames ≡ frames verdicts plan (past steps)
+
+-- So many steps of all were replayed, no more than a device keeps, and they made the parts.
+pub record IsReplay (verdicts : Verdicts) (plan : PlanData) (all : History) (count : ℕ) (parts : Parts) : Type 0 where
+  pub within : count ≤ length all
+  pub few : count ≤ MAX_STEPS
+  pub made : AreMade verdicts plan (take count all) parts
+
+-- a step that lays a list of pairs that was given with it
+abbrev pub gives_pairs : Step → Bool
+gives_pairs (steps.Set fh pairs) = true
+gives_pairs (steps.Store r pairs) = true
+gives_pairs _ = false

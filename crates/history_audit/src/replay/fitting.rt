@@ -1,0 +1,54 @@
+//! Whether a step that gives no pairs may follow.
+
+ghost use Rattle.std.specs.Prelude.{◌≡◌, ◌↔◌, false, IsTrue};
+ghost use Rattle.history.specs.Past.{past};
+ghost use Rattle.device_history.specs.Legal.{MayFollow};
+ghost use Rattle.device_history.specs.Refusals.{is_full};
+ghost use Rattle.history_audit.specs.Changing.{fits_parts};
+ghost use Rattle.history_audit.specs.Replay.{gives_pairs};
+
+use super::Replay;
+use ctrl_calls::Driver;
+use device_history::{MAX_FILE_HANDLES, Step};
+
+impl<'a, D: Driver> Replay<'a, D> {
+    // Whether such a step may follow those that were replayed.
+    pub(super) fn fits(&self, step: &Step) -> bool
+        requires { gives_pairs step.now ≡ false }
+        ensures follows { IsTrue result ↔ MayFollow D.verdict self.now.plan (past self.now.steps) step.now }
+        ensures room { IsTrue result → is_full (past self.now.steps) ≡ false }
+    {
+        if self.is_full() {
+            return false;
+        }
+        self.is_unrefused(step)
+    }
+
+    // Whether nothing refuses it but that no further step is kept.
+    fn is_unrefused(&self, step: &Step) -> bool
+        requires { gives_pairs step.now ≡ false }
+        ensures { result ≡ fits_parts D.verdict self.now.plan (past self.now.steps) step.now }
+    {
+        match step {
+            Step::OpenFh { handler } => {
+                self.plan.has_handler(*handler) && self.file_handles.len() < MAX_FILE_HANDLES
+            }
+            Step::CloseFh { fh } => self.handler_of(*fh).is_some(),
+            Step::Grab { control, .. } => *control < self.plan.control_count(),
+            Step::Alloc => self.frames.alloc_refusal().is_none(),
+            Step::Buffer { request, buffer } => {
+                self.frames.buffer_refusal(*request, *buffer).is_none()
+            }
+            Step::Queue { request } => self.frames.queue_refusal(*request).is_none(),
+            Step::Begin { request } => {
+                self.frames.running().is_none() && self.frames.queued(0) == Some(*request)
+            }
+            Step::Complete { request } => self.frames.running() == Some(*request),
+            Step::Cancel { request } => self.frames.cancel_refusal(*request).is_none(),
+            Step::StreamOff => true,
+            Step::Reinit { request } => self.frames.clear_refusal(*request).is_none(),
+            Step::Free { request } => self.frames.clear_refusal(*request).is_none(),
+            Step::Set { .. } | Step::Store { .. } => false,
+        }
+    }
+}
