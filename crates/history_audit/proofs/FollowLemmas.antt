@@ -1,5 +1,5 @@
 -- Whether a step that gives no pairs may follow is read off the parts.
-use Rattle.std.proofs.Common.{◌≡◌, ℕ, ◌<◌, Bool, true, false, not, ◌&&◌, cond, nat_eq, nat_le, nat_lt, if◌then◌else◌, List, [], ◌∷◌, length, Option, None, Some, is_some, Result, Ok, Err, refl, ap, sym, ◌∙◌, subst, arith}
+use Rattle.std.proofs.Common.{◌≡◌, ℕ, ◌<◌, Bool, true, false, not, ◌&&◌, nat_le, nat_lt, if◌then◌else◌, List, [], ◌∷◌, length, Option, None, Some, is_some, Ok, refl, ap, sym, ◌∙◌, subst, arith}
 use Rattle.std.proofs.lemmas.Bool.Decides.{nat_tests}
 use Rattle.ctrl_types.specs.declared.errno.Errno.{Errno}
 use Rattle.ctrl_types.specs.declared.errno.Errno.TheVariants.{EBADF, EINVAL, ENOSPC}
@@ -16,10 +16,10 @@ use Rattle.device_history.specs.Steps.{Past}
 use Rattle.device_history.specs.Refusals.{is_full, refused, fault_of}
 use Rattle.device_history.specs.Handles.{are_all_open, handler_of}
 use Rattle.device_history.specs.Frames.{first_of, queue, running}
-use Rattle.device_history.specs.Snapshots.{begun_refused, frames, request, requests}
+use Rattle.device_history.specs.Snapshots.{begun_refused, frames, requests}
 use Rattle.device_history.specs.FrameSteps.{FitsFrames}
 use Rattle.device_history.specs.RequestAnswers.{begin_frame_answer, frame_answer, stepped}
-use Rattle.device_history.specs.Answers.{step_of, refusal}
+use Rattle.device_history.specs.Answers.{refusal}
 use Rattle.device_history.specs.Asking.{ask_by}
 use Rattle.device_history.specs.Legal.{MayFollow}
 use Rattle.device_history.proofs.FitLemmas.{fits}

@@ -1,26 +1,24 @@
 -- What one more step makes of the parts of a replay.
-use Rattle.std.proofs.Common.{◌≡◌, ℕ, suc, zero, ◌+◌, ◌<◌, ◌≤◌, nat_eq, true, false, map, List, [], ◌∷◌, ◌++◌, length, take, slice_get, Option, Some, None, refl, ap, sym, ◌∙◌, subst, arith}
+use Rattle.std.proofs.Common.{◌≡◌, ℕ, suc, zero, ◌+◌, ◌<◌, ◌≤◌, nat_eq, true, false, map, List, [], ◌∷◌, ◌++◌, length, take, slice_get, Some, None, refl, ap, sym, ◌∙◌, subst, arith}
 use Rattle.std.specs.Map.{lookup}
 use Rattle.std.specs.List.{All}
 use Rattle.std.proofs.lemmas.Bool.Decides.{nat_tests}
 use Rattle.history.specs.declared.entry.Entry.{Entry}
 use Rattle.history.specs.Past.{past}
 use Rattle.history.proofs.Pasts.{length_past}
-use Rattle.ctrl_types.specs.declared.ids.Pair.{Pair}
 use Rattle.ctrl_calls.specs.Meanings.{Verdicts}
 use Rattle.ctrl_handlers.specs.Plan.{PlanData}
-use Rattle.ctrl_clusters.specs.Rows.{Grabs, Values}
 use Rattle.req_book.specs.Requests.{find}
 use Rattle.req_book.specs.Refusals.{buffer_refusal, queue_refusal, clear_refusal}
 use Rattle.frame_queue.specs.Frames.{FramesData, cancel_refusal}
 use Rattle.device_history.specs.declared.limits.TheConstants.{MAX_STEPS}
 use Rattle.device_history.specs.declared.ask.Step.{Step}
 use Rattle.device_history.specs.declared.ask.Step.TheVariants as steps
-use Rattle.device_history.specs.Steps.{History, Past}
+use Rattle.device_history.specs.Steps.{History}
 use Rattle.device_history.specs.Handles.{opened, ever_opened, opened_after}
 use Rattle.device_history.specs.Grabs.{grabbed, grabbed_after}
 use Rattle.device_history.specs.Snapshots.{frames, request, requests}
-use Rattle.device_history.specs.FrameSteps.{FitsFrames, frames_after, given_by}
+use Rattle.device_history.specs.FrameSteps.{FitsFrames, frames_after}
 use Rattle.device_history.specs.Values.{laid, now, defaults, now_after}
 use Rattle.device_history.specs.Refusals.{is_full}
 use Rattle.device_history.specs.Legal.{IsLegal, MayFollow}

@@ -1,5 +1,5 @@
 -- Which steps fit what is kept, and which change requests and the queue alone (of this project).
-use Rattle.std.specs.Prelude.{◌≡◌, ◌<◌, ℕ, Bool, true, false, not, ◌&&◌, nat_lt, List, length, Option, None, Some, is_some}
+use Rattle.std.specs.Prelude.{◌≡◌, ◌<◌, ℕ, Bool, true, false, not, ◌&&◌, nat_lt, length, Option, None, Some, is_some}
 use Rattle.std.specs.List.{All}
 use Rattle.req_book.specs.Requests.{find, is_number}
 use Rattle.req_book.specs.Refusals.{alloc_refusal, buffer_refusal, queue_refusal, clear_refusal}

@@ -1,7 +1,5 @@
-use Rattle.std.proofs.Common.{◌≡◌, ℕ, Bool, true, false, ◌+◌, ◌<◌, ◌≤◌, List, [], ◌∷◌, ◌++◌, length, take, map, Option, None, Some, unwrap_or, slice_get, slice_set, nat_eq, refl, ap, sym, subst, ◌∙◌, arith}
-use Rattle.history.specs.declared.entry.Entry.{Entry}
+use Rattle.std.proofs.Common.{take, ap, sym, ◌∙◌}
 use Rattle.history.specs.Past.{past}
-use Rattle.device_history.specs.declared.ask.Step.{Step}
 use Rattle.req_book.specs.Refusals.{asked_answer}
 use Rattle.history_audit.proofs.MadeLemmas.{found}
 use Rattle.history_audit.proofs.ReadLemmas.{asked_is, asked_there}

@@ -1,4 +1,4 @@
-use Rattle.std.proofs.Common.{◌≡◌, true, false, sym, ◌∙◌}
+use Rattle.std.proofs.Common.{sym, ◌∙◌}
 use Rattle.history.specs.Past.{past}
 use Rattle.history_audit.proofs.FollowLemmas.{fits_may, full_not, may_fits}
 use Rattle.history_audit.proofs.replay.Replay.fits.Goals as goal

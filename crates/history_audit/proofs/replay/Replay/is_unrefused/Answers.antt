@@ -1,7 +1,5 @@
-use Rattle.std.proofs.Common.{◌≡◌, ℕ, Bool, true, false, ◌+◌, ◌<◌, ◌≤◌, List, [], ◌∷◌, ◌++◌, length, take, map, Option, None, Some, unwrap_or, slice_get, slice_set, nat_eq, refl, ap, sym, subst, ◌∙◌, arith}
-use Rattle.history.specs.declared.entry.Entry.{Entry}
+use Rattle.std.proofs.Common.{take, Option, ap, ◌∙◌}
 use Rattle.history.specs.Past.{past}
-use Rattle.device_history.specs.declared.ask.Step.{Step}
 use Rattle.history_audit.specs.Changing.{lacks}
 use Rattle.ctrl_types.specs.declared.errno.Errno.{Errno}
 use Rattle.req_book.specs.Requests.{find}

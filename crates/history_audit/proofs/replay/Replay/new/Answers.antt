@@ -1,8 +1,4 @@
-use Rattle.std.proofs.Common.{◌≡◌, ℕ, Bool, true, false, ◌+◌, ◌<◌, ◌≤◌, List, [], ◌∷◌, ◌++◌, length, take, map, Option, None, Some, is_some, refl, ap, sym, subst, ◌∙◌, arith}
-use Rattle.history.specs.declared.entry.Entry.{Entry}
-use Rattle.history.specs.Past.{past}
-use Rattle.device_history.specs.declared.ask.Step.{Step}
-use Rattle.device_history.specs.declared.ask.Step.TheVariants as steps
+use Rattle.std.proofs.Common.{◌≡◌, ℕ, false, List, [], map, None, ap, subst, ◌∙◌}
 use Rattle.ctrl_settle.specs.Control.{Control}
 use Rattle.frame_queue.specs.Frames.{FramesData}
 use Rattle.history_audit.proofs.MadeLemmas.{replay_start}
