@@ -25,12 +25,13 @@ type Judge = Box<dyn Fn(ClusterRow) -> Verdict + Send>;
 type Teller = Box<dyn Fn(ClusterRow) -> u64 + Send>;
 
 // The files that are read, in this order.
-const FILES: [&str; 6] = [
+const FILES: [&str; 7] = [
     "sample.txt",
     "words.txt",
     "lists.txt",
     "requests.txt",
     "forecasts.txt",
+    "audits.txt",
     "examples.txt",
 ];
 

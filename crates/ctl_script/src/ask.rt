@@ -6,9 +6,9 @@ use script_lines::{Command, EntryList, Name, WhichWord};
 // the number by which a list speaks of a request's values
 const REQUEST_VALUES: u32 = 0x0f01_0000;
 
-/// What a command asks, with the ids that its names stand for.
-pub fn ask_of(command: Command, names: &Bindings) -> Ask {
-    match command {
+/// What a command asks, with the ids that its names stand for; none where it is an audit.
+pub fn ask_of(command: Command, names: &Bindings) -> Option<Ask> {
+    let ask = match command {
         Command::Open { fh: _, handler } => Ask::OpenFh { handler },
         Command::Close { fh } => Ask::CloseFh { fh: names.fh(fh) },
         Command::Get { fh, which, list } => get_of(names, fh, which, list),
@@ -53,7 +53,9 @@ pub fn ask_of(command: Command, names: &Bindings) -> Ask {
         Command::Begin => Ask::Begin,
         Command::Complete => Ask::Complete,
         Command::Off => Ask::StreamOff,
-    }
+        Command::Audit => return None,
+    };
+    Some(ask)
 }
 
 fn get_of(names: &Bindings, fh: Name, which: WhichWord, list: EntryList) -> Ask {

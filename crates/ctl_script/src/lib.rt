@@ -3,6 +3,7 @@
 #![tactic(auto)]
 
 mod ask;
+mod auditing;
 mod binding;
 mod board;
 mod fault;

@@ -4,6 +4,7 @@ ghost use Rattle.script_replies.specs.Replies.{outcome_line};
 ghost use Rattle.ctl_script.specs.Run.{GoesOn};
 
 use crate::ask::ask_of;
+use crate::auditing::audit_of;
 use crate::binding::Binding;
 use crate::fault::InputFault;
 use crate::input::read_input;
@@ -11,7 +12,9 @@ use crate::names::Bindings;
 use ctrl_calls::Driver;
 use device_state::Device;
 use script_lines::{LineFault, read_line};
-use script_replies::{Outcome, ReplyLine, write_answer, write_no_memory, write_outcome};
+use script_replies::{
+    Outcome, ReplyLine, write_answer, write_audit, write_no_memory, write_outcome,
+};
 use std::alloc::Global;
 use std::io::{Read, Write};
 
@@ -163,7 +166,12 @@ fn answer_line<D: Driver, W: Write>(
     if binding.enter(names).is_err() {
         return Err(LineEnd::Memory);
     }
-    let ask = ask_of(command, names);
+    let Some(ask) = ask_of(command, names) else {
+        return match write_audit(writer, reply, audit_of(alloc, device)) {
+            Ok(()) => Ok(()),
+            Err(_) => Err(LineEnd::WriteFault),
+        };
+    };
     let answer = device.handle(SEAT, &ask);
     binding.bind(names, &answer);
     match write_answer(writer, reply, &ask, &answer) {

@@ -1,6 +1,6 @@
 //! What clusters make of values that are asked of their members: a row is overwritten, settles in member order, and is judged by the driver's
 //! validator; how pairs are laid over values, rows written, and changed clusters notified; and which flags a control has under values and grabs.
-//! Only `first_words` takes memory.
+//! Only `first_words`, `default_values` and `no_grabs` take memory.
 #![tactic(auto)]
 
 mod auto_clusters;
@@ -11,6 +11,7 @@ mod new_row;
 mod notifying;
 mod present_flags;
 mod rows;
+mod start;
 mod writing;
 
 pub use auto_clusters::inactive;
@@ -19,4 +20,5 @@ pub use new_row::NewRow;
 pub use notifying::{first_words, notify_between, notify_changed};
 pub use present_flags::flags_under;
 pub use rows::value_in;
+pub use start::{default_values, no_grabs};
 pub use writing::{present_row, write_rows};

@@ -8,3 +8,4 @@ pub mod SettingLemmas
 pub mod KeptLemmas
 pub mod HandleLemmas
 pub mod RunLemmas
+pub mod AuditLemmas

@@ -1,4 +1,4 @@
-ghost use Rattle.std.specs.Prelude.{◌≡◌, ◌<◌, ◌≤◌, ℕ, [], length, Ok, Err, IsOk, IfOk, IfErr, IfSome, OnOk, OnErr};
+ghost use Rattle.std.specs.Prelude.{◌≡◌, ◌<◌, ◌≤◌, ◌↔◌, ℕ, [], length, Ok, Err, IsOk, IsTrue, IfOk, IfErr, IfSome, OnOk, OnErr};
 ghost use Rattle.history.specs.Past.{past};
 ghost use Rattle.ctrl_types.specs.declared.errno.Errno.TheVariants.{ENOMEM};
 ghost use Rattle.device_history.specs.declared.ask.Ask.TheVariants as asks;
@@ -15,6 +15,7 @@ ghost use Rattle.device_history.specs.Queries.{query_answer, next_answer, told_a
 ghost use Rattle.device_history.specs.RequestAnswers.{state_answer};
 ghost use Rattle.device_history.specs.Answers.{MayAnswer};
 ghost use Rattle.device_history.specs.Legal.{IsLegal};
+ghost use Rattle.history_audit.specs.Scratch.{Agrees};
 ghost use Rattle.device_state.specs.Device.{Handles, with_step};
 
 mod begin;
@@ -22,14 +23,14 @@ mod forecasts;
 mod lists;
 mod requests;
 
-use crate::start::{first_values, no_grabs};
 use ctrl_calls::{Driver, Work};
-use ctrl_clusters::{first_words, flags_under};
+use ctrl_clusters::{default_values, first_words, flags_under, no_grabs};
 use ctrl_handlers::Plan;
 use ctrl_types::{CtrlId, Errno, Fault, FhId, Flags, RequestId};
 use device_history::{Ask, CtrlInfo, MAX_FILE_HANDLES, MAX_STEPS, Reply, Step};
 use frame_queue::Frames;
 use history::Entry;
+use history_audit::Scratch;
 use indexmap::IndexMap;
 use std::alloc::{AllocError, Global};
 use std::marker::Model;
@@ -94,7 +95,7 @@ impl<D: Driver> Device<D> {
         ensures ok { IfOk result (λ d. (d.plan ≡ plan) × (d.steps ≡ []) × HaveWords D.told plan (defaults plan) d.words × (d.work ≡ record { asked = 0; told = 0 })) }
         ensures err { IfErr result (λ e. (e.0 ≡ plan) × (e.1 ≡ ENOMEM)) }
     {
-        let Ok(values) = first_values(alloc, &plan) else {
+        let Ok(values) = default_values(alloc, plan.controls()) else {
             return Err((plan, Errno::ENOMEM));
         };
         let Ok(grabs) = no_grabs(alloc, plan.controls()) else {
@@ -179,6 +180,17 @@ impl<D: Driver> Device<D> {
         ensures { result ≡ handler_of (past self.now.steps) fh }
     {
         self.file_handles.get(&fh.0).copied()
+    }
+
+    /// Whether what an audit worked out of some history is what the device has: the present values and flags, the requests with their
+    /// state, buffer, pairs and snapshot, and the queue. The forecasts are left out (of this project). It takes no memory, and neither
+    /// validators nor notifiers are called. An audit of the device's own plan and steps agrees, as the law `own_audits` says.
+    ///
+    /// - `scratch`: what an audit answered; the caller sees to it that it was of this device's plan.
+    pub fn agrees(&self, scratch: &Scratch) -> bool
+        ensures { IsTrue result ↔ Agrees D.verdict self.now.plan (past self.now.steps) scratch.now }
+    {
+        scratch.has_parts(&self.plan, self.values(), self.grabs(), &self.frames)
     }
 
     /// How often the last call of `handle` or of a short form asked validators and told notifiers; zeros before the first.

@@ -4,6 +4,10 @@ ghost use Rattle.std.specs.Prelude.{◌≡◌, ◌∷◌, ◌++◌, List, IsErr}
 ghost use Rattle.history.specs.Past.{past};
 ghost use Rattle.ctrl_calls.specs.Meanings.{Verdicts};
 ghost use Rattle.device_history.specs.Legal.{IsLegal};
+ghost use Rattle.history_audit.specs.declared.fault.AuditFault.{AuditFault};
+ghost use Rattle.history_audit.specs.declared.fault.AuditFault.TheVariants as faults;
+ghost use Rattle.history_audit.specs.Fault.{IsFault};
+ghost use Rattle.history_audit.specs.Scratch.{Agrees, ScratchData, scratch};
 ghost use Rattle.device_state.specs.Device.{DeviceData};
 ghost use Rattle.device_state.specs.Runs.{Call, IsRun, entries_of};
 
@@ -17,4 +21,11 @@ pub fn whole_runs()
     ensures legal { (verdicts : Verdicts) (calls : List Call) (first last : DeviceData) → IsRun verdicts first calls last → IsLegal verdicts first.plan (past first.steps) → IsLegal verdicts last.plan (past last.steps) }
     ensures refused { (verdicts : Verdicts) (before behind : List Call) (call : Call) (first last : DeviceData) → IsRun verdicts first (before ++ call ∷ behind) last → IsErr call.answer
         → (old : DeviceData) × (new : DeviceData) × IsRun verdicts first before old × (new ≡ record old { work = new.work }) × IsRun verdicts new behind last }
+{}
+
+/// An audit of a device's own plan and steps, which are legal, as the contract of `steps` says, agrees with it, or wants memory.
+#[tactic(auto, using(crate::proofs::AuditLemmas::own_agrees, crate::proofs::AuditLemmas::own_fault))]
+pub fn own_audits()
+    ensures agrees { (verdicts : Verdicts) (device : DeviceData) (s : ScratchData) → s ≡ scratch verdicts device.plan (past device.steps) → Agrees verdicts device.plan (past device.steps) s }
+    ensures memory { (verdicts : Verdicts) (device : DeviceData) (fault : AuditFault) → IsLegal verdicts device.plan (past device.steps) → IsFault verdicts device.plan device.steps fault → fault ≡ faults.Memory }
 {}

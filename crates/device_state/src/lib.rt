@@ -4,7 +4,6 @@
 mod device;
 pub mod laws;
 mod serve;
-mod start;
 
 pub use ctrl_forecast::{ClusterList, Forecast, ValueRow};
 pub use ctrl_handlers::{
@@ -15,3 +14,4 @@ pub use device::Device;
 pub use device_history::{Ask, CtrlInfo, MAX_FILE_HANDLES, MAX_STEPS, PairList, Reply, Step};
 pub use frame_queue::RequestState;
 pub use history::Entry;
+pub use history_audit::{AuditFault, Scratch, audit};

@@ -2,7 +2,7 @@
 
 use crate::asks::{At, NOW, Question, Row, SET, Want, list_of};
 use crate::plan::{Scene, Trouble, scene_of};
-use crate::play::expect;
+use crate::play::{expect, make};
 use crate::sample::{AUTOGAIN, BLUE, BRIGHTNESS, BUTTON, GAIN, RED, SAMPLE};
 use ctrl_types::{Errno, Fault, FhId};
 use device_state::{Ask, Reply};
@@ -141,15 +141,6 @@ fn crowd(alloc: Global) -> Result<Scene, Trouble> {
     };
     make(&mut scene, &grab, MOST)?;
     Ok(scene)
-}
-
-// Makes an ask that is to be accepted.
-fn make(scene: &mut Scene, ask: &Ask, number: u32) -> Result<Reply, Trouble> {
-    match scene.device.handle(0, ask) {
-        Ok(reply) => Ok(reply),
-        Err(fault) if fault.errno == Errno::ENOMEM => Err(Trouble::Memory),
-        Err(_) => Err(Trouble::Answer(number as usize)),
-    }
 }
 
 // Whether each frame has what was forecast of it on a device on which no frame runs; and how many of them refuse a cluster.

@@ -9,6 +9,8 @@
 #[cfg(test)]
 mod asks;
 #[cfg(test)]
+mod audits;
+#[cfg(test)]
 mod closures;
 #[cfg(test)]
 mod flags;

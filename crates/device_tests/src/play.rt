@@ -6,7 +6,7 @@ use crate::looks::all_tell;
 use crate::plan::{Scene, Table, Trouble, scene_of};
 use crate::twin::are_alike;
 use ctrl_calls::Work;
-use ctrl_types::Fault;
+use ctrl_types::{Errno, Fault};
 use device_state::{Ask, Reply};
 use std::alloc::Global;
 use std::process::Abort;
@@ -83,6 +83,15 @@ fn play_ask(
         return Err(Trouble::Step(place.number));
     }
     Ok(())
+}
+
+/// Makes an ask that is to be accepted, of the seat 0; `number` is that of the row, for the trouble.
+pub fn make(scene: &mut Scene, ask: &Ask, number: u32) -> Result<Reply, Trouble> {
+    match scene.device.handle(0, ask) {
+        Ok(reply) => Ok(reply),
+        Err(fault) if fault.errno == Errno::ENOMEM => Err(Trouble::Memory),
+        Err(_) => Err(Trouble::Answer(number as usize)),
+    }
 }
 
 // The seat of a row's asks is the row's number.

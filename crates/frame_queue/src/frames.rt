@@ -1,4 +1,4 @@
-ghost use Rattle.std.specs.Prelude.{◌≡◌, ◌++◌, ◌<◌, ◌∷◌, [], length, None, Some, Ok, Err, true, IfErr, IfOk, IfSome, OnOk, MatchResult, slice_get, is_some, ℕ, remove, filter, not, nat_eq, option_copied};
+ghost use Rattle.std.specs.Prelude.{◌≡◌, ◌↔◌, IsTrue, ◌++◌, ◌<◌, ◌∷◌, [], length, None, Some, Ok, Err, true, IfErr, IfOk, IfSome, OnOk, MatchResult, slice_get, is_some, ℕ, remove, filter, not, nat_eq, option_copied};
 ghost use Rattle.std.specs.Option.{option_map, ok_or};
 ghost use Rattle.std.specs.List.{All};
 ghost use Rattle.req_book.specs.Requests.{RequestData, find, changed, completed, with_pairs, with_buffer, cleared, without, fresh};
@@ -43,6 +43,20 @@ impl Frames {
             }),
             Err(_) => Err(Errno::ENOMEM),
         }
+    }
+
+    /// Whether other requests are the same in the same order, with state, buffer, what they ask for and what their frames had, for as many
+    /// controls; whether the same wait in the same order, and the same one runs. It takes no memory.
+    pub fn is_like(&self, other: &Frames) -> bool
+        ensures { IsTrue result ↔ (self.now ≡ other.now) }
+    {
+        if !self.requests.is_like(&other.requests) {
+            return false;
+        }
+        if self.running != other.running {
+            return false;
+        }
+        self.queue.as_slice() == other.queue.as_slice()
     }
 
     /// The request that waits at a place of the queue, from 0. It holds a buffer.

@@ -8,3 +8,4 @@ pub mod ReadLemmas
 pub mod WriteLemmas
 pub mod EvaluateLemmas
 pub mod AuditLemmas
+pub mod ScratchLemmas

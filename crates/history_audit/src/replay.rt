@@ -15,17 +15,16 @@ mod evaluating;
 mod fitting;
 mod lists;
 mod plain;
-mod start;
 
 use crate::scratch::Scratch;
 use ctrl_calls::Driver;
+use ctrl_clusters::{default_values, no_grabs};
 use ctrl_handlers::Plan;
 use ctrl_types::{CtrlValue, FhId};
 use device_history::{MAX_STEPS, Step};
 use frame_queue::Frames;
 use history::Entry;
 use indexmap::IndexMap;
-use start::{first_values, no_grabs};
 use std::alloc::{AllocError, Global};
 use std::marker::Model;
 
@@ -91,7 +90,7 @@ impl<'a, D: Driver> Replay<'a, D> {
     ) -> Result<Replay<'a, D>, AllocError>
         ensures { IfOk result (λ r. r ≡ record { plan = plan.now; steps = []; all = steps.now }) }
     {
-        let values = first_values(alloc, plan.controls())?;
+        let values = default_values(alloc, plan.controls())?;
         let grabs = no_grabs(alloc, plan.controls())?;
         let Ok(frames) = Frames::new(alloc, plan.control_count()) else {
             return Err(AllocError);

@@ -1,6 +1,10 @@
-ghost use Rattle.std.specs.Prelude.{◌≡◌};
+ghost use Rattle.std.specs.Prelude.{◌≡◌, ◌↔◌, IsTrue, length};
+ghost use Rattle.history_audit.specs.Scratch.{HasParts, flags_of_all};
 
+use ctrl_calls::Driver;
+use ctrl_clusters::flags_under;
 use ctrl_forecast::Board;
+use ctrl_handlers::Plan;
 use ctrl_types::{CtrlValue, Flags};
 use frame_queue::Frames;
 use std::marker::Model;
@@ -70,4 +74,71 @@ impl Scratch {
     {
         &self.forecasts
     }
+
+    /// Whether it has these values, the flags that they make with these grabs, and these requests with their queue. The forecasts are left
+    /// out. It takes no memory and asks nobody.
+    ///
+    /// - `plan`: what the device is built of.
+    /// - `values`, `grabs`: a value, and whether it is grabbed, for each control in the order of their numbers; the caller owes exactly as
+    ///   many.
+    /// - `frames`: the requests, their queue, and the one whose frame is being made.
+    pub fn has_parts<D: Driver>(
+        &self,
+        plan: &Plan<D>,
+        values: &[CtrlValue],
+        grabs: &[bool],
+        frames: &Frames,
+    ) -> bool
+        requires values { length values.now ≡ length plan.now.controls }
+        requires grabs { length grabs.now ≡ length plan.now.controls }
+        ensures { IsTrue result ↔ HasParts self.now plan.now values.now grabs.now frames.now }
+    {
+        if !are_values(self.values(), values) {
+            return false;
+        }
+        if !are_flags(plan, values, grabs, self.flags()) {
+            return false;
+        }
+        self.frames().is_like(frames)
+    }
+}
+
+// Whether these are the same values.
+fn are_values(own: &[CtrlValue], values: &[CtrlValue]) -> bool
+    ensures { IsTrue result ↔ (own.now ≡ values.now) }
+{
+    own == values
+}
+
+// Whether these are the flags of each control under values and grabs.
+fn are_flags<D: Driver>(
+    plan: &Plan<D>,
+    values: &[CtrlValue],
+    grabs: &[bool],
+    flags: &[Flags],
+) -> bool
+    requires values { length values.now ≡ length plan.now.controls }
+    requires grabs { length grabs.now ≡ length plan.now.controls }
+    ensures { IsTrue result ↔ flags.now ≡ flags_of_all plan.now values.now grabs.now }
+{
+    let count = plan.control_count();
+    if flags.len() != count as usize {
+        return false;
+    }
+    for control in 0..count {
+        if !are_equal(
+            flags[control as usize],
+            flags_under(plan, values, grabs, control),
+        ) {
+            return false;
+        }
+    }
+    true
+}
+
+// Whether these are the same flags.
+fn are_equal(one: Flags, other: Flags) -> bool
+    ensures { IsTrue result ↔ (one ≡ other) }
+{
+    one == other
 }

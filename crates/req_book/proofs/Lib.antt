@@ -1,3 +1,4 @@
 pub mod ObjectLemmas
 pub mod SettingLemmas
 pub mod FindLemmas
+pub mod LikeLemmas

@@ -1,4 +1,4 @@
-ghost use Rattle.std.specs.Prelude.{◌≡◌, OnOk, OnErr, IfSome, option_copied, length, replicate, true, ◌++◌, ◌∷◌, [], None};
+ghost use Rattle.std.specs.Prelude.{◌≡◌, ◌↔◌, IsTrue, ℕ, ◌<◌, slice_get, OnOk, OnErr, IfSome, option_copied, length, replicate, true, ◌++◌, ◌∷◌, [], None};
 ghost use Rattle.std.specs.Option.{option_map};
 ghost use Rattle.req_book.specs.Requests.{find, changed, asking, with_pairs, with_buffer, cleared, queued, begun, completed, is_pending, is_held, without, fresh};
 ghost use Rattle.std.specs.List.{list_any};
@@ -70,6 +70,56 @@ impl Objects {
             Some(key) => self.slots.get(*key),
             None => None,
         }
+    }
+
+    // The id and the object at a place, from 0, in order of allocation.
+    fn entry(&self, place: usize) -> Option<(u32, &Object)>
+        ensures { option_map (λ e. request_at e.0 e.1.now) result ≡ slice_get self.now.all place }
+    {
+        match self.ids.get_index(place) {
+            Some((id, key)) => match self.slots.get(*key) {
+                Some(object) => Some((*id, object)),
+                None => None,
+            },
+            None => None,
+        }
+    }
+
+    // Whether the requests at a place are seen as the same, or there is none on either side.
+    fn is_like_at(&self, other: &Objects, place: usize) -> bool
+        ensures { IsTrue result ↔ (slice_get self.now.all place ≡ slice_get other.now.all place) }
+    {
+        match (self.entry(place), other.entry(place)) {
+            (Some((own_id, own)), Some((id, object))) => own_id == id && own.is_like(object),
+            (None, None) => true,
+            _ => false,
+        }
+    }
+
+    // Whether the requests at the first places are seen as the same.
+    fn is_like_below(&self, other: &Objects, count: usize) -> bool
+        ensures { IsTrue result ↔ ((place : ℕ) → place < count → slice_get self.now.all place ≡ slice_get other.now.all place) }
+    {
+        for place in 0..count {
+            if !self.is_like_at(other, place) {
+                return false;
+            }
+        }
+        true
+    }
+
+    /// Whether another store has the same requests in the same order, and is for as many controls. It takes no memory.
+    pub(crate) fn is_like(&self, other: &Objects) -> bool
+        ensures { IsTrue result ↔ (self.now ≡ other.now) }
+    {
+        if self.controls() != other.controls() {
+            return false;
+        }
+        let count = self.count();
+        if count != other.count() {
+            return false;
+        }
+        self.is_like_below(other, count)
     }
 
     /// Whether a request that isn't complete holds a buffer number.

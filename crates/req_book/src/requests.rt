@@ -1,4 +1,4 @@
-ghost use Rattle.std.specs.Prelude.{◌≡◌, ◌++◌, ◌<◌, ◌∷◌, [], length, None, Ok, Err, true, IfErr, IfSome, OnOk, MatchResult};
+ghost use Rattle.std.specs.Prelude.{◌≡◌, ◌↔◌, IsTrue, ◌++◌, ◌<◌, ◌∷◌, [], length, None, Ok, Err, true, IfErr, IfSome, OnOk, MatchResult};
 ghost use Rattle.std.specs.List.{All};
 ghost use Rattle.req_book.specs.declared.state.RequestState.TheVariants as states;
 ghost use Rattle.req_book.specs.Requests.{find, changed, with_pairs, with_buffer, cleared, queued, begun, completed, is_pending, is_held, without, fresh};
@@ -51,6 +51,14 @@ impl Requests {
         ensures { result ≡ length self.now.all }
     {
         self.objects.count()
+    }
+
+    /// Whether another store has the same requests in the same order, with state, buffer, what they ask for and what their frames had, and
+    /// is for as many controls. It takes no memory.
+    pub fn is_like(&self, other: &Requests) -> bool
+        ensures { IsTrue result ↔ (self.now ≡ other.now) }
+    {
+        self.objects.is_like(&other.objects)
     }
 
     /// A request's state; EINVAL (22) where there is no such request.

@@ -9,7 +9,7 @@ use Rattle.sample_device.specs.Words.{sample_number}
 use Rattle.script_lines.specs.Lexemes.{after, control_id, decimal_i64, decimal_u32, hexadecimal_u32}
 use Rattle.script_lines.specs.Names.{name_of}
 use Rattle.script_lines.specs.declared.command.Command.{Command}
-use Rattle.script_lines.specs.declared.command.Command.TheVariants.{Open, Close, Get, Set, Try, Grab, Query, Next, Menu, Told, Alloc, Buffer, Queue, Cancel, Reinit, Free, State, Row, Begin, Complete, Off}
+use Rattle.script_lines.specs.declared.command.Command.TheVariants.{Open, Close, Get, Set, Try, Grab, Query, Next, Menu, Told, Alloc, Buffer, Queue, Cancel, Reinit, Free, State, Row, Begin, Complete, Off, Audit}
 use Rattle.script_lines.specs.declared.command.WhichWord.{WhichWord}
 use Rattle.script_lines.specs.declared.command.WhichWord.TheVariants.{Number, Request}
 use Rattle.script_lines.specs.declared.fault.LineFault.{LineFault}
@@ -191,7 +191,7 @@ abbrev pub verb_words : List (List ℕ)
 verb_words =
     codes "open" ∷ codes "close" ∷ codes "get" ∷ codes "set" ∷ codes "try" ∷ codes "grab" ∷ codes "query" ∷ codes "next" ∷ codes "menu" ∷ codes "told"
     ∷ codes "alloc" ∷ codes "buffer" ∷ codes "queue" ∷ codes "cancel" ∷ codes "reinit" ∷ codes "free" ∷ codes "state" ∷ codes "row" ∷ codes "begin"
-    ∷ codes "complete" ∷ codes "off" ∷ []
+    ∷ codes "complete" ∷ codes "off" ∷ codes "audit" ∷ []
 
 -- what they stand for, in the same order
 abbrev pub verbs_meant : List Verb
@@ -199,7 +199,7 @@ verbs_meant =
     verbs.Open ∷ verbs.Close ∷ verbs.Get ∷ verbs.Set ∷ verbs.Try ∷ verbs.Grab ∷ verbs.Query ∷ verbs.Next ∷ verbs.Menu ∷ verbs.Told
     ∷ verbs.OfRequest request_verbs.Alloc ∷ verbs.Buffer ∷ verbs.OfRequest request_verbs.Queue ∷ verbs.OfRequest request_verbs.Cancel
     ∷ verbs.OfRequest request_verbs.Reinit ∷ verbs.OfRequest request_verbs.Free ∷ verbs.OfRequest request_verbs.State ∷ verbs.Row ∷ verbs.Begin
-    ∷ verbs.Complete ∷ verbs.Off ∷ []
+    ∷ verbs.Complete ∷ verbs.Off ∷ verbs.Audit ∷ []
 
 -- what the first word of a command stands for
 abbrev pub verb_of : List ℕ → Option Verb
@@ -223,6 +223,7 @@ command_of (Some verbs.Row) operands = row_of operands
 command_of (Some verbs.Begin) operands = bare_of Begin operands
 command_of (Some verbs.Complete) operands = bare_of Complete operands
 command_of (Some verbs.Off) operands = bare_of Off operands
+command_of (Some verbs.Audit) operands = bare_of Audit operands
 command_of None operands = None
 
 -- What was read of a line is what it writes; only want of memory may take its place.

@@ -136,4 +136,6 @@ pub enum Command {
     Complete,
     /// `off`: ends the stream.
     Off,
+    /// `audit`: works the device's steps out anew, and compares.
+    Audit,
 }

@@ -68,6 +68,7 @@ enum Verb {
     Begin,
     Complete,
     Off,
+    Audit,
 }
 
 // Those of commands with a request and nothing else.
@@ -82,7 +83,7 @@ enum RequestVerb {
 }
 
 // The words that stand for them, in the same order as `VERBS`.
-const VERB_WORDS: [&[u8]; 21] = [
+const VERB_WORDS: [&[u8]; 22] = [
     b"open",
     b"close",
     b"get",
@@ -104,9 +105,10 @@ const VERB_WORDS: [&[u8]; 21] = [
     b"begin",
     b"complete",
     b"off",
+    b"audit",
 ];
 
-const VERBS: [Verb; 21] = [
+const VERBS: [Verb; 22] = [
     Verb::Open,
     Verb::Close,
     Verb::Get,
@@ -128,6 +130,7 @@ const VERBS: [Verb; 21] = [
     Verb::Begin,
     Verb::Complete,
     Verb::Off,
+    Verb::Audit,
 ];
 
 fn read_verb(word: &[u8]) -> Option<Verb>
@@ -158,6 +161,7 @@ fn read_command(alloc: Global, verb: &[u8], operands: &[&[u8]]) -> Result<Comman
         Some(Verb::Begin) => read_bare(Command::Begin, operands),
         Some(Verb::Complete) => read_bare(Command::Complete, operands),
         Some(Verb::Off) => read_bare(Command::Off, operands),
+        Some(Verb::Audit) => read_bare(Command::Audit, operands),
         None => Err(LineFault::NotACommand),
     }
 }

@@ -3,6 +3,7 @@ use Rattle.std.specs.Prelude.{ℕ, ℤ, ◌-◌, List, [], ◌∷◌, ◌++◌, 
 use Rattle.std.specs.Fmt.{decimal, signed_decimal, digits}
 use Rattle.std.specs.List.{flat_map}
 use Rattle.ctrl_types.specs.Numbers.{errno_number, kind_number}
+use Rattle.ctrl_types.specs.declared.errno.Errno.TheVariants.{ENOMEM}
 use Rattle.ctrl_types.specs.declared.errno.Fault.{Fault}
 use Rattle.ctrl_types.specs.declared.flags.Flags.{Flags}
 use Rattle.ctrl_types.specs.declared.ids.CtrlId.{CtrlId}
@@ -18,6 +19,9 @@ use Rattle.device_history.specs.declared.ask.Ask.TheVariants as asks
 use Rattle.device_history.specs.declared.ask.Reply.{Reply}
 use Rattle.device_history.specs.declared.ask.Reply.TheVariants.{Fh, Done, Controls, Request, State, Frame, Info, Id, Item, Word}
 use Rattle.device_history.specs.declared.ask.Reply.TheVariants as replies
+use Rattle.script_replies.specs.declared.audited.Audited.{Audited}
+use Rattle.script_replies.specs.declared.audited.Audited.TheVariants.{Equal, Differs}
+use Rattle.script_replies.specs.declared.audited.Audited.TheVariants as audited
 use Rattle.script_replies.specs.declared.outcome.Outcome.{Outcome}
 use Rattle.script_replies.specs.declared.outcome.Outcome.TheVariants.{Finished, BadLine, TooLong, ReadFault, WriteFault, NoSecond, Memory}
 
@@ -113,6 +117,12 @@ line_of ask (Word word) = codes "ok " ++ (decimal word ++ codes "\n")
 abbrev pub answer_line : Ask → Result Reply Fault → List ℕ
 answer_line ask (Ok reply) = line_of ask reply
 answer_line ask (Err fault) = refusal_line (errno_number fault.errno) fault.index
+
+-- the line of an audit: how many steps the device has where it agrees; want of memory as a refusal
+abbrev pub audit_line : Audited → List ℕ
+audit_line (Equal count) = codes "audit equal " ++ (decimal count ++ codes "\n")
+audit_line Differs = codes "audit differs\n"
+audit_line audited.Memory = refusal_line (errno_number ENOMEM) None
 
 -- the line of an outcome; some print none
 abbrev pub outcome_line : Outcome → List ℕ

@@ -1,11 +1,13 @@
 //! The reply lines of a script, and how a line is written at once.
 #![tactic(auto)]
 
+mod audited;
 mod outcome;
 mod reply;
 mod reply_line;
 
+pub use audited::Audited;
 pub use outcome::Outcome;
 pub use reply_line::{
-    MAX_LINE, ReplyLine, write_answer, write_no_frames, write_no_memory, write_outcome,
+    MAX_LINE, ReplyLine, write_answer, write_audit, write_no_frames, write_no_memory, write_outcome,
 };

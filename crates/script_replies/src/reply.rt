@@ -2,13 +2,14 @@ ghost use Rattle.std.specs.Prelude.{◌≡◌, OnOk, ◌++◌, ◌∷◌, codes}
 ghost use Rattle.std.specs.Io.KnownBytes.{Appends};
 ghost use Rattle.std.specs.List.{flat_map};
 ghost use Rattle.ctrl_types.specs.Numbers.{errno_number};
-ghost use Rattle.script_replies.specs.Replies.{answer_line, clusters_text, flags_text, forecast_line, frame_line, further_text, id_text, info_line, item_text, line_of, number_text, outcome_line, place_of as asked_place, range_text, refusal_line, state_line, value_text};
+ghost use Rattle.script_replies.specs.Replies.{answer_line, audit_line, clusters_text, flags_text, forecast_line, frame_line, further_text, id_text, info_line, item_text, line_of, number_text, outcome_line, place_of as asked_place, range_text, refusal_line, state_line, value_text};
 
+use crate::audited::Audited;
 use crate::outcome::Outcome;
 use bitflags::Flags as FlagSet;
 use ctrl_forecast::Forecast;
 use ctrl_handlers::MenuItem;
-use ctrl_types::{CtrlId, CtrlValue, ExtControl, Fault, Flags};
+use ctrl_types::{CtrlId, CtrlValue, Errno, ExtControl, Fault, Flags};
 use device_history::{Ask, CtrlInfo, Reply};
 use req_book::RequestState;
 use std::io;
@@ -208,6 +209,23 @@ fn print_fault<W: Write>(out: &mut W, fault: Fault) -> io::Result<()>
     match fault.index {
         Some(index) => writeln!(out, "error {number} index {index}"),
         None => writeln!(out, "error {number}"),
+    }
+}
+
+/// Prints the line of an audit to a writer, piece by piece. It takes no memory.
+pub fn print_audit<W: Write>(out: &mut W, audited: Audited) -> io::Result<()>
+    ensures { OnOk result (Appends (W.contents out.old) (W.contents out.new) (audit_line audited)) }
+{
+    match audited {
+        Audited::Equal(count) => writeln!(out, "audit equal {count}"),
+        Audited::Differs => writeln!(out, "audit differs"),
+        Audited::Memory => print_fault(
+            out,
+            Fault {
+                errno: Errno::ENOMEM,
+                index: None,
+            },
+        ),
     }
 }
 

@@ -1,10 +1,11 @@
 ghost use Rattle.std.specs.Prelude.{◌≡◌, [], IfOk, OnOk, Some};
 ghost use Rattle.std.specs.Io.KnownBytes.{Appends};
-ghost use Rattle.script_replies.specs.Replies.{answer_line, no_frames_line, outcome_line};
+ghost use Rattle.script_replies.specs.Replies.{answer_line, audit_line, no_frames_line, outcome_line};
 ghost use Rattle.script_replies.specs.declared.outcome.Outcome.TheVariants as outcomes;
 
+use crate::audited::Audited;
 use crate::outcome::Outcome;
-use crate::reply::{print_answer, print_outcome};
+use crate::reply::{print_answer, print_audit, print_outcome};
 use ctrl_handlers::MAX_CONTROLS;
 use ctrl_types::Fault;
 use device_history::{Ask, Reply};
@@ -87,6 +88,19 @@ pub fn write_answer<W: Write>(
 {
     line.clear();
     print_answer(line, ask, answer)?;
+    write_whole(writer, line.as_slice())
+}
+
+/// Writes the line of an audit, as `write_answer` writes that of an answer. It takes no memory.
+pub fn write_audit<W: Write>(
+    writer: &mut W,
+    line: &mut ReplyLine,
+    audited: Audited,
+) -> io::Result<()>
+    ensures { OnOk result (Appends (W.contents writer.old) (W.contents writer.new) (audit_line audited)) }
+{
+    line.clear();
+    print_audit(line, audited)?;
     write_whole(writer, line.as_slice())
 }
 

@@ -1,0 +1,29 @@
+//! What a device has before its first step.
+
+ghost use Rattle.std.specs.Prelude.{◌≡◌, false, map, IfOk};
+
+use ctrl_settle::Ctrl;
+use ctrl_types::CtrlValue;
+use std::alloc::{AllocError, Global};
+
+/// The default of each control (Linux driver API, "V4L2 Controls").
+///
+/// - `alloc`: where they lie.
+/// - `controls`: the controls, in the order of their numbers.
+///
+/// The error is that a growth was refused.
+pub fn default_values(alloc: Global, controls: &[Ctrl]) -> Result<Vec<CtrlValue>, AllocError>
+    ensures { IfOk result (λ values. values.items ≡ map (λ c. c.default_value) controls.now) }
+{
+    controls
+        .iter()
+        .map(|ctrl| ctrl.default_value())
+        .collect(alloc)
+}
+
+/// Each control is let go (Linux driver API, `v4l2_ctrl_grab`). The arguments and the error are those of `default_values`.
+pub fn no_grabs(alloc: Global, controls: &[Ctrl]) -> Result<Vec<bool>, AllocError>
+    ensures { IfOk result (λ grabs. grabs.items ≡ map (λ _. false) controls.now) }
+{
+    controls.iter().map(|_| false).collect(alloc)
+}

@@ -1,0 +1,55 @@
+-- What an audit makes of a device's own steps.
+use Rattle.std.proofs.Common.{◌≡◌, ℕ, suc, zero, ◌+◌, ◌<◌, List, [], ◌∷◌, ◌++◌, length, take, slice_get, Some, refl, ap, sym, ◌∙◌, subst, arith}
+use Rattle.history.specs.declared.entry.Entry.{Entry}
+use Rattle.history.specs.Past.{past}
+use Rattle.ctrl_calls.specs.Meanings.{Verdicts}
+use Rattle.ctrl_handlers.specs.Plan.{PlanData}
+use Rattle.device_history.specs.declared.ask.Step.{Step}
+use Rattle.device_history.specs.Steps.{History}
+use Rattle.device_history.specs.Legal.{IsLegal, MayFollow}
+use Rattle.device_history.proofs.PastLemmas.{legal_front, legal_last}
+use Rattle.history_audit.specs.declared.fault.AuditFault.{AuditFault}
+use Rattle.history_audit.specs.declared.fault.AuditFault.TheVariants as faults
+use Rattle.history_audit.specs.Fault.{IsFault, StopsAt}
+use Rattle.ctrl_clusters.specs.Rows.{Grabs, Values}
+use Rattle.frame_queue.specs.Frames.{FramesData}
+use Rattle.device_history.specs.Steps.{Past}
+use Rattle.device_history.specs.Grabs.{grabbed}
+use Rattle.device_history.specs.Snapshots.{frames}
+use Rattle.device_history.specs.Values.{now}
+use Rattle.history_audit.specs.Scratch.{Agrees, HasParts, ScratchData, all_flags, flags_of_all, scratch}
+use Rattle.device_state.specs.Device.{DeviceData}
+
+-- an entry at a place, those before it, and those behind it
+split : {X : Type 0} (xs : List X) (n : ℕ) → n < length xs → (x : X) × (more : List X) × (slice_get xs n ≡ Some x) × (xs ≡ (take n xs ++ x ∷ []) ++ more)
+split [] n h = absurd (omega (arith, h))
+split (x ∷ xs) zero h = (x, xs, refl, refl)
+split (x ∷ xs) (suc n) h = let rest = split xs n (omega (arith, h)) in (rest.0, rest.1, rest.2, ap (λ (ys : List _). x ∷ ys) rest.3)
+
+-- each step of a legal history may follow those before it
+stops_nowhere : (verdicts : Verdicts) (plan : PlanData) (steps : History) (index : ℕ) → IsLegal verdicts plan (past steps) → StopsAt verdicts plan steps index → ⊥
+stops_nowhere verdicts plan steps index legal stops =
+    let at = split steps index stops.within in
+    stops.ends at.0 at.2
+    (legal_last verdicts plan (take index steps) at.0
+    (legal_front verdicts plan (take index steps ++ at.0 ∷ []) at.1 (subst (λ (s : History). IsLegal verdicts plan (past s)) at.3 legal)))
+
+-- an audit of legal steps only wants memory
+pub own_fault : (verdicts : Verdicts) (device : DeviceData) (fault : AuditFault) → IsLegal verdicts device.plan (past device.steps) → IsFault verdicts device.plan device.steps fault → fault ≡ faults.Memory
+own_fault verdicts device (faults.NotLegal index) legal is = absurd (stops_nowhere verdicts device.plan device.steps index legal is)
+own_fault verdicts device faults.Memory legal is = refl
+
+-- what it works out agrees
+pub own_agrees : (verdicts : Verdicts) (device : DeviceData) (s : ScratchData) → s ≡ scratch verdicts device.plan (past device.steps) → Agrees verdicts device.plan (past device.steps) s
+own_agrees verdicts device s is = record { values = ap (λ (d : ScratchData). d.values) is; flags = ap (λ (d : ScratchData). d.flags) is; frames = ap (λ (d : ScratchData). d.frames) is }
+
+-- parts that are what a history makes are those of a scratch exactly where it agrees
+pub agrees_both : (verdicts : Verdicts) (plan : PlanData) (past : Past) (s : ScratchData) (values : Values) (grabs : Grabs) (requests : FramesData) → values ≡ now verdicts plan past → grabs ≡ grabbed plan past
+    → requests ≡ frames verdicts plan past → (HasParts s plan values grabs requests → Agrees verdicts plan past s) × (Agrees verdicts plan past s → HasParts s plan values grabs requests)
+agrees_both verdicts plan past s values grabs requests v g f = (
+  λ has. record { values = has.values ∙ v; flags = has.flags ∙ same; frames = has.frames ∙ f },
+  λ agrees. record { values = agrees.values ∙ sym v; flags = agrees.flags ∙ sym same; frames = agrees.frames ∙ sym f },
+)
+  where
+    same : flags_of_all plan values grabs ≡ all_flags verdicts plan past
+    same = ap (λ (vs : Values). flags_of_all plan vs grabs) v ∙ ap (λ (gs : Grabs). flags_of_all plan (now verdicts plan past) gs) g

@@ -1,0 +1,174 @@
+//! Audits of devices: what one's steps make of its plan is what it has, and what another of that plan has only where that is the same.
+
+use crate::asks::{At, GET, NOW, Question, SET};
+use crate::plan::{Scene, Trouble, scene_of};
+use crate::play::make;
+use crate::sample::{AUTOGAIN, BLUE, BUTTON, GAIN, RED, SAMPLE};
+use ctrl_calls::Work;
+use device_state::{AuditFault, Scratch, audit};
+use std::alloc::Global;
+
+// Through the request 1, at the file handle 0.
+const ONE: At = At(0, 0x0f01_0000, Some(1));
+
+const OPEN: Question = Question::Open(1, 1);
+
+// Asks that are accepted. Those with the same number in front make the same of the plan.
+const PASTS: &[(u32, &[Question])] = &[
+    (0, &[]),
+    // file handles count no more than asks that are no steps
+    (0, &[OPEN, Question::Close(0)]),
+    (0, &[OPEN, Question::List(GET, NOW, &[(RED, 0)])]),
+    (
+        0,
+        &[
+            OPEN,
+            Question::List(SET, NOW, &[(RED, 5), (BUTTON, 1)]),
+            Question::List(SET, NOW, &[(RED, 128)]),
+        ],
+    ),
+    (1, &[OPEN, Question::List(SET, NOW, &[(RED, 200)])]),
+    (
+        1,
+        &[
+            OPEN,
+            Question::List(SET, NOW, &[(RED, 5)]),
+            Question::List(SET, NOW, &[(RED, 200)]),
+        ],
+    ),
+    (2, &[OPEN, Question::List(SET, NOW, &[(BLUE, 200)])]),
+    // the validator lessens the gain
+    (3, &[OPEN, Question::List(SET, NOW, &[(GAIN, 250)])]),
+    (3, &[OPEN, Question::List(SET, NOW, &[(GAIN, 200)])]),
+    (4, &[OPEN, Question::List(SET, NOW, &[(AUTOGAIN, 0)])]),
+    // a grab is a flag
+    (5, &[Question::Grab(8, true)]),
+    (0, &[Question::Grab(8, true), Question::Grab(8, false)]),
+    (6, &[Question::Grab(9, true)]),
+    // a request is there, asks for something, waits, runs, and is complete
+    (7, &[OPEN, Question::Alloc(1)]),
+    (
+        8,
+        &[
+            OPEN,
+            Question::Alloc(1),
+            Question::List(SET, ONE, &[(RED, 200)]),
+        ],
+    ),
+    (
+        7,
+        &[
+            OPEN,
+            Question::Alloc(1),
+            Question::List(SET, ONE, &[(RED, 200)]),
+            Question::Reinit(1),
+        ],
+    ),
+    (9, &[OPEN, Question::Alloc(1), Question::Buffer(1, 7)]),
+    (
+        10,
+        &[
+            OPEN,
+            Question::Alloc(1),
+            Question::List(SET, ONE, &[(RED, 200)]),
+            Question::Buffer(1, 7),
+            Question::Queue(1),
+        ],
+    ),
+    (
+        11,
+        &[
+            OPEN,
+            Question::Alloc(1),
+            Question::List(SET, ONE, &[(RED, 200)]),
+            Question::Buffer(1, 7),
+            Question::Queue(1),
+            Question::Begin,
+        ],
+    ),
+    (
+        12,
+        &[
+            OPEN,
+            Question::Alloc(1),
+            Question::List(SET, ONE, &[(RED, 200)]),
+            Question::Buffer(1, 7),
+            Question::Queue(1),
+            Question::Begin,
+            Question::Complete,
+        ],
+    ),
+    (
+        13,
+        &[
+            OPEN,
+            Question::Alloc(1),
+            Question::List(SET, ONE, &[(RED, 200)]),
+            Question::Buffer(1, 7),
+            Question::Queue(1),
+            Question::Cancel(1),
+        ],
+    ),
+];
+
+// A device after the asks of a past, which are accepted.
+fn after(alloc: Global, questions: &[Question]) -> Result<Scene, Trouble> {
+    let mut scene = scene_of(alloc, &SAMPLE, &mut 0)?;
+    for (number, question) in (0u32..).zip(questions) {
+        for part in 0..question.count() {
+            make(&mut scene, &question.ask(alloc, part)?, number)?;
+        }
+    }
+    for counter in scene.counters.iter_mut() {
+        counter.look();
+    }
+    Ok(scene)
+}
+
+// What the steps of a device make of its plan.
+fn audited(alloc: Global, scene: &Scene) -> Result<Scratch, Trouble> {
+    match audit(alloc, scene.device.plan(), scene.device.steps()) {
+        Ok(scratch) => Ok(scratch),
+        Err(AuditFault::Memory) => Err(Trouble::Memory),
+        Err(AuditFault::NotLegal { index }) => Err(Trouble::Step(index)),
+    }
+}
+
+// Whether no notifier was told since the last look.
+fn is_silent(scene: &Scene) -> bool {
+    for counter in scene.counters.iter() {
+        if counter.calls().1 != 0 {
+            return false;
+        }
+    }
+    true
+}
+
+// The first two of the pasts, by their places, where an audit of the one agrees with the device of the other and shouldn't, or the other
+// way round; or where one tells somebody, or changes what the device counts.
+fn mistaken(alloc: Global) -> Result<Option<(usize, usize)>, Trouble> {
+    for (place, (number, questions)) in PASTS.iter().enumerate() {
+        let scene = after(alloc, questions)?;
+        let work = scene.device.work();
+        let scratch = audited(alloc, &scene)?;
+        for (other_place, (other_number, questions)) in PASTS.iter().enumerate() {
+            let other = after(alloc, questions)?;
+            if other.device.agrees(&scratch) != (number == other_number) || !is_silent(&other) {
+                return Ok(Some((place, other_place)));
+            }
+        }
+        if scene.device.work() != work || !is_silent(&scene) {
+            return Ok(Some((place, place)));
+        }
+    }
+    Ok(None)
+}
+
+#[test]
+fn an_audit_agrees_with_what_is_alike(rt: HostRuntime) {
+    let mut found = mistaken(rt.alloc());
+    if matches!(found, Err(Trouble::Memory)) {
+        found = mistaken(rt.alloc());
+    }
+    assert!(rt; matches!(found, Ok(None)), "{found:?}");
+}
