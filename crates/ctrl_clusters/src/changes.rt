@@ -37,6 +37,30 @@ pub(crate) fn row_changes<D: Driver>(
     false
 }
 
+/// Whether a control is changed where pairs are applied: it has another value afterwards, or it acts on each write and is among the pairs.
+///
+/// - `plan`: what the device is built of.
+/// - `before`, `after`: the values before and afterwards; the caller owes one for each control.
+/// - `pairs`: what was applied.
+/// - `control`: the number of a control; the caller owes one below `Plan::control_count`.
+///
+/// It takes no memory and refuses nothing.
+pub fn is_changed<D: Driver>(
+    plan: &Plan<D>,
+    before: &[CtrlValue],
+    after: &[CtrlValue],
+    pairs: &[Pair],
+    control: u32,
+) -> bool
+    requires before { length before.now ≡ length plan.now.controls }
+    requires after { length after.now ≡ length plan.now.controls }
+    requires known { control < length plan.now.controls }
+    ensures { result ≡ is_changed plan.now before.now pairs.now control (value_at after.now control) }
+{
+    before[control as usize] != after[control as usize]
+        || (acts_on_each_write(plan, control) && is_among(pairs, control))
+}
+
 // Whether its value of the row changes a member.
 fn changes_at<D: Driver>(
     plan: &Plan<D>,
@@ -74,8 +98,8 @@ fn acts_on_each_write<D: Driver>(plan: &Plan<D>, member: u32) -> bool
         .contains(Flags::EXECUTE_ON_WRITE)
 }
 
-// Whether a control is among pairs.
-fn is_among(pairs: &[Pair], control: u32) -> bool
+/// Whether a control is among pairs. It takes no memory and refuses nothing.
+pub fn is_among(pairs: &[Pair], control: u32) -> bool
     ensures { result ≡ is_among pairs.now control }
 {
     pairs.iter().any(|pair| pair.control == control)

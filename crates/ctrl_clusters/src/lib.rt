@@ -15,6 +15,7 @@ mod start;
 mod writing;
 
 pub use auto_clusters::inactive;
+pub use changes::{is_among, is_changed};
 pub use judging::{becomes, judge};
 pub use new_row::NewRow;
 pub use notifying::{first_words, notify_between, notify_changed};

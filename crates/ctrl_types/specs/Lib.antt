@@ -2,4 +2,5 @@ pub mod Numbers
 pub mod Classes
 pub mod Flags
 pub mod Values
+pub mod Events
 pub mod Pairs

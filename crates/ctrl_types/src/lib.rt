@@ -1,16 +1,20 @@
 //! The words of the control interface: ids, kinds, flags, lists, `which` and errors. Nothing here takes memory.
 #![tactic(auto)]
 
+mod changes;
 mod errno;
 mod flags;
 mod ids;
 mod kind;
 mod pairs;
+mod sub_flags;
 mod which;
 
+pub use changes::{Changes, EVENT_CTRL};
 pub use errno::{Errno, Fault};
 pub use flags::Flags;
 pub use ids::{CtrlId, CtrlValue, ExtControl, FhId, Pair, RequestId};
 pub use kind::Kind;
 pub use pairs::last_value;
+pub use sub_flags::SubFlags;
 pub use which::Which;

@@ -1,0 +1,20 @@
+use Rattle.std.proofs.Common.{◌∙◌, sym, ap, refl, is_some}
+use Rattle.ctrl_events.specs.Events.{FileEvents, take_answer, after_take}
+use Rattle.ctrl_events.proofs.FileLemmas.{found, missing, written, unwritten}
+use Rattle.ctrl_events.proofs.events.Events.take.Goals as goal
+use Rattle.ctrl_events.proofs.events.Events.take.Goals.{in-Some, in-None}
+
+pub returns-clause-events : goal.returns-clause-events
+returns-clause-events c = elim c.match-get_mut.branch [
+  | in-Some w ↦ rw w.self-inside-is (
+      written c.self.inside.files.entries (c.get_mut.follows.lender w.take.new.self).entries c.args.self.now c.args.fh.0 w.in-Some.queue.now w.take.new.self after_take c.self.view_is w.in-Some.ensures.value
+      ((c.get_mut.follows.holds w.take.new.self).3 (sym (ap is_some w.in-Some.ensures.value))).0 w.take.ensures.events
+      )
+  | in-None w ↦ rw (w.self-inside-is, c.get_mut.follows.holds-at-none) (unwritten c.self.inside.files.entries c.args.self.now c.args.fh.0 after_take c.self.view_is w.in-None.ensures.value refl)
+]
+
+pub returns-clause-answer : goal.returns-clause-answer
+returns-clause-answer c = elim c.match-get_mut.branch [
+  | in-Some w ↦ w.result-is ∙ w.take.ensures.answer ∙ ap (λ (f : FileEvents). take_answer f.waiting) (found c.self.inside.files.entries c.args.self.now c.args.fh.0 w.in-Some.queue.now c.self.view_is w.in-Some.ensures.value)
+  | in-None w ↦ w.result-is ∙ ap (λ (f : FileEvents). take_answer f.waiting) (missing c.self.inside.files.entries c.args.self.now c.args.fh.0 c.self.view_is w.in-None.ensures.value)
+]

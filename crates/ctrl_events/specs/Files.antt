@@ -1,0 +1,21 @@
+-- How what is kept of file handles lies in a list, and what a raise makes of an entry.
+use Rattle.std.specs.Prelude.{ℕ, zero, suc, List, [], ◌∷◌, Option}
+use Rattle.ctrl_types.specs.declared.changes.Changes.{Changes}
+use Rattle.ctrl_events.specs.Events.{FileEvents, after_raise}
+use Rattle.ctrl_events.specs.declared.event.Payload.{Payload}
+
+-- the entry after a raise of a control's event
+abbrev pub raise_in : ℕ → Changes → Payload → Option ℕ → ℕ × FileEvents → ℕ × FileEvents
+raise_in c changes payload from e = (e.0, after_raise c changes payload from e.0 e.1)
+
+-- the entries, where the one at a place is changed
+abbrev pub changed_at : ℕ → (ℕ × FileEvents → ℕ × FileEvents) → List (ℕ × FileEvents) → List (ℕ × FileEvents)
+changed_at i change [] = []
+changed_at zero change (e ∷ es) = change e ∷ es
+changed_at (suc i) change (e ∷ es) = e ∷ changed_at i change es
+
+-- the entries, where those at the first places are changed
+abbrev pub changed_below : ℕ → (ℕ × FileEvents → ℕ × FileEvents) → List (ℕ × FileEvents) → List (ℕ × FileEvents)
+changed_below i change [] = []
+changed_below zero change (e ∷ es) = e ∷ es
+changed_below (suc i) change (e ∷ es) = change e ∷ changed_below i change es

@@ -1,0 +1,4 @@
+pub mod Events
+pub mod Pending
+pub mod Queue
+pub mod Files

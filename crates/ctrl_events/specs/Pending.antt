@@ -1,0 +1,64 @@
+-- What waits for a file handle, read off what happened to its events (Linux userspace API, "ioctl VIDIOC_DQEVENT", "ioctl
+-- VIDIOC_SUBSCRIBE_EVENT, VIDIOC_UNSUBSCRIBE_EVENT"; Linux driver API, "V4L2 events").
+use Rattle.std.specs.Prelude.{◌≡◌, ℕ, Bool, false, nat_eq, cond, List, [], ◌∷◌, ◌++◌, filter, filter_map, length, Option, None, Some}
+use Rattle.ctrl_types.specs.Events.{joined, no_changes}
+use Rattle.ctrl_types.specs.declared.changes.Changes.{Changes}
+use Rattle.ctrl_events.specs.Events.{Waiting, FileEvents}
+
+-- What happens to the events of a file handle: one of a control is raised, with what changed, what is told and its number; or what waits of a
+-- control is gone, since it was taken or the subscription ended.
+pub data Happening : Type 0 where
+  raise : Waiting → Happening
+  gone : ℕ → Happening
+
+-- the raise, where it is one
+abbrev pub raise_in : Happening → Option Waiting
+raise_in (raise w) = Some w
+raise_in (gone c) = None
+
+-- the raises of what happened, which is given newest first; oldest first
+unfoldable pub raises : List Happening → List Waiting
+raises [] = []
+raises (raise w ∷ older) = raises older ++ w ∷ []
+raises (gone c ∷ older) = raises older
+
+-- the number of each raise is its place among the raises, from 0
+unfoldable pub AreNumbered : List Happening → Type 0
+AreNumbered [] = Unit {0}
+AreNumbered (raise w ∷ older) = (w.sequence ≡ length (raises older)) × AreNumbered older
+AreNumbered (gone c ∷ older) = AreNumbered older
+
+-- what waits of a control is gone
+abbrev pub is_gone : ℕ → Happening → Bool
+is_gone c (raise w) = false
+is_gone c (gone d) = nat_eq d c
+
+-- what happened since it was gone last
+unfoldable pub since_gone : ℕ → List Happening → List Happening
+since_gone c [] = []
+since_gone c (h ∷ older) = cond (is_gone c h) [] (h ∷ since_gone c older)
+
+-- the raises of a control since what waited of it was gone last, newest first
+unfoldable pub fresh : ℕ → List Happening → List Waiting
+fresh c hs = filter (λ w. nat_eq w.control c) (filter_map raise_in (since_gone c hs))
+
+-- the changes of all of some raises
+abbrev pub all_changes : List Waiting → Changes
+all_changes [] = no_changes
+all_changes (w ∷ ws) = joined (all_changes ws) w.changes
+
+-- The event that a raise is, where it is the last of those of its control since what waited of it was gone: with the changes of all.
+abbrev pub waiting_of : List Waiting → Waiting → Option Waiting
+waiting_of [] w = None
+waiting_of (last ∷ others) w = cond (nat_eq last.sequence w.sequence) (Some (record w { changes = all_changes (last ∷ others) })) None
+
+-- The events that wait, in the order of their numbers: of each control that was raised since what waited of it was gone, the last raise, with
+-- the changes of all.
+unfoldable pub pending : List Happening → List Waiting
+pending hs = filter_map (λ w. waiting_of (fresh w.control hs) w) (raises hs)
+
+-- What is kept of a file handle is what happened to its events: the events that wait, and the number of the next raise.
+pub record IsWhatHappened (hs : List Happening) (f : FileEvents) : Type 0 where
+  pub numbered : AreNumbered hs
+  pub waiting : f.waiting ≡ pending hs
+  pub next : f.next ≡ length (raises hs)

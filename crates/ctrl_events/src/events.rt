@@ -1,0 +1,243 @@
+ghost use Rattle.std.specs.Prelude.{◌≡◌, ◌↔◌, ◌<◌, ℕ, IsTrue, length, IfSome, IfErr, OnOk, slice_get, nat_eq};
+ghost use Rattle.std.specs.Option.{option_map};
+ghost use Rattle.std.specs.List.{IsDistinct};
+ghost use Rattle.std.specs.Map.{keys_of};
+ghost use Rattle.ctrl_types.specs.declared.errno.Errno.TheVariants.{ENOMEM};
+ghost use Rattle.ctrl_events.specs.Events.{events_of, only_at, no_events, flags_in, event_at, after_subscribe, after_unsubscribe, take_answer, after_take, after_raise, is_from, IsKept, IsLike};
+ghost use Rattle.ctrl_events.specs.Files.{changed_at, raise_in};
+
+use crate::event::{Event, Payload, Waiting};
+use crate::queue::Queue;
+use ctrl_types::{Changes, Errno, FhId, SubFlags};
+use indexmap::IndexMap;
+use std::alloc::Global;
+use std::marker::Model;
+
+/// The control events of file handles. Contracts see what is kept of each: its subscriptions, the events that wait, in the order of their last
+/// raises, and the number of the next. A file handle needs no call before its first subscription.
+#[derive(Drop)]
+pub struct Events {
+    files: IndexMap<u32, Queue>,
+    alloc: Global,
+}
+
+impl Model for Events {
+    ghost use Rattle.ctrl_events.specs.Events.{EventsData};
+
+    ghost Value = { EventsData };
+
+    ghost view = { λ e. record { files = e.files.entries } };
+}
+
+impl Events {
+    /// No file handle has a subscription, and no event was raised. It takes no memory; `subscribe` takes its own from `alloc`.
+    pub fn new(alloc: Global) -> Events
+        ensures { (j : ℕ) → events_of result j ≡ no_events }
+    {
+        Events {
+            files: IndexMap::new(alloc),
+            alloc,
+        }
+    }
+
+    /// The flags with which a file handle is subscribed to the events of a control, where it is.
+    ///
+    /// - `control`: the number of a control.
+    pub fn subscribed(&self, fh: FhId, control: u32) -> Option<SubFlags>
+        ensures { result ≡ flags_in (events_of self.now fh.0).subscribed control }
+    {
+        match self.files.get(&fh.0) {
+            Some(queue) => queue.flags_of(control),
+            None => None,
+        }
+    }
+
+    /// How many events wait for a file handle. They are of controls to which it is subscribed, and no control has two.
+    pub fn pending_len(&self, fh: FhId) -> usize
+        ensures pending { result ≡ length (events_of self.now fh.0).waiting }
+        ensures kept { IsKept (events_of self.now fh.0) }
+    {
+        self.waiting_for(fh).len()
+    }
+
+    /// The event that waits for a file handle at a place, from 0, with the number of its control. It is as it would be taken there:
+    /// `pending` is the number of those that wait behind it.
+    pub fn waiting(&self, fh: FhId, place: usize) -> Option<(u32, Event)>
+        ensures { result ≡ event_at (events_of self.now fh.0).waiting place }
+    {
+        match self.files.get(&fh.0) {
+            Some(queue) => queue.event_at(place),
+            None => None,
+        }
+    }
+
+    /// The number of the next event that is raised for a file handle: how many were.
+    pub fn next_sequence(&self, fh: FhId) -> u32
+        ensures { result ≡ (events_of self.now fh.0).next }
+    {
+        match self.files.get(&fh.0) {
+            Some(queue) => queue.next(),
+            None => 0,
+        }
+    }
+
+    // The events that wait for a file handle.
+    fn waiting_for(&self, fh: FhId) -> &[Waiting]
+        ensures waiting { result.now ≡ (events_of self.now fh.0).waiting }
+        ensures kept { IsKept (events_of self.now fh.0) }
+    {
+        match self.files.get(&fh.0) {
+            Some(queue) => queue.waiting(),
+            None => &[],
+        }
+    }
+
+    /// Whether the same events wait for a file handle in the same order, with control, changes, payload and number, and the next has the same
+    /// number. Subscriptions don't count. It takes no memory.
+    pub fn is_like(&self, other: &Events, fh: FhId) -> bool
+        ensures { IsTrue result ↔ IsLike (events_of self.now fh.0) (events_of other.now fh.0) }
+    {
+        if self.next_sequence(fh) != other.next_sequence(fh) {
+            return false;
+        }
+        self.waiting_for(fh) == other.waiting_for(fh)
+    }
+
+    /// Subscribes a file handle to the events of a control (`VIDIOC_SUBSCRIBE_EVENT`), and makes room for the one that can wait. A
+    /// subscription that is there stays as it is. A new one raises an event at once, for this file handle alone, where its flags say so.
+    ///
+    /// - `control`: the number of a control.
+    /// - `changes`, `payload`: what such an event says.
+    ///
+    /// The caller owes that the number of the file handle's next event is below 4294967295. ENOMEM (12) where a growth was refused, which
+    /// changes nothing.
+    pub fn subscribe(
+        &mut self,
+        fh: FhId,
+        control: u32,
+        flags: SubFlags,
+        changes: Changes,
+        payload: &Payload,
+    ) -> Result<(), Errno>
+        requires { (events_of self.old fh.0).next < 4294967295 }
+        ensures ok { OnOk result ((j : ℕ) → events_of self.new j ≡ only_at fh.0 (after_subscribe control flags changes payload.now) j (events_of self.old j)) }
+        ensures err { IfErr result (λ errno. (errno ≡ ENOMEM) × (self.new ≡ self.old)) }
+    {
+        match self.files.get_mut(&fh.0) {
+            Some(queue) => match queue.subscribe(control, flags, changes, payload) {
+                Ok(()) => Ok(()),
+                Err(_) => Err(Errno::ENOMEM),
+            },
+            None => self.subscribe_first(fh, control, flags, changes, payload),
+        }
+    }
+
+    // Subscribes a file handle for which nothing is kept.
+    fn subscribe_first(
+        &mut self,
+        fh: FhId,
+        control: u32,
+        flags: SubFlags,
+        changes: Changes,
+        payload: &Payload,
+    ) -> Result<(), Errno>
+        requires { events_of self.old fh.0 ≡ no_events }
+        ensures ok { OnOk result ((j : ℕ) → events_of self.new j ≡ only_at fh.0 (after_subscribe control flags changes payload.now) j (events_of self.old j)) }
+        ensures err { IfErr result (λ errno. (errno ≡ ENOMEM) × (self.new ≡ self.old)) }
+    {
+        let mut queue = Queue::new(self.alloc);
+        if queue.subscribe(control, flags, changes, payload).is_err() {
+            return Err(Errno::ENOMEM);
+        }
+        match self.files.insert(fh.0, queue) {
+            Ok(_) => Ok(()),
+            Err(_) => Err(Errno::ENOMEM),
+        }
+    }
+
+    /// Ends a file handle's subscription to the events of a control (`VIDIOC_UNSUBSCRIBE_EVENT`), where there is one, and drops what waits of
+    /// the control. It takes no memory and refuses nothing.
+    ///
+    /// - `control`: the number of a control.
+    pub fn unsubscribe(&mut self, fh: FhId, control: u32)
+        ensures { (j : ℕ) → events_of self.new j ≡ only_at fh.0 (after_unsubscribe control) j (events_of self.old j) }
+    {
+        if let Some(queue) = self.files.get_mut(&fh.0) {
+            queue.unsubscribe(control);
+        }
+    }
+
+    /// Takes the first event that waits for a file handle (`VIDIOC_DQEVENT`). ENOENT (2) where none does, which changes nothing. It takes no
+    /// memory.
+    pub fn take(&mut self, fh: FhId) -> Result<Event, Errno>
+        ensures answer { result ≡ take_answer (events_of self.old fh.0).waiting }
+        ensures events { (j : ℕ) → events_of self.new j ≡ only_at fh.0 after_take j (events_of self.old j) }
+    {
+        match self.files.get_mut(&fh.0) {
+            Some(queue) => queue.take(),
+            None => Err(Errno::ENOENT),
+        }
+    }
+
+    /// Raises an event of a control for the file handles that are subscribed to it. At most one event of a control waits for a file handle:
+    /// a further raise joins the changes, replaces the payload, takes the next number and makes it the last. It takes no memory and refuses
+    /// nothing.
+    ///
+    /// - `control`: the number of a control.
+    /// - `changes`, `payload`: what the event says.
+    /// - `from`: the file handle whose call raises it, if any; it gets the event where its subscription allows feedback.
+    ///
+    /// The caller owes that the number of each file handle's next event is below 4294967295.
+    pub fn raise(&mut self, control: u32, changes: Changes, payload: &Payload, from: Option<FhId>)
+        requires { (j : ℕ) → (events_of self.old j).next < 4294967295 }
+        ensures { (j : ℕ) → events_of self.new j ≡ after_raise control changes payload.now (option_map (λ fh. fh.0) from) j (events_of self.old j) }
+    {
+        for place in 0..self.count() {
+            self.raise_at(place, control, changes, payload, from);
+        }
+    }
+
+    // For how many file handles something is kept.
+    fn count(&self) -> usize
+        ensures files { result ≡ length self.now.files }
+        ensures distinct { IsDistinct nat_eq (keys_of self.now.files) }
+    {
+        self.files.len()
+    }
+
+    // Raises an event of a control for the file handle at a place.
+    fn raise_at(
+        &mut self,
+        place: usize,
+        control: u32,
+        changes: Changes,
+        payload: &Payload,
+        from: Option<FhId>,
+    )
+        requires { IfSome (slice_get self.old.files place) (λ e. e.1.next < 4294967295) }
+        ensures { self.new.files ≡ changed_at place (raise_in control changes payload.now (option_map (λ fh. fh.0) from)) self.old.files }
+    {
+        let is_own = self.is_at(place, from);
+        if let Some(queue) = self.files.get_index_mut(place) {
+            queue.raise(control, changes, payload, is_own);
+        }
+    }
+
+    // Whether this file handle is at the place.
+    fn is_at(&self, place: usize, from: Option<FhId>) -> bool
+        ensures { IfSome (slice_get self.now.files place) (λ e. result ≡ is_from (option_map (λ fh. fh.0) from) e.0) }
+    {
+        match (self.files.get_index(place), from) {
+            (Some((own, _)), Some(fh)) => fh.0 == *own,
+            _ => false,
+        }
+    }
+
+    /// Forgets a file handle (`close`): its subscriptions, what waits for it, and the number of its next event. It takes no memory and refuses
+    /// nothing.
+    pub fn drop_fh(&mut self, fh: FhId)
+        ensures { (j : ℕ) → events_of self.new j ≡ only_at fh.0 (λ f. no_events) j (events_of self.old j) }
+    {
+        let _ = self.files.swap_remove(&fh.0);
+    }
+}

@@ -1,0 +1,11 @@
+//! Control events: how file handles subscribe to them, what raises make of those that wait, and what is taken (Linux userspace API, "ioctl
+//! VIDIOC_SUBSCRIBE_EVENT, VIDIOC_UNSUBSCRIBE_EVENT", "ioctl VIDIOC_DQEVENT"; Linux driver API, "V4L2 events"). Only a subscription takes memory.
+#![tactic(auto)]
+
+mod event;
+mod events;
+pub mod laws;
+mod queue;
+
+pub use event::{Event, Payload, Subscription, Waiting};
+pub use events::Events;

@@ -1,0 +1,16 @@
+use Rattle.std.proofs.Common.{length, rules}
+use Rattle.ctrl_events.specs.Events.{events_of}
+use Rattle.ctrl_raises.proofs.RaiseLemmas.{raised_first, raised_next, still_numbered}
+use Rattle.ctrl_raises.proofs.raising.raise_between.Goals as goal
+
+pub loop-control-init : goal.loop-control-init
+loop-control-init g c = λ j. raised_first _ _ _ j (events_of c.args.events.now j)
+
+pub raise_one-requires-clause-numbers : goal.raise_one-requires-clause-numbers
+raise_one-requires-clause-numbers g c =
+    λ j. still_numbered _ _ _ j c.loop-control.control (length c.args.plan.now.controls) 4294967295 (events_of c.args.events.now j) (events_of c.loop-control.events j) (c.loop-control.invariant j) (search rules) (c.requires.numbers j)
+
+-- one more control is raised
+pub loop-control-preserved : goal.loop-control-preserved
+loop-control-preserved g c =
+    λ j. raised_next _ _ _ j c.loop-control.control (events_of c.args.events.now j) (events_of c.loop-control.events j) (events_of c.raise_one.new.events j) (c.loop-control.invariant j) (c.raise_one.ensures j)

@@ -1,0 +1,81 @@
+-- What a change of values and grabs raises for the file handles that are subscribed (Linux userspace API, "ioctl VIDIOC_DQEVENT"; the order of the raises, that
+-- a member which isn't in the list is heard of, and that what can't be read is told as 0, are of this project).
+use Rattle.std.specs.Prelude.{ℕ, Bool, true, not, ◌||◌, pos, nat_eq, cond, List, [], ◌∷◌, Option, None, Some}
+use Rattle.ctrl_types.specs.Values.{CtrlValue}
+use Rattle.ctrl_types.specs.Flags.{contains}
+use Rattle.ctrl_types.specs.Events.{joined, no_changes, value_change, flags_change, is_nothing, has_flags}
+use Rattle.ctrl_types.specs.declared.changes.Changes.{Changes}
+use Rattle.ctrl_types.specs.declared.flags.Flags.{Flags}
+use Rattle.ctrl_types.specs.declared.flags.TheConstants.Flags.{WRITE_ONLY}
+use Rattle.ctrl_types.specs.declared.ids.Pair.{Pair}
+use Rattle.ctrl_settle.specs.Control.{Control}
+use Rattle.ctrl_events.specs.declared.event.Payload.{Payload}
+use Rattle.ctrl_events.specs.Events.{FileEvents, after_raise}
+use Rattle.ctrl_handlers.specs.Plan.{PlanData, control}
+use Rattle.ctrl_clusters.specs.Rows.{Grabs, Values, value_at}
+use Rattle.ctrl_clusters.specs.Overlay.{is_among}
+use Rattle.ctrl_clusters.specs.Changes.{is_changed}
+use Rattle.ctrl_clusters.specs.PresentFlags.{flags_under}
+
+-- the values and the grabs of a device at a moment
+pub record MomentData : Type 0 where
+  pub values : Values
+  pub grabs : Grabs
+
+-- the value that is told of a control: 0 where it can't be read
+abbrev pub value_told : Control → CtrlValue → CtrlValue
+value_told ctrl value = cond (contains ctrl.flags WRITE_ONLY) (pos 0) value
+
+-- what is told of a control
+abbrev pub told_of : Control → CtrlValue → Flags → Payload
+told_of ctrl value flags = record {
+  id = ctrl.id;
+  kind = ctrl.kind;
+  value = value_told ctrl value;
+  flags = flags;
+  minimum = ctrl.minimum;
+  maximum = ctrl.maximum;
+  step = ctrl.step;
+  default_value = ctrl.default_value;
+}
+
+-- the same, at a moment
+abbrev pub payload_at : PlanData → MomentData → ℕ → Payload
+payload_at plan m c = told_of (control plan c) (value_at m.values c) (flags_under plan m.values m.grabs c)
+
+-- changes, where they are
+abbrev pub changes_where : Bool → Changes → Changes
+changes_where b change = cond b change no_changes
+
+-- what changes, where the value does, and where the flags do
+abbrev pub changes_of : Bool → Bool → Changes
+changes_of value flags = joined (changes_where value value_change) (changes_where flags flags_change)
+
+-- whether flags differ
+abbrev pub differ : Flags → Flags → Bool
+differ a b = not (nat_eq a.0 b.0)
+
+-- What changes of a control from one moment to another, where pairs were applied: its value, also where it acts on each write and is among the
+-- pairs; its flags.
+abbrev pub changed_between : PlanData → MomentData → MomentData → List Pair → ℕ → Changes
+changed_between plan before after pairs c =
+    changes_of (is_changed plan before.values pairs c (value_at after.values c)) (differ (flags_under plan before.values before.grabs c) (flags_under plan after.values after.grabs c))
+
+-- what a subscription tells of a control at once: its flags, and its value where it can be read
+abbrev pub initial_changes : Control → Changes
+initial_changes ctrl = changes_of (not (contains ctrl.flags WRITE_ONLY)) true
+
+-- The file handle that a change of a control comes from, where it hears of it only if its subscription allows feedback: the control is among its
+-- pairs, and its flags stay.
+abbrev pub heard_from : Option ℕ → List Pair → Changes → ℕ → Option ℕ
+heard_from None pairs change c = None
+heard_from (Some from) pairs change c = cond (has_flags change || not (is_among pairs c)) None (Some from)
+
+-- what changes of a control is raised for a file handle, where something does
+abbrev pub raised_one : Changes → Payload → Option ℕ → ℕ → ℕ → FileEvents → FileEvents
+raised_one change told from fh c f = cond (is_nothing change) f (after_raise c change told from fh f)
+
+-- the same of some controls, one after another
+unfoldable pub raised_all : (ℕ → Changes) → (ℕ → Payload) → (ℕ → Option ℕ) → ℕ → List ℕ → FileEvents → FileEvents
+raised_all change told from fh [] f = f
+raised_all change told from fh (c ∷ cs) f = raised_all change told from fh cs (raised_one (change c) (told c) (from c) fh c f)

@@ -1,0 +1,12 @@
+//! What a change of values and grabs raises for the file handles that are subscribed to the events of controls (Linux userspace API, "ioctl
+//! VIDIOC_DQEVENT"). Nothing here takes memory.
+#![tactic(auto)]
+
+pub mod laws;
+mod moment;
+mod payloads;
+mod raising;
+
+pub use moment::Moment;
+pub use payloads::{initial_changes, payload_at};
+pub use raising::raise_between;

@@ -1,0 +1,73 @@
+//! What is told of controls.
+
+ghost use Rattle.std.specs.Prelude.{◌≡◌, ◌<◌, length};
+ghost use Rattle.ctrl_types.specs.Flags.{contains};
+ghost use Rattle.ctrl_types.specs.declared.flags.TheConstants.Flags.{WRITE_ONLY};
+ghost use Rattle.ctrl_handlers.specs.Plan.{control_in};
+ghost use Rattle.ctrl_raises.specs.Raises.{initial_changes, payload_at};
+
+use crate::moment::Moment;
+use bitflags::Flags as FlagSet;
+use ctrl_calls::Driver;
+use ctrl_clusters::flags_under;
+use ctrl_events::Payload;
+use ctrl_handlers::Plan;
+use ctrl_types::{Changes, Flags};
+
+/// What an event tells of a control at a moment (Linux userspace API, "struct v4l2_event_ctrl"): its value is 0 where it can't be read (of this
+/// project).
+///
+/// - `plan`: what the device is built of.
+/// - `at`: the moment; the caller owes a value and a grab for each control.
+/// - `control`: the number of a control; the caller owes one below `Plan::control_count`.
+///
+/// It takes no memory and refuses nothing.
+pub fn payload_at<D: Driver>(plan: &Plan<D>, at: &Moment, control: u32) -> Payload
+    requires known { control < length plan.now.controls }
+    requires values { length at.now.values ≡ length plan.now.controls }
+    requires grabs { length at.now.grabs ≡ length plan.now.controls }
+    ensures { result ≡ payload_at plan.now at.now control }
+{
+    let ctrl = plan.control(control);
+    let value = if is_unreadable(plan, control) {
+        0
+    } else {
+        at.values[control as usize]
+    };
+    Payload {
+        id: ctrl.id(),
+        kind: ctrl.kind(),
+        value,
+        flags: flags_under(plan, at.values, at.grabs, control),
+        minimum: ctrl.minimum(),
+        maximum: ctrl.maximum(),
+        step: ctrl.step(),
+        default_value: ctrl.default_value(),
+    }
+}
+
+/// What a subscription tells of a control at once, where its flags say so (Linux userspace API, "ioctl VIDIOC_SUBSCRIBE_EVENT, VIDIOC_UNSUBSCRIBE_EVENT"): CH_FLAGS, and
+/// CH_VALUE where it can be read.
+///
+/// - `plan`: what the device is built of.
+/// - `control`: the number of a control; the caller owes one below `Plan::control_count`.
+///
+/// It takes no memory and refuses nothing.
+pub fn initial_changes<D: Driver>(plan: &Plan<D>, control: u32) -> Changes
+    requires { control < length plan.now.controls }
+    ensures { result ≡ initial_changes (control_in plan.now.controls control) }
+{
+    if is_unreadable(plan, control) {
+        Changes::CH_FLAGS
+    } else {
+        Changes::CH_VALUE.union(Changes::CH_FLAGS)
+    }
+}
+
+// Whether a control can't be read.
+fn is_unreadable<D: Driver>(plan: &Plan<D>, control: u32) -> bool
+    requires { control < length plan.now.controls }
+    ensures { result ≡ contains (control_in plan.now.controls control).flags WRITE_ONLY }
+{
+    plan.control(control).flags().contains(Flags::WRITE_ONLY)
+}

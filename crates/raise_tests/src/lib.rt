@@ -1,0 +1,12 @@
+//! Tests of what a change of values and grabs raises for file handles, and of what is told of controls. A test is a plan and a table of cases,
+//! each with what is wanted, as data.
+#![tactic(auto)]
+
+#[cfg(test)]
+mod listeners;
+#[cfg(test)]
+mod looks;
+#[cfg(test)]
+mod planning;
+#[cfg(test)]
+mod raising;
