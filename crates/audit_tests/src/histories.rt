@@ -1,11 +1,12 @@
 //! Histories, and what an audit makes of them.
 
 use crate::driver::{Picky, plan};
+use bitflags::Flags as FlagSet;
 use ctrl_handlers::Plan;
-use ctrl_types::{CtrlValue, FhId, Pair, RequestId};
+use ctrl_types::{CtrlValue, FhId, Pair, RequestId, SubFlags};
 use device_history::{PairList, Step};
 use history::Entry;
-use history_audit::{AuditFault, audit};
+use history_audit::{AuditFault, Scratch, audit};
 use std::alloc::{AllocError, Global};
 use std::test::Fail;
 
@@ -29,6 +30,10 @@ enum Move {
     Off,
     Reinit(u32),
     Free(u32),
+    // the bits of the flags stand last
+    Subscribe(u32, u32, u32),
+    Unsubscribe(u32, Option<u32>),
+    Take(u32, u32),
 }
 
 const DEFAULTS: &[CtrlValue] = &[3, 0, 4, 0, 0, 0];
@@ -288,6 +293,422 @@ const CASES: &[Case] = &[
     ),
 ];
 
+// Steps about events, likewise.
+const EVENTS: &[Case] = &[
+    (&[Move::Subscribe(0, 0, 0)], Err(0)),
+    (&[Move::Unsubscribe(0, Some(0))], Err(0)),
+    (&[Move::Unsubscribe(0, None)], Err(0)),
+    (&[Move::Take(0, 0)], Err(0)),
+    // what a handler finds under its id, DISABLED and READ_ONLY ones too; a second time, and with any bits
+    (
+        &[
+            Move::Open(0),
+            Move::Subscribe(0, 0, 0),
+            Move::Subscribe(0, 0, 0x3),
+            Move::Subscribe(0, 1, u32::MAX),
+            Move::Subscribe(0, 3, 0),
+            Move::Subscribe(0, 4, 0x1),
+            Move::Subscribe(0, 5, 0x1),
+        ],
+        Ok(DEFAULTS),
+    ),
+    (
+        &[
+            Move::Open(1),
+            Move::Subscribe(0, 2, 0),
+            Move::Subscribe(0, 1, 0),
+            Move::Subscribe(0, 4, 0),
+            Move::Unsubscribe(0, Some(2)),
+            Move::Unsubscribe(0, Some(5)),
+        ],
+        Ok(DEFAULTS),
+    ),
+    // what it doesn't: one whose id it finds another under, one that isn't shown, one of another handler, and none
+    (&[Move::Open(1), Move::Subscribe(0, 0, 0)], Err(1)),
+    (&[Move::Open(1), Move::Subscribe(0, 3, 0)], Err(1)),
+    (&[Move::Open(0), Move::Subscribe(0, 2, 0)], Err(1)),
+    (&[Move::Open(0), Move::Subscribe(0, 6, 0)], Err(1)),
+    (
+        &[Move::Open(0), Move::Subscribe(0, 4_294_967_295, 0x1)],
+        Err(1),
+    ),
+    (&[Move::Open(1), Move::Unsubscribe(0, Some(0))], Err(1)),
+    (&[Move::Open(1), Move::Unsubscribe(0, Some(3))], Err(1)),
+    (&[Move::Open(0), Move::Unsubscribe(0, Some(2))], Err(1)),
+    (&[Move::Open(0), Move::Unsubscribe(0, Some(6))], Err(1)),
+    (
+        &[Move::Open(0), Move::Unsubscribe(0, Some(4_294_967_295))],
+        Err(1),
+    ),
+    // each through its own file handle
+    (
+        &[
+            Move::Open(0),
+            Move::Open(1),
+            Move::Subscribe(0, 0, 0),
+            Move::Subscribe(1, 2, 0),
+            Move::Subscribe(1, 0, 0),
+        ],
+        Err(4),
+    ),
+    // the end of what isn't subscribed, and of what isn't shown
+    (
+        &[
+            Move::Open(0),
+            Move::Unsubscribe(0, Some(0)),
+            Move::Unsubscribe(0, Some(0)),
+            Move::Unsubscribe(0, None),
+        ],
+        Ok(DEFAULTS),
+    ),
+    // file handles that were never opened, or are closed
+    (
+        &[Move::Open(0), Move::Alloc, Move::Subscribe(1, 0, 0)],
+        Err(2),
+    ),
+    (
+        &[Move::Open(0), Move::Alloc, Move::Unsubscribe(1, None)],
+        Err(2),
+    ),
+    (
+        &[Move::Open(0), Move::Close(0), Move::Subscribe(0, 0, 0)],
+        Err(2),
+    ),
+    (
+        &[
+            Move::Open(0),
+            Move::Subscribe(0, 0, 0),
+            Move::Close(0),
+            Move::Unsubscribe(0, Some(0)),
+        ],
+        Err(3),
+    ),
+    (
+        &[Move::Open(0), Move::Close(0), Move::Unsubscribe(0, None)],
+        Err(2),
+    ),
+    (
+        &[
+            Move::Open(0),
+            Move::Subscribe(0, 0, 0x1),
+            Move::Close(0),
+            Move::Take(0, 0),
+        ],
+        Err(3),
+    ),
+    (
+        &[
+            Move::Open(0),
+            Move::Subscribe(0, 0, 0x1),
+            Move::Close(0),
+            Move::Open(0),
+            Move::Take(3, 0),
+        ],
+        Err(4),
+    ),
+    // a take where nothing waits: no subscription, one that tells nothing at once, or what is told already
+    (&[Move::Open(0), Move::Take(0, 0)], Err(1)),
+    (&[Move::Open(0), Move::Take(0, 4_294_967_295)], Err(1)),
+    (
+        &[Move::Open(0), Move::Subscribe(0, 0, 0x2), Move::Take(0, 0)],
+        Err(2),
+    ),
+    (
+        &[
+            Move::Open(0),
+            Move::Subscribe(0, 0, 0),
+            Move::Subscribe(0, 0, 0x1),
+            Move::Take(0, 0),
+        ],
+        Err(3),
+    ),
+    (
+        &[
+            Move::Open(0),
+            Move::Subscribe(0, 0, 0x1),
+            Move::Take(0, 0),
+            Move::Take(0, 0),
+        ],
+        Err(3),
+    ),
+    (
+        &[
+            Move::Open(0),
+            Move::Open(0),
+            Move::Subscribe(0, 0, 0x1),
+            Move::Take(1, 0),
+        ],
+        Err(3),
+    ),
+    (
+        &[
+            Move::Open(0),
+            Move::Subscribe(0, 0, 0x1),
+            Move::Unsubscribe(0, Some(0)),
+            Move::Take(0, 0),
+        ],
+        Err(3),
+    ),
+    // its own set without feedback, and what a set leaves
+    (
+        &[
+            Move::Open(0),
+            Move::Subscribe(0, 0, 0),
+            Move::Set(0, &[(0, 7)]),
+            Move::Take(0, 0),
+        ],
+        Err(3),
+    ),
+    (
+        &[
+            Move::Open(0),
+            Move::Open(0),
+            Move::Subscribe(0, 0, 0),
+            Move::Set(1, &[(0, 3)]),
+            Move::Take(0, 0),
+        ],
+        Err(4),
+    ),
+    // a grab that holds already
+    (
+        &[
+            Move::Open(0),
+            Move::Grab(0, true),
+            Move::Subscribe(0, 0, 0),
+            Move::Grab(0, true),
+            Move::Take(0, 0),
+        ],
+        Err(4),
+    ),
+    // a frame whose cluster is refused
+    (
+        &[
+            Move::Open(0),
+            Move::Alloc,
+            Move::Store(1, &[(0, 8)]),
+            Move::Buffer(1, 4),
+            Move::Queue(1),
+            Move::Grab(0, true),
+            Move::Subscribe(0, 0, 0),
+            Move::Begin(1),
+            Move::Take(0, 0),
+        ],
+        Err(8),
+    ),
+    // a take of another control than the first
+    (
+        &[
+            Move::Open(0),
+            Move::Subscribe(0, 3, 0x1),
+            Move::Subscribe(0, 0, 0x1),
+            Move::Take(0, 0),
+        ],
+        Err(3),
+    ),
+    (
+        &[
+            Move::Open(0),
+            Move::Open(0),
+            Move::Subscribe(0, 3, 0),
+            Move::Subscribe(0, 0, 0),
+            Move::Set(1, &[(3, 1), (0, 1)]),
+            Move::Take(0, 3),
+        ],
+        Err(5),
+    ),
+    (
+        &[
+            Move::Open(0),
+            Move::Open(0),
+            Move::Subscribe(0, 3, 0),
+            Move::Subscribe(0, 0, 0),
+            Move::Set(1, &[(0, 7)]),
+            Move::Set(1, &[(3, 1)]),
+            Move::Set(1, &[(0, 6)]),
+            Move::Take(0, 0),
+        ],
+        Err(7),
+    ),
+    // takes: at once, of another's set, its own with feedback, grabs, and frames
+    (
+        &[Move::Open(0), Move::Subscribe(0, 0, 0x1), Move::Take(0, 0)],
+        Ok(DEFAULTS),
+    ),
+    (
+        &[
+            Move::Open(0),
+            Move::Open(0),
+            Move::Subscribe(0, 0, 0),
+            Move::Set(1, &[(0, 7)]),
+            Move::Take(0, 0),
+        ],
+        Ok(&[7, 0, 4, 0, 0, 0]),
+    ),
+    (
+        &[
+            Move::Open(0),
+            Move::Subscribe(0, 0, 0x2),
+            Move::Set(0, &[(0, 7)]),
+            Move::Take(0, 0),
+            Move::Set(0, &[(0, 6)]),
+            Move::Take(0, 0),
+        ],
+        Ok(&[6, 0, 4, 0, 0, 0]),
+    ),
+    (
+        &[
+            Move::Open(0),
+            Move::Subscribe(0, 5, 0),
+            Move::Grab(5, true),
+            Move::Grab(4, true),
+            Move::Take(0, 5),
+            Move::Grab(5, false),
+            Move::Take(0, 5),
+        ],
+        Ok(DEFAULTS),
+    ),
+    (
+        &[
+            Move::Open(0),
+            Move::Subscribe(0, 0, 0),
+            Move::Alloc,
+            Move::Store(2, &[(0, 8)]),
+            Move::Buffer(2, 4),
+            Move::Queue(2),
+            Move::Begin(2),
+            Move::Take(0, 0),
+        ],
+        Ok(&[8, 0, 4, 0, 0, 0]),
+    ),
+    // the end of another subscription, and of none, leaves what waits
+    (
+        &[
+            Move::Open(0),
+            Move::Subscribe(0, 0, 0x1),
+            Move::Unsubscribe(0, None),
+            Move::Unsubscribe(0, Some(1)),
+            Move::Subscribe(0, 0, 0),
+            Move::Take(0, 0),
+        ],
+        Ok(DEFAULTS),
+    ),
+    // several wait: in the order of the controls after one step, and of the last raises after several
+    (
+        &[
+            Move::Open(0),
+            Move::Open(0),
+            Move::Subscribe(0, 3, 0),
+            Move::Subscribe(0, 0, 0),
+            Move::Set(1, &[(3, 1), (0, 1)]),
+            Move::Take(0, 0),
+            Move::Take(0, 3),
+        ],
+        Ok(&[1, 0, 4, 1, 0, 0]),
+    ),
+    (
+        &[
+            Move::Open(0),
+            Move::Open(0),
+            Move::Subscribe(0, 3, 0),
+            Move::Subscribe(0, 0, 0),
+            Move::Subscribe(0, 5, 0),
+            Move::Set(1, &[(0, 7)]),
+            Move::Set(1, &[(3, 1)]),
+            Move::Grab(5, true),
+            Move::Set(1, &[(0, 6)]),
+            Move::Unsubscribe(0, Some(5)),
+            Move::Take(0, 3),
+            Move::Set(1, &[(3, 2)]),
+            Move::Take(0, 0),
+            Move::Take(0, 3),
+        ],
+        Ok(&[6, 0, 4, 2, 0, 0]),
+    ),
+];
+
+// What an event tells that waits: its control, the bits of what changed, its value, and its number.
+type Told = (u32, u32, CtrlValue, u32);
+
+// Steps, with what waits for a file handle behind them, and the number of its next event.
+const WAITING: &[(&[Move], u32, &[Told], u32)] = &[
+    (&[], 0, &[], 0),
+    (&[Move::Open(0)], 0, &[], 0),
+    (
+        &[
+            Move::Open(0),
+            Move::Set(0, &[(0, 7)]),
+            Move::Subscribe(0, 5, 0x1),
+            Move::Subscribe(0, 0, 0x3),
+            Move::Subscribe(0, 3, 0),
+        ],
+        0,
+        &[(5, 0x3, 0, 0), (0, 0x3, 7, 1)],
+        2,
+    ),
+    // what changed is joined, and the first that was taken still counts
+    (
+        &[
+            Move::Open(0),
+            Move::Open(0),
+            Move::Subscribe(0, 0, 0),
+            Move::Subscribe(0, 3, 0),
+            Move::Set(1, &[(0, 7), (3, 2)]),
+            Move::Take(0, 0),
+            Move::Set(1, &[(0, 6)]),
+            Move::Grab(3, true),
+        ],
+        0,
+        &[(0, 0x1, 6, 2), (3, 0x3, 2, 3)],
+        4,
+    ),
+    // of each file handle its own
+    (
+        &[
+            Move::Open(0),
+            Move::Open(1),
+            Move::Subscribe(0, 0, 0),
+            Move::Subscribe(1, 2, 0x2),
+            Move::Set(0, &[(0, 7)]),
+            Move::Set(1, &[(2, 5)]),
+        ],
+        0,
+        &[],
+        0,
+    ),
+    (
+        &[
+            Move::Open(0),
+            Move::Open(1),
+            Move::Subscribe(0, 0, 0),
+            Move::Subscribe(1, 2, 0x2),
+            Move::Set(0, &[(0, 7)]),
+            Move::Set(1, &[(2, 5)]),
+        ],
+        1,
+        &[(2, 0x1, 5, 0)],
+        1,
+    ),
+    // closed, and opened anew
+    (
+        &[Move::Open(0), Move::Subscribe(0, 0, 0x1), Move::Close(0)],
+        0,
+        &[],
+        0,
+    ),
+    (
+        &[
+            Move::Open(0),
+            Move::Subscribe(0, 0, 0x1),
+            Move::Close(0),
+            Move::Open(0),
+            Move::Subscribe(3, 4, 0x1),
+        ],
+        3,
+        &[(4, 0x3, 0, 0)],
+        1,
+    ),
+];
+
 fn list(alloc: Global, pairs: Pairs) -> Result<PairList, AllocError> {
     let mut items = Vec::new(alloc);
     for &(control, value) in pairs {
@@ -333,34 +754,131 @@ fn step(alloc: Global, made: Move) -> Result<Step, AllocError> {
         Move::Free(request) => Step::Free {
             request: RequestId(request),
         },
+        Move::Subscribe(fh, control, bits) => Step::Subscribe {
+            fh: FhId(fh),
+            control,
+            flags: SubFlags::from_bits_retain(bits),
+        },
+        Move::Unsubscribe(fh, control) => Step::Unsubscribe {
+            fh: FhId(fh),
+            control,
+        },
+        Move::Take(fh, control) => Step::Take {
+            fh: FhId(fh),
+            control,
+        },
     })
 }
 
-// Whether an audit makes of a history what the case says. The steps are of any seats.
-fn is_audited(alloc: Global, plan: &Plan<Picky>, case: &Case) -> Result<bool, AllocError> {
-    let (moves, wanted) = case;
+// What an audit makes of a history. The steps are of any seats.
+fn audited(
+    alloc: Global,
+    plan: &Plan<Picky>,
+    moves: &[Move],
+) -> Result<Result<Scratch, usize>, AllocError> {
     let mut steps = Vec::new(alloc);
     let mut seat = u32::MAX;
-    for &made in *moves {
+    for &made in moves {
         steps.push(Entry {
             seat,
             step: step(alloc, made)?,
         })?;
         seat = seat.wrapping_add(1);
     }
-    match (audit(alloc, plan, steps.as_slice()), *wanted) {
-        (Ok(scratch), Ok(values)) => Ok(scratch.values() == values),
-        (Err(AuditFault::NotLegal { index }), Err(place)) => Ok(index == place),
-        (Err(AuditFault::Memory), _) => Err(AllocError),
-        _ => Ok(false),
+    match audit(alloc, plan, steps.as_slice()) {
+        Ok(scratch) => Ok(Ok(scratch)),
+        Err(AuditFault::NotLegal { index }) => Ok(Err(index)),
+        Err(AuditFault::Memory) => Err(AllocError),
     }
 }
 
+// Whether it is what the case says.
+fn is_audited(alloc: Global, plan: &Plan<Picky>, case: &Case) -> Result<bool, AllocError> {
+    let (moves, wanted) = case;
+    Ok(match (audited(alloc, plan, moves)?, *wanted) {
+        (Ok(scratch), Ok(values)) => scratch.values() == values,
+        (Err(index), Err(place)) => index == place,
+        _ => false,
+    })
+}
+
+// Whether just these events wait for a file handle behind a history, and the next has this number.
+fn tells(
+    alloc: Global,
+    plan: &Plan<Picky>,
+    moves: &[Move],
+    fh: FhId,
+    told: &[Told],
+    next: u32,
+) -> Result<bool, AllocError> {
+    let Ok(scratch) = audited(alloc, plan, moves)? else {
+        return Ok(false);
+    };
+    for (place, &(control, changes, value, sequence)) in told.iter().enumerate() {
+        match scratch.waiting(fh, place) {
+            Some((number, event)) => {
+                if number != control
+                    || event.changes.bits() != changes
+                    || event.value != value
+                    || event.sequence != sequence
+                {
+                    return Ok(false);
+                }
+            }
+            None => return Ok(false),
+        }
+    }
+    Ok(scratch.waiting(fh, told.len()).is_none() && scratch.next_sequence(fh) == next)
+}
+
+// The place of the first case of which an audit makes something else.
+fn wrong_case(alloc: Global, cases: &[Case]) -> Result<Option<usize>, AllocError> {
+    let Some(plan) = plan(alloc) else {
+        return Err(AllocError);
+    };
+    for (number, case) in cases.iter().enumerate() {
+        if !is_audited(alloc, &plan, case)? {
+            return Ok(Some(number));
+        }
+    }
+    Ok(None)
+}
+
+// The place of the first history behind which something else waits.
+fn wrong_wait(alloc: Global) -> Result<Option<usize>, AllocError> {
+    let Some(plan) = plan(alloc) else {
+        return Err(AllocError);
+    };
+    for (number, &(moves, fh, told, next)) in WAITING.iter().enumerate() {
+        if !tells(alloc, &plan, moves, FhId(fh), told, next)? {
+            return Ok(Some(number));
+        }
+    }
+    Ok(None)
+}
+
+// Each test is made again where a growth was refused.
+
 #[test]
 fn histories(rt: HostRuntime) -> Result<(), Fail> {
-    let plan = plan(rt.alloc())?;
-    for (number, case) in CASES.iter().enumerate() {
-        assert!(rt; is_audited(rt.alloc(), &plan, case)?, "{number}");
+    for cases in [CASES, EVENTS] {
+        let mut wrong = wrong_case(rt.alloc(), cases);
+        if wrong.is_err() {
+            wrong = wrong_case(rt.alloc(), cases);
+        }
+        let wrong = wrong?;
+        assert!(rt; wrong.is_none(), "{wrong:?}");
     }
+    Ok(())
+}
+
+#[test]
+fn events_that_wait(rt: HostRuntime) -> Result<(), Fail> {
+    let mut wrong = wrong_wait(rt.alloc());
+    if wrong.is_err() {
+        wrong = wrong_wait(rt.alloc());
+    }
+    let wrong = wrong?;
+    assert!(rt; wrong.is_none(), "{wrong:?}");
     Ok(())
 }

@@ -1,5 +1,5 @@
-//! Tests of the audit: histories as data, each with the present values that it makes, or with the place of the first step that may not follow
-//! those before it.
+//! Tests of the audit: histories as data, each with the present values that it makes, with the events that wait then, or with the place of the
+//! first step that may not follow those before it.
 #![tactic(auto)]
 
 #[cfg(test)]

@@ -25,13 +25,14 @@ type Judge = Box<dyn Fn(ClusterRow) -> Verdict + Send>;
 type Teller = Box<dyn Fn(ClusterRow) -> u64 + Send>;
 
 // The files that are read, in this order.
-const FILES: [&str; 7] = [
+const FILES: [&str; 8] = [
     "sample.txt",
     "words.txt",
     "lists.txt",
     "requests.txt",
     "forecasts.txt",
     "audits.txt",
+    "events.txt",
     "examples.txt",
 ];
 

@@ -53,6 +53,16 @@ pub fn ask_of(command: Command, names: &Bindings) -> Option<Ask> {
         Command::Begin => Ask::Begin,
         Command::Complete => Ask::Complete,
         Command::Off => Ask::StreamOff,
+        Command::Subscribe { fh, id, flags } => Ask::Subscribe {
+            fh: names.fh(fh),
+            id,
+            flags,
+        },
+        Command::Unsubscribe { fh, id } => Ask::Unsubscribe {
+            fh: names.fh(fh),
+            id,
+        },
+        Command::Take { fh } => Ask::Take { fh: names.fh(fh) },
         Command::Audit => return None,
     };
     Some(ask)

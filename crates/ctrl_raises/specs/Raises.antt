@@ -67,9 +67,9 @@ initial_changes ctrl = changes_of (not (contains ctrl.flags WRITE_ONLY)) true
 
 -- The file handle that a change of a control comes from, where it hears of it only if its subscription allows feedback: the control is among its
 -- pairs, and its flags stay.
-abbrev pub heard_from : Option ℕ → List Pair → Changes → ℕ → Option ℕ
-heard_from None pairs change c = None
-heard_from (Some from) pairs change c = cond (has_flags change || not (is_among pairs c)) None (Some from)
+abbrev pub needing_feedback : Option ℕ → List Pair → Changes → ℕ → Option ℕ
+needing_feedback None pairs change c = None
+needing_feedback (Some from) pairs change c = cond (has_flags change || not (is_among pairs c)) None (Some from)
 
 -- what changes of a control is raised for a file handle, where something does
 abbrev pub raised_one : Changes → Payload → Option ℕ → ℕ → ℕ → FileEvents → FileEvents

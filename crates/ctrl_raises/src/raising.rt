@@ -5,7 +5,7 @@ ghost use Rattle.std.specs.List.{range_with_len};
 ghost use Rattle.std.specs.Option.{option_map};
 ghost use Rattle.ctrl_events.specs.Events.{events_of};
 ghost use Rattle.ctrl_clusters.specs.PresentFlags.{flags_under};
-ghost use Rattle.ctrl_raises.specs.Raises.{changed_between, changes_of, differ, heard_from, payload_at, raised_all, raised_one};
+ghost use Rattle.ctrl_raises.specs.Raises.{changed_between, changes_of, differ, needing_feedback, payload_at, raised_all, raised_one};
 
 use crate::moment::Moment;
 use crate::payloads::payload_at;
@@ -44,7 +44,7 @@ pub fn raise_between<D: Driver>(
     requires grabs { length after.now.grabs ≡ length plan.now.controls }
     requires numbers { (j : ℕ) → (events_of events.old j).next + length plan.now.controls ≤ 4294967295 }
     ensures { (j : ℕ) → events_of events.new j ≡ raised_all (changed_between plan.now before.now after.now pairs.now) (payload_at plan.now after.now)
-        (λ c. heard_from (option_map (λ fh. fh.0) from) pairs.now (changed_between plan.now before.now after.now pairs.now c) c) j (range_with_len 0 (length plan.now.controls)) (events_of events.old j) }
+        (λ c. needing_feedback (option_map (λ fh. fh.0) from) pairs.now (changed_between plan.now before.now after.now pairs.now c) c) j (range_with_len 0 (length plan.now.controls)) (events_of events.old j) }
 {
     for control in 0..plan.control_count() {
         raise_one(plan, before, after, pairs, from, control, events);
@@ -68,7 +68,7 @@ fn raise_one<D: Driver>(
     requires grabs { length after.now.grabs ≡ length plan.now.controls }
     requires numbers { (j : ℕ) → (events_of events.old j).next < 4294967295 }
     ensures { (j : ℕ) → events_of events.new j ≡ raised_one (changed_between plan.now before.now after.now pairs.now control) (payload_at plan.now after.now control)
-        (heard_from (option_map (λ fh. fh.0) from) pairs.now (changed_between plan.now before.now after.now pairs.now control) control) j control (events_of events.old j) }
+        (needing_feedback (option_map (λ fh. fh.0) from) pairs.now (changed_between plan.now before.now after.now pairs.now control) control) j control (events_of events.old j) }
 {
     let changes = changes_between(plan, before, after, pairs, control);
     if changes.is_empty() {
@@ -79,7 +79,7 @@ fn raise_one<D: Driver>(
         control,
         changes,
         &payload,
-        heard_from(from, pairs, changes, control),
+        needing_feedback(from, pairs, changes, control),
     );
 }
 
@@ -133,8 +133,13 @@ fn flags_differ<D: Driver>(plan: &Plan<D>, before: &Moment, after: &Moment, cont
 }
 
 // The file handle that a change of a control comes from, where it hears of it only if its subscription allows feedback.
-fn heard_from(from: Option<FhId>, pairs: &[Pair], changes: Changes, control: u32) -> Option<FhId>
-    ensures { option_map (λ fh. fh.0) result ≡ heard_from (option_map (λ fh. fh.0) from) pairs.now changes control }
+fn needing_feedback(
+    from: Option<FhId>,
+    pairs: &[Pair],
+    changes: Changes,
+    control: u32,
+) -> Option<FhId>
+    ensures { option_map (λ fh. fh.0) result ≡ needing_feedback (option_map (λ fh. fh.0) from) pairs.now changes control }
 {
     if changes.intersects(Changes::CH_FLAGS) || !is_among(pairs, control) {
         None

@@ -2,7 +2,7 @@
 use Rattle.std.proofs.Common.{◌≡◌, ℕ, ◌<◌, Bool, true, false, cond, nat_eq, List, [], ◌∷◌, ◌++◌, length, Option, None, Some, refl, ap, sym, subst, ◌∙◌, arith}
 use Rattle.std.proofs.lemmas.Bool.Decides.{nat_tests}
 use Rattle.std.specs.Map.{lookup}
-use Rattle.std.specs.Option.{option_map, is_none}
+use Rattle.std.specs.Option.{option_and_then, option_map, is_none}
 use Rattle.ctrl_types.specs.Classes.{which_of}
 use Rattle.ctrl_types.specs.declared.errno.Errno.{Errno}
 use Rattle.ctrl_types.specs.declared.errno.Errno.TheVariants.{EBADF, EINVAL, ENOSPC}
@@ -12,10 +12,12 @@ use Rattle.ctrl_types.specs.declared.ids.ExtControl.{ExtControl}
 use Rattle.ctrl_types.specs.declared.ids.FhId.{FhId}
 use Rattle.ctrl_types.specs.declared.ids.Pair.{Pair}
 use Rattle.ctrl_types.specs.declared.ids.RequestId.{RequestId}
+use Rattle.ctrl_types.specs.declared.sub_flags.SubFlags.{SubFlags}
 use Rattle.ctrl_types.specs.declared.which.Which.{Which}
 use Rattle.ctrl_types.specs.declared.which.Which.TheVariants.{Current, Defaults, Class, Request}
 use Rattle.ctrl_calls.specs.Meanings.{Verdicts}
 use Rattle.ctrl_handlers.specs.Plan.{PlanData}
+use Rattle.ctrl_handlers.specs.Visible.{find}
 use Rattle.req_book.specs.Refusals.{store_refusal}
 use Rattle.ctrl_lists.specs.declared.refusal.Refusal.{Refusal}
 use Rattle.ctrl_lists.specs.Answers.{answered, entries_judged, fault_at_count}
@@ -27,21 +29,24 @@ use Rattle.device_history.specs.declared.ask.Step.{Step}
 use Rattle.device_history.specs.declared.ask.Step.TheVariants as steps
 use Rattle.device_history.specs.Steps.{Past}
 use Rattle.device_history.specs.Refusals.{is_full, fault_of}
-use Rattle.device_history.specs.Handles.{handler_of, opened}
+use Rattle.device_history.specs.Handles.{handler_of, opened, shown}
+use Rattle.device_history.specs.Events.{pending}
+use Rattle.device_history.specs.EventAnswers.{first_control}
 use Rattle.device_history.specs.Frames.{queue, running, first_of}
 use Rattle.device_history.specs.Snapshots.{request}
 use Rattle.device_history.specs.Lists.{controls_of, earlier_pairs, handler_or, list_pairs, list_step, meant, opening_checks, pairs_step, refused_with, set_checks, through_refusal, which_or, write_view}
 use Rattle.device_history.specs.Answers.{refusal, step_of}
 use Rattle.device_history.specs.Legal.{MayFollow}
-use Rattle.device_history.specs.Asking.{ask_by, entries_of, fh_or_none, first_storer, shows_pairs, storer}
+use Rattle.device_history.specs.Asking.{ask_by, entries_of, fh_or_none, first_storer, free_id, shows_pairs, storer}
 use Rattle.device_history.proofs.FitLemmas.{same_step, through}
 use Rattle.device_history.proofs.ListLemmas.{first_behind, none_of_both, passes}
 use Rattle.device_history.proofs.PastLemmas.{AreAbove, AreRising, opened_rising}
-use Rattle.device_history.proofs.NamingLemmas.{entries_back, pairs_back}
+use Rattle.device_history.proofs.NamingLemmas.{entries_back, pairs_back, shown_id}
+use Rattle.device_history.proofs.FreeIdLemmas.{free_unshown}
 
 -- nothing refuses the ask that is made of a step, and it adds the step
 abbrev Decided : Verdicts → PlanData → Past → Step → Type 0
-Decided verdicts plan past step = (refusal verdicts plan past (ask_by plan past step) ≡ None) × (step_of plan past (ask_by plan past step) ≡ Some step)
+Decided verdicts plan past step = (refusal verdicts plan past (ask_by plan past step) ≡ None) × (step_of verdicts plan past (ask_by plan past step) ≡ Some step)
 
 -- where checks pass, and those behind them, all do
 none_both : (before behind : List (Option Refusal)) → first_refusal before ≡ None → first_refusal behind ≡ None → first_refusal (before ++ behind) ≡ None
@@ -232,11 +237,11 @@ set_decided verdicts plan past fh which id list h =
 
 -- Where a step may follow, nothing refuses the ask that is made of it, and this ask adds the step.
 pub may_decided : (verdicts : Verdicts) (plan : PlanData) (past : Past) (step : Step) → MayFollow verdicts plan past step
-    → (refusal verdicts plan past (ask_by plan past step) ≡ None) × (step_of plan past (ask_by plan past step) ≡ Some step)
+    → (refusal verdicts plan past (ask_by plan past step) ≡ None) × (step_of verdicts plan past (ask_by plan past step) ≡ Some step)
 may_decided verdicts plan past step may = by may.0 may.1 may.2
   where
-    is : (ask : Ask) → ask_by plan past step ≡ ask → refusal verdicts plan past ask ≡ None → step_of plan past ask ≡ Some step → Decided verdicts plan past step
-    is ask same h adds = subst (λ (a : Ask). (refusal verdicts plan past a ≡ None) × (step_of plan past a ≡ Some step)) (sym same) (h, adds)
+    is : (ask : Ask) → ask_by plan past step ≡ ask → refusal verdicts plan past ask ≡ None → step_of verdicts plan past ask ≡ Some step → Decided verdicts plan past step
+    is ask same h adds = subst (λ (a : Ask). (refusal verdicts plan past a ≡ None) × (step_of verdicts plan past a ≡ Some step)) (sym same) (h, adds)
 
     own : (s : Step) → Some s ≡ Some step → ask_by plan past step ≡ ask_by plan past s
     own s adds = ap (ask_by plan past) (sym (same_step s step adds))
@@ -252,7 +257,30 @@ may_decided verdicts plan past step may = by may.0 may.1 may.2
     nothing : None ≡ Some step → Decided verdicts plan past step
     nothing adds = cc
 
-    by : (ask : Ask) → refusal verdicts plan past ask ≡ None → step_of plan past ask ≡ Some step → Decided verdicts plan past step
+    subscribes : (fh : FhId) (id : CtrlId) (flags : SubFlags) (o : Option ℕ) → shown plan past fh id ≡ o → refusal verdicts plan past (asks.Subscribe fh id flags) ≡ None
+        → option_map (λ c. steps.Subscribe fh c flags) o ≡ Some step → Decided verdicts plan past step
+    subscribes fh id flags None found h adds = nothing adds
+    subscribes fh id flags (Some c) found h adds =
+        is (asks.Subscribe fh id flags) (own (steps.Subscribe fh c flags) adds ∙ ap (λ (i : CtrlId). asks.Subscribe fh i flags) (shown_id plan past fh id c found)) h
+        (ap (option_map (λ d. steps.Subscribe fh d flags)) found ∙ adds)
+
+    ends : (fh : FhId) (id : CtrlId) (o : Option ℕ) → shown plan past fh id ≡ o → refusal verdicts plan past (asks.Unsubscribe fh id) ≡ None → Some (steps.Unsubscribe fh o) ≡ Some step → Decided verdicts plan past step
+    ends fh id (Some c) found h adds =
+        is (asks.Unsubscribe fh id) (own (steps.Unsubscribe fh (Some c)) adds ∙ ap (λ (i : CtrlId). asks.Unsubscribe fh i) (shown_id plan past fh id c found)) h
+        (ap (λ (d : Option ℕ). Some (steps.Unsubscribe fh d)) found ∙ adds)
+    ends fh id None found h adds =
+        is (asks.Unsubscribe fh (free_id plan (handler_or (handler_of past fh)))) (own (steps.Unsubscribe fh None) adds) h
+        (ap (λ (d : Option ℕ). Some (steps.Unsubscribe fh d)) (unshown (handler_of past fh)) ∙ adds)
+      where
+        unshown : (handler : Option ℕ) → option_and_then (λ n. find plan n (free_id plan (handler_or handler))) handler ≡ None
+        unshown None = refl
+        unshown (Some handler) = free_unshown plan handler
+
+    takes : (fh : FhId) (o : Option ℕ) → refusal verdicts plan past (asks.Take fh) ≡ None → first_control (pending verdicts plan past fh) ≡ o → option_map (λ c. steps.Take fh c) o ≡ Some step → Decided verdicts plan past step
+    takes fh None h first adds = nothing adds
+    takes fh (Some c) h first adds = is (asks.Take fh) (own (steps.Take fh c) adds) h (ap (option_map (λ d. steps.Take fh d)) first ∙ adds)
+
+    by : (ask : Ask) → refusal verdicts plan past ask ≡ None → step_of verdicts plan past ask ≡ Some step → Decided verdicts plan past step
     by (asks.OpenFh handler) h adds = is (asks.OpenFh handler) (own _ adds) h adds
     by (asks.CloseFh fh) h adds = is (asks.CloseFh fh) (own _ adds) h adds
     by (asks.GetCtrls fh which id list) h adds = nothing adds
@@ -271,6 +299,9 @@ may_decided verdicts plan past step may = by may.0 may.1 may.2
     by asks.StreamOff h adds = is asks.StreamOff (own _ adds) h adds
     by (asks.Reinit r) h adds = is (asks.Reinit r) (own _ adds) h adds
     by (asks.Free r) h adds = is (asks.Free r) (own _ adds) h adds
+    by (asks.Subscribe fh id flags) h adds = subscribes fh id flags (shown plan past fh id) refl h adds
+    by (asks.Unsubscribe fh id) h adds = ends fh id (shown plan past fh id) refl h adds
+    by (asks.Take fh) h adds = takes fh (first_control (pending verdicts plan past fh)) h refl adds
     by (asks.StateOf r) h adds = nothing adds
     by (asks.Forecast place) h adds = nothing adds
     by (asks.Query fh id) h adds = nothing adds

@@ -10,6 +10,7 @@ use Rattle.ctrl_types.specs.declared.ids.ExtControl.{ExtControl}
 use Rattle.ctrl_types.specs.declared.ids.FhId.{FhId}
 use Rattle.ctrl_types.specs.declared.ids.Pair.{Pair}
 use Rattle.ctrl_types.specs.declared.ids.RequestId.{RequestId}
+use Rattle.ctrl_types.specs.declared.sub_flags.SubFlags.{SubFlags}
 use Rattle.ctrl_types.specs.declared.which.Which.{Which}
 use Rattle.ctrl_types.specs.declared.which.Which.TheVariants.{Current, Defaults, Class, Request}
 use Rattle.ctrl_calls.specs.Meanings.{Verdicts}
@@ -25,7 +26,9 @@ use Rattle.device_history.specs.declared.ask.Step.{Step}
 use Rattle.device_history.specs.declared.ask.Step.TheVariants as steps
 use Rattle.device_history.specs.Steps.{Past}
 use Rattle.device_history.specs.Refusals.{is_full, fault_of}
-use Rattle.device_history.specs.Handles.{handler_of}
+use Rattle.device_history.specs.Handles.{handler_of, shown}
+use Rattle.device_history.specs.Events.{pending}
+use Rattle.device_history.specs.EventAnswers.{first_control}
 use Rattle.device_history.specs.Frames.{queue, running, first_of}
 use Rattle.device_history.specs.Snapshots.{frames}
 use Rattle.device_history.specs.RequestAnswers.{stepped, frame_answer}
@@ -115,7 +118,15 @@ fits verdicts plan older step may = by may.0 may.1 may.2
     is : (own : Step) → FitsFrames verdicts plan older own → Some own ≡ Some step → FitsFrames verdicts plan older step
     is own fit adds = subst (FitsFrames verdicts plan older) (same_step own step adds) fit
 
-    by : (ask : Ask) → refusal verdicts plan older ask ≡ None → step_of plan older ask ≡ Some step → FitsFrames verdicts plan older step
+    subscribes : (f : FhId) (flags : SubFlags) (o : Option ℕ) → option_map (λ c. steps.Subscribe f c flags) o ≡ Some step → FitsFrames verdicts plan older step
+    subscribes f flags None adds = nothing verdicts plan older step adds
+    subscribes f flags (Some c) adds = is (steps.Subscribe f c flags) tt adds
+
+    takes : (f : FhId) (o : Option ℕ) → option_map (λ c. steps.Take f c) o ≡ Some step → FitsFrames verdicts plan older step
+    takes f None adds = nothing verdicts plan older step adds
+    takes f (Some c) adds = is (steps.Take f c) tt adds
+
+    by : (ask : Ask) → refusal verdicts plan older ask ≡ None → step_of verdicts plan older ask ≡ Some step → FitsFrames verdicts plan older step
     by (asks.OpenFh handler) h adds = is _ tt adds
     by (asks.CloseFh fh) h adds = is _ tt adds
     by (asks.GetCtrls fh which id list) h adds = nothing verdicts plan older step adds
@@ -142,6 +153,9 @@ fits verdicts plan older step may = by may.0 may.1 may.2
     by (asks.NextId fh id) h adds = nothing verdicts plan older step adds
     by (asks.MenuItem fh id index) h adds = nothing verdicts plan older step adds
     by (asks.Told cluster) h adds = nothing verdicts plan older step adds
+    by (asks.Subscribe fh id flags) h adds = subscribes fh flags (shown plan older fh id) adds
+    by (asks.Unsubscribe fh id) h adds = is _ tt adds
+    by (asks.Take fh) h adds = takes fh (first_control (pending verdicts plan older fh)) adds
 
 -- so does each step of a legal history
 pub all_fit : (verdicts : Verdicts) (plan : PlanData) (past : Past) → IsLegal verdicts plan past → AllFit verdicts plan past

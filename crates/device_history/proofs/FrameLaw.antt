@@ -90,6 +90,9 @@ not_earlier r n (steps.Cancel id) lt = refl
 not_earlier r n steps.StreamOff lt = refl
 not_earlier r n (steps.Reinit id) lt = refl
 not_earlier r n (steps.Free id) lt = refl
+not_earlier r n (steps.Subscribe f c flags) lt = refl
+not_earlier r n (steps.Unsubscribe f c) lt = refl
+not_earlier r n (steps.Take f c) lt = refl
 
 older_freed : (verdicts : Verdicts) (plan : PlanData) (newer older : Past) (r : ℕ) → IsLegal verdicts plan (newer ++ older) → r < length older → request verdicts plan older r ≡ None → request verdicts plan (newer ++ older) r ≡ None
 unfolding IsLegal

@@ -20,7 +20,7 @@ use Rattle.req_book.specs.Refusals.{store_refusal, buffer_refusal, queue_refusal
 use Rattle.frame_queue.specs.Frames.{FramesData, AreFrames, AreOnce, is_in, is_queued, is_running, after_begin, after_complete, running_done, stopped, after_off, cancel_refusal, ended}
 use Rattle.frame_queue.proofs.FrameLemmas.{queued_kept, begun_kept, ended_kept, completed_kept, cancelled_kept, state_kept, rests, cleared_kept, freed_kept, added_kept}
 use Rattle.device_history.specs.declared.ask.Step.{Step}
-use Rattle.device_history.specs.declared.ask.Step.TheVariants.{OpenFh, CloseFh, Set, Grab, Alloc, Store, Buffer, Queue, Begin, Complete, Cancel, StreamOff, Reinit, Free}
+use Rattle.device_history.specs.declared.ask.Step.TheVariants.{OpenFh, CloseFh, Set, Grab, Alloc, Store, Buffer, Queue, Begin, Complete, Cancel, StreamOff, Reinit, Free, Subscribe, Unsubscribe, Take}
 use Rattle.device_history.specs.Steps.{Past}
 use Rattle.device_history.specs.Requests.{made, ever_made, state, last_left, is_off_since}
 use Rattle.device_history.specs.Frames.{all_but, ever_queued, queue, queue_after, last_begun, running, running_after, unless_is, first_of}
@@ -65,6 +65,9 @@ after_none verdicts plan older n (Cancel q) r none = nothing (nat_eq q.0 r)
 after_none verdicts plan older n StreamOff r none = refl
 after_none verdicts plan older n (Reinit q) r none = nothing (nat_eq q.0 r)
 after_none verdicts plan older n (Free q) r none = nothing (nat_eq q.0 r)
+after_none verdicts plan older n (Subscribe f c flags) r none = refl
+after_none verdicts plan older n (Unsubscribe f c) r none = refl
+after_none verdicts plan older n (Take f c) r none = refl
 
 -- what was never made isn't there
 pub never_made : (verdicts : Verdicts) (plan : PlanData) (past : Past) (r : ℕ) → AllFit verdicts plan past → list_any (nat_eq r) (ever_made past) ≡ false → request verdicts plan past r ≡ None
@@ -329,6 +332,9 @@ after_kept verdicts plan older (Cancel r) fit kept fits = cancelled_kept (frames
 after_kept verdicts plan older StreamOff fit kept fits = off_kept (now verdicts plan older) (frames verdicts plan older) kept
 after_kept verdicts plan older (Reinit r) fit kept fits = cleared_kept (frames verdicts plan older) r.0 kept (ap clear_refusal (find_request verdicts plan older r.0 fit) ∙ fits)
 after_kept verdicts plan older (Free r) fit kept fits = freed_kept (frames verdicts plan older) r.0 kept (ap clear_refusal (find_request verdicts plan older r.0 fit) ∙ fits)
+after_kept verdicts plan older (Subscribe f c flags) fit kept fits = kept
+after_kept verdicts plan older (Unsubscribe f c) fit kept fits = kept
+after_kept verdicts plan older (Take f c) fit kept fits = kept
 
 -- the requests, the queue and the running one after one more entry, where those before it are as they are to be
 frames_from : (verdicts : Verdicts) (plan : PlanData) (e : Entry Step) (older : Past) → AllFit verdicts plan older → AreFrames (frames verdicts plan older) → FitsFrames verdicts plan older e.step
@@ -417,6 +423,9 @@ frames_from verdicts plan e older fit kept fits = by e.step refl fits
         seen_same (rs (requests verdicts plan (e ∷ older))) (rs (without r.0 (requests verdicts plan older))) (queue (e ∷ older)) (queue older) (running (e ∷ older)) (running older)
         (ap rs (requests_more verdicts plan e older _ is fit fits refl ∙ freed_listed (request verdicts plan older) (ever_made older) r.0 (request_named verdicts plan older)))
         (line _ is ∙ line_stays r.0 rest.0) (turn _ is ∙ turn_stays r.0 rest.1)
+    by (Subscribe f c flags) is fits = other _ is fits refl (λ j. refl) refl refl
+    by (Unsubscribe f c) is fits = other _ is fits refl (λ j. refl) refl refl
+    by (Take f c) is fits = other _ is fits refl (λ j. refl) refl refl
 
 -- the queue has exactly the requests that wait, and the running one runs, after each history whose steps fit
 pub frames_kept : (verdicts : Verdicts) (plan : PlanData) (past : Past) → AllFit verdicts plan past → AreFrames (frames verdicts plan past)

@@ -74,6 +74,9 @@ grabbed_more plan e older = by e.step refl
     by steps.StreamOff is = rw is refl
     by (steps.Reinit r) is = rw is refl
     by (steps.Free r) is = rw is refl
+    by (steps.Subscribe f c flags) is = rw is refl
+    by (steps.Unsubscribe f c) is = rw is refl
+    by (steps.Take f c) is = rw is refl
 
 pub grabbed_add : (plan : PlanData) (steps : History) (e : Entry Step) → grabbed plan (past (steps ++ e ∷ [])) ≡ grabbed_after e.step (grabbed plan (past steps))
 grabbed_add plan steps e = rw (past_add steps e) (grabbed_more plan e (past steps))

@@ -1,5 +1,5 @@
 -- A refusal has an index exactly where the ask is one about a list.
-use Rattle.std.proofs.Common.{◌≡◌, ℕ, Bool, true, false, if◌then◌else◌, List, length, Option, None, Some, Result, Ok, Err, is_some, slice_get, refl, sym, subst, inl, inr}
+use Rattle.std.proofs.Common.{◌≡◌, ℕ, Bool, true, false, if◌then◌else◌, List, [], ◌∷◌, length, Option, None, Some, Result, Ok, Err, is_some, slice_get, refl, sym, subst, inl, inr}
 use Rattle.ctrl_types.specs.declared.errno.Errno.{Errno}
 use Rattle.ctrl_types.specs.declared.errno.Fault.{Fault}
 use Rattle.ctrl_types.specs.declared.ids.CtrlId.{CtrlId}
@@ -21,6 +21,10 @@ use Rattle.device_history.specs.Lists.{controls_of}
 use Rattle.device_history.specs.Requests.{state}
 use Rattle.device_history.specs.Forecasts.{forecast, forecast_reply}
 use Rattle.ctrl_forecast.specs.declared.board.Forecast.{Forecast}
+use Rattle.ctrl_types.specs.declared.ids.FhId.{FhId}
+use Rattle.ctrl_events.specs.declared.event.Waiting.{Waiting}
+use Rattle.device_history.specs.EventAnswers.{take_of}
+use Rattle.device_history.specs.Events.{pending}
 use Rattle.device_history.specs.Snapshots.{frames}
 use Rattle.device_history.specs.RequestAnswers.{stepped, frame_answer, state_reply}
 use Rattle.frame_queue.specs.Frames.{begin_answer}
@@ -96,6 +100,10 @@ state_so : (s : Option RequestState) → HasIndex false (state_reply s)
 state_so None = plain _
 state_so (Some s) = accepted false _
 
+taken : (past : Past) (fh : FhId) (ws : List Waiting) → HasIndex false (take_of past fh ws)
+taken past fh [] = plain _
+taken past fh (w ∷ ws) = stepped_so _ past _
+
 told_so : (verdicts : Verdicts) (plan : PlanData) (past : Past) (words : List ℕ) (ask : Ask) → HasIndex (is_list ask) (answer_of verdicts plan past words ask)
 told_so verdicts plan past words (asks.OpenFh handler) = search (either, plain, accepted)
 told_so verdicts plan past words (asks.CloseFh fh) = search (either, plain, accepted)
@@ -118,6 +126,9 @@ told_so verdicts plan past words (asks.Query fh id) = search (either, plain, que
 told_so verdicts plan past words (asks.NextId fh id) = next plan id (handler_of past fh)
 told_so verdicts plan past words (asks.MenuItem fh id index) = search (either, plain, item)
 told_so verdicts plan past words (asks.Told cluster) = search (either, plain, accepted)
+told_so verdicts plan past words (asks.Subscribe fh id flags) = stepped_so _ past _
+told_so verdicts plan past words (asks.Unsubscribe fh id) = stepped_so _ past _
+told_so verdicts plan past words (asks.Take fh) = taken past fh (pending verdicts plan past fh)
 
 lacking : (ask : Ask) → HasIndex (is_list ask) (no_memory ask)
 lacking (asks.OpenFh handler) = plain _
@@ -141,6 +152,9 @@ lacking (asks.Query fh id) = plain _
 lacking (asks.NextId fh id) = plain _
 lacking (asks.MenuItem fh id index) = plain _
 lacking (asks.Told cluster) = plain _
+lacking (asks.Subscribe fh id flags) = plain _
+lacking (asks.Unsubscribe fh id) = plain _
+lacking (asks.Take fh) = plain _
 
 pub index_of_lists : (verdicts : Verdicts) (plan : PlanData) (past : Past) (words : List ℕ) (ask : Ask) (fault : Fault) → MayAnswer verdicts plan past words ask (Err fault) → is_some fault.index ≡ is_list ask
 unfolding HasIndex

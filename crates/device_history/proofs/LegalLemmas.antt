@@ -45,9 +45,12 @@ refusal_of verdicts plan past words (asks.Told cluster) = by (nat_le (length pla
     by : (b : Bool) → fault_of (if b then refused EINVAL else Ok (Word (slice_index words cluster))) ≡ fault_of (if b then refused EINVAL else Ok (Word (slice_index [] cluster)))
     by true = refl
     by false = refl
+refusal_of verdicts plan past words (asks.Subscribe fh id flags) = refl
+refusal_of verdicts plan past words (asks.Unsubscribe fh id) = refl
+refusal_of verdicts plan past words (asks.Take fh) = refl
 
 -- the step that an ask adds where it is accepted may follow
-pub taken_follows : (verdicts : Verdicts) (plan : PlanData) (past : Past) (words : List ℕ) (ask : Ask) (reply : Reply) (step : Step) → MayAnswer verdicts plan past words ask (Ok reply) → step_of plan past ask ≡ Some step
+pub taken_follows : (verdicts : Verdicts) (plan : PlanData) (past : Past) (words : List ℕ) (ask : Ask) (reply : Reply) (step : Step) → MayAnswer verdicts plan past words ask (Ok reply) → step_of verdicts plan past ask ≡ Some step
     → MayFollow verdicts plan past step
 taken_follows verdicts plan past words ask reply step (inl is) adds = (ask, sym (refusal_of verdicts plan past words ask) ∙ ap fault_of (sym is), adds)
 taken_follows verdicts plan past words ask reply step (inr lacks) adds = absurd (differ lacks.1)

@@ -14,6 +14,10 @@ pub mod IndexLemmas
 pub mod LegalLemmas
 pub mod FitLemmas
 pub mod NamingLemmas
+pub mod FreeIdLemmas
 pub mod AskingLemmas
+pub mod SubscriptionLemmas
+pub mod EventLemmas
+pub mod RaiseLaw
 pub mod FrameLaw
 pub mod StretchLemmas

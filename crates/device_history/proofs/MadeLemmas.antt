@@ -10,7 +10,7 @@ use Rattle.req_book.specs.Requests.{RequestData, RequestsData, find, with_reques
 use Rattle.req_book.proofs.ObjectLemmas.{Tells}
 use Rattle.frame_queue.specs.Frames.{AreOnce, ended}
 use Rattle.device_history.specs.declared.ask.Step.{Step}
-use Rattle.device_history.specs.declared.ask.Step.TheVariants.{OpenFh, CloseFh, Set, Grab, Alloc, Store, Buffer, Queue, Begin, Complete, Cancel, StreamOff, Reinit, Free}
+use Rattle.device_history.specs.declared.ask.Step.TheVariants.{OpenFh, CloseFh, Set, Grab, Alloc, Store, Buffer, Queue, Begin, Complete, Cancel, StreamOff, Reinit, Free, Subscribe, Unsubscribe, Take}
 use Rattle.device_history.specs.Steps.{Past}
 use Rattle.device_history.specs.Requests.{made, ever_made}
 use Rattle.device_history.specs.FrameSteps.{where_named}
@@ -39,6 +39,9 @@ made_own r n (Cancel q) off = refl
 made_own r n StreamOff off = refl
 made_own r n (Reinit q) off = refl
 made_own r n (Free q) off = refl
+made_own r n (Subscribe f c flags) off = refl
+made_own r n (Unsubscribe f c) off = refl
+made_own r n (Take f c) off = refl
 
 -- no request has a number from that of the next step on
 pub not_made : (past : Past) (r : ℕ) → length past ≤ r → list_any (nat_eq r) (ever_made past) ≡ false
@@ -99,6 +102,9 @@ made_once (e ∷ older) = by e.step (made_once older)
     by StreamOff once = once_append (ever_made older) once
     by (Reinit r) once = once_append (ever_made older) once
     by (Free r) once = once_append (ever_made older) once
+    by (Subscribe f c flags) once = once_append (ever_made older) once
+    by (Unsubscribe f c) once = once_append (ever_made older) once
+    by (Take f c) once = once_append (ever_made older) once
 
 -- what a number gives has that number as its id
 abbrev pub AreNamed : (ℕ → Option RequestData) → Type 0

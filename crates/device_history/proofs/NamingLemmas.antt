@@ -2,12 +2,13 @@
 use Rattle.std.proofs.Common.{◌≡◌, ℕ, ◌+◌, Bool, true, false, not, ◌&&◌, cond, nat_eq, List, [], ◌∷◌, Option, None, Some, is_some, refl, ap, sym, subst, ◌∙◌, arith}
 use Rattle.std.proofs.lemmas.Bool.Decides.{nat_tests}
 use Rattle.std.specs.List.{cons_option}
-use Rattle.std.specs.Option.{option_map}
+use Rattle.std.specs.Option.{option_map, option_and_then}
 use Rattle.ctrl_types.specs.Flags.{contains}
 use Rattle.ctrl_types.specs.declared.errno.Errno.TheVariants.{EINVAL}
 use Rattle.ctrl_types.specs.declared.flags.TheConstants.Flags.{DISABLED}
 use Rattle.ctrl_types.specs.declared.ids.CtrlId.{CtrlId}
 use Rattle.ctrl_types.specs.declared.ids.ExtControl.{ExtControl}
+use Rattle.ctrl_types.specs.declared.ids.FhId.{FhId}
 use Rattle.ctrl_types.specs.declared.ids.Pair.{Pair}
 use Rattle.ctrl_types.specs.declared.which.Which.{Which}
 use Rattle.ctrl_types.specs.declared.which.Which.TheVariants.{Current}
@@ -17,6 +18,8 @@ use Rattle.ctrl_handlers.specs.Plan.{PlanData, control, control_in}
 use Rattle.ctrl_handlers.specs.Visible.{find, first_with_id}
 use Rattle.ctrl_lists.specs.View.{ViewData, is_meant, meant_one, named, pairs_of}
 use Rattle.ctrl_lists.specs.Checks.{first_from, naming_refusal}
+use Rattle.device_history.specs.Steps.{Past}
+use Rattle.device_history.specs.Handles.{handler_of, shown}
 use Rattle.device_history.specs.Asking.{entries_of, shows_pair, shows_pairs}
 use Rattle.device_history.proofs.ListLemmas.{none_found}
 
@@ -60,6 +63,14 @@ named_id : (plan : PlanData) (handler : ℕ) (which : Which) (id : CtrlId) (c : 
 named_id plan handler which id c is =
     let found = named_found plan which id (find plan handler id) c is in
     ap {B = CtrlId} (λ (n : ℕ). record { 0 = n }) (found_id plan.controls _ id c found.0)
+
+-- a control that is shown to a file handle under an id has this id
+pub shown_id : (plan : PlanData) (past : Past) (fh : FhId) (id : CtrlId) (c : ℕ) → shown plan past fh id ≡ Some c → (control plan c).id ≡ id
+shown_id plan past fh id c is = by (handler_of past fh) is
+  where
+    by : (handler : Option ℕ) → option_and_then (λ h. find plan h id) handler ≡ Some c → (control plan c).id ≡ id
+    by None h = cc
+    by (Some handler) h = ap {B = CtrlId} (λ (n : ℕ). record { 0 = n }) (found_id plan.controls _ id c h)
 
 -- and a list that speaks of all controls names it too
 named_by_all : (plan : PlanData) (handler : ℕ) (which all : Which) (id : CtrlId) (c : ℕ) → is_meant all id ≡ true → named plan handler which id ≡ Some c → named plan handler all id ≡ Some c

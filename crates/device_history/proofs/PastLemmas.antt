@@ -68,7 +68,7 @@ pub legal_front : (verdicts : Verdicts) (plan : PlanData) (steps more : History)
 legal_front verdicts plan steps more legal = legal_older verdicts plan (past more) (past steps) (subst (IsLegal verdicts plan) (reverse-append steps more) legal)
 
 -- no entry has a number from n on as its key
-AreBelow : ℕ → List (ℕ × ℕ) → Type 0
+pub AreBelow : ℕ → List (ℕ × ℕ) → Type 0
 AreBelow n [] = Unit {0}
 AreBelow n (o ∷ os) = (o.0 < n) × AreBelow n os
 
@@ -107,6 +107,9 @@ opening_below n (steps.Cancel r) = tt
 opening_below n steps.StreamOff = tt
 opening_below n (steps.Reinit r) = tt
 opening_below n (steps.Free r) = tt
+opening_below n (steps.Subscribe f c flags) = tt
+opening_below n (steps.Unsubscribe f c) = tt
+opening_below n (steps.Take f c) = tt
 
 -- a file handle's id is the number of a step that was made
 ever_below : (past : Past) → AreBelow (length past) (ever_opened past)
@@ -154,7 +157,7 @@ older_kept e older step is =
     (λ o lt. ap not (closed_more e older o.0 lt ∙ ap (λ (s : Step). closes o.0 s || is_closed older o.0) is)) (ever_below older)
 
 -- the file handles after one more entry
-opened_more : (e : Entry Step) (older : Past) → opened (e ∷ older) ≡ opened_after (length older) e.step (opened older)
+pub opened_more : (e : Entry Step) (older : Past) → opened (e ∷ older) ≡ opened_after (length older) e.step (opened older)
 unfolding opened ever_opened
 opened_more e older = by e.step refl
   where
@@ -173,17 +176,20 @@ opened_more e older = by e.step refl
     by steps.StreamOff is = filter-append _ (ever_opened older) [] ∙ append-nil _ ∙ older_kept e older _ is
     by (steps.Reinit r) is = filter-append _ (ever_opened older) [] ∙ append-nil _ ∙ older_kept e older _ is
     by (steps.Free r) is = filter-append _ (ever_opened older) [] ∙ append-nil _ ∙ older_kept e older _ is
+    by (steps.Subscribe f c flags) is = filter-append _ (ever_opened older) [] ∙ append-nil _ ∙ older_kept e older _ is
+    by (steps.Unsubscribe f c) is = filter-append _ (ever_opened older) [] ∙ append-nil _ ∙ older_kept e older _ is
+    by (steps.Take f c) is = filter-append _ (ever_opened older) [] ∙ append-nil _ ∙ older_kept e older _ is
 
 pub opened_add : (steps : History) (e : Entry Step) → opened (past (steps ++ e ∷ [])) ≡ opened_after (length steps) e.step (opened (past steps))
 opened_add steps e = rw (past_add steps e)
     (subst (λ (n : ℕ). opened (e ∷ past steps) ≡ opened_after n e.step (opened (past steps))) (length_past steps) (opened_more e (past steps)))
 
 -- the same of those that are open
-opened_below : (past : Past) → AreBelow (length past) (opened past)
+pub opened_below : (past : Past) → AreBelow (length past) (opened past)
 unfolding opened
 opened_below past = below_filter (length past) _ (ever_opened past) (ever_below past)
 
-absent : (n m : ℕ) (os : List (ℕ × ℕ)) → n ≤ m → AreBelow n os → lookup (nat_eq m) os ≡ None
+pub absent : (n m : ℕ) (os : List (ℕ × ℕ)) → n ≤ m → AreBelow n os → lookup (nat_eq m) os ≡ None
 unfolding AreBelow
 absent n m [] le h = refl
 absent n m (o ∷ os) le h =
@@ -246,6 +252,9 @@ after_rising n (steps.Cancel r) os h b = h
 after_rising n steps.StreamOff os h b = h
 after_rising n (steps.Reinit r) os h b = h
 after_rising n (steps.Free r) os h b = h
+after_rising n (steps.Subscribe f c flags) os h b = h
+after_rising n (steps.Unsubscribe f c) os h b = h
+after_rising n (steps.Take f c) os h b = h
 
 -- the ids of the open file handles rise in the order of their opening
 pub opened_rising : (past : Past) → AreRising (opened past)
@@ -275,7 +284,7 @@ drops_one k (o ∷ os) h = by (nat_eq k o.0) refl (drops_one k os h.1)
     by false e rest = ap (λ (l : List (ℕ × ℕ)). o ∷ l) rest
 
 -- an entry that is dropped isn't there
-dropped : (k : ℕ) (os : List (ℕ × ℕ)) → lookup (nat_eq k) (filter (λ h. not (nat_eq k h.0)) os) ≡ None
+pub dropped : (k : ℕ) (os : List (ℕ × ℕ)) → lookup (nat_eq k) (filter (λ h. not (nat_eq k h.0)) os) ≡ None
 dropped k [] = refl
 dropped k (o ∷ os) = by (nat_eq k o.0) refl (dropped k os)
   where
@@ -324,6 +333,9 @@ after_absent n (steps.Cancel r) k os lt h = h
 after_absent n steps.StreamOff k os lt h = h
 after_absent n (steps.Reinit r) k os lt h = h
 after_absent n (steps.Free r) k os lt h = h
+after_absent n (steps.Subscribe f c flags) k os lt h = h
+after_absent n (steps.Unsubscribe f c) k os lt h = h
+after_absent n (steps.Take f c) k os lt h = h
 
 older_gone : (newer older : Past) (fh : FhId) → fh.0 < length older → handler_of older fh ≡ None → handler_of (newer ++ older) fh ≡ None
 older_gone [] older fh lt h = h

@@ -7,7 +7,7 @@ use Rattle.req_book.specs.declared.state.RequestState.{RequestState}
 use Rattle.req_book.specs.declared.state.RequestState.TheVariants as states
 use Rattle.frame_queue.specs.Frames.{is_queued, is_running}
 use Rattle.device_history.specs.declared.ask.Step.{Step}
-use Rattle.device_history.specs.declared.ask.Step.TheVariants.{OpenFh, CloseFh, Set, Grab, Alloc, Store, Buffer, Queue, Begin, Complete, Cancel, StreamOff, Reinit, Free}
+use Rattle.device_history.specs.declared.ask.Step.TheVariants.{OpenFh, CloseFh, Set, Grab, Alloc, Store, Buffer, Queue, Begin, Complete, Cancel, StreamOff, Reinit, Free, Subscribe, Unsubscribe, Take}
 use Rattle.device_history.specs.Steps.{Past}
 use Rattle.device_history.specs.Requests.{state, state_after, state_of_named, is_there, ended_state}
 use Rattle.device_history.specs.Frames.{all_but, with_last, queued_by, begun_by, ever_queued, queue, queue_after, last_begun, if_running, running, running_after, unless_is}
@@ -108,6 +108,9 @@ queue_more e older = by e.step refl
     by StreamOff is = none_left test (ever_queued older) (λ j. there_more is_queued e older _ is j ∙ ended is_queued waits_not (state older j))
     by (Reinit r) is = dropped _ is r.0 (Some states.Idle) refl (λ j. refl)
     by (Free r) is = dropped _ is r.0 None refl (λ j. refl)
+    by (Subscribe f c flags) is = alike test _ (ever_queued older) (there_more is_queued e older _ is)
+    by (Unsubscribe f c) is = alike test _ (ever_queued older) (there_more is_queued e older _ is)
+    by (Take f c) is = alike test _ (ever_queued older) (there_more is_queued e older _ is)
 
 -- the frame that is being made after one more entry
 pub running_more : (e : Entry Step) (older : Past) → running (e ∷ older) ≡ running_after (length older) e.step (running older)
@@ -156,3 +159,6 @@ running_more e older = by e.step refl
     by StreamOff is = off (last_begun older) (λ j. there_more is_running e older _ is j ∙ ended is_running runs_not (state older j))
     by (Reinit r) is = dropped _ is r.0 (Some states.Idle) refl (λ j. refl)
     by (Free r) is = dropped _ is r.0 None refl (λ j. refl)
+    by (Subscribe f c flags) is = same (last_begun older) (there_more is_running e older _ is)
+    by (Unsubscribe f c) is = same (last_begun older) (there_more is_running e older _ is)
+    by (Take f c) is = same (last_begun older) (there_more is_running e older _ is)

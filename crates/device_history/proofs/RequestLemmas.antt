@@ -376,6 +376,9 @@ early_after verdicts plan older (steps.Free r) j fits rest early = by (eqb_tells
     by : Tells r.0 j → before_begin j older ≡ None
     by (inl same) = clash (rw same.0 at early)
     by (inr other) = rest (rw other.0 at early)
+early_after verdicts plan older (steps.Subscribe f c flags) j fits rest early = rest early
+early_after verdicts plan older (steps.Unsubscribe f c) j fits rest early = rest early
+early_after verdicts plan older (steps.Take f c) j fits rest early = rest early
 
 -- the frame of an idle or queued request was not begun since it was made, or made as new
 pub early_unbegun : (verdicts : Verdicts) (plan : PlanData) (older : Past) → AllFit verdicts plan older → (j : ℕ) → is_early (state older j) ≡ true → before_begin j older ≡ None
@@ -403,6 +406,9 @@ after_step verdicts plan older (steps.Cancel r) fit fits j = cancelled_request v
 after_step verdicts plan older steps.StreamOff fit fits j = off_request verdicts plan older j
 after_step verdicts plan older (steps.Reinit r) fit fits j = renewed_request verdicts plan older r j (renewed_there verdicts plan older r.0 fits)
 after_step verdicts plan older (steps.Free r) fit fits j = freed_request verdicts plan older r j
+after_step verdicts plan older (steps.Subscribe f c flags) fit fits j = same_fields verdicts plan older (steps.Subscribe f c flags) j (λ s. rw (asked_same plan older j) refl)
+after_step verdicts plan older (steps.Unsubscribe f c) fit fits j = same_fields verdicts plan older (steps.Unsubscribe f c) j (λ s. rw (asked_same plan older j) refl)
+after_step verdicts plan older (steps.Take f c) fit fits j = same_fields verdicts plan older (steps.Take f c) j (λ s. rw (asked_same plan older j) refl)
 
 -- a request after one more entry
 pub request_more : (verdicts : Verdicts) (plan : PlanData) (e : Entry Step) (older : Past) → AllFit verdicts plan older → FitsFrames verdicts plan older e.step

@@ -10,6 +10,10 @@ use Rattle.history.proofs.Pasts.{past_add}
 use Rattle.ctrl_types.specs.Classes.{which_of}
 use Rattle.ctrl_types.specs.declared.errno.Errno.TheVariants.{ENOSPC}
 use Rattle.ctrl_types.specs.declared.ids.FhId.{FhId}
+use Rattle.ctrl_types.specs.declared.sub_flags.SubFlags.{SubFlags}
+use Rattle.device_history.specs.Handles.{shown}
+use Rattle.device_history.specs.Events.{pending}
+use Rattle.device_history.specs.EventAnswers.{first_control}
 use Rattle.ctrl_types.specs.declared.ids.Pair.{Pair}
 use Rattle.ctrl_types.specs.declared.ids.RequestId.{RequestId}
 use Rattle.ctrl_calls.specs.Meanings.{Verdicts}
@@ -109,6 +113,9 @@ frame_stands verdicts plan older (steps.Reinit r) j fit fits waits =
     let other : nat_eq r.0 j ≡ false = others verdicts plan older r.0 j (rests (request verdicts plan older r.0) fits).0 waits in
     rw (other, asked_same plan older j) refl
 frame_stands verdicts plan older (steps.Free r) j fit fits waits = rw (asked_same plan older j) refl
+frame_stands verdicts plan older (steps.Subscribe f c flags) j fit fits waits = rw (asked_same plan older j) refl
+frame_stands verdicts plan older (steps.Unsubscribe f c) j fit fits waits = rw (asked_same plan older j) refl
+frame_stands verdicts plan older (steps.Take f c) j fit fits waits = rw (asked_same plan older j) refl
 
 -- numbers that pass a test, of which two functions make the same
 same_frames : (f g : ℕ → QueuedData) (test : ℕ → Bool) (ids : List ℕ) → ((j : ℕ) → test j ≡ true → f j ≡ g j) → map f (filter test ids) ≡ map g (filter test ids)
@@ -208,6 +215,9 @@ next_row verdicts plan e older i row fit fits on stood = by e.step refl fits on 
     by steps.StreamOff is fits_it on stood = cc
     by (steps.Reinit r) is fits_it on stood = same _ is refl refl refl stood
     by (steps.Free r) is fits_it on stood = same _ is refl refl refl stood
+    by (steps.Subscribe f c flags) is fits_it on stood = same _ is refl refl refl stood
+    by (steps.Unsubscribe f c) is fits_it on stood = same _ is refl refl refl stood
+    by (steps.Take f c) is fits_it on stood = same _ is refl refl refl stood
 
 -- the rows of a forecast stand while a legal history goes on; each frame that is begun moves them up
 pub rows_stand : (verdicts : Verdicts) (plan : PlanData) (entries more : History) (i : ℕ) (row : Forecast) → IsLegal verdicts plan (past (entries ++ more)) → all_go_on more ≡ true
@@ -268,7 +278,15 @@ begin_unrefused verdicts plan older r may = by may.0 may.1 may.2
     ends None adds = cc
     ends (Some k) adds = cc
 
-    by : (ask : Ask) → refusal verdicts plan older ask ≡ None → step_of plan older ask ≡ Some (steps.Begin r) → fault_of (begin_frame_answer verdicts plan older) ≡ None
+    subscribes : (fh : FhId) (flags : SubFlags) (o : Option ℕ) → option_map (λ c. steps.Subscribe fh c flags) o ≡ Some (steps.Begin r) → fault_of (begin_frame_answer verdicts plan older) ≡ None
+    subscribes fh flags None adds = cc
+    subscribes fh flags (Some c) adds = cc
+
+    takes : (fh : FhId) (o : Option ℕ) → option_map (λ c. steps.Take fh c) o ≡ Some (steps.Begin r) → fault_of (begin_frame_answer verdicts plan older) ≡ None
+    takes fh None adds = cc
+    takes fh (Some c) adds = cc
+
+    by : (ask : Ask) → refusal verdicts plan older ask ≡ None → step_of verdicts plan older ask ≡ Some (steps.Begin r) → fault_of (begin_frame_answer verdicts plan older) ≡ None
     by (asks.OpenFh handler) h adds = cc
     by (asks.CloseFh fh) h adds = cc
     by (asks.GetCtrls fh which id list) h adds = cc
@@ -290,6 +308,9 @@ begin_unrefused verdicts plan older r may = by may.0 may.1 may.2
     by (asks.NextId fh id) h adds = cc
     by (asks.MenuItem fh id index) h adds = cc
     by (asks.Told cluster) h adds = cc
+    by (asks.Subscribe fh id flags) h adds = subscribes fh flags (shown plan older fh id) adds
+    by (asks.Unsubscribe fh id) h adds = cc
+    by (asks.Take fh) h adds = takes fh (first_control (pending verdicts plan older fh)) adds
 
 -- what a begin that may follow is answered
 begin_replies : (verdicts : Verdicts) (plan : PlanData) (older : Past) (r : RequestId) → AllFit verdicts plan older → MayFollow verdicts plan older (steps.Begin r)

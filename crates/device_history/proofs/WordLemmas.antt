@@ -54,6 +54,9 @@ row_stays verdicts plan older (steps.Cancel r) values cs h = refl
 row_stays verdicts plan older steps.StreamOff values cs h = refl
 row_stays verdicts plan older (steps.Reinit r) values cs h = refl
 row_stays verdicts plan older (steps.Free r) values cs h = refl
+row_stays verdicts plan older (steps.Subscribe f c flags) values cs h = refl
+row_stays verdicts plan older (steps.Unsubscribe f c) values cs h = refl
+row_stays verdicts plan older (steps.Take f c) values cs h = refl
 
 -- a cluster of which no member changes keeps a word that it may have been told
 pub word_stays : (told : Words) (verdicts : Verdicts) (plan : PlanData) (entries : History) (e : Entry Step) (k word : ℕ)

@@ -12,10 +12,11 @@ use Rattle.ctrl_handlers.specs.Plan.{PlanData}
 use Rattle.ctrl_calls.specs.Meanings.{Verdicts}
 use Rattle.device_history.specs.Steps.{Past}
 use Rattle.device_history.specs.Refusals.{Answer, fault_of}
-use Rattle.device_history.specs.Handles.{open_answer, close_answer}
+use Rattle.device_history.specs.Handles.{open_answer, close_answer, shown}
 use Rattle.device_history.specs.Grabs.{grab_answer}
 use Rattle.device_history.specs.Frames.{queue, running, first_of}
 use Rattle.device_history.specs.RequestAnswers.{alloc_answer, buffer_answer, queue_answer, begin_frame_answer, complete_answer, cancel_answer, off_answer, clear_answer, state_answer}
+use Rattle.device_history.specs.EventAnswers.{subscribe_answer, subscribe_step, unsubscribe_answer, take_answer, take_step}
 use Rattle.device_history.specs.Forecasts.{forecast_answer}
 use Rattle.device_history.specs.Lists.{get_list_answer, set_list_answer, try_list_answer, list_step, MayLackList, MayLackSet}
 use Rattle.device_history.specs.Queries.{query_answer, next_answer, item_answer, told_answer}
@@ -39,6 +40,9 @@ answer_of verdicts plan past words (asks.Reinit r) = clear_answer verdicts plan 
 answer_of verdicts plan past words (asks.Free r) = clear_answer verdicts plan past r
 answer_of verdicts plan past words (asks.StateOf r) = state_answer past r
 answer_of verdicts plan past words (asks.Forecast place) = forecast_answer verdicts plan past place
+answer_of verdicts plan past words (asks.Subscribe fh id flags) = subscribe_answer plan past fh id
+answer_of verdicts plan past words (asks.Unsubscribe fh id) = unsubscribe_answer past fh
+answer_of verdicts plan past words (asks.Take fh) = take_answer verdicts plan past fh
 answer_of verdicts plan past words (asks.Query fh id) = query_answer verdicts plan past fh id
 answer_of verdicts plan past words (asks.NextId fh id) = next_answer plan past fh id
 answer_of verdicts plan past words (asks.MenuItem fh id index) = item_answer plan past fh id index
@@ -83,23 +87,26 @@ MayAnswer verdicts plan past words ask answer =
     (answer ≡ answer_of verdicts plan past words ask) ⊎ (MayLackMemory verdicts plan past ask × (answer ≡ no_memory ask))
 
 -- the step that an ask adds where it is accepted
-abbrev pub step_of : PlanData → Past → Ask → Option Step
-step_of plan past (asks.OpenFh handler) = Some (steps.OpenFh handler)
-step_of plan past (asks.CloseFh fh) = Some (steps.CloseFh fh)
-step_of plan past (asks.SetCtrls fh which request list) = Some (list_step plan past fh which request list)
-step_of plan past (asks.Grab c on) = Some (steps.Grab c on)
-step_of plan past asks.Alloc = Some steps.Alloc
-step_of plan past (asks.AddBuffer r number) = Some (steps.Buffer r number)
-step_of plan past (asks.Queue r) = Some (steps.Queue r)
-step_of plan past asks.Begin = option_map (λ r. steps.Begin (record { 0 = r })) (first_of (queue past))
-step_of plan past asks.Complete = option_map (λ r. steps.Complete (record { 0 = r })) (running past)
-step_of plan past (asks.Cancel r) = Some (steps.Cancel r)
-step_of plan past asks.StreamOff = Some steps.StreamOff
-step_of plan past (asks.Reinit r) = Some (steps.Reinit r)
-step_of plan past (asks.Free r) = Some (steps.Free r)
-step_of plan past _ = None
+abbrev pub step_of : Verdicts → PlanData → Past → Ask → Option Step
+step_of verdicts plan past (asks.OpenFh handler) = Some (steps.OpenFh handler)
+step_of verdicts plan past (asks.CloseFh fh) = Some (steps.CloseFh fh)
+step_of verdicts plan past (asks.SetCtrls fh which request list) = Some (list_step plan past fh which request list)
+step_of verdicts plan past (asks.Grab c on) = Some (steps.Grab c on)
+step_of verdicts plan past asks.Alloc = Some steps.Alloc
+step_of verdicts plan past (asks.AddBuffer r number) = Some (steps.Buffer r number)
+step_of verdicts plan past (asks.Queue r) = Some (steps.Queue r)
+step_of verdicts plan past asks.Begin = option_map (λ r. steps.Begin (record { 0 = r })) (first_of (queue past))
+step_of verdicts plan past asks.Complete = option_map (λ r. steps.Complete (record { 0 = r })) (running past)
+step_of verdicts plan past (asks.Cancel r) = Some (steps.Cancel r)
+step_of verdicts plan past asks.StreamOff = Some steps.StreamOff
+step_of verdicts plan past (asks.Reinit r) = Some (steps.Reinit r)
+step_of verdicts plan past (asks.Free r) = Some (steps.Free r)
+step_of verdicts plan past (asks.Subscribe fh id flags) = subscribe_step plan past fh id flags
+step_of verdicts plan past (asks.Unsubscribe fh id) = Some (steps.Unsubscribe fh (shown plan past fh id))
+step_of verdicts plan past (asks.Take fh) = take_step verdicts plan past fh
+step_of verdicts plan past _ = None
 
 -- the step that it adds where this is its answer
-abbrev pub taken : PlanData → Past → Ask → Answer → Option Step
-taken plan past ask (Ok reply) = step_of plan past ask
-taken plan past ask (Err fault) = None
+abbrev pub taken : Verdicts → PlanData → Past → Ask → Answer → Option Step
+taken verdicts plan past ask (Ok reply) = step_of verdicts plan past ask
+taken verdicts plan past ask (Err fault) = None

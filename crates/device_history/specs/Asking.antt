@@ -1,19 +1,23 @@
 -- The ask that decides whether a step may follow a history: one that is made of the step (of this project).
-use Rattle.std.specs.Prelude.{ℕ, Bool, map, List, Option, None, Some}
-use Rattle.std.specs.List.{find as first_that, list_all}
+use Rattle.std.specs.Prelude.{ℕ, Bool, suc, map, length, List, Option, None, Some, unwrap_or}
+use Rattle.std.specs.List.{find as first_that, list_all, range_with_len}
+use Rattle.std.specs.Option.{is_none}
 use Rattle.ctrl_types.specs.declared.ids.ExtControl.{ExtControl}
+use Rattle.ctrl_types.specs.declared.ids.CtrlId.{CtrlId}
 use Rattle.ctrl_types.specs.declared.ids.FhId.{FhId}
 use Rattle.ctrl_types.specs.declared.ids.Pair.{Pair}
 use Rattle.ctrl_types.specs.declared.which.Which.TheVariants.{Current}
 use Rattle.req_book.specs.Requests.{is_number}
 use Rattle.ctrl_handlers.specs.Plan.{PlanData, control}
+use Rattle.ctrl_handlers.specs.Visible.{find, visible}
 use Rattle.ctrl_lists.specs.View.{named}
 use Rattle.device_history.specs.declared.ask.Ask.{Ask}
 use Rattle.device_history.specs.declared.ask.Ask.TheVariants as asks
 use Rattle.device_history.specs.declared.ask.Step.{Step}
 use Rattle.device_history.specs.declared.ask.Step.TheVariants as steps
 use Rattle.device_history.specs.Steps.{Past}
-use Rattle.device_history.specs.Handles.{opened}
+use Rattle.device_history.specs.Handles.{handler_of, opened}
+use Rattle.device_history.specs.Lists.{handler_or}
 
 -- the entry of a pair: its control under its id, with the value as it was given
 abbrev pub entry_of : PlanData → Pair → ExtControl
@@ -44,8 +48,18 @@ first_storer plan pairs handles = first_that (λ h. shows_pairs plan h.1 pairs) 
 abbrev pub storer : PlanData → Past → List Pair → FhId
 storer plan past pairs = fh_or_none (first_storer plan pairs (opened past))
 
+-- an id that a handler doesn't show: the first such number, which is at most the number of controls that it shows
+abbrev pub free_id : PlanData → ℕ → CtrlId
+free_id plan handler = record { 0 = unwrap_or (first_that (λ n. is_none (find plan handler (record { 0 = n }))) (range_with_len 0 (suc (length (visible plan handler))))) 0 }
+
+-- the id of a control, where there is one; else one that the handler doesn't show
+abbrev pub id_or_free : PlanData → ℕ → Option ℕ → CtrlId
+id_or_free plan handler (Some c) = (control plan c).id
+id_or_free plan handler None = free_id plan handler
+
 -- The ask that decides on a step, as the law `deciding_asks` says. A set speaks of the present values of all controls, whatever the list was
--- about that made it. A store doesn't tell the file handle that it was asked through, so one is taken whose handler shows its pairs.
+-- about that made it. A store doesn't tell the file handle that it was asked through, so one is taken whose
+-- handler shows its pairs; the end of a subscription to what isn't shown doesn't tell the id, so one is taken that isn't shown.
 abbrev pub ask_by : PlanData → Past → Step → Ask
 ask_by plan past (steps.OpenFh handler) = asks.OpenFh handler
 ask_by plan past (steps.CloseFh fh) = asks.CloseFh fh
@@ -61,3 +75,6 @@ ask_by plan past (steps.Cancel r) = asks.Cancel r
 ask_by plan past steps.StreamOff = asks.StreamOff
 ask_by plan past (steps.Reinit r) = asks.Reinit r
 ask_by plan past (steps.Free r) = asks.Free r
+ask_by plan past (steps.Subscribe fh c flags) = asks.Subscribe fh (control plan c).id flags
+ask_by plan past (steps.Unsubscribe fh c) = asks.Unsubscribe fh (id_or_free plan (handler_or (handler_of past fh)) c)
+ask_by plan past (steps.Take fh c) = asks.Take fh

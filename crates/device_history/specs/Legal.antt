@@ -9,7 +9,7 @@ use Rattle.device_history.specs.Answers.{refusal, step_of}
 
 -- some ask that nothing refuses adds it
 abbrev pub MayFollow : Verdicts → PlanData → Past → Step → Type 0
-MayFollow verdicts plan past step = (ask : Ask) × (refusal verdicts plan past ask ≡ None) × (step_of plan past ask ≡ Some step)
+MayFollow verdicts plan past step = (ask : Ask) × (refusal verdicts plan past ask ≡ None) × (step_of verdicts plan past ask ≡ Some step)
 
 -- each step is one that may follow what is older
 unfoldable pub IsLegal : Verdicts → PlanData → Past → Type 0

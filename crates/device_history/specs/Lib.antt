@@ -1,6 +1,7 @@
 pub use Rattle.history.specs.Past
 pub use Rattle.ctrl_types.specs.Classes
 pub use Rattle.ctrl_types.specs.Flags as TypeFlags
+pub use Rattle.ctrl_types.specs.Events as TypeEvents
 pub use Rattle.ctrl_calls.specs.Counts
 pub use Rattle.ctrl_calls.specs.Meanings
 pub use Rattle.ctrl_settle.specs.Control
@@ -21,6 +22,9 @@ pub use Rattle.ctrl_clusters.specs.PresentFlags
 pub use Rattle.req_book.specs.Requests as RequestData
 pub use Rattle.req_book.specs.Refusals as RequestRefusals
 pub use Rattle.frame_queue.specs.Frames as FrameData
+pub use Rattle.ctrl_events.specs.Events as FileEvents
+pub use Rattle.ctrl_events.specs.Pending
+pub use Rattle.ctrl_raises.specs.Raises
 pub use Rattle.ctrl_forecast.specs.Applied
 pub use Rattle.ctrl_forecast.specs.Forecasts as QueuedForecasts
 pub use Rattle.ctrl_lists.specs.View
@@ -37,9 +41,13 @@ pub mod Flags
 pub mod Frames
 pub mod Snapshots
 pub mod Words
+pub mod Subscriptions
+pub mod Events
 pub mod Lists
 pub mod RequestAnswers
 pub mod FrameSteps
+pub mod EventAnswers
+pub mod EventSteps
 pub mod Forecasts
 pub mod Queries
 pub mod Answers

@@ -1,9 +1,10 @@
 use crate::info::CtrlInfo;
 use crate::pair_list::PairList;
+use ctrl_events::Event;
 use ctrl_forecast::{ClusterList, Forecast};
 use ctrl_handlers::MenuItem;
 use ctrl_lists::ControlList;
-use ctrl_types::{CtrlId, FhId, RequestId};
+use ctrl_types::{CtrlId, FhId, RequestId, SubFlags};
 use req_book::RequestState;
 
 /// What a caller asks of a device.
@@ -105,6 +106,27 @@ pub enum Ask {
         /// The place in the queue, from 0.
         place: u32,
     },
+    /// Subscribes a file handle to the events of a control (`VIDIOC_SUBSCRIBE_EVENT`).
+    Subscribe {
+        /// The file handle.
+        fh: FhId,
+        /// The control.
+        id: CtrlId,
+        /// How it is subscribed.
+        flags: SubFlags,
+    },
+    /// Ends the subscription of a file handle to the events of a control (`VIDIOC_UNSUBSCRIBE_EVENT`).
+    Unsubscribe {
+        /// The file handle.
+        fh: FhId,
+        /// The control, shown or not.
+        id: CtrlId,
+    },
+    /// Takes the first event that waits for a file handle (`VIDIOC_DQEVENT`).
+    Take {
+        /// The file handle.
+        fh: FhId,
+    },
     /// Reads what a control is like (`VIDIOC_QUERY_EXT_CTRL`).
     Query {
         /// The file handle.
@@ -159,6 +181,8 @@ pub enum Reply {
     },
     /// What the queued frame will have.
     Forecast(Forecast),
+    /// The event that was taken.
+    Event(Event),
     /// What the control is like.
     Info(CtrlInfo),
     /// The next id.
@@ -243,5 +267,28 @@ pub enum Step {
     Free {
         /// The request.
         request: RequestId,
+    },
+    /// A file handle was subscribed to the events of a control, where it wasn't yet.
+    Subscribe {
+        /// The file handle.
+        fh: FhId,
+        /// The control's number.
+        control: u32,
+        /// How it was subscribed, as it was given.
+        flags: SubFlags,
+    },
+    /// The subscription of a file handle was ended, where there was one.
+    Unsubscribe {
+        /// The file handle.
+        fh: FhId,
+        /// The control's number; none where the id wasn't shown.
+        control: Option<u32>,
+    },
+    /// An event was taken.
+    Take {
+        /// The file handle.
+        fh: FhId,
+        /// The number of the event's control.
+        control: u32,
     },
 }

@@ -1,7 +1,7 @@
 //! What the definitions over the history say of one more entry, and what a whole stretch of a history makes of a forecast. Each function is a
 //! law that its contract states; none has anything to do.
 
-ghost use Rattle.std.specs.Prelude.{◌≡◌, ◌<◌, ◌+◌, ℕ, Option, true, false, [], ◌∷◌, ◌++◌, List, length, map, is_some, slice_get, None, Some, Ok, Err};
+ghost use Rattle.std.specs.Prelude.{◌≡◌, ◌<◌, ◌≤◌, ◌+◌, ◌*◌, ℕ, Bool, Option, true, false, [], ◌∷◌, ◌++◌, List, length, map, is_some, slice_get, None, Some, Ok, Err};
 ghost use Rattle.std.specs.List.{list_any};
 ghost use Rattle.history.specs.declared.entry.Entry.{Entry};
 ghost use Rattle.history.specs.Past.{past};
@@ -16,7 +16,7 @@ ghost use Rattle.device_history.specs.declared.ask.Ask.{Ask};
 ghost use Rattle.device_history.specs.declared.ask.Ask.TheVariants as asks;
 ghost use Rattle.device_history.specs.declared.ask.Reply.TheVariants.{Controls, Frame};
 ghost use Rattle.device_history.specs.declared.ask.Step.{Step};
-ghost use Rattle.device_history.specs.declared.ask.Step.TheVariants.{Begin, CloseFh};
+ghost use Rattle.device_history.specs.declared.ask.Step.TheVariants.{Begin, CloseFh, Grab, Set};
 ghost use Rattle.ctrl_handlers.specs.Plan.{PlanData, IsPlan, calls_of, control, members};
 ghost use Rattle.ctrl_clusters.specs.Rows.{Grabs, Values, value_at, row_of};
 ghost use Rattle.device_history.specs.Grabs.{grabbed, grabbed_after};
@@ -33,11 +33,17 @@ ghost use Rattle.device_history.specs.Lists.{list_pairs, meant, set_list_answer,
 ghost use Rattle.device_history.specs.Legal.{IsLegal, MayFollow};
 ghost use Rattle.device_history.specs.Asking.{ask_by};
 ghost use Rattle.device_history.specs.Words.{acted, changes};
+ghost use Rattle.device_history.specs.Subscriptions.{subscribed, subscribed_after};
 ghost use Rattle.device_history.specs.Requests.{asked, asked_after, buffer, buffer_after, state, state_after};
 ghost use Rattle.device_history.specs.Frames.{queue, queue_after, running, running_after};
-ghost use Rattle.device_history.specs.Snapshots.{frames, request, requests};
+ghost use Rattle.device_history.specs.Snapshots.{begun_pairs, frames, request, requests};
 ghost use Rattle.device_history.specs.FrameSteps.{frames_after, request_after};
 ghost use Rattle.device_history.specs.Forecasts.{forecast};
+ghost use Rattle.device_history.specs.Events.{next_sequence, payload, raises, raises_from, told_by};
+ghost use Rattle.ctrl_raises.specs.Raises.{MomentData, changed_between, needing_feedback, payload_at, raised_all};
+ghost use Rattle.device_history.specs.declared.limits.TheConstants.{MAX_STEPS};
+ghost use Rattle.device_history.specs.EventSteps.{AreAround, AreEvents, events_after, raised_by};
+ghost use Rattle.ctrl_events.specs.Events.{FileEvents, no_events};
 ghost use Rattle.device_history.specs.Stretches.{all_go_on, begins};
 ghost use Rattle.ctrl_forecast.specs.declared.board.Forecast.{Forecast};
 ghost use Rattle.frame_queue.specs.Frames.{FramesData, AreFrames};
@@ -121,9 +127,17 @@ pub fn legal_histories()
 /// Whether a step may follow a history is told by one ask, which is made of the step: the step may follow where nothing refuses this ask and it
 /// adds the step, and only there.
 pub fn deciding_asks()
-    ensures enough { (verdicts : Verdicts) (plan : PlanData) (older : Past) (step : Step) → refusal verdicts plan older (ask_by plan older step) ≡ None → step_of plan older (ask_by plan older step) ≡ Some step → MayFollow verdicts plan older step }
+    ensures enough { (verdicts : Verdicts) (plan : PlanData) (older : Past) (step : Step) → refusal verdicts plan older (ask_by plan older step) ≡ None → step_of verdicts plan older (ask_by plan older step) ≡ Some step → MayFollow verdicts plan older step }
     ensures needed { (verdicts : Verdicts) (plan : PlanData) (older : Past) (step : Step) → MayFollow verdicts plan older step
-        → (refusal verdicts plan older (ask_by plan older step) ≡ None) × (step_of plan older (ask_by plan older step) ≡ Some step) }
+        → (refusal verdicts plan older (ask_by plan older step) ≡ None) × (step_of verdicts plan older (ask_by plan older step) ≡ Some step) }
+{}
+
+/// At first nothing is subscribed; one more entry that may follow a legal history makes of each subscription what its step makes of it.
+#[tactic(auto, using(crate::proofs::SubscriptionLemmas::subscribed_start, crate::proofs::SubscriptionLemmas::subscribed_add))]
+pub fn subscriptions()
+    ensures start { (fh : FhId) (c : ℕ) → subscribed (past []) fh c ≡ None }
+    ensures one_more { (verdicts : Verdicts) (plan : PlanData) (steps : History) (e : Entry Step) (fh : FhId) (c : ℕ) → IsLegal verdicts plan (past steps) → MayFollow verdicts plan (past steps) e.step
+        → subscribed (past (steps ++ e ∷ [])) fh c ≡ subscribed_after e.step fh c (subscribed (past steps) fh c) }
 {}
 
 /// At first there is no request; one more entry makes of each request's state what its step makes of it.
@@ -174,6 +188,39 @@ pub fn kept_frames()
         → frames verdicts plan (past (steps ++ e ∷ [])) ≡ frames_after verdicts plan (past steps) (length steps) e.step (frames verdicts plan (past steps)) }
     ensures queue { (verdicts : Verdicts) (plan : PlanData) (older : Past) → IsLegal verdicts plan older → AreFrames (frames verdicts plan older) }
     ensures found { (verdicts : Verdicts) (plan : PlanData) (older : Past) (r : ℕ) → IsLegal verdicts plan older → find (requests verdicts plan older) r ≡ request verdicts plan older r }
+{}
+
+/// What the store of events keeps of a file handle, changed by the steps of a legal history one after another, is what the definitions over the
+/// history say: its subscriptions, the events that wait, in order, and the number of the next raise. A file handle that isn't open has none. A
+/// step raises at most one event of each control for it, so that there are numbers for all.
+pub fn kept_events()
+    ensures start { (verdicts : Verdicts) (plan : PlanData) (fh : FhId) → AreEvents verdicts plan (past []) fh no_events }
+    ensures one_more { (verdicts : Verdicts) (plan : PlanData) (steps : History) (e : Entry Step) (fh : FhId) (f : FileEvents) → IsPlan plan → IsLegal verdicts plan (past steps) → MayFollow verdicts plan (past steps) e.step
+        → AreEvents verdicts plan (past steps) fh f → AreEvents verdicts plan (past (steps ++ e ∷ [])) fh (events_after verdicts plan e (past steps) fh f) }
+    ensures numbers { (verdicts : Verdicts) (plan : PlanData) (older : Past) (fh : FhId) (f : FileEvents) → IsPlan plan → length older ≤ MAX_STEPS → AreEvents verdicts plan older fh f → f.next + length plan.controls ≤ 4294967295 }
+    ensures few { (verdicts : Verdicts) (plan : PlanData) (older : Past) (fh : FhId) → next_sequence verdicts plan older fh ≤ length plan.controls * length older }
+{}
+
+/// At first nothing was raised for a file handle; one more entry raises behind that what it tells it of, in the order of control numbers, with
+/// payloads that are read after it, each with the next number.
+#[tactic(auto, using(crate::proofs::RaiseLaw::raises_start, crate::proofs::RaiseLaw::raises_add))]
+pub fn added_raises()
+    ensures start { (verdicts : Verdicts) (plan : PlanData) (fh : FhId) → raises verdicts plan (past []) fh ≡ [] }
+    ensures one_more { (verdicts : Verdicts) (plan : PlanData) (steps : History) (e : Entry Step) (fh : FhId) → raises verdicts plan (past (steps ++ e ∷ [])) fh
+        ≡ raises verdicts plan (past steps) fh ++ raises_from (length (raises verdicts plan (past steps) fh)) (payload verdicts plan (past (steps ++ e ∷ []))) (told_by verdicts plan e (past steps) fh) }
+{}
+
+/// What a set, a begin and a grab raise is what changes between the values and grabs before and those after; what a subscription tells at once is
+/// read of those after.
+pub fn raised_events()
+    ensures set { (verdicts : Verdicts) (plan : PlanData) (e : Entry Step) (older : Past) (before after : MomentData) (from : FhId) (pairs : List Pair) (fh : FhId) (cs : List ℕ) (f : FileEvents) → e.step ≡ Set from pairs → AreAround verdicts plan e older before after
+        → raised_all (changed_between plan before after pairs) (payload_at plan after) (λ c. needing_feedback (Some from.0) pairs (changed_between plan before after pairs c) c) fh.0 cs f ≡ raised_by verdicts plan e older fh cs f }
+    ensures begin { (verdicts : Verdicts) (plan : PlanData) (e : Entry Step) (older : Past) (before after : MomentData) (r : RequestId) (fh : FhId) (cs : List ℕ) (f : FileEvents) → e.step ≡ Begin r → AreAround verdicts plan e older before after
+        → raised_all (changed_between plan before after (begun_pairs verdicts plan older r.0)) (payload_at plan after) (λ c. needing_feedback None (begun_pairs verdicts plan older r.0) (changed_between plan before after (begun_pairs verdicts plan older r.0) c) c) fh.0 cs f
+        ≡ raised_by verdicts plan e older fh cs f }
+    ensures grab { (verdicts : Verdicts) (plan : PlanData) (e : Entry Step) (older : Past) (before after : MomentData) (d : ℕ) (on : Bool) (fh : FhId) (cs : List ℕ) (f : FileEvents) → e.step ≡ Grab d on → AreAround verdicts plan e older before after
+        → raised_all (changed_between plan before after []) (payload_at plan after) (λ c. needing_feedback None [] (changed_between plan before after [] c) c) fh.0 cs f ≡ raised_by verdicts plan e older fh cs f }
+    ensures subscription { (verdicts : Verdicts) (plan : PlanData) (e : Entry Step) (older : Past) (at : MomentData) (c : ℕ) → at.values ≡ now verdicts plan (e ∷ older) → at.grabs ≡ grabbed plan (e ∷ older) → payload_at plan at c ≡ payload verdicts plan (e ∷ older) c }
 {}
 
 /// What is forecast is what a begin then makes, whichever seats make the steps, as long as no set of present values, no grab or release, no

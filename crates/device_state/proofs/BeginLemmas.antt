@@ -7,6 +7,9 @@ use Rattle.ctrl_types.specs.declared.errno.Errno.TheVariants.{ENOMEM, ENOSPC}
 use Rattle.ctrl_types.specs.declared.ids.Pair.{Pair}
 use Rattle.ctrl_calls.specs.Meanings.{Verdicts, Words}
 use Rattle.ctrl_calls.specs.declared.work.Work.{Work}
+use Rattle.ctrl_types.specs.declared.ids.FhId.{FhId}
+use Rattle.ctrl_events.specs.Events.{EventsData, events_of}
+use Rattle.device_history.specs.EventSteps.{events_after}
 use Rattle.ctrl_handlers.specs.Plan.{PlanData, members}
 use Rattle.ctrl_clusters.specs.Rows.{Values, row_of}
 use Rattle.ctrl_clusters.specs.Changes.{members_change}
@@ -91,32 +94,33 @@ begin_reply verdicts plan older r id buffer f free first room own is =
     same a b c d h = ap number h
 
 -- its step may follow
-begin_adds : (plan : PlanData) (older : Past) (r : ℕ) → first_of (queue older) ≡ Some r → step_of plan older asks.Begin ≡ Some (Begin (record { 0 = r }))
-begin_adds plan older r first = rw first refl
+begin_adds : (verdicts : Verdicts) (plan : PlanData) (older : Past) (r : ℕ) → first_of (queue older) ≡ Some r → step_of verdicts plan older asks.Begin ≡ Some (Begin (record { 0 = r }))
+begin_adds verdicts plan older r first = rw first refl
 
 pub begin_follows : (verdicts : Verdicts) (plan : PlanData) (older : Past) (r : ℕ) → running older ≡ None → first_of (queue older) ≡ Some r → is_full older ≡ false → MayFollow verdicts plan older (Begin (record { 0 = r }))
-begin_follows verdicts plan older r free first room = (asks.Begin, ap fault_of (begin_accepted verdicts plan older r free first room), begin_adds plan older r first)
+begin_follows verdicts plan older r free first room = (asks.Begin, ap fault_of (begin_accepted verdicts plan older r free first room), begin_adds verdicts plan older r first)
 
 -- there is a value for each control
 pub length_begun : (verdicts : Verdicts) (plan : PlanData) (older : Past) (r : ℕ) → length (begun_values verdicts plan older r) ≡ length plan.controls
 length_begun verdicts plan older r = length_overlay verdicts plan plan.controls (now verdicts plan older) (grabbed plan older) (asked plan older r) ∙ length_now verdicts plan older
 
 -- what is kept after a begin
-pub kept_begin : (verdicts : Verdicts) (told : Words) (plan : PlanData) (entries entries' : History) (caches : Caches) (values : Values) (f : FramesData) (words refused : List ℕ) (applied : List Pair) (seat r : ℕ)
+pub kept_begin : (verdicts : Verdicts) (told : Words) (plan : PlanData) (entries entries' : History) (caches : Caches) (values : Values) (f : FramesData) (events : EventsData) (words refused : List ℕ) (applied : List Pair) (seat r : ℕ)
     → IsKept verdicts told plan entries caches → IsBegun verdicts plan (past entries) r values refused applied → entries' ≡ entries ++ record { seat = seat; step = Begin (record { 0 = r }) } ∷ []
     → f ≡ after_begin caches.frames applied → AreRenewed told plan (members_change plan caches.values values applied) (λ k. row_of values (members plan k)) caches.words words
-    → IsKept verdicts told plan entries' (record caches { values = values; frames = f; words = words })
-kept_begin verdicts told plan entries entries' caches values f words refused applied seat r kept begun s made renewed =
-    kept_add verdicts told plan entries entries' caches (record caches { values = values; frames = f; words = words }) (record { seat = seat; step = Begin (record { 0 = r }) }) kept (set_room entries begun.room)
+    → ((fh : FhId) → events_of events fh.0 ≡ events_after verdicts plan (record { seat = seat; step = Begin (record { 0 = r }) }) (past entries) fh (events_of caches.events fh.0))
+    → IsKept verdicts told plan entries' (record caches { values = values; frames = f; events = events; words = words })
+kept_begin verdicts told plan entries entries' caches values f events words refused applied seat r kept begun s made renewed ev =
+    kept_add verdicts told plan entries entries' caches (record caches { values = values; frames = f; events = events; words = words }) (record { seat = seat; step = Begin (record { 0 = r }) }) kept (set_room entries begun.room)
     (begin_follows verdicts plan (past entries) r begun.free begun.first begun.room) s kept.file_handles kept.grabs begun.are_values
     (made ∙ ap (λ (g : FramesData). after_begin g applied) kept.frames ∙ ap (after_begin (frames verdicts plan (past entries))) begun.are_applied)
-    (words_between told plan caches.values values applied caches.words words kept.words renewed)
+    (words_between told plan caches.values values applied caches.words words kept.words renewed) ev
 
 -- what a begin changes of the members of a cluster
 begin_changing : (verdicts : Verdicts) (plan : PlanData) (older : Past) (r j : ℕ) (reply : Reply) → first_of (queue older) ≡ Some r
-    → list_any (step_changes verdicts plan older (taken plan older asks.Begin (Ok reply))) (members plan j) ≡ begin_changes verdicts plan older r j
+    → list_any (step_changes verdicts plan older (taken verdicts plan older asks.Begin (Ok reply))) (members plan j) ≡ begin_changes verdicts plan older r j
 begin_changing verdicts plan older r j reply first =
-    ap (λ (o : Option Step). list_any (step_changes verdicts plan older o) (members plan j)) (begin_adds plan older r first)
+    ap (λ (o : Option Step). list_any (step_changes verdicts plan older o) (members plan j)) (begin_adds verdicts plan older r first)
     ∙ changed_row plan (now verdicts plan older) (begun_values verdicts plan older r) (begun_pairs verdicts plan older r) (members plan j)
 
 -- a begin that is accepted
@@ -129,12 +133,12 @@ handles_begin verdicts told old between new start work seat r reply begin rest u
       plan = done.plan;
       answers = inl (sym is);
       refused = λ e. cc;
-      steps = done.steps ∙ rw (begin_adds old.plan (past old.steps) r first) refl;
+      steps = done.steps ∙ rw (begin_adds verdicts old.plan (past old.steps) r first) refl;
       words = λ j lt same. done.words.others j (λ _. sym (begin_changing verdicts old.plan (past old.steps) r j reply first) ∙ same);
       notified =
           ap (λ (w : Work). w.told) done.work
           ∙ notified_same old.plan (begin_changes verdicts old.plan (past old.steps) r)
-          (λ k. list_any (step_changes verdicts old.plan (past old.steps) (taken old.plan (past old.steps) asks.Begin (Ok reply))) (members old.plan k))
+          (λ k. list_any (step_changes verdicts old.plan (past old.steps) (taken verdicts old.plan (past old.steps) asks.Begin (Ok reply))) (members old.plan k))
           (λ j lt. sym (begin_changing verdicts old.plan (past old.steps) r j reply first));
       asked = omega (arith, ap (λ (w : Work). w.asked) done.work, asked_since start work _ rest asked);
       asked_all = λ _. omega arith;

@@ -1,6 +1,5 @@
--- Steps about requests that leave the values: when they may follow, and what a call that adds one does.
-use Rattle.std.proofs.Common.{◌≡◌, ℕ, ◌+◌, ◌<◌, ◌≤◌, Bool, true, false, List, [], length, is_some, if◌then◌else◌, Option, None, Some, Ok, Err, IsOk, refl, ap, sym, subst, ◌∙◌, arith, inl, inr}
-use Rattle.std.specs.List.{All}
+-- Steps that leave file handles, grabs and values: when they may follow, and what a call that adds one does.
+use Rattle.std.proofs.Common.{◌≡◌, ℕ, ◌+◌, ◌≤◌, Bool, true, false, List, [], length, is_some, if◌then◌else◌, Option, None, Some, Ok, Err, IsOk, refl, ap, sym, subst, ◌∙◌, arith, inl, inr}
 use Rattle.history.specs.Past.{past}
 use Rattle.ctrl_types.specs.declared.errno.Errno.{Errno}
 use Rattle.ctrl_types.specs.declared.errno.Errno.TheVariants.{EINVAL, ENOMEM, ENOSPC}
@@ -9,8 +8,7 @@ use Rattle.ctrl_calls.specs.Meanings.{Verdicts, Words}
 use Rattle.ctrl_calls.specs.declared.work.Work.{Work}
 use Rattle.ctrl_handlers.specs.Plan.{PlanData}
 use Rattle.req_book.specs.Requests.{RequestData, find}
-use Rattle.req_book.specs.Refusals.{buffer_refusal, queue_refusal, clear_refusal}
-use Rattle.frame_queue.specs.Frames.{FramesData, cancel_refusal}
+use Rattle.frame_queue.specs.Frames.{FramesData}
 use Rattle.device_history.specs.declared.ask.Ask.{Ask}
 use Rattle.device_history.specs.declared.ask.Reply.{Reply}
 use Rattle.device_history.specs.declared.ask.Step.{Step}
@@ -20,7 +18,7 @@ use Rattle.device_history.specs.Refusals.{is_full, refused, fault_of}
 use Rattle.device_history.specs.Grabs.{grabbed}
 use Rattle.device_history.specs.Values.{laid, now, now_after}
 use Rattle.device_history.specs.Words.{changes}
-use Rattle.device_history.specs.Snapshots.{applied, before_completion, request, request_in, requests, snapshot}
+use Rattle.device_history.specs.Snapshots.{applied, before_completion, request, request_in, snapshot}
 use Rattle.device_history.specs.Requests.{asked, state}
 use Rattle.std.specs.Option.{option_map}
 use Rattle.req_book.specs.Refusals as book
@@ -29,12 +27,11 @@ use Rattle.device_history.specs.declared.ask.Reply.TheVariants.{Controls, State}
 use Rattle.device_history.specs.RequestAnswers.{stepped, state_reply}
 use Rattle.device_history.specs.Answers.{MayAnswer, MayLackMemory, answer_of, step_of, no_memory}
 use Rattle.device_history.specs.Legal.{MayFollow}
-use Rattle.device_history.proofs.FitLemmas.{fits}
-use Rattle.device_history.proofs.FrameLaw.{found_request, fresh_request}
-use Rattle.device_history.specs.FrameSteps.{FitsFrames}
+use Rattle.device_history.proofs.FrameLaw.{found_request}
 use Rattle.ctrl_lists.specs.Touched.{with_calls}
 use Rattle.device_state.specs.Device.{DeviceData, Handles, may_ask, must_ask, with_step, step_changes}
-use Rattle.device_state.specs.Entering.{is_still, FitsIn, IsEntered, StoresKnown}
+use Rattle.step_effects.specs.Quiet.{NamesKnown, is_quiet}
+use Rattle.device_state.specs.Entering.{IsEntered}
 use Rattle.device_state.specs.Kept.{Caches, IsKept}
 use Rattle.device_state.proofs.HandleLemmas.{at_rest, asked_at_rest, told_since, asked_since, handles_set}
 use Rattle.device_state.proofs.SettingLemmas.{store_adds}
@@ -52,16 +49,16 @@ use Rattle.ctrl_types.specs.Values.{CtrlValue}
 use Rattle.req_book.proofs.SettingLemmas.{snapshot_long}
 use Rattle.device_history.proofs.PresentLemmas.{length_now}
 use Rattle.ctrl_lists.specs.Checks.{errno_of}
-use Rattle.device_state.proofs.StillLemmas.{acted_still}
+use Rattle.step_effects.proofs.QuietLemmas.{acted_quiet}
 
 -- an ask that adds such a step, where its refusal was read
-pub entered : (verdicts : Verdicts) (plan : PlanData) (older : Past) (words : List ℕ) (ask : Ask) (refusal own : Option Errno) (step : Step) (reply : Reply) → refusal ≡ own → is_still step ≡ true
-    → answer_of verdicts plan older words ask ≡ stepped own older reply → answer_of verdicts plan older [] ask ≡ stepped own older reply → (own ≡ None → step_of plan older ask ≡ Some step)
-    → (IsOk (stepped own older reply) → MayLackMemory verdicts plan older ask) → no_memory ask ≡ refused ENOMEM → must_ask plan older ask ≡ 0 → StoresKnown (length plan.controls) step
+pub entered : (verdicts : Verdicts) (plan : PlanData) (older : Past) (words : List ℕ) (ask : Ask) (refusal own : Option Errno) (step : Step) (reply : Reply) → refusal ≡ own → is_quiet step ≡ true
+    → answer_of verdicts plan older words ask ≡ stepped own older reply → answer_of verdicts plan older [] ask ≡ stepped own older reply → (own ≡ None → step_of verdicts plan older ask ≡ Some step)
+    → (IsOk (stepped own older reply) → MayLackMemory verdicts plan older ask) → no_memory ask ≡ refused ENOMEM → must_ask plan older ask ≡ 0 → (own ≡ None → NamesKnown (length plan.controls) step)
     → IsEntered verdicts plan older words ask refusal step reply
-entered verdicts plan older words ask refusal own step reply is still answers alone adds lacks plain nobody known =
+entered verdicts plan older words ask refusal own step reply is quiet answers alone adds lacks plain nobody known =
     subst (λ (o : Option Errno). IsEntered verdicts plan older words ask o step reply) (sym is)
-    (record { still = still; answers = answers; answers_alone = alone; adds = adds; lacks = lacks; plain = plain; asks_nobody = nobody; known = known })
+    (record { quiet = quiet; answers = answers; answers_alone = alone; adds = adds; lacks = lacks; plain = plain; asks_nobody = nobody; known = known })
 
 -- its own refusal
 pub entered_refused : (verdicts : Verdicts) (plan : PlanData) (older : Past) (words : List ℕ) (ask : Ask) (errno : Errno) (step : Step) (reply : Reply)
@@ -88,22 +85,22 @@ entered_follows verdicts plan older words ask step reply is room = (ask, ap faul
     nothing false h = refl
 
 -- such a step changes no control
-still_changes : (verdicts : Verdicts) (plan : PlanData) (older : Past) (step : Step) (c : ℕ) → is_still step ≡ true → step_changes verdicts plan older (Some step) c ≡ false
-still_changes verdicts plan older step c still =
-    ap (λ (l : Option (List Pair)). changes plan (now verdicts plan older) (now_after verdicts plan (grabbed plan older) (laid plan older step) (now verdicts plan older)) l c) (acted_still verdicts plan older step still)
+quiet_changes : (verdicts : Verdicts) (plan : PlanData) (older : Past) (step : Step) (c : ℕ) → is_quiet step ≡ true → step_changes verdicts plan older (Some step) c ≡ false
+quiet_changes verdicts plan older step c quiet =
+    ap (λ (l : Option (List Pair)). changes plan (now verdicts plan older) (now_after verdicts plan (grabbed plan older) (laid plan older step) (now verdicts plan older)) l c) (acted_quiet verdicts plan older step quiet)
 
 -- a call that adds one
-pub handles_still : (verdicts : Verdicts) (old : DeviceData) (work : Work) (seat : ℕ) (ask : Ask) (step : Step) (reply : Reply) → work.told ≡ 0 → work.asked ≤ may_ask old.plan (past old.steps) ask
+pub handles_quiet : (verdicts : Verdicts) (old : DeviceData) (work : Work) (seat : ℕ) (ask : Ask) (step : Step) (reply : Reply) → work.told ≡ 0 → work.asked ≤ may_ask old.plan (past old.steps) ask
     → (with_calls (must_ask old.plan (past old.steps) ask) 0 ≤ work.asked) → MayAnswer verdicts old.plan (past old.steps) old.words ask (Ok reply)
-    → step_of old.plan (past old.steps) ask ≡ Some step → is_still step ≡ true
+    → step_of verdicts old.plan (past old.steps) ask ≡ Some step → is_quiet step ≡ true
     → Handles verdicts old (with_step (record old { work = work }) seat step) seat ask (Ok reply)
-handles_still verdicts old work seat ask step reply told asked all may adds still = record {
+handles_quiet verdicts old work seat ask step reply told asked all may adds quiet = record {
   plan = refl;
   answers = may;
   refused = λ e. cc;
   steps = rw adds refl;
   words = λ k lt same. refl;
-  notified = told ∙ sym (rw adds (notified_none old.plan (step_changes verdicts old.plan (past old.steps) (Some step)) (λ c. still_changes verdicts old.plan (past old.steps) step c still)));
+  notified = told ∙ sym (rw adds (notified_none old.plan (step_changes verdicts old.plan (past old.steps) (Some step)) (λ c. quiet_changes verdicts old.plan (past old.steps) step c quiet)));
   asked = asked;
   asked_all = λ _. all;
 }
@@ -112,35 +109,12 @@ pub handles_entered : (verdicts : Verdicts) (old : DeviceData) (work : Work) (se
     → IsEntered verdicts old.plan (past old.steps) old.words ask None step reply → is_full (past old.steps) ≡ false
     → Handles verdicts old (with_step (record old { work = work }) seat step) seat ask (Ok reply)
 handles_entered verdicts old work seat ask step reply rest is room =
-    handles_still verdicts old work seat ask step reply (ap (λ (w : Work). w.told) rest) (asked_at_rest work _ rest) (rw is.asks_nobody (omega arith)) (inl (sym (is.answers ∙ rw room refl))) (is.adds refl) is.still
+    handles_quiet verdicts old work seat ask step reply (ap (λ (w : Work). w.told) rest) (asked_at_rest work _ rest) (rw is.asks_nobody (omega arith)) (inl (sym (is.answers ∙ rw room refl))) (is.adds refl) is.quiet
 
 -- the request that is kept under an id
 pub found : (verdicts : Verdicts) (told : Words) (plan : PlanData) (entries : History) (caches : Caches) (r : ℕ) → IsKept verdicts told plan entries caches
     → find caches.frames.requests.all r ≡ request verdicts plan (past entries) r
 found verdicts told plan entries caches r kept = ap (λ (f : FramesData). find f.requests.all r) kept.frames ∙ found_request verdicts plan (past entries) r kept.legal
-
--- a step that may follow can change what is kept
-pub fits_in : (verdicts : Verdicts) (told : Words) (plan : PlanData) (entries : History) (caches : Caches) (step : Step) → IsKept verdicts told plan entries caches → MayFollow verdicts plan (past entries) step
-    → is_still step ≡ true → StoresKnown (length plan.controls) step → FitsIn (length entries) step caches.frames
-fits_in verdicts told plan entries caches step kept may still known = by step (fits verdicts plan (past entries) step may) still known
-  where
-    by : (step : Step) → FitsFrames verdicts plan (past entries) step → is_still step ≡ true → StoresKnown (length plan.controls) step → FitsIn (length entries) step caches.frames
-    by steps.Alloc fit still known = found verdicts told plan entries caches (length entries) kept ∙ fresh_request verdicts plan entries kept.legal
-    by (steps.Store r pairs) fit still known = subst (λ (f : FramesData). All (λ p. p.control < f.requests.controls) pairs) (sym kept.frames) known
-    by (steps.Buffer r number) fit still known =
-        ap (λ (f : FramesData). buffer_refusal f.requests.all number (find f.requests.all r.0)) kept.frames
-        ∙ ap (buffer_refusal (requests verdicts plan (past entries)) number) (found_request verdicts plan (past entries) r.0 kept.legal) ∙ fit
-    by (steps.Queue r) fit still known = ap queue_refusal (found verdicts told plan entries caches r.0 kept) ∙ fit
-    by (steps.Complete r) fit still known = ap (λ (f : FramesData). f.running) kept.frames ∙ fit
-    by (steps.Cancel r) fit still known = ap cancel_refusal (found verdicts told plan entries caches r.0 kept) ∙ fit
-    by steps.StreamOff fit still known = tt
-    by (steps.Reinit r) fit still known = ap clear_refusal (found verdicts told plan entries caches r.0 kept) ∙ fit
-    by (steps.Free r) fit still known = ap clear_refusal (found verdicts told plan entries caches r.0 kept) ∙ fit
-    by (steps.OpenFh handler) fit still known = cc
-    by (steps.CloseFh fh) fit still known = cc
-    by (steps.Set fh pairs) fit still known = cc
-    by (steps.Grab c on) fit still known = cc
-    by (steps.Begin r) fit still known = cc
 
 -- a state that was read
 pub state_read : (verdicts : Verdicts) (plan : PlanData) (older : Past) (r : ℕ) (s : RequestState) → Ok s ≡ book.state_answer (request verdicts plan older r) → Ok (State s) ≡ state_reply (state older r)
@@ -166,7 +140,7 @@ pub handles_store : (verdicts : Verdicts) (old : DeviceData) (start work : Work)
     → with_calls (judged_count old.plan (touched old.plan (list_pairs old.plan (past old.steps) fh which list))) 0 ≤ work.asked
     → Handles verdicts old (with_step (record old { work = work }) seat (steps.Store stored touch.pairs)) seat (asks.SetCtrls fh which request list) (Ok (Controls controls))
 handles_store verdicts old start work seat fh which request stored list touch controls rest untold asked sets through reply all =
-    handles_still verdicts old work seat (asks.SetCtrls fh which request list) (steps.Store stored touch.pairs) (Controls controls) (told_since start work rest untold) (asked_since start work _ rest asked) all
+    handles_quiet verdicts old work seat (asks.SetCtrls fh which request list) (steps.Store stored touch.pairs) (Controls controls) (told_since start work rest untold) (asked_since start work _ rest asked) all
     (inl (ap (λ (l : List ExtControl). Ok (Controls l)) reply ∙ sym sets.accepted)) (store_adds verdicts old.plan (past old.steps) fh which request stored list touch sets through) refl
 
 -- a list that is accepted

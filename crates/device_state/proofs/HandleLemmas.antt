@@ -47,7 +47,7 @@ asked_at_rest work n rest = omega (arith, ap (λ (w : Work). w.asked) rest)
 
 -- a call that adds no step
 pub handles_none : (verdicts : Verdicts) (old : DeviceData) (work : Work) (seat : ℕ) (ask : Ask) (answer : Answer) → work.told ≡ 0 → work.asked ≤ may_ask old.plan (past old.steps) ask
-    → (IsOk answer → with_calls (must_ask old.plan (past old.steps) ask) 0 ≤ work.asked) → taken old.plan (past old.steps) ask answer ≡ None → MayAnswer verdicts old.plan (past old.steps) old.words ask answer
+    → (IsOk answer → with_calls (must_ask old.plan (past old.steps) ask) 0 ≤ work.asked) → taken verdicts old.plan (past old.steps) ask answer ≡ None → MayAnswer verdicts old.plan (past old.steps) old.words ask answer
     → Handles verdicts old (record old { work = work }) seat ask answer
 handles_none verdicts old work seat ask answer told asked all none may = record {
   plan = refl;
@@ -61,72 +61,72 @@ handles_none verdicts old work seat ask answer told asked all none may = record 
 }
 
 -- what reads takes no step
-taken_get : (plan : PlanData) (older : Past) (fh : FhId) (which : ℕ) (request : Option RequestId) (list : List ExtControl) (answer : Answer)
-    → taken plan older (asks.GetCtrls fh which request list) answer ≡ None
-taken_get plan older fh which request list (Ok reply) = refl
-taken_get plan older fh which request list (Err fault) = refl
+taken_get : (verdicts : Verdicts) (plan : PlanData) (older : Past) (fh : FhId) (which : ℕ) (request : Option RequestId) (list : List ExtControl) (answer : Answer)
+    → taken verdicts plan older (asks.GetCtrls fh which request list) answer ≡ None
+taken_get verdicts plan older fh which request list (Ok reply) = refl
+taken_get verdicts plan older fh which request list (Err fault) = refl
 
-taken_told : (plan : PlanData) (older : Past) (cluster : ℕ) (answer : Answer) → taken plan older (asks.Told cluster) answer ≡ None
-taken_told plan older cluster (Ok reply) = refl
-taken_told plan older cluster (Err fault) = refl
+taken_told : (verdicts : Verdicts) (plan : PlanData) (older : Past) (cluster : ℕ) (answer : Answer) → taken verdicts plan older (asks.Told cluster) answer ≡ None
+taken_told verdicts plan older cluster (Ok reply) = refl
+taken_told verdicts plan older cluster (Err fault) = refl
 
-taken_query : (plan : PlanData) (older : Past) (fh : FhId) (id : CtrlId) (answer : Answer) → taken plan older (asks.Query fh id) answer ≡ None
-taken_query plan older fh id (Ok reply) = refl
-taken_query plan older fh id (Err fault) = refl
+taken_query : (verdicts : Verdicts) (plan : PlanData) (older : Past) (fh : FhId) (id : CtrlId) (answer : Answer) → taken verdicts plan older (asks.Query fh id) answer ≡ None
+taken_query verdicts plan older fh id (Ok reply) = refl
+taken_query verdicts plan older fh id (Err fault) = refl
 
-taken_next : (plan : PlanData) (older : Past) (fh : FhId) (id : CtrlId) (answer : Answer) → taken plan older (asks.NextId fh id) answer ≡ None
-taken_next plan older fh id (Ok reply) = refl
-taken_next plan older fh id (Err fault) = refl
+taken_next : (verdicts : Verdicts) (plan : PlanData) (older : Past) (fh : FhId) (id : CtrlId) (answer : Answer) → taken verdicts plan older (asks.NextId fh id) answer ≡ None
+taken_next verdicts plan older fh id (Ok reply) = refl
+taken_next verdicts plan older fh id (Err fault) = refl
 
-taken_item : (plan : PlanData) (older : Past) (fh : FhId) (id : CtrlId) (index : ℕ) (answer : Answer) → taken plan older (asks.MenuItem fh id index) answer ≡ None
-taken_item plan older fh id index (Ok reply) = refl
-taken_item plan older fh id index (Err fault) = refl
+taken_item : (verdicts : Verdicts) (plan : PlanData) (older : Past) (fh : FhId) (id : CtrlId) (index : ℕ) (answer : Answer) → taken verdicts plan older (asks.MenuItem fh id index) answer ≡ None
+taken_item verdicts plan older fh id index (Ok reply) = refl
+taken_item verdicts plan older fh id index (Err fault) = refl
 
 -- a get
 pub handles_get : (verdicts : Verdicts) (old : DeviceData) (work : Work) (seat : ℕ) (fh : FhId) (which : ℕ) (request : Option RequestId) (list : List ExtControl) (answer : Answer) → work ≡ at_rest
     → MayAnswer verdicts old.plan (past old.steps) old.words (asks.GetCtrls fh which request list) answer
     → Handles verdicts old (record old { work = work }) seat (asks.GetCtrls fh which request list) answer
 handles_get verdicts old work seat fh which request list answer rest may =
-    handles_none verdicts old work seat _ answer (ap (λ (w : Work). w.told) rest) (asked_at_rest work _ rest) (λ _. omega arith) (taken_get old.plan (past old.steps) fh which request list answer) may
+    handles_none verdicts old work seat _ answer (ap (λ (w : Work). w.told) rest) (asked_at_rest work _ rest) (λ _. omega arith) (taken_get verdicts old.plan (past old.steps) fh which request list answer) may
 
 -- reading a word
 pub handles_told : (verdicts : Verdicts) (old : DeviceData) (work : Work) (seat cluster : ℕ) (answer : Answer) → work ≡ at_rest
     → answer ≡ told_answer old.plan old.words cluster
     → Handles verdicts old (record old { work = work }) seat (asks.Told cluster) answer
 handles_told verdicts old work seat cluster answer rest is =
-    handles_none verdicts old work seat _ answer (ap (λ (w : Work). w.told) rest) (asked_at_rest work _ rest) (λ _. omega arith) (taken_told old.plan (past old.steps) cluster answer) (inl is)
+    handles_none verdicts old work seat _ answer (ap (λ (w : Work). w.told) rest) (asked_at_rest work _ rest) (λ _. omega arith) (taken_told verdicts old.plan (past old.steps) cluster answer) (inl is)
 
 -- reading a request's state
-taken_state : (plan : PlanData) (older : Past) (request : RequestId) (answer : Answer) → taken plan older (asks.StateOf request) answer ≡ None
-taken_state plan older request (Ok reply) = refl
-taken_state plan older request (Err fault) = refl
+taken_state : (verdicts : Verdicts) (plan : PlanData) (older : Past) (request : RequestId) (answer : Answer) → taken verdicts plan older (asks.StateOf request) answer ≡ None
+taken_state verdicts plan older request (Ok reply) = refl
+taken_state verdicts plan older request (Err fault) = refl
 
 pub handles_state : (verdicts : Verdicts) (old : DeviceData) (work : Work) (seat : ℕ) (request : RequestId) (answer : Answer) → work ≡ at_rest
     → answer ≡ state_answer (past old.steps) request
     → Handles verdicts old (record old { work = work }) seat (asks.StateOf request) answer
 handles_state verdicts old work seat request answer rest is =
-    handles_none verdicts old work seat _ answer (ap (λ (w : Work). w.told) rest) (asked_at_rest work _ rest) (λ _. omega arith) (taken_state old.plan (past old.steps) request answer) (inl is)
+    handles_none verdicts old work seat _ answer (ap (λ (w : Work). w.told) rest) (asked_at_rest work _ rest) (λ _. omega arith) (taken_state verdicts old.plan (past old.steps) request answer) (inl is)
 
 -- a query
 pub handles_query : (verdicts : Verdicts) (old : DeviceData) (work : Work) (seat : ℕ) (fh : FhId) (id : CtrlId) (answer : Answer) → work ≡ at_rest
     → answer ≡ query_answer verdicts old.plan (past old.steps) fh id
     → Handles verdicts old (record old { work = work }) seat (asks.Query fh id) answer
 handles_query verdicts old work seat fh id answer rest is =
-    handles_none verdicts old work seat _ answer (ap (λ (w : Work). w.told) rest) (asked_at_rest work _ rest) (λ _. omega arith) (taken_query old.plan (past old.steps) fh id answer) (inl is)
+    handles_none verdicts old work seat _ answer (ap (λ (w : Work). w.told) rest) (asked_at_rest work _ rest) (λ _. omega arith) (taken_query verdicts old.plan (past old.steps) fh id answer) (inl is)
 
 -- the next id
 pub handles_next : (verdicts : Verdicts) (old : DeviceData) (work : Work) (seat : ℕ) (fh : FhId) (id : CtrlId) (answer : Answer) → work ≡ at_rest
     → answer ≡ next_answer old.plan (past old.steps) fh id
     → Handles verdicts old (record old { work = work }) seat (asks.NextId fh id) answer
 handles_next verdicts old work seat fh id answer rest is =
-    handles_none verdicts old work seat _ answer (ap (λ (w : Work). w.told) rest) (asked_at_rest work _ rest) (λ _. omega arith) (taken_next old.plan (past old.steps) fh id answer) (inl is)
+    handles_none verdicts old work seat _ answer (ap (λ (w : Work). w.told) rest) (asked_at_rest work _ rest) (λ _. omega arith) (taken_next verdicts old.plan (past old.steps) fh id answer) (inl is)
 
 -- an item of a menu
 pub handles_item : (verdicts : Verdicts) (old : DeviceData) (work : Work) (seat : ℕ) (fh : FhId) (id : CtrlId) (index : ℕ) (answer : Answer) → work ≡ at_rest
     → MayAnswer verdicts old.plan (past old.steps) old.words (asks.MenuItem fh id index) answer
     → Handles verdicts old (record old { work = work }) seat (asks.MenuItem fh id index) answer
 handles_item verdicts old work seat fh id index answer rest may =
-    handles_none verdicts old work seat _ answer (ap (λ (w : Work). w.told) rest) (asked_at_rest work _ rest) (λ _. omega arith) (taken_item old.plan (past old.steps) fh id index answer) may
+    handles_none verdicts old work seat _ answer (ap (λ (w : Work). w.told) rest) (asked_at_rest work _ rest) (λ _. omega arith) (taken_item verdicts old.plan (past old.steps) fh id index answer) may
 
 -- a refusal before anybody is asked
 pub handles_refused : (verdicts : Verdicts) (old new : DeviceData) (work : Work) (seat : ℕ) (ask : Ask) (fault : Fault) → new ≡ record old { work = work } → work ≡ at_rest
@@ -192,26 +192,26 @@ asked_since start work n rest asked = omega (arith, asked, ap (λ (w : Work). w.
 
 -- a call that changes nothing, where validators were asked
 pub handles_asked : (verdicts : Verdicts) (old new : DeviceData) (start work : Work) (seat : ℕ) (ask : Ask) (answer : Answer) → new ≡ record old { work = work } → start ≡ at_rest
-    → work.told ≡ start.told → work.asked ≤ start.asked + may_ask old.plan (past old.steps) ask → (IsOk answer → with_calls (must_ask old.plan (past old.steps) ask) 0 ≤ work.asked) → taken old.plan (past old.steps) ask answer ≡ None
+    → work.told ≡ start.told → work.asked ≤ start.asked + may_ask old.plan (past old.steps) ask → (IsOk answer → with_calls (must_ask old.plan (past old.steps) ask) 0 ≤ work.asked) → taken verdicts old.plan (past old.steps) ask answer ≡ None
     → MayAnswer verdicts old.plan (past old.steps) old.words ask answer → Handles verdicts old new seat ask answer
 handles_asked verdicts old new start work seat ask answer begin rest told asked all none may =
     rw begin (handles_none verdicts old work seat ask answer (told_since start work rest told) (asked_since start work _ rest asked) all none may)
 
 -- a try takes no step
-pub taken_try : (plan : PlanData) (older : Past) (fh : FhId) (which : ℕ) (request : Option RequestId) (list : List ExtControl) (answer : Answer)
-    → taken plan older (asks.TryCtrls fh which request list) answer ≡ None
-taken_try plan older fh which request list (Ok reply) = refl
-taken_try plan older fh which request list (Err fault) = refl
+pub taken_try : (verdicts : Verdicts) (plan : PlanData) (older : Past) (fh : FhId) (which : ℕ) (request : Option RequestId) (list : List ExtControl) (answer : Answer)
+    → taken verdicts plan older (asks.TryCtrls fh which request list) answer ≡ None
+taken_try verdicts plan older fh which request list (Ok reply) = refl
+taken_try verdicts plan older fh which request list (Err fault) = refl
 
 -- a forecast takes no step
-pub taken_forecast : (plan : PlanData) (older : Past) (place : ℕ) (answer : Answer) → taken plan older (asks.Forecast place) answer ≡ None
-taken_forecast plan older place (Ok reply) = refl
-taken_forecast plan older place (Err fault) = refl
+pub taken_forecast : (verdicts : Verdicts) (plan : PlanData) (older : Past) (place : ℕ) (answer : Answer) → taken verdicts plan older (asks.Forecast place) answer ≡ None
+taken_forecast verdicts plan older place (Ok reply) = refl
+taken_forecast verdicts plan older place (Err fault) = refl
 
 -- what a set changes of the members of a cluster: what the row that it gets changes
 set_changing : (verdicts : Verdicts) (plan : PlanData) (older : Past) (fh : FhId) (which : ℕ) (request : Option RequestId) (list : List ExtControl) (touch : TouchedData) (reply : Reply)
     → IsSettable verdicts plan older fh which request list touch → meant (which_or (which_of which)) request ≡ None → (j : ℕ) → j < length plan.clusters
-    → list_any (step_changes verdicts plan older (taken plan older (asks.SetCtrls fh which request list) (Ok reply))) (members plan j)
+    → list_any (step_changes verdicts plan older (taken verdicts plan older (asks.SetCtrls fh which request list) (Ok reply))) (members plan j)
     ≡ cluster_changes plan (now verdicts plan older) touch.pairs touch.rows j
 set_changing verdicts plan older fh which request list touch reply sets current j lt =
     ap (λ (step : Step). list_any (step_changes verdicts plan older (Some step)) (members plan j)) (set_step (meant (which_or (which_of which)) request) fh (list_pairs plan older fh which list) current)
@@ -237,7 +237,7 @@ handles_set verdicts told old between new start work seat fh which request list 
       notified =
           ap (λ (w : Work). w.told) done.work
           ∙ notified_same old.plan (cluster_changes old.plan (now verdicts old.plan (past old.steps)) touch.pairs touch.rows)
-          (λ k. list_any (step_changes verdicts old.plan (past old.steps) (taken old.plan (past old.steps) (asks.SetCtrls fh which request list) (Ok (Controls controls)))) (members old.plan k)) (λ j lt. sym (changing j lt));
+          (λ k. list_any (step_changes verdicts old.plan (past old.steps) (taken verdicts old.plan (past old.steps) (asks.SetCtrls fh which request list) (Ok (Controls controls)))) (members old.plan k)) (λ j lt. sym (changing j lt));
       asked = omega (arith, ap (λ (w : Work). w.asked) done.work, asked_since start work _ rest asked);
       asked_all = λ _. omega (arith, ap (λ (w : Work). w.asked) done.work, all);
     }

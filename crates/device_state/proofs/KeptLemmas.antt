@@ -1,5 +1,5 @@
 -- Each kind of step keeps the device's parts what they are defined to be.
-use Rattle.std.proofs.Common.{◌≡◌, ℕ, nat_eq, ◌<◌, Bool, false, map, List, [], ◌∷◌, ◌++◌, length, Option, Some, None, true, IsOk, Ok, slice_set, refl, ap, sym, ◌∙◌, subst, arith, length-append}
+use Rattle.std.proofs.Common.{◌≡◌, ℕ, nat_eq, ◌<◌, ◌≤◌, ◌+◌, Bool, false, map, List, [], ◌∷◌, ◌++◌, length, Option, Some, None, true, IsOk, Ok, slice_set, refl, ap, sym, ◌∙◌, subst, arith, length-append}
 use Rattle.std.specs.Map.{lookup, remove_entry}
 use Rattle.std.proofs.lemmas.Grind.{common_steps}
 use Rattle.std.proofs.lemmas.Bool.Decides.{nat_tests}
@@ -16,9 +16,14 @@ use Rattle.device_history.specs.declared.ask.Reply.{Reply}
 use Rattle.device_history.specs.declared.ask.Reply.TheVariants.{Controls}
 use Rattle.device_history.specs.declared.ask.Step.{Step}
 use Rattle.device_history.specs.declared.ask.Step.TheVariants.{OpenFh, CloseFh, Set, Grab}
-use Rattle.ctrl_handlers.specs.Plan.{PlanData}
+use Rattle.ctrl_events.specs.Events.{EventsData, FileEvents, events_of, no_events, only_at}
+use Rattle.ctrl_raises.specs.Raises.{MomentData}
+use Rattle.device_history.specs.EventSteps.{AreAround, AreEvents, events_after}
+use Rattle.device_history.proofs.EventLemmas.{events_add, events_start}
+use Rattle.device_history.proofs.RaiseLaw.{numbers_left}
+use Rattle.ctrl_handlers.specs.Plan.{IsPlan, PlanData}
 use Rattle.ctrl_lists.specs.Touched.{TouchedData, AreJudged}
-use Rattle.device_history.specs.Steps.{History}
+use Rattle.device_history.specs.Steps.{History, Past}
 use Rattle.device_history.specs.Handles.{opened, ever_opened, open_answer, close_answer, opened_after}
 use Rattle.ctrl_clusters.specs.Rows.{Grabs, Values}
 use Rattle.device_history.specs.Grabs.{grabbed, grab_answer, grabbed_after}
@@ -38,10 +43,10 @@ use Rattle.device_history.specs.Answers.{step_of}
 use Rattle.device_history.specs.Legal.{IsLegal, MayFollow}
 use Rattle.device_state.specs.Kept.{Caches, IsKept}
 use Rattle.device_state.specs.Setting.{IsSettable}
-use Rattle.device_state.specs.Entering.{is_still}
-use Rattle.device_state.proofs.StillLemmas.{opened_still, grabbed_still, laid_still}
+use Rattle.step_effects.specs.Quiet.{is_quiet}
+use Rattle.step_effects.proofs.QuietLemmas.{opened_quiet, grabbed_quiet, laid_quiet}
 use Rattle.device_history.proofs.PastLemmas.{opened_add, opened_fresh, opened_rising, drops_one, now_add, legal_add}
-use Rattle.device_history.proofs.GrabLemmas.{grabbed_start, grabbed_add}
+use Rattle.device_history.proofs.GrabLemmas.{grabbed_start, grabbed_add, grabbed_more}
 use Rattle.device_history.proofs.LegalLemmas.{unrefused}
 use Rattle.device_history.proofs.PresentLemmas.{length_now}
 use Rattle.device_state.proofs.SetLemmas.{laid_written, words_after}
@@ -49,15 +54,18 @@ use Rattle.device_state.proofs.SettingLemmas.{own_judged, set_step}
 
 -- a device without steps
 pub kept_start : (verdicts : Verdicts) (told : Words) (plan : PlanData) (steps : History) (caches : Caches) → steps ≡ [] → caches.file_handles ≡ [] → caches.grabs ≡ map (λ _. false) plan.controls → caches.values ≡ defaults plan
-    → ◌≡◌ {A = FramesData} caches.frames (record { requests = record { controls = length plan.controls; all = [] }; queue = []; running = None }) → HaveWords told plan (defaults plan) caches.words → IsKept verdicts told plan steps caches
+    → ◌≡◌ {A = FramesData} caches.frames (record { requests = record { controls = length plan.controls; all = [] }; queue = []; running = None }) → HaveWords told plan (defaults plan) caches.words
+    → IsPlan plan → ((j : ℕ) → events_of caches.events j ≡ no_events) → IsKept verdicts told plan steps caches
 unfolding IsLegal opened ever_opened now
-kept_start verdicts told plan steps caches s h g v f w = rw s (record {
+kept_start verdicts told plan steps caches s h g v f w plans ev = rw s (record {
+  plans = plans;
   legal = tt;
   few = omega arith;
   file_handles = h;
   grabs = g ∙ sym (grabbed_start plan);
   values = v;
   frames = f ∙ sym (frames_start verdicts plan);
+  events = λ fh. subst (λ (k : FileEvents). AreEvents verdicts plan (past []) fh k) (sym (ev fh.0)) (events_start verdicts plan fh);
   words = subst (λ (values : Values). HaveWords told plan values caches.words) (sym v) w;
 })
 
@@ -73,14 +81,16 @@ pub kept_add : (verdicts : Verdicts) (told : Words) (plan : PlanData) (steps ste
     → caches'.file_handles ≡ opened_after (length steps) e.step (opened (past steps)) → caches'.grabs ≡ grabbed_after e.step (grabbed plan (past steps))
     → caches'.values ≡ now_after verdicts plan (grabbed plan (past steps)) (laid plan (past steps) e.step) (now verdicts plan (past steps))
     → caches'.frames ≡ frames_after verdicts plan (past steps) (length steps) e.step (frames verdicts plan (past steps)) → HaveWords told plan caches'.values caches'.words
-    → IsKept verdicts told plan steps' caches'
-kept_add verdicts told plan steps steps' caches caches' e kept room may s h g v f w = rw s (record {
+    → ((fh : FhId) → events_of caches'.events fh.0 ≡ events_after verdicts plan e (past steps) fh (events_of caches.events fh.0)) → IsKept verdicts told plan steps' caches'
+kept_add verdicts told plan steps steps' caches caches' e kept room may s h g v f w ev = rw s (record {
+  plans = kept.plans;
   legal = legal_add verdicts plan steps e kept.legal may;
   few = omega (arith, length-append steps (e ∷ []));
   file_handles = h ∙ sym (opened_add steps e);
   grabs = g ∙ sym (grabbed_add plan steps e);
   values = v ∙ sym (now_add verdicts plan steps e);
   frames = f ∙ sym (frames_add verdicts plan steps e kept.legal may);
+  events = λ fh. subst (λ (k : FileEvents). AreEvents verdicts plan (past (steps ++ e ∷ [])) fh k) (sym (ev fh)) (events_add verdicts plan steps e fh (events_of caches.events fh.0) kept.plans kept.legal may (kept.events fh));
   words = w;
 })
 
@@ -95,20 +105,21 @@ pub kept_open : (verdicts : Verdicts) (told : Words) (plan : PlanData) (steps st
 kept_open verdicts told plan steps steps' caches handles seat handler kept accepted s h =
     kept_add verdicts told plan steps steps' caches (record caches { file_handles = handles }) (record { seat = seat; step = OpenFh handler }) kept (open_room plan steps handler accepted)
     (asks.OpenFh handler, unrefused (open_answer plan (past steps) handler) accepted, refl) s
-    (h ∙ ap (λ (os : List (ℕ × ℕ)). os ++ (length steps, handler) ∷ []) kept.file_handles) kept.grabs kept.values kept.frames kept.words
+    (h ∙ ap (λ (os : List (ℕ × ℕ)). os ++ (length steps, handler) ∷ []) kept.file_handles) kept.grabs kept.values kept.frames kept.words (λ fh. refl)
 
 -- where a close is accepted, one more step is kept
 close_room : (steps : History) (fh : FhId) → IsOk (close_answer (past steps) fh) → length steps < MAX_STEPS
 close_room steps fh accepted = grind (arith, common_steps, nat_tests, length_past steps)
 
 -- a close
-pub kept_close : (verdicts : Verdicts) (told : Words) (plan : PlanData) (steps steps' : History) (caches : Caches) (handles : List (ℕ × ℕ)) (seat : ℕ) (fh : FhId)
+pub kept_close : (verdicts : Verdicts) (told : Words) (plan : PlanData) (steps steps' : History) (caches : Caches) (handles : List (ℕ × ℕ)) (events : EventsData) (seat : ℕ) (fh : FhId)
     → IsKept verdicts told plan steps caches → IsOk (close_answer (past steps) fh) → steps' ≡ steps ++ record { seat = seat; step = CloseFh fh } ∷ []
-    → handles ≡ remove_entry (nat_eq fh.0) caches.file_handles → IsKept verdicts told plan steps' (record caches { file_handles = handles })
-kept_close verdicts told plan steps steps' caches handles seat fh kept accepted s h =
-    kept_add verdicts told plan steps steps' caches (record caches { file_handles = handles }) (record { seat = seat; step = CloseFh fh }) kept (close_room steps fh accepted)
+    → handles ≡ remove_entry (nat_eq fh.0) caches.file_handles → ((j : ℕ) → events_of events j ≡ only_at fh.0 (λ f. no_events) j (events_of caches.events j))
+    → IsKept verdicts told plan steps' (record caches { file_handles = handles; events = events })
+kept_close verdicts told plan steps steps' caches handles events seat fh kept accepted s h ev =
+    kept_add verdicts told plan steps steps' caches (record caches { file_handles = handles; events = events }) (record { seat = seat; step = CloseFh fh }) kept (close_room steps fh accepted)
     (asks.CloseFh fh, unrefused (close_answer (past steps) fh) accepted, refl) s
-    (h ∙ ap (remove_entry (nat_eq fh.0)) kept.file_handles ∙ drops_one fh.0 (opened (past steps)) (opened_rising (past steps))) kept.grabs kept.values kept.frames kept.words
+    (h ∙ ap (remove_entry (nat_eq fh.0)) kept.file_handles ∙ drops_one fh.0 (opened (past steps)) (opened_rising (past steps))) kept.grabs kept.values kept.frames kept.words (λ j. ev j.0)
 
 -- where a grab is accepted, one more step is kept
 grab_room : (plan : PlanData) (steps : History) (c : ℕ) → IsOk (grab_answer plan (past steps) c) → length steps < MAX_STEPS
@@ -119,13 +130,15 @@ pub grab_known : (plan : PlanData) (steps : History) (c : ℕ) → IsOk (grab_an
 grab_known plan steps c accepted = grind (arith, common_steps, nat_tests)
 
 -- a grab
-pub kept_grab : (verdicts : Verdicts) (told : Words) (plan : PlanData) (steps steps' : History) (caches : Caches) (grabs : Grabs) (seat c : ℕ) (on : Bool)
+pub kept_grab : (verdicts : Verdicts) (told : Words) (plan : PlanData) (steps steps' : History) (caches : Caches) (grabs : Grabs) (events : EventsData) (seat c : ℕ) (on : Bool)
     → IsKept verdicts told plan steps caches → IsOk (grab_answer plan (past steps) c) → steps' ≡ steps ++ record { seat = seat; step = Grab c on } ∷ []
-    → grabs ≡ slice_set caches.grabs c on → IsKept verdicts told plan steps' (record caches { grabs = grabs })
-kept_grab verdicts told plan steps steps' caches grabs seat c on kept accepted s g =
-    kept_add verdicts told plan steps steps' caches (record caches { grabs = grabs }) (record { seat = seat; step = Grab c on }) kept (grab_room plan steps c accepted)
+    → grabs ≡ slice_set caches.grabs c on
+    → ((fh : FhId) → events_of events fh.0 ≡ events_after verdicts plan (record { seat = seat; step = Grab c on }) (past steps) fh (events_of caches.events fh.0))
+    → IsKept verdicts told plan steps' (record caches { grabs = grabs; events = events })
+kept_grab verdicts told plan steps steps' caches grabs events seat c on kept accepted s g ev =
+    kept_add verdicts told plan steps steps' caches (record caches { grabs = grabs; events = events }) (record { seat = seat; step = Grab c on }) kept (grab_room plan steps c accepted)
     (asks.Grab c on, unrefused (grab_answer plan (past steps) c) accepted, refl) s
-    kept.file_handles (g ∙ ap (λ (gs : Grabs). slice_set gs c on) kept.grabs) kept.values kept.frames kept.words
+    kept.file_handles (g ∙ ap (λ (gs : Grabs). slice_set gs c on) kept.grabs) kept.values kept.frames kept.words ev
 
 -- where a list is set, one more step is kept
 pub set_room : (steps : History) → is_full (past steps) ≡ false → length steps < MAX_STEPS
@@ -135,35 +148,70 @@ accepted_set : (answer : Answer) (reply : Reply) → answer ≡ Ok reply → IsO
 accepted_set answer reply is = rw is refl
 
 -- a set
-pub kept_set : (verdicts : Verdicts) (told : Words) (plan : PlanData) (steps steps' : History) (caches : Caches) (values : Values) (words : List ℕ) (seat : ℕ) (fh : FhId) (which : ℕ) (request : Option RequestId) (list : List ExtControl)
+pub kept_set : (verdicts : Verdicts) (told : Words) (plan : PlanData) (steps steps' : History) (caches : Caches) (values : Values) (events : EventsData) (words : List ℕ) (seat : ℕ) (fh : FhId) (which : ℕ) (request : Option RequestId) (list : List ExtControl)
     (touch : TouchedData) → IsKept verdicts told plan steps caches → IsSettable verdicts plan (past steps) fh which request list touch → meant (which_or (which_of which)) request ≡ None
     → steps' ≡ steps ++ record { seat = seat; step = Set fh touch.pairs } ∷ []
     → values ≡ written plan caches.values touch.rows
     → AreRenewed told plan (cluster_changes plan caches.values touch.pairs touch.rows) (row_given touch.rows) caches.words words
-    → IsKept verdicts told plan steps' (record caches { values = values; words = words })
-kept_set verdicts told plan steps steps' caches values words seat fh which request list touch kept sets current s v retold =
+    → ((j : FhId) → events_of events j.0 ≡ events_after verdicts plan (record { seat = seat; step = Set fh touch.pairs }) (past steps) j (events_of caches.events j.0))
+    → IsKept verdicts told plan steps' (record caches { values = values; events = events; words = words })
+kept_set verdicts told plan steps steps' caches values events words seat fh which request list touch kept sets current s v retold ev =
     let many : length caches.values ≡ length plan.controls = ap length kept.values ∙ length_now verdicts plan (past steps) in
     let present : AreJudged verdicts plan plan.controls (now verdicts plan (past steps)) touch.pairs touch.pairs touch.rows = own_judged verdicts plan (past steps) fh which request list touch sets current in
     let judged : AreJudged verdicts plan plan.controls caches.values touch.pairs touch.pairs touch.rows =
     subst (λ (v : Values). AreJudged verdicts plan plan.controls v touch.pairs touch.pairs touch.rows) (sym kept.values) present in
-    let adds : step_of plan (past steps) (asks.SetCtrls fh which request list) ≡ Some (Set fh touch.pairs) =
+    let adds : step_of verdicts plan (past steps) (asks.SetCtrls fh which request list) ≡ Some (Set fh touch.pairs) =
     ap Some (set_step (meant (which_or (which_of which)) request) fh (list_pairs plan (past steps) fh which list) current) ∙ ap (λ (pairs : List Pair). Some (Set fh pairs)) (sym sets.own_pairs) in
     let accepted : IsOk (set_list_answer verdicts plan (past steps) fh which request list) = accepted_set (set_list_answer verdicts plan (past steps) fh which request list) (Controls touch.answers) sets.accepted in
-    kept_add verdicts told plan steps steps' caches (record caches { values = values; words = words }) (record { seat = seat; step = Set fh touch.pairs }) kept (set_room steps sets.room)
+    kept_add verdicts told plan steps steps' caches (record caches { values = values; events = events; words = words }) (record { seat = seat; step = Set fh touch.pairs }) kept (set_room steps sets.room)
     (asks.SetCtrls fh which request list, unrefused (set_list_answer verdicts plan (past steps) fh which request list) accepted, adds) s
     kept.file_handles kept.grabs
     (v ∙ ap (λ (v : Values). written plan v touch.rows) kept.values ∙ sym (laid_written verdicts plan (now verdicts plan (past steps)) (grabbed plan (past steps)) touch.pairs touch.rows sets.plans present sets.free))
     kept.frames
     (subst (λ (v : Values). HaveWords told plan v words) (laid_written verdicts plan caches.values (grabbed plan (past steps)) touch.pairs touch.rows sets.plans judged sets.free ∙ sym v)
     (words_after told verdicts plan caches.values (grabbed plan (past steps)) touch.pairs touch.rows caches.words words sets.plans many judged sets.free kept.words retold))
+    ev
 
--- a step about requests that lays nothing over the values
-pub kept_frames : (verdicts : Verdicts) (told : Words) (plan : PlanData) (steps steps' : History) (caches : Caches) (f : FramesData) (seat : ℕ) (step : Step)
-    → IsKept verdicts told plan steps caches → is_full (past steps) ≡ false → MayFollow verdicts plan (past steps) step → is_still step ≡ true → steps' ≡ steps ++ record { seat = seat; step = step } ∷ []
-    → f ≡ frames_after verdicts plan (past steps) (length steps) step caches.frames → IsKept verdicts told plan steps' (record caches { frames = f })
-kept_frames verdicts told plan steps steps' caches f seat step kept room may still s made =
-    kept_add verdicts told plan steps steps' caches (record caches { frames = f }) (record { seat = seat; step = step }) kept (set_room steps room) may s
-    (kept.file_handles ∙ sym (opened_still (length steps) step (opened (past steps)) still))
-    (kept.grabs ∙ sym (grabbed_still step (grabbed plan (past steps)) still))
-    (kept.values ∙ ap (λ (l : Option (List Pair)). now_after verdicts plan (grabbed plan (past steps)) l (now verdicts plan (past steps))) (sym (laid_still plan (past steps) step still)))
-    (made ∙ ap (frames_after verdicts plan (past steps) (length steps) step) kept.frames) kept.words
+-- what a set lays over the values
+pub set_lays : (verdicts : Verdicts) (told : Words) (plan : PlanData) (steps : History) (caches : Caches) (values : Values) (fh : FhId) (which : ℕ) (request : Option RequestId) (list : List ExtControl) (touch : TouchedData) → IsKept verdicts told plan steps caches
+    → IsSettable verdicts plan (past steps) fh which request list touch → meant (which_or (which_of which)) request ≡ None → values ≡ written plan caches.values touch.rows
+    → values ≡ now_after verdicts plan (grabbed plan (past steps)) (laid plan (past steps) (Set fh touch.pairs)) (now verdicts plan (past steps))
+set_lays verdicts told plan steps caches values fh which request list touch kept sets current v =
+    v ∙ ap (λ (v : Values). written plan v touch.rows) kept.values
+    ∙ sym (laid_written verdicts plan (now verdicts plan (past steps)) (grabbed plan (past steps)) touch.pairs touch.rows sets.plans (own_judged verdicts plan (past steps) fh which request list touch sets current) sets.free)
+
+-- a step that leaves file handles, grabs and values
+pub kept_quiet : (verdicts : Verdicts) (told : Words) (plan : PlanData) (steps steps' : History) (caches : Caches) (f : FramesData) (events : EventsData) (seat : ℕ) (step : Step)
+    → IsKept verdicts told plan steps caches → is_full (past steps) ≡ false → MayFollow verdicts plan (past steps) step → is_quiet step ≡ true → steps' ≡ steps ++ record { seat = seat; step = step } ∷ []
+    → f ≡ frames_after verdicts plan (past steps) (length steps) step caches.frames
+    → ((fh : FhId) → events_of events fh.0 ≡ events_after verdicts plan (record { seat = seat; step = step }) (past steps) fh (events_of caches.events fh.0)) → IsKept verdicts told plan steps' (record caches { frames = f; events = events })
+kept_quiet verdicts told plan steps steps' caches f events seat step kept room may quiet s made ev =
+    kept_add verdicts told plan steps steps' caches (record caches { frames = f; events = events }) (record { seat = seat; step = step }) kept (set_room steps room) may s
+    (kept.file_handles ∙ sym (opened_quiet (length steps) step (opened (past steps)) quiet))
+    (kept.grabs ∙ sym (grabbed_quiet step (grabbed plan (past steps)) quiet))
+    (kept.values ∙ ap (λ (l : Option (List Pair)). now_after verdicts plan (grabbed plan (past steps)) l (now verdicts plan (past steps))) (sym (laid_quiet plan (past steps) step quiet)))
+    (made ∙ ap (frames_after verdicts plan (past steps) (length steps) step) kept.frames) kept.words ev
+
+-- there is a number for each raise of one more step
+pub numbered : (verdicts : Verdicts) (told : Words) (plan : PlanData) (steps : History) (caches : Caches) → IsKept verdicts told plan steps caches → (j : ℕ) → (events_of caches.events j).next + length plan.controls ≤ 4294967295
+numbered verdicts told plan steps caches kept j = numbers_left verdicts plan (past steps) (record { 0 = j }) (events_of caches.events j) kept.plans (omega (arith, length_past steps, kept.few)) (kept.events (record { 0 = j }))
+
+-- the present values after one more step
+pub now_next : (verdicts : Verdicts) (plan : PlanData) (e : Entry Step) (older : Past) → now verdicts plan (e ∷ older) ≡ now_after verdicts plan (grabbed plan older) (laid plan older e.step) (now verdicts plan older)
+unfolding now
+now_next verdicts plan e older = refl
+
+-- a moment of the same values and grabs
+pub moment : {values values' : Values} {grabs grabs' : Grabs} → values ≡ values' → grabs ≡ grabs' → ◌≡◌ {A = MomentData} (record { values = values; grabs = grabs }) (record { values = values'; grabs = grabs' })
+moment v g = rw (v, g) refl
+
+-- the values and grabs around a step
+pub around : (verdicts : Verdicts) (told : Words) (plan : PlanData) (steps : History) (caches : Caches) (e : Entry Step) (before after : MomentData) → IsKept verdicts told plan steps caches
+    → before ≡ record { values = caches.values; grabs = caches.grabs } → after.values ≡ now_after verdicts plan (grabbed plan (past steps)) (laid plan (past steps) e.step) (now verdicts plan (past steps))
+    → after.grabs ≡ grabbed_after e.step (grabbed plan (past steps)) → AreAround verdicts plan e (past steps) before after
+around verdicts told plan steps caches e before after kept b v g = record {
+  old_values = ap (λ (m : MomentData). m.values) b ∙ kept.values;
+  old_grabs = ap (λ (m : MomentData). m.grabs) b ∙ kept.grabs;
+  values = v ∙ sym (now_next verdicts plan e (past steps));
+  grabs = g ∙ sym (grabbed_more plan e (past steps));
+}

@@ -1,6 +1,6 @@
 pub mod ForecastLemmas
-pub mod StillLemmas
 pub mod EnterLemmas
+pub mod EventLemmas
 pub mod BeginLemmas
 pub mod SetLemmas
 pub mod AnswerLemmas

@@ -21,24 +21,24 @@ run_plan verdicts [] first last run = ap (λ (d : DeviceData). d.plan) run
 run_plan verdicts (call ∷ calls) first last run = run_plan verdicts calls run.0 last run.2 ∙ run.1.plan
 
 -- the steps grow by what the calls add
-pub run_steps : (verdicts : Verdicts) (calls : List Call) (first last : DeviceData) → IsRun verdicts first calls last → last.steps ≡ first.steps ++ entries_of first.plan first.steps calls
+pub run_steps : (verdicts : Verdicts) (calls : List Call) (first last : DeviceData) → IsRun verdicts first calls last → last.steps ≡ first.steps ++ entries_of verdicts first.plan first.steps calls
 unfolding IsRun entries_of
 run_steps verdicts [] first last run = ap (λ (d : DeviceData). d.steps) run ∙ sym (append-nil first.steps)
 run_steps verdicts (call ∷ calls) first last run =
     let next : DeviceData = run.0 in
-    let entry : History = entry_of first.plan first.steps call in
+    let entry : History = entry_of verdicts first.plan first.steps call in
     run_steps verdicts calls next last run.2
-    ∙ ap (λ (p : PlanData). next.steps ++ entries_of p next.steps calls) run.1.plan
-    ∙ ap (λ (s : History). s ++ entries_of first.plan s calls) run.1.steps
-    ∙ append_assoc first.steps entry (entries_of first.plan (first.steps ++ entry) calls)
+    ∙ ap (λ (p : PlanData). next.steps ++ entries_of verdicts p next.steps calls) run.1.plan
+    ∙ ap (λ (s : History). s ++ entries_of verdicts first.plan s calls) run.1.steps
+    ∙ append_assoc first.steps entry (entries_of verdicts first.plan (first.steps ++ entry) calls)
 
 -- what a call adds may follow
 entered_legal : (verdicts : Verdicts) (plan : PlanData) (steps : History) (words : List ℕ) (seat : ℕ) (ask : Ask) (answer : Answer) → MayAnswer verdicts plan (past steps) words ask answer → IsLegal verdicts plan (past steps)
-    → IsLegal verdicts plan (past (steps ++ entered seat (taken plan (past steps) ask answer)))
+    → IsLegal verdicts plan (past (steps ++ entered seat (taken verdicts plan (past steps) ask answer)))
 entered_legal verdicts plan steps words seat ask (Err fault) may legal = rw (append-nil steps) legal
-entered_legal verdicts plan steps words seat ask (Ok reply) may legal = by (step_of plan (past steps) ask) refl
+entered_legal verdicts plan steps words seat ask (Ok reply) may legal = by (step_of verdicts plan (past steps) ask) refl
   where
-    by : (o : Option Step) → step_of plan (past steps) ask ≡ o → IsLegal verdicts plan (past (steps ++ entered seat o))
+    by : (o : Option Step) → step_of verdicts plan (past steps) ask ≡ o → IsLegal verdicts plan (past (steps ++ entered seat o))
     by None is = rw (append-nil steps) legal
     by (Some step) is = legal_add verdicts plan steps (record { seat = seat; step = step }) legal (taken_follows verdicts plan (past steps) words ask reply step may is)
 

@@ -70,7 +70,7 @@ store_step (Some r) stored fh pairs h = ap (λ (x : RequestId). Store x pairs) (
 
 -- an accepted list that speaks of a request stores its pairs
 pub store_adds : (verdicts : Verdicts) (plan : PlanData) (older : Past) (fh : FhId) (which : ℕ) (request : Option RequestId) (stored : RequestId) (list : List ExtControl) (touch : TouchedData)
-    → IsSettable verdicts plan older fh which request list touch → meant (which_or (which_of which)) request ≡ Some stored → step_of plan older (asks.SetCtrls fh which request list) ≡ Some (Store stored touch.pairs)
+    → IsSettable verdicts plan older fh which request list touch → meant (which_or (which_of which)) request ≡ Some stored → step_of verdicts plan older (asks.SetCtrls fh which request list) ≡ Some (Store stored touch.pairs)
 store_adds verdicts plan older fh which request stored list touch sets through =
     ap Some (store_step (meant (which_or (which_of which)) request) stored fh (list_pairs plan older fh which list) through) ∙ ap (λ (pairs : List Pair). Some (Store stored pairs)) (sym sets.own_pairs)
 

@@ -73,10 +73,10 @@ pub record Handles (verdicts : Verdicts) (old new : DeviceData) (seat : ℕ) (as
   pub answers : MayAnswer verdicts old.plan (past old.steps) old.words ask answer
   -- a refused call changes nothing but the counts of work
   pub refused : IsErr answer → new ≡ record old { work = new.work }
-  pub steps : new.steps ≡ old.steps ++ entered seat (taken old.plan (past old.steps) ask answer)
+  pub steps : new.steps ≡ old.steps ++ entered seat (taken verdicts old.plan (past old.steps) ask answer)
   pub words : (k : ℕ) → k < length old.plan.clusters
-      → list_any (step_changes verdicts old.plan (past old.steps) (taken old.plan (past old.steps) ask answer)) (members old.plan k) ≡ false
+      → list_any (step_changes verdicts old.plan (past old.steps) (taken verdicts old.plan (past old.steps) ask answer)) (members old.plan k) ≡ false
       → slice_index new.words k ≡ slice_index old.words k
-  pub notified : new.work.told ≡ notified_count old.plan (λ k. list_any (step_changes verdicts old.plan (past old.steps) (taken old.plan (past old.steps) ask answer)) (members old.plan k))
+  pub notified : new.work.told ≡ notified_count old.plan (λ k. list_any (step_changes verdicts old.plan (past old.steps) (taken verdicts old.plan (past old.steps) ask answer)) (members old.plan k))
   pub asked : new.work.asked ≤ may_ask old.plan (past old.steps) ask
   pub asked_all : IsOk answer → with_calls (must_ask old.plan (past old.steps) ask) 0 ≤ new.work.asked

@@ -19,13 +19,16 @@ ghost use Rattle.history_audit.specs.Scratch.{Agrees};
 ghost use Rattle.device_state.specs.Device.{Handles, with_step};
 
 mod begin;
+mod events;
 mod forecasts;
 mod lists;
 mod requests;
 
 use ctrl_calls::{Driver, Work};
 use ctrl_clusters::{default_values, first_words, flags_under, no_grabs};
+use ctrl_events::Events;
 use ctrl_handlers::Plan;
+use ctrl_raises::Moment;
 use ctrl_types::{CtrlId, Errno, Fault, FhId, Flags, RequestId};
 use device_history::{Ask, CtrlInfo, MAX_FILE_HANDLES, MAX_STEPS, Reply, Step};
 use frame_queue::Frames;
@@ -34,10 +37,12 @@ use history_audit::Scratch;
 use indexmap::IndexMap;
 use std::alloc::{AllocError, Global};
 use std::marker::Model;
+use step_effects::{copied_grabs, raise_step};
 
 /// The controls of one device (Linux driver API, "V4L2 Controls"), and the history of the steps that it accepted. Contracts
 /// see it as its plan, those steps, the words that its clusters were told last, and the counts of the last call: its open file
-/// handles, its grabs, its present values and flags, its requests and their queue are what the steps make of them, at every moment.
+/// handles, its grabs, its present values and flags, its requests and their queue, its subscriptions and the events that wait are what the
+/// steps make of them, at every moment.
 pub struct Device<D: Driver> {
     plan: Plan<D>,
     // the open file handles, each with its handler, in the order of their opening
@@ -48,6 +53,8 @@ pub struct Device<D: Driver> {
     values: Vec<i64>,
     // the media requests, and the queue of frames
     frames: Frames,
+    // the events of file handles
+    events: Events,
     // the words told last, by cluster
     words: Vec<u64>,
     steps: Vec<Entry<Step>>,
@@ -64,7 +71,7 @@ impl<D: Driver> Model for Device<D> {
 
     ghost view = { λ d. record { plan = d.plan; steps = d.steps.items; words = d.words.items; work = d.work } };
 
-    ghost invariant = { λ d. IsKept D.verdict D.told d.plan d.steps.items (record { file_handles = d.file_handles.entries; grabs = d.grabs.items; values = d.values.items; frames = d.frames; words = d.words.items }) };
+    ghost invariant = { λ d. IsKept D.verdict D.told d.plan d.steps.items (record { file_handles = d.file_handles.entries; grabs = d.grabs.items; values = d.values.items; frames = d.frames; events = d.events; words = d.words.items }) };
 }
 
 impl<D: Driver> Drop for Device<D> {
@@ -75,6 +82,7 @@ impl<D: Driver> Drop for Device<D> {
             grabs: _,
             values: _,
             frames: _,
+            events: _,
             words: _,
             steps: _,
             work: _,
@@ -113,6 +121,7 @@ impl<D: Driver> Device<D> {
             grabs,
             values,
             frames,
+            events: Events::new(alloc),
             words,
             steps: Vec::new(alloc),
             work: Work::new(),
@@ -183,14 +192,21 @@ impl<D: Driver> Device<D> {
     }
 
     /// Whether what an audit worked out of some history is what the device has: the present values and flags, the requests with their
-    /// state, buffer, pairs and snapshot, and the queue. The forecasts are left out (of this project). It takes no memory, and neither
+    /// state, buffer, pairs and snapshot, the queue, and of each open file handle the events that wait and the number of its next one. The forecasts are left out (of this project). It takes no memory, and neither
     /// validators nor notifiers are called. An audit of the device's own plan and steps agrees, as the law `own_audits` says.
     ///
     /// - `scratch`: what an audit answered; the caller sees to it that it was of this device's plan.
     pub fn agrees(&self, scratch: &Scratch) -> bool
         ensures { IsTrue result ↔ Agrees D.verdict self.now.plan (past self.now.steps) scratch.now }
     {
-        scratch.has_parts(&self.plan, self.values(), self.grabs(), &self.frames)
+        scratch.has_parts(
+            &self.plan,
+            self.values(),
+            self.grabs(),
+            &self.frames,
+            &self.file_handles,
+            &self.events,
+        )
     }
 
     /// How often the last call of `handle` or of a short form asked validators and told notifiers; zeros before the first.
@@ -234,6 +250,21 @@ impl<D: Driver> Device<D> {
     /// - `StreamOff` completes the request whose frame is being made and all that wait; the present values stay.
     /// - `Reinit` makes a request as new, `Free` lets it go for good. EINVAL where there is no such request; EBUSY where it is queued or its
     ///   frame is being made.
+    ///
+    /// Control events (Linux userspace API, "ioctl VIDIOC_SUBSCRIBE_EVENT, VIDIOC_UNSUBSCRIBE_EVENT", "ioctl VIDIOC_DQEVENT"; the order of the
+    /// events of one step, and that a member which isn't in the list is heard of, are of this project). A set, the begin of a frame and a grab
+    /// raise an event of each control whose value or flags change, in the order of the controls' numbers, for each file handle that is subscribed
+    /// to it; but the file handle whose set it is hears of a control of its list only where its subscription allows feedback, or the flags
+    /// change. At most one event of a control waits for a file handle: a later one takes its place at the end, and has the changes of both. Each
+    /// raise takes the next number of its file handle, from 0. Closing a file handle ends its subscriptions, and drops what waits. Each of these
+    /// asks is refused without an index, in the order given, then with ENOSPC where 1,000,000 steps are kept, and last with ENOMEM where a growth
+    /// was refused:
+    ///
+    /// - `Subscribe` subscribes a file handle to the events of a control; where `flags` say so, an event with its present value and flags is
+    ///   raised for it at once. EBADF where `fh` isn't open; EINVAL where the id isn't shown to it. A subscription that is there already stays as
+    ///   it is, and the ask is accepted.
+    /// - `Unsubscribe` ends a subscription; what waits of the control is dropped. EBADF where `fh` isn't open. It is accepted whatever the id.
+    /// - `Take` takes the first event that waits, see `take`.
     ///
     /// `Forecast` says what the queued frame at a place will have, see `forecast`.
     ///
@@ -321,6 +352,21 @@ impl<D: Driver> Device<D> {
                 let refusal = self.clear_refusal(request);
                 self.enter(seat, ask, refusal, Step::Free { request }, Reply::Done)
             }
+            Ask::Subscribe { fh, id, flags } => {
+                let (fh, id, flags) = (*fh, *id, *flags);
+                let refusal = self.subscribe_refusal(fh, id);
+                let control = self.shown(fh, id).unwrap_or(0);
+                let step = Step::Subscribe { fh, control, flags };
+                self.enter(seat, ask, refusal, step, Reply::Done)
+            }
+            Ask::Unsubscribe { fh, id } => {
+                let (fh, id) = (*fh, *id);
+                let refusal = self.unsubscribe_refusal(fh);
+                let control = self.shown(fh, id);
+                let step = Step::Unsubscribe { fh, control };
+                self.enter(seat, ask, refusal, step, Reply::Done)
+            }
+            Ask::Take { fh } => self.take(seat, *fh),
             Ask::StateOf { request } => self.read_state(*request),
             Ask::Forecast { place } => self.forecast(*place),
             Ask::Query { fh, id } => self.query(*fh, *id),
@@ -473,6 +519,7 @@ impl<D: Driver> Device<D> {
     {
         self.steps.reserve(1)?;
         self.file_handles.shift_remove(&fh.0);
+        self.events.drop_fh(fh);
         self.steps.push_reserved(Entry {
             seat,
             step: Step::CloseFh { fh },
@@ -514,7 +561,17 @@ impl<D: Driver> Device<D> {
         ensures err { OnErr result (self.new ≡ self.old) }
     {
         self.steps.reserve(1)?;
-        self.grabs[control as usize] = on;
+        let mut grabs = copied_grabs(self.alloc, self.grabs.as_slice())?;
+        grabs[control as usize] = on;
+        raise_step(
+            &self.plan,
+            &Moment::new(self.values.as_slice(), self.grabs.as_slice()),
+            &Moment::new(self.values.as_slice(), grabs.as_slice()),
+            &[],
+            None,
+            &mut self.events,
+        );
+        self.grabs = grabs;
         self.steps.push_reserved(Entry {
             seat,
             step: Step::Grab { control, on },

@@ -29,7 +29,7 @@ impl<D: Driver> Served for Device<D> {
 
     ghost answers = { λ plan steps ask answer. (words : List ℕ) × HaveWords D.told plan (now D.verdict plan (past steps)) words × MayAnswer D.verdict plan (past steps) words ask answer };
 
-    ghost taken = { λ plan steps ask answer. step_taken plan (past steps) ask answer };
+    ghost taken = { λ plan steps ask answer. step_taken D.verdict plan (past steps) ask answer };
 
     ghost starts = { IsLegal-start D.verdict };
 

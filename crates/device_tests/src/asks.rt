@@ -3,7 +3,8 @@
 use crate::closures::Counting;
 use crate::looks::Look;
 use bitflags::Flags as FlagSet;
-use ctrl_types::{CtrlId, Errno, ExtControl, Fault, FhId, Kind, Pair, RequestId};
+use ctrl_events::Event;
+use ctrl_types::{CtrlId, Errno, ExtControl, Fault, FhId, Kind, Pair, RequestId, SubFlags};
 use device_state::{Ask, ControlList, CtrlInfo, Device, MenuItem, Reply, Step};
 use frame_queue::RequestState;
 use std::alloc::{AllocError, Global};
@@ -61,7 +62,15 @@ pub enum Question {
     Wait(u32),
     /// So many frames, each of which is begun and ended.
     Run(u32),
-    /// No ask: what the readers of requests and frames tell.
+    /// A file handle, an id, and the bits of the flags.
+    Subscribe(u32, u32, u32),
+    /// So many file handles from one on, each of which is subscribed to all of these ids, and the bits of the flags.
+    SubscribeAll(u32, u32, &'static [u32], u32),
+    Unsubscribe(u32, u32),
+    Take(u32),
+    /// So many file handles from one on, each of which takes an event.
+    TakeEach(u32, u32),
+    /// No ask: what the readers of requests, frames and events tell.
     See(&'static [Look]),
     Query(u32, u32),
     Next(u32, u32),
@@ -90,6 +99,9 @@ pub enum Want {
     Turn(usize),
     /// The controls of the list, in order, with these values.
     Values(&'static [i64]),
+    /// An event: its id, the bits of what changed, the value, the bits of the flags, its number, and how many wait behind it. Its kind, range, step
+    /// and default are those of its control.
+    Event(u32, u32, i64, u32, u32, u32),
     Info(Info),
     /// What a query tells of the flags, and of the default.
     Flags(u32),
@@ -118,6 +130,8 @@ impl Question {
             Question::Alloc(count) => count as usize,
             Question::List(forms, _, _) => forms.len(),
             Question::Wait(count) | Question::Run(count) => (count as usize).saturating_mul(2),
+            Question::SubscribeAll(_, count, ids, _) => (count as usize).saturating_mul(ids.len()),
+            Question::TakeEach(_, count) => count as usize,
             Question::See(_) => 0,
             _ => 1,
         }
@@ -161,6 +175,16 @@ impl Question {
                     Ask::Complete
                 }
             }
+            Question::Subscribe(fh, id, bits) => subscribe_ask(fh, &[id], bits, 0),
+            Question::SubscribeAll(fh, _, ids, bits) => subscribe_ask(fh, ids, bits, number),
+            Question::Unsubscribe(fh, id) => Ask::Unsubscribe {
+                fh: FhId(fh),
+                id: CtrlId(id),
+            },
+            Question::Take(fh) => Ask::Take { fh: FhId(fh) },
+            Question::TakeEach(fh, _) => Ask::Take {
+                fh: fh_behind(fh, number),
+            },
             Question::StreamOff | Question::See(_) => Ask::StreamOff,
             Question::Reinit(request) => Ask::Reinit {
                 request: RequestId(request),
@@ -198,6 +222,30 @@ fn wait_ask(count: u32, number: usize) -> Ask {
         Ask::AddBuffer { request, buffer }
     } else {
         Ask::Queue { request }
+    }
+}
+
+// The file handle that is so many behind another.
+fn fh_behind(fh: u32, number: usize) -> FhId {
+    FhId(fh.wrapping_add(u32::try_from(number).unwrap_or(0)))
+}
+
+// The subscription with this number, of file handles from one on to all of some ids in turn.
+fn subscribe_ask(fh: u32, ids: &[u32], bits: u32, number: usize) -> Ask {
+    let count = ids.len();
+    let (round, place) = if count == 0 {
+        (0, 0)
+    } else {
+        (number / count, number % count)
+    };
+    let id = match ids.get(place) {
+        Some(id) => *id,
+        None => 0,
+    };
+    Ask::Subscribe {
+        fh: fh_behind(fh, round),
+        id: CtrlId(id),
+        flags: SubFlags::from_bits_retain(bits),
     }
 }
 
@@ -285,19 +333,32 @@ pub fn asked(
         Ask::Query { fh, id } => device.query(*fh, *id),
         Ask::Told { cluster } => device.told(*cluster),
         Ask::Forecast { place } => device.forecast(*place),
+        Ask::Take { fh } => device.take(seat, *fh),
         _ => device.handle(seat, ask),
     }
 }
 
 /// Whether this is the answer to the ask, where the step that it added, if any, has this number.
-pub fn is_wanted(ask: &Ask, answer: &Result<Reply, Fault>, want: Want, number: usize) -> bool {
+pub fn is_wanted(
+    device: &Device<Counting>,
+    ask: &Ask,
+    answer: &Result<Reply, Fault>,
+    want: Want,
+    number: usize,
+) -> bool {
     match answer {
-        Ok(reply) => is_reply(ask, reply, want, number),
+        Ok(reply) => is_reply(device, ask, reply, want, number),
         Err(fault) => is_fault(ask, *fault, want),
     }
 }
 
-fn is_reply(ask: &Ask, reply: &Reply, want: Want, number: usize) -> bool {
+fn is_reply(
+    device: &Device<Counting>,
+    ask: &Ask,
+    reply: &Reply,
+    want: Want,
+    number: usize,
+) -> bool {
     match reply {
         Reply::Fh(fh) => matches!(want, Want::Opened) && fh.0 as usize == number,
         Reply::Done => matches!(want, Want::Done | Want::Turn(_)),
@@ -335,6 +396,7 @@ fn is_reply(ask: &Ask, reply: &Reply, want: Want, number: usize) -> bool {
             }
             _ => false,
         },
+        Reply::Event(event) => is_event(device, event, want),
         Reply::Info(info) => is_info(info, want),
         Reply::Id(id) => matches!(want, Want::Id(wanted) if id.0 == wanted),
         Reply::Item(MenuItem::Name(name)) => match want {
@@ -347,6 +409,37 @@ fn is_reply(ask: &Ask, reply: &Reply, want: Want, number: usize) -> bool {
         },
         Reply::Word(word) => matches!(want, Want::Word(wanted) if *word == wanted),
     }
+}
+
+fn is_event(device: &Device<Counting>, event: &Event, want: Want) -> bool {
+    match want {
+        Want::Event(id, changes, value, flags, sequence, pending) => {
+            event.id.0 == id
+                && event.changes.bits() == changes
+                && event.value == value
+                && event.flags.bits() == flags
+                && event.sequence == sequence
+                && event.pending == pending
+                && is_of_control(device, event)
+        }
+        _ => false,
+    }
+}
+
+// Whether an event has the kind, range, step and default of a control of its id.
+fn is_of_control(device: &Device<Counting>, event: &Event) -> bool {
+    for ctrl in device.plan().controls() {
+        if ctrl.id() == event.id
+            && ctrl.kind() == event.kind
+            && ctrl.minimum() == event.minimum
+            && ctrl.maximum() == event.maximum
+            && ctrl.step() == event.step
+            && ctrl.default_value() == event.default_value
+        {
+            return true;
+        }
+    }
+    false
 }
 
 fn is_info(info: &CtrlInfo, want: Want) -> bool {
@@ -444,8 +537,14 @@ pub fn is_step(ask: &Ask) -> bool {
 }
 
 /// Whether a step is the one that the ask added: a set keeps the values as they were given, each under its control's number. The request
-/// of a begin runs then, and that of a completion is complete.
-pub fn is_step_of(device: &Device<Counting>, step: &Step, ask: &Ask) -> bool {
+/// of a begin runs then, and that of a completion is complete. A subscription and its end name the control that is shown, if one is, and a take
+/// that of the event which was answered.
+pub fn is_step_of(
+    device: &Device<Counting>,
+    step: &Step,
+    ask: &Ask,
+    answer: &Result<Reply, Fault>,
+) -> bool {
     match ask {
         Ask::SetCtrls {
             fh,
@@ -482,11 +581,54 @@ pub fn is_step_of(device: &Device<Counting>, step: &Step, ask: &Ask) -> bool {
         Ask::StreamOff => kind_of(step) == (11, 0, 0),
         Ask::Reinit { request } => kind_of(step) == (12, request.0, 0),
         Ask::Free { request } => kind_of(step) == (13, request.0, 0),
+        Ask::Subscribe { fh, id, flags } => match shown(device, *fh, *id) {
+            Some(control) => {
+                kind_of(step) == (14, fh.0, control) && flags_of(step) == flags.bits()
+            }
+            None => false,
+        },
+        Ask::Unsubscribe { fh, id } => {
+            let ended = match shown(device, *fh, *id) {
+                Some(control) => (15, fh.0, control),
+                None => (16, fh.0, 0),
+            };
+            kind_of(step) == ended
+        }
+        Ask::Take { fh } => is_take_of(device, step, *fh, answer),
         _ => false,
     }
 }
 
-/// A number for the kind of a step, and what it names beside its pairs.
+// The control that is shown to a file handle under an id.
+fn shown(device: &Device<Counting>, fh: FhId, id: CtrlId) -> Option<u32> {
+    let handler = device.handler_of(fh)?;
+    device.plan().find(handler, id).ok()
+}
+
+// Whether a step took the event that was answered.
+fn is_take_of(
+    device: &Device<Counting>,
+    step: &Step,
+    fh: FhId,
+    answer: &Result<Reply, Fault>,
+) -> bool {
+    match (step, answer) {
+        (Step::Take { fh: taker, control }, Ok(Reply::Event(event))) => {
+            *taker == fh && has_id(device, *control, event.id)
+        }
+        _ => false,
+    }
+}
+
+/// Whether there is a control with this number, and it has this id.
+pub fn has_id(device: &Device<Counting>, control: u32, id: CtrlId) -> bool {
+    match device.plan().controls().get(control as usize) {
+        Some(ctrl) => ctrl.id() == id,
+        None => false,
+    }
+}
+
+/// A number for the kind of a step, and what it names beside its pairs and the flags of a subscription.
 pub fn kind_of(step: &Step) -> (u32, u32, u32) {
     match step {
         Step::OpenFh { handler } => (0, *handler, 0),
@@ -503,6 +645,21 @@ pub fn kind_of(step: &Step) -> (u32, u32, u32) {
         Step::StreamOff => (11, 0, 0),
         Step::Reinit { request } => (12, request.0, 0),
         Step::Free { request } => (13, request.0, 0),
+        Step::Subscribe { fh, control, .. } => (14, fh.0, *control),
+        Step::Unsubscribe {
+            fh,
+            control: Some(control),
+        } => (15, fh.0, *control),
+        Step::Unsubscribe { fh, control: None } => (16, fh.0, 0),
+        Step::Take { fh, control } => (17, fh.0, *control),
+    }
+}
+
+/// The bits of the flags of a subscription; 0 of every other step.
+pub fn flags_of(step: &Step) -> u32 {
+    match step {
+        Step::Subscribe { flags, .. } => flags.bits(),
+        _ => 0,
     }
 }
 
@@ -518,12 +675,8 @@ fn has_pairs(device: &Device<Counting>, pairs: &[Pair], entries: &[ExtControl]) 
     if pairs.len() != entries.len() {
         return false;
     }
-    let controls = device.plan().controls();
     for (pair, entry) in pairs.iter().zip(entries) {
-        let Some(ctrl) = controls.get(pair.control as usize) else {
-            return false;
-        };
-        if ctrl.id() != entry.id || pair.value != entry.value {
+        if !has_id(device, pair.control, entry.id) || pair.value != entry.value {
             return false;
         }
     }

@@ -3,7 +3,7 @@
 use crate::asks::{At, GET, NOW, Question, SET};
 use crate::plan::{Scene, Trouble, scene_of};
 use crate::play::make;
-use crate::sample::{AUTOGAIN, BLUE, BUTTON, GAIN, RED, SAMPLE};
+use crate::sample::{AUTOGAIN, BLUE, BUTTON, GAIN, RED, SAMPLE, SHOWN};
 use ctrl_calls::Work;
 use device_state::{AuditFault, Scratch, audit};
 use std::alloc::Global;
@@ -13,42 +13,55 @@ const ONE: At = At(0, 0x0f01_0000, Some(1));
 
 const OPEN: Question = Question::Open(1, 1);
 
+// At another file handle than 0.
+const OTHER: At = At(1, 0, None);
+
 // Asks that are accepted. Those with the same number in front make the same of the plan.
 const PASTS: &[(u32, &[Question])] = &[
     (0, &[]),
-    // file handles count no more than asks that are no steps
+    // a file handle that is closed counts no more, nor a grab that is let go
     (0, &[OPEN, Question::Close(0)]),
-    (0, &[OPEN, Question::List(GET, NOW, &[(RED, 0)])]),
     (
         0,
+        &[OPEN, Question::Subscribe(0, RED, 0x1), Question::Close(0)],
+    ),
+    (0, &[Question::Grab(8, true), Question::Grab(8, false)]),
+    // one that is open counts by its id, and not by its handler; asks that are no steps, and sets that put back what they found, don't
+    (1, &[OPEN]),
+    (1, &[Question::Open(0, 1)]),
+    (1, &[OPEN, Question::List(GET, NOW, &[(RED, 0)])]),
+    (
+        1,
         &[
             OPEN,
             Question::List(SET, NOW, &[(RED, 5), (BUTTON, 1)]),
             Question::List(SET, NOW, &[(RED, 128)]),
         ],
     ),
-    (1, &[OPEN, Question::List(SET, NOW, &[(RED, 200)])]),
+    (2, &[OPEN, OPEN]),
+    (3, &[OPEN, Question::Close(0), OPEN]),
+    (4, &[OPEN, OPEN, Question::Close(0)]),
+    (5, &[OPEN, Question::List(SET, NOW, &[(RED, 200)])]),
     (
-        1,
+        5,
         &[
             OPEN,
             Question::List(SET, NOW, &[(RED, 5)]),
             Question::List(SET, NOW, &[(RED, 200)]),
         ],
     ),
-    (2, &[OPEN, Question::List(SET, NOW, &[(BLUE, 200)])]),
+    (6, &[OPEN, Question::List(SET, NOW, &[(BLUE, 200)])]),
     // the validator lessens the gain
-    (3, &[OPEN, Question::List(SET, NOW, &[(GAIN, 250)])]),
-    (3, &[OPEN, Question::List(SET, NOW, &[(GAIN, 200)])]),
-    (4, &[OPEN, Question::List(SET, NOW, &[(AUTOGAIN, 0)])]),
+    (7, &[OPEN, Question::List(SET, NOW, &[(GAIN, 250)])]),
+    (7, &[OPEN, Question::List(SET, NOW, &[(GAIN, 200)])]),
+    (8, &[OPEN, Question::List(SET, NOW, &[(AUTOGAIN, 0)])]),
     // a grab is a flag
-    (5, &[Question::Grab(8, true)]),
-    (0, &[Question::Grab(8, true), Question::Grab(8, false)]),
-    (6, &[Question::Grab(9, true)]),
+    (9, &[Question::Grab(8, true)]),
+    (10, &[Question::Grab(9, true)]),
     // a request is there, asks for something, waits, runs, and is complete
-    (7, &[OPEN, Question::Alloc(1)]),
+    (11, &[OPEN, Question::Alloc(1)]),
     (
-        8,
+        12,
         &[
             OPEN,
             Question::Alloc(1),
@@ -56,7 +69,7 @@ const PASTS: &[(u32, &[Question])] = &[
         ],
     ),
     (
-        7,
+        11,
         &[
             OPEN,
             Question::Alloc(1),
@@ -64,9 +77,9 @@ const PASTS: &[(u32, &[Question])] = &[
             Question::Reinit(1),
         ],
     ),
-    (9, &[OPEN, Question::Alloc(1), Question::Buffer(1, 7)]),
+    (13, &[OPEN, Question::Alloc(1), Question::Buffer(1, 7)]),
     (
-        10,
+        14,
         &[
             OPEN,
             Question::Alloc(1),
@@ -76,7 +89,7 @@ const PASTS: &[(u32, &[Question])] = &[
         ],
     ),
     (
-        11,
+        15,
         &[
             OPEN,
             Question::Alloc(1),
@@ -87,7 +100,7 @@ const PASTS: &[(u32, &[Question])] = &[
         ],
     ),
     (
-        12,
+        16,
         &[
             OPEN,
             Question::Alloc(1),
@@ -99,7 +112,7 @@ const PASTS: &[(u32, &[Question])] = &[
         ],
     ),
     (
-        13,
+        17,
         &[
             OPEN,
             Question::Alloc(1),
@@ -107,6 +120,120 @@ const PASTS: &[(u32, &[Question])] = &[
             Question::Buffer(1, 7),
             Question::Queue(1),
             Question::Cancel(1),
+        ],
+    ),
+    // subscriptions alone don't count
+    (1, &[OPEN, Question::SubscribeAll(0, 1, SHOWN, 0x2)]),
+    (
+        1,
+        &[
+            OPEN,
+            Question::Subscribe(0, RED, 0),
+            Question::List(SET, NOW, &[(RED, 5)]),
+            Question::Unsubscribe(0, RED),
+            Question::List(SET, NOW, &[(RED, 128)]),
+        ],
+    ),
+    // an event waits, of this control or another
+    (18, &[OPEN, Question::Subscribe(0, RED, 0x1)]),
+    (
+        18,
+        &[
+            OPEN,
+            Question::SubscribeAll(0, 1, &[BLUE, RED], 0),
+            Question::Unsubscribe(0, RED),
+            Question::Subscribe(0, RED, 0x3),
+        ],
+    ),
+    (19, &[OPEN, Question::Subscribe(0, BLUE, 0x1)]),
+    // what it tells is another value
+    (
+        20,
+        &[
+            OPEN,
+            Question::List(SET, NOW, &[(RED, 200)]),
+            Question::Subscribe(0, RED, 0x1),
+            Question::List(SET, NOW, &[(RED, 128)]),
+        ],
+    ),
+    // two, in either order
+    (21, &[OPEN, Question::SubscribeAll(0, 1, &[RED, BLUE], 0x1)]),
+    (22, &[OPEN, Question::SubscribeAll(0, 1, &[BLUE, RED], 0x1)]),
+    // one was raised before, and is gone
+    (
+        23,
+        &[OPEN, Question::Subscribe(0, RED, 0x1), Question::Take(0)],
+    ),
+    (
+        23,
+        &[OPEN, Question::Subscribe(0, BLUE, 0x1), Question::Take(0)],
+    ),
+    (
+        23,
+        &[
+            OPEN,
+            Question::Subscribe(0, RED, 0x1),
+            Question::Unsubscribe(0, RED),
+        ],
+    ),
+    // two were
+    (
+        24,
+        &[
+            OPEN,
+            Question::SubscribeAll(0, 1, &[RED, BLUE], 0x1),
+            Question::Take(0),
+            Question::Take(0),
+        ],
+    ),
+    (
+        24,
+        &[
+            OPEN,
+            Question::Subscribe(0, RED, 0x2),
+            Question::List(SET, NOW, &[(RED, 5)]),
+            Question::List(SET, NOW, &[(RED, 128)]),
+            Question::Take(0),
+        ],
+    ),
+    // the second of two waits, and tells of its value and flags, or of its value alone
+    (
+        25,
+        &[
+            OPEN,
+            Question::Subscribe(0, BLUE, 0x1),
+            Question::Subscribe(0, RED, 0x1),
+            Question::Take(0),
+        ],
+    ),
+    (
+        26,
+        &[
+            OPEN,
+            Question::Subscribe(0, RED, 0x2),
+            Question::List(SET, NOW, &[(RED, 5)]),
+            Question::List(SET, NOW, &[(RED, 128)]),
+        ],
+    ),
+    // it waits for one of two file handles
+    (27, &[OPEN, OPEN, Question::Subscribe(0, RED, 0x1)]),
+    (28, &[OPEN, OPEN, Question::Subscribe(1, RED, 0x1)]),
+    (
+        29,
+        &[
+            OPEN,
+            OPEN,
+            Question::SubscribeAll(0, 2, &[RED], 0),
+            Question::List(SET, NOW, &[(RED, 200)]),
+        ],
+    ),
+    (
+        30,
+        &[
+            OPEN,
+            OPEN,
+            Question::SubscribeAll(0, 2, &[RED], 0),
+            Question::List(SET, OTHER, &[(RED, 200)]),
         ],
     ),
 ];

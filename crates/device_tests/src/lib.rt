@@ -13,6 +13,8 @@ mod audits;
 #[cfg(test)]
 mod closures;
 #[cfg(test)]
+mod events;
+#[cfg(test)]
 mod flags;
 #[cfg(test)]
 mod forecasts;

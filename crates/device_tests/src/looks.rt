@@ -1,7 +1,9 @@
-//! What the readers of requests and frames are to tell, as data.
+//! What the readers of requests, frames and events are to tell, as data.
 
+use crate::asks::has_id;
 use crate::closures::Counting;
-use ctrl_types::{Errno, Pair, RequestId};
+use bitflags::Flags as FlagSet;
+use ctrl_types::{Errno, FhId, Pair, RequestId};
 use device_state::Device;
 use frame_queue::RequestState;
 
@@ -20,6 +22,12 @@ pub enum Look {
     Queue(&'static [u32]),
     /// The request whose frame is being made.
     Running(Option<u32>),
+    /// Of a file handle and a control the bits of the subscription's flags.
+    Subscribed(u32, u32, Option<u32>),
+    /// All events that wait for a file handle, in order: the control, the bits of what changed, the value, and the event's number.
+    Waiting(u32, &'static [(u32, u32, i64, u32)]),
+    /// The number of a file handle's next event.
+    Next(u32, u32),
 }
 
 /// Whether each reader tells that.
@@ -46,7 +54,34 @@ fn tells(device: &Device<Counting>, look: Look) -> bool {
             Some(request) => want == Some(request.0),
             None => want == None,
         },
+        Look::Subscribed(fh, control, want) => match device.subscribed(FhId(fh), control) {
+            Some(flags) => want == Some(flags.bits()),
+            None => want == None,
+        },
+        Look::Waiting(fh, wanted) => are_waiting(device, FhId(fh), wanted),
+        Look::Next(fh, want) => device.next_sequence(FhId(fh)) == want,
     }
+}
+
+// Whether just these events wait; each tells how many are behind it.
+fn are_waiting(device: &Device<Counting>, fh: FhId, wanted: &[(u32, u32, i64, u32)]) -> bool {
+    let mut behind = wanted.len();
+    for (place, &(control, changes, value, sequence)) in wanted.iter().enumerate() {
+        behind = behind.wrapping_sub(1);
+        let Some((number, event)) = device.waiting(fh, place) else {
+            return false;
+        };
+        if number != control
+            || !has_id(device, control, event.id)
+            || event.changes.bits() != changes
+            || event.value != value
+            || event.sequence != sequence
+            || event.pending as usize != behind
+        {
+            return false;
+        }
+    }
+    device.waiting(fh, wanted.len()) == None
 }
 
 fn are_pairs(pairs: &[Pair], wanted: &[(u32, i64)]) -> bool {

@@ -6,9 +6,9 @@ use crate::play::expect;
 use ctrl_types::Errno;
 
 // Cluster 0, whose validator mirrors: the follower is READ_ONLY.
-const LEAD: u32 = 100;
+pub const LEAD: u32 = 100;
 
-const FOLLOWER: u32 = 101;
+pub const FOLLOWER: u32 = 101;
 
 // Cluster 1, whose validator refuses.
 const STUBBORN: u32 = 102;
@@ -69,7 +69,7 @@ const CLUSTERS: &[Cluster] = &[
     },
 ];
 
-const MIRRORS: Table = Table {
+pub const MIRRORS: Table = Table {
     controls: CONTROLS,
     clusters: CLUSTERS,
     ..EMPTY

@@ -73,7 +73,7 @@ fn play_ask(
         }
         answer = asked(&mut scene.device, seat, &ask, place.by_handle);
     }
-    if !is_wanted(&ask, &answer, row.1, before) {
+    if !is_wanted(&scene.device, &ask, &answer, row.1, before) {
         return Err(Trouble::Answer(place.number));
     }
     if !are_calls(scene, row.2) {
@@ -174,7 +174,7 @@ fn is_entered(
         Some(entry) => {
             steps.len().wrapping_sub(before) == 1
                 && entry.seat == seat
-                && is_step_of(&scene.device, &entry.step, ask)
+                && is_step_of(&scene.device, &entry.step, ask, answer)
         }
         None => false,
     }

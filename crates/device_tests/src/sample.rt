@@ -11,17 +11,24 @@ pub const GAIN: u32 = 0x0098_0913;
 
 pub const HFLIP: u32 = 0x0098_0914;
 
+pub const VFLIP: u32 = 0x0098_0915;
+
 pub const HUE: u32 = 0x0098_0903;
 
 pub const BRIGHTNESS: u32 = 0x0098_0900;
 
-const POWER: u32 = 0x0098_0918;
+pub const POWER: u32 = 0x0098_0918;
 
 pub const BUTTON: u32 = 0x0098_090d;
 
 pub const RED: u32 = 0x0098_090e;
 
 pub const BLUE: u32 = 0x0098_090f;
+
+/// What the handler 1 shows, its own controls first.
+pub const SHOWN: &[u32] = &[
+    BRIGHTNESS, POWER, BUTTON, RED, BLUE, AUTOGAIN, GAIN, HFLIP, VFLIP,
+];
 
 const FLIP: Control = Control {
     kind: Kind::Boolean,
@@ -49,10 +56,7 @@ const CONTROLS: &[Control] = &[
         ..DIGIT
     },
     Control { id: HFLIP, ..FLIP },
-    Control {
-        id: 0x0098_0915,
-        ..FLIP
-    },
+    Control { id: VFLIP, ..FLIP },
     Control {
         id: HUE,
         maximum: 10,

@@ -1,6 +1,6 @@
 //! Two devices of one plan, compared in all their parts.
 
-use crate::asks::{kind_of, list_of, pairs_of};
+use crate::asks::{flags_of, kind_of, list_of, pairs_of};
 use crate::closures::Counting;
 use crate::plan::{Table, Trouble};
 use ctrl_types::{CtrlId, Fault, FhId, RequestId};
@@ -8,7 +8,8 @@ use device_state::{Device, Entry, Reply, Step};
 use std::alloc::Global;
 
 /// Whether two devices of a table are alike: in their steps, their requests and frames, in the words told, and, through each file handle that the steps could
-/// have opened and one more, in the values of the controls and in what a query tells of them, with its flags and grabs.
+/// have opened and one more, in its handler, in the values of the controls and in what a query tells of them, with its flags and grabs, and in its
+/// subscriptions, the events that wait, and the number of the next.
 pub fn are_alike(
     alloc: Global,
     table: &Table,
@@ -25,6 +26,9 @@ pub fn are_alike(
     }
     let handles = u32::try_from(one.steps().len()).unwrap_or(0);
     for fh in 0..=handles {
+        if !have_like_events(one, other, FhId(fh)) {
+            return Ok(false);
+        }
         for control in table.controls {
             if !show_alike(alloc, one, other, FhId(fh), control.id)? {
                 return Ok(false);
@@ -61,7 +65,27 @@ fn have_like_steps(one: &[Entry<Step>], other: &[Entry<Step>]) -> bool {
 }
 
 fn are_like_steps(one: &Step, other: &Step) -> bool {
-    kind_of(one) == kind_of(other) && pairs_of(one) == pairs_of(other)
+    kind_of(one) == kind_of(other)
+        && pairs_of(one) == pairs_of(other)
+        && flags_of(one) == flags_of(other)
+}
+
+// Whether a file handle is open on the same handler, has the same subscriptions, and is told the same; no control has two events that wait.
+fn have_like_events(one: &Device<Counting>, other: &Device<Counting>, fh: FhId) -> bool {
+    if one.handler_of(fh) != other.handler_of(fh)
+        || one.next_sequence(fh) != other.next_sequence(fh)
+    {
+        return false;
+    }
+    for number in 0..=one.plan().control_count() {
+        let place = number as usize;
+        if one.subscribed(fh, number) != other.subscribed(fh, number)
+            || one.waiting(fh, place) != other.waiting(fh, place)
+        {
+            return false;
+        }
+    }
+    true
 }
 
 // Whether the requests that the steps could have made and one more, the queue and the frame that is being made are alike.

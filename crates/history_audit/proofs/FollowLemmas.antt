@@ -1,10 +1,10 @@
 -- Whether a step that gives no pairs may follow is read off the parts.
-use Rattle.std.proofs.Common.{◌≡◌, ℕ, ◌<◌, Bool, true, false, not, ◌&&◌, nat_le, nat_lt, if◌then◌else◌, List, [], ◌∷◌, length, Option, None, Some, is_some, Ok, refl, ap, sym, ◌∙◌, subst, arith}
+use Rattle.std.proofs.Common.{◌≡◌, ℕ, ◌<◌, Bool, true, false, not, ◌&&◌, nat_le, nat_lt, if◌then◌else◌, cond, List, [], ◌∷◌, length, Option, None, Some, is_some, Ok, refl, ap, sym, ◌∙◌, subst, arith}
 use Rattle.std.proofs.lemmas.Bool.Decides.{nat_tests}
 use Rattle.ctrl_types.specs.declared.errno.Errno.{Errno}
 use Rattle.ctrl_types.specs.declared.errno.Errno.TheVariants.{EBADF, EINVAL, ENOSPC}
 use Rattle.ctrl_calls.specs.Meanings.{Verdicts}
-use Rattle.ctrl_handlers.specs.Plan.{PlanData}
+use Rattle.ctrl_handlers.specs.Plan.{IsPlan, PlanData, control}
 use Rattle.req_book.specs.Requests.{find, is_number}
 use Rattle.frame_queue.specs.Frames.{begin_answer, buffer_number, complete_refusal}
 use Rattle.device_history.specs.declared.ask.Ask.TheVariants as asks
@@ -14,7 +14,7 @@ use Rattle.device_history.specs.declared.ask.Step.{Step}
 use Rattle.device_history.specs.declared.ask.Step.TheVariants as steps
 use Rattle.device_history.specs.Steps.{Past}
 use Rattle.device_history.specs.Refusals.{is_full, refused, fault_of}
-use Rattle.device_history.specs.Handles.{are_all_open, handler_of}
+use Rattle.device_history.specs.Handles.{are_all_open, handler_of, shown}
 use Rattle.device_history.specs.Frames.{first_of, queue, running}
 use Rattle.device_history.specs.Snapshots.{begun_refused, frames, requests}
 use Rattle.device_history.specs.FrameSteps.{FitsFrames}
@@ -27,8 +27,22 @@ use Rattle.device_history.proofs.RequestLemmas.{first_queued}
 use Rattle.device_history.specs.Requests.{state}
 use Rattle.ctrl_types.specs.declared.ids.RequestId.{RequestId}
 use Rattle.device_history.proofs.AskingLemmas.{may_decided}
+use Rattle.std.specs.Option.{option_and_then, option_map}
+use Rattle.ctrl_types.specs.declared.ids.CtrlId.{CtrlId}
+use Rattle.ctrl_types.specs.declared.ids.FhId.{FhId}
+use Rattle.ctrl_events.specs.declared.event.Waiting.{Waiting}
+use Rattle.ctrl_events.specs.Pending.{pending as pending_in}
+use Rattle.ctrl_handlers.specs.Visible.{find as find_shown}
+use Rattle.device_history.specs.Answers.{step_of}
+use Rattle.device_history.specs.Asking.{free_id}
+use Rattle.device_history.specs.EventAnswers.{first_control, subscribe_refusal, take_of, unless_open}
+use Rattle.device_history.specs.Events.{happened, pending}
+use Rattle.device_history.specs.Lists.{handler_or}
+use Rattle.device_history.proofs.FreeIdLemmas.{free_unshown}
 use Rattle.history_audit.specs.Replay.{gives_pairs}
-use Rattle.history_audit.specs.Changing.{fits_parts, lacks}
+use Rattle.history_audit.specs.Changing.{StoresKnown, fits_parts, lacks}
+use Rattle.device_history.proofs.EventLemmas.{subscribes_known}
+use Rattle.step_effects.specs.Quiet.{NamesKnown}
 
 both : (a b : Bool) → (a && b) ≡ true → (a ≡ true) × (b ≡ true)
 both true b h = (refl, h)
@@ -122,6 +136,46 @@ begin_is verdicts plan older r none first = ap (frame_answer verdicts plan older
 runs_free : (verdicts : Verdicts) (plan : PlanData) (older : Past) (r : ℕ) → running older ≡ Some r → complete_refusal (frames verdicts plan older) ≡ None
 runs_free verdicts plan older r is = rw is refl
 
+-- a file handle to which a control is shown is open
+open_shown : (plan : PlanData) (past : Past) (fh : FhId) (id : CtrlId) (c : ℕ) → shown plan past fh id ≡ Some c → is_some (handler_of past fh) ≡ true
+open_shown plan past fh id c is = by (handler_of past fh) is
+  where
+    by : (handler : Option ℕ) → option_and_then (λ h. find_shown plan h id) handler ≡ Some c → is_some handler ≡ true
+    by None h = cc
+    by (Some handler) h = refl
+
+-- what is asked through an open file handle isn't refused for it
+through_open : (past : Past) (fh : FhId) (o : Option Errno) → is_some (handler_of past fh) ≡ true → o ≡ None → unless_open past fh o ≡ None
+through_open past fh o opened none = rw (opened, none) refl
+
+-- a subscription to a control that is shown isn't refused
+subscribes_free : (plan : PlanData) (past : Past) (fh : FhId) (id : CtrlId) (c : ℕ) → shown plan past fh id ≡ Some c → subscribe_refusal plan past fh id ≡ None
+subscribes_free plan past fh id c is = through_open past fh _ (open_shown plan past fh id c is) (ap (λ (o : Option ℕ). cond (is_some o) None (Some EINVAL)) is)
+
+-- nothing is shown under a free id
+free_hidden : (plan : PlanData) (past : Past) (fh : FhId) → shown plan past fh (free_id plan (handler_or (handler_of past fh))) ≡ None
+free_hidden plan past fh = by (handler_of past fh)
+  where
+    by : (handler : Option ℕ) → option_and_then (λ n. find_shown plan n (free_id plan (handler_or handler))) handler ≡ None
+    by None = refl
+    by (Some handler) = free_unshown plan handler
+
+-- an event waits for open file handles alone
+waits_open : (verdicts : Verdicts) (plan : PlanData) (past : Past) (fh : FhId) (c : ℕ) → first_control (pending verdicts plan past fh) ≡ Some c → is_some (handler_of past fh) ≡ true
+waits_open verdicts plan past fh c is = by (is_some (handler_of past fh)) is
+  where
+    by : (b : Bool) → first_control (cond b (pending_in (happened verdicts plan past fh)) []) ≡ Some c → b ≡ true
+    by true h = refl
+    by false h = cc
+
+takes_free : (past : Past) (fh : FhId) (ws : List Waiting) (c : ℕ) → is_some (handler_of past fh) ≡ true → is_full past ≡ false → first_control ws ≡ Some c → fault_of (take_of past fh ws) ≡ None
+takes_free past fh [] c opened room is = cc
+takes_free past fh (w ∷ ws) c opened room is = free _ past _ (through_open past fh None opened refl) room
+
+takes_back : (past : Past) (fh : FhId) (ws : List Waiting) → fault_of (take_of past fh ws) ≡ None → is_full past ≡ false
+takes_back past fh [] h = cc
+takes_back past fh (w ∷ ws) h = (free_back _ past _ h).0
+
 -- where the parts fit, the step may follow
 pub fits_may : (verdicts : Verdicts) (plan : PlanData) (past : Past) (step : Step) → gives_pairs step ≡ false → is_full past ≡ false → fits_parts verdicts plan past step ≡ true → MayFollow verdicts plan past step
 fits_may verdicts plan past (steps.OpenFh handler) plain room h =
@@ -152,34 +206,63 @@ fits_may verdicts plan past (steps.Cancel r) plain room h = (asks.Cancel r, free
 fits_may verdicts plan past steps.StreamOff plain room h = (asks.StreamOff, free None past _ refl room, refl)
 fits_may verdicts plan past (steps.Reinit r) plain room h = (asks.Reinit r, free _ past _ (none_is _ h) room, refl)
 fits_may verdicts plan past (steps.Free r) plain room h = (asks.Free r, free _ past _ (none_is _ h) room, refl)
+fits_may verdicts plan past (steps.Subscribe fh c flags) plain room h =
+    let is = number_is (shown plan past fh (control plan c).id) c h in
+    (asks.Subscribe fh (control plan c).id flags, free _ past _ (subscribes_free plan past fh (control plan c).id c is) room, ap (option_map (λ d. steps.Subscribe fh d flags)) is)
+fits_may verdicts plan past (steps.Unsubscribe fh (Some c)) plain room h =
+    let is = number_is (shown plan past fh (control plan c).id) c h in
+    (asks.Unsubscribe fh (control plan c).id, free _ past _ (through_open past fh None (open_shown plan past fh (control plan c).id c is) refl) room, ap (λ (d : Option ℕ). Some (steps.Unsubscribe fh d)) is)
+fits_may verdicts plan past (steps.Unsubscribe fh None) plain room h =
+    (asks.Unsubscribe fh (free_id plan (handler_or (handler_of past fh))), free _ past _ (through_open past fh None h refl) room, ap (λ (d : Option ℕ). Some (steps.Unsubscribe fh d)) (free_hidden plan past fh))
+fits_may verdicts plan past (steps.Take fh c) plain room h =
+    let is = number_is (first_control (pending verdicts plan past fh)) c h in
+    (asks.Take fh, takes_free past fh (pending verdicts plan past fh) c (waits_open verdicts plan past fh c is) room is, ap (option_map (λ d. steps.Take fh d)) is)
 
 -- and a step that may follow finds the parts so
 pub may_fits : (verdicts : Verdicts) (plan : PlanData) (past : Past) (step : Step) → gives_pairs step ≡ false → MayFollow verdicts plan past step → (is_full past ≡ false) × (fits_parts verdicts plan past step ≡ true)
-may_fits verdicts plan past step plain may = by step plain (may_decided verdicts plan past step may).0 (fits verdicts plan past step may)
+may_fits verdicts plan past step plain may = by step plain (may_decided verdicts plan past step may).0 (may_decided verdicts plan past step may).1 (fits verdicts plan past step may)
   where
     above : (a b : ℕ) → nat_le b a ≡ false → nat_lt a b ≡ true
     above a b h = grind (arith, nat_tests, h)
 
-    by : (step : Step) → gives_pairs step ≡ false → refusal verdicts plan past (ask_by plan past step) ≡ None → FitsFrames verdicts plan past step → (is_full past ≡ false) × (fits_parts verdicts plan past step ≡ true)
-    by (steps.OpenFh handler) plain h fit =
+    found : {f : ℕ → Step} (o : Option ℕ) (c : ℕ) → ((d : ℕ) → Some (f d) ≡ Some (f c) → d ≡ c) → option_map f o ≡ Some (f c) → is_number o c ≡ true
+    found None c apart adds = cc
+    found (Some d) c apart adds = ap (λ (n : ℕ). is_number (Some n) c) (apart d adds) ∙ own_number c
+
+    is_open : (o : Option Errno) (fh : FhId) → lacks (unless_open past fh o) ≡ true → is_some (handler_of past fh) ≡ true
+    is_open o fh h = each (is_some (handler_of past fh)) h
+      where
+        each : (b : Bool) → lacks (cond b o (Some EBADF)) ≡ true → b ≡ true
+        each true k = refl
+        each false k = cc
+
+    by : (step : Step) → gives_pairs step ≡ false → refusal verdicts plan past (ask_by plan past step) ≡ None → step_of verdicts plan past (ask_by plan past step) ≡ Some step → FitsFrames verdicts plan past step
+        → (is_full past ≡ false) × (fits_parts verdicts plan past step ≡ true)
+    by (steps.OpenFh handler) plain h adds fit =
         let parts = thrice_back (nat_le (length plan.handlers) handler) (are_all_open past) (is_full past) EINVAL ENOSPC ENOSPC (Fh (record { 0 = length past })) h in
         (parts.2, joined (nat_lt handler (length plan.handlers)) (not (are_all_open past)) (above handler (length plan.handlers) parts.0) (ap not parts.1))
-    by (steps.CloseFh fh) plain h fit = let parts = closes_back (is_some (handler_of past fh)) (is_full past) ENOSPC EBADF Done h in (parts.1, parts.0)
-    by (steps.Set fh pairs) plain h fit = cc
-    by (steps.Grab c on) plain h fit = let parts = twice_back (nat_le (length plan.controls) c) (is_full past) EINVAL ENOSPC Done h in (parts.1, above c (length plan.controls) parts.0)
-    by steps.Alloc plain h fit = free_back _ past _ h
-    by (steps.Store r pairs) plain h fit = cc
-    by (steps.Buffer r number) plain h fit = free_back _ past _ h
-    by (steps.Queue r) plain h fit = free_back _ past _ h
-    by (steps.Begin r) plain h fit = (
+    by (steps.CloseFh fh) plain h adds fit = let parts = closes_back (is_some (handler_of past fh)) (is_full past) ENOSPC EBADF Done h in (parts.1, parts.0)
+    by (steps.Set fh pairs) plain h adds fit = cc
+    by (steps.Grab c on) plain h adds fit = let parts = twice_back (nat_le (length plan.controls) c) (is_full past) EINVAL ENOSPC Done h in (parts.1, above c (length plan.controls) parts.0)
+    by steps.Alloc plain h adds fit = free_back _ past _ h
+    by (steps.Store r pairs) plain h adds fit = cc
+    by (steps.Buffer r number) plain h adds fit = free_back _ past _ h
+    by (steps.Queue r) plain h adds fit = free_back _ past _ h
+    by (steps.Begin r) plain h adds fit = (
       (free_back None past _ (ap fault_of (sym (begin_is verdicts plan past r.0 fit.0 fit.1)) ∙ h)).0,
       joined (lacks (running past)) (is_number (first_of (queue past)) r.0) (ap (λ (o : Option ℕ). lacks o) fit.0) (ap (λ (o : Option ℕ). is_number o r.0) fit.1 ∙ own_number r.0),
     )
-    by (steps.Complete r) plain h fit = ((free_back _ past _ h).0, ap (λ (o : Option ℕ). is_number o r.0) fit ∙ own_number r.0)
-    by (steps.Cancel r) plain h fit = free_back _ past _ h
-    by steps.StreamOff plain h fit = free_back None past _ h
-    by (steps.Reinit r) plain h fit = free_back _ past _ h
-    by (steps.Free r) plain h fit = free_back _ past _ h
+    by (steps.Complete r) plain h adds fit = ((free_back _ past _ h).0, ap (λ (o : Option ℕ). is_number o r.0) fit ∙ own_number r.0)
+    by (steps.Cancel r) plain h adds fit = free_back _ past _ h
+    by steps.StreamOff plain h adds fit = free_back None past _ h
+    by (steps.Reinit r) plain h adds fit = free_back _ past _ h
+    by (steps.Free r) plain h adds fit = free_back _ past _ h
+    by (steps.Subscribe fh c flags) plain h adds fit = ((free_back _ past _ h).0, found {f = λ d. steps.Subscribe fh d flags} (shown plan past fh (control plan c).id) c (λ d same. cc) adds)
+    by (steps.Unsubscribe fh (Some c)) plain h adds fit =
+        let is : shown plan past fh (control plan c).id ≡ Some c = cc in
+        ((free_back _ past _ h).0, ap (λ (o : Option ℕ). is_number o c) is ∙ own_number c)
+    by (steps.Unsubscribe fh None) plain h adds fit = ((free_back _ past _ h).0, is_open None fh (free_back _ past _ h).1)
+    by (steps.Take fh c) plain h adds fit = (takes_back past fh (pending verdicts plan past fh) h, found {f = λ d. steps.Take fh d} (first_control (pending verdicts plan past fh)) c (λ d same. cc) adds)
 
 -- a control that is grabbed is there
 pub grab_known : (verdicts : Verdicts) (plan : PlanData) (past : Past) (c : ℕ) (on : Bool) → MayFollow verdicts plan past (steps.Grab c on) → c < length plan.controls
@@ -206,3 +289,23 @@ full_not verdicts plan past step plain full may = clash (sym full ∙ (may_fits 
 pub begin_there : (verdicts : Verdicts) (plan : PlanData) (past : Past) (step : Step) (r : RequestId) → step ≡ steps.Begin r → MayFollow verdicts plan past step → is_some (state past r.0) ≡ true
 begin_there verdicts plan past step r is may =
     ap is_some (first_queued past r.0 (fits verdicts plan past (steps.Begin r) (subst (λ (s : Step). MayFollow verdicts plan past s) is may)).1)
+
+-- the controls that a step names are there, where those that it stores are
+pub names_known : (verdicts : Verdicts) (plan : PlanData) (past : Past) (step : Step) → IsPlan plan → MayFollow verdicts plan past step → StoresKnown (length plan.controls) step → NamesKnown (length plan.controls) step
+names_known verdicts plan past (steps.Store r pairs) plans may known = known
+names_known verdicts plan past (steps.Subscribe fh c flags) plans may known = subscribes_known verdicts plan past fh c flags plans may
+names_known verdicts plan past steps.Alloc plans may known = tt
+names_known verdicts plan past (steps.Buffer r number) plans may known = tt
+names_known verdicts plan past (steps.Queue r) plans may known = tt
+names_known verdicts plan past (steps.Complete r) plans may known = tt
+names_known verdicts plan past (steps.Cancel r) plans may known = tt
+names_known verdicts plan past steps.StreamOff plans may known = tt
+names_known verdicts plan past (steps.Reinit r) plans may known = tt
+names_known verdicts plan past (steps.Free r) plans may known = tt
+names_known verdicts plan past (steps.OpenFh handler) plans may known = tt
+names_known verdicts plan past (steps.CloseFh fh) plans may known = tt
+names_known verdicts plan past (steps.Set fh pairs) plans may known = tt
+names_known verdicts plan past (steps.Grab c on) plans may known = tt
+names_known verdicts plan past (steps.Begin r) plans may known = tt
+names_known verdicts plan past (steps.Unsubscribe fh c) plans may known = tt
+names_known verdicts plan past (steps.Take fh c) plans may known = tt

@@ -1,4 +1,3 @@
-pub mod StillLemmas
 pub mod MadeLemmas
 pub mod FollowLemmas
 pub mod ShowLemmas

@@ -1,33 +1,32 @@
 -- What one more step makes of the parts of a replay.
-use Rattle.std.proofs.Common.{◌≡◌, ℕ, suc, zero, ◌+◌, ◌<◌, ◌≤◌, nat_eq, true, false, map, List, [], ◌∷◌, ◌++◌, length, take, slice_get, Some, None, refl, ap, sym, ◌∙◌, subst, arith}
+use Rattle.std.proofs.Common.{◌≡◌, ℕ, suc, zero, ◌+◌, ◌<◌, ◌≤◌, nat_eq, false, map, List, [], ◌∷◌, ◌++◌, length, take, slice_get, Some, None, refl, ap, sym, ◌∙◌, subst, arith}
 use Rattle.std.specs.Map.{lookup}
-use Rattle.std.specs.List.{All}
 use Rattle.std.proofs.lemmas.Bool.Decides.{nat_tests}
 use Rattle.history.specs.declared.entry.Entry.{Entry}
 use Rattle.history.specs.Past.{past}
 use Rattle.history.proofs.Pasts.{length_past}
 use Rattle.ctrl_calls.specs.Meanings.{Verdicts}
-use Rattle.ctrl_handlers.specs.Plan.{PlanData}
-use Rattle.req_book.specs.Requests.{find}
-use Rattle.req_book.specs.Refusals.{buffer_refusal, queue_refusal, clear_refusal}
-use Rattle.frame_queue.specs.Frames.{FramesData, cancel_refusal}
+use Rattle.ctrl_types.specs.declared.ids.FhId.{FhId}
+use Rattle.ctrl_events.specs.Events.{FileEvents, events_of, no_events}
+use Rattle.ctrl_handlers.specs.Plan.{IsPlan, PlanData}
+use Rattle.device_history.specs.EventSteps.{AreEvents, events_after}
+use Rattle.device_history.proofs.EventLemmas.{events_add, events_start}
+use Rattle.device_history.proofs.RaiseLaw.{numbers_left}
+use Rattle.frame_queue.specs.Frames.{FramesData}
 use Rattle.device_history.specs.declared.limits.TheConstants.{MAX_STEPS}
 use Rattle.device_history.specs.declared.ask.Step.{Step}
-use Rattle.device_history.specs.declared.ask.Step.TheVariants as steps
-use Rattle.device_history.specs.Steps.{History}
+use Rattle.device_history.specs.Steps.{History, Past}
 use Rattle.device_history.specs.Handles.{opened, ever_opened, opened_after}
 use Rattle.device_history.specs.Grabs.{grabbed, grabbed_after}
-use Rattle.device_history.specs.Snapshots.{frames, request, requests}
-use Rattle.device_history.specs.FrameSteps.{FitsFrames, frames_after}
+use Rattle.device_history.specs.Snapshots.{frames}
+use Rattle.device_history.specs.FrameSteps.{frames_after}
 use Rattle.device_history.specs.Values.{laid, now, defaults, now_after}
 use Rattle.device_history.specs.Refusals.{is_full}
 use Rattle.device_history.specs.Legal.{IsLegal, MayFollow}
-use Rattle.device_history.proofs.FitLemmas.{fits}
-use Rattle.device_history.proofs.FrameLaw.{frames_start, frames_add, found_request, fresh_request}
+use Rattle.device_history.proofs.FrameLaw.{frames_start, frames_add}
 use Rattle.device_history.proofs.PastLemmas.{opened_add, opened_fresh, now_add, legal_add}
 use Rattle.device_history.proofs.GrabLemmas.{grabbed_start, grabbed_add}
 use Rattle.history_audit.specs.Replay.{AreMade, IsReplay, Parts}
-use Rattle.history_audit.specs.Changing.{FitsIn, StoresKnown, is_still}
 
 -- so many are taken
 pub taken_many : {X : Type 0} (xs : List X) (n : ℕ) → n ≤ length xs → length (take n xs) ≡ n
@@ -47,9 +46,10 @@ taken_next (y ∷ xs) (suc n) x h = let rest = taken_next xs n x h in (ap (λ (z
 
 -- before the first step no file handle is open, there is no request, and the values are the defaults
 pub replay_start : (verdicts : Verdicts) (plan : PlanData) (all : History) (parts : Parts) → parts.file_handles ≡ [] → parts.grabs ≡ map (λ _. false) plan.controls → parts.values ≡ defaults plan
-    → ◌≡◌ {A = FramesData} parts.frames (record { requests = record { controls = length plan.controls; all = [] }; queue = []; running = None }) → IsReplay verdicts plan all 0 parts
+    → ◌≡◌ {A = FramesData} parts.frames (record { requests = record { controls = length plan.controls; all = [] }; queue = []; running = None }) → IsPlan plan → ((j : ℕ) → events_of parts.events j ≡ no_events) → IsReplay verdicts plan all 0 parts
 unfolding IsLegal opened ever_opened now
-replay_start verdicts plan all parts h g v f = record {
+replay_start verdicts plan all parts h g v f plans ev = record {
+  plans = plans;
   within = omega arith;
   few = omega arith;
   made = record {
@@ -58,6 +58,7 @@ replay_start verdicts plan all parts h g v f = record {
     grabs = g ∙ sym (grabbed_start plan);
     values = v;
     frames = f ∙ sym (frames_start verdicts plan);
+    events = λ fh. subst (λ (k : FileEvents). AreEvents verdicts plan (past []) fh k) (sym (ev fh.0)) (events_start verdicts plan fh);
   };
 }
 
@@ -73,12 +74,14 @@ pub replay_add : (verdicts : Verdicts) (plan : PlanData) (all : History) (count 
     → slice_get all (length (take count all)) ≡ Some e → is_full (past (take count all)) ≡ false → MayFollow verdicts plan (past (take count all)) e.step
     → parts'.file_handles ≡ opened_after count e.step (opened (past (take count all))) → parts'.grabs ≡ grabbed_after e.step (grabbed plan (past (take count all)))
     → parts'.values ≡ now_after verdicts plan (grabbed plan (past (take count all))) (laid plan (past (take count all)) e.step) (now verdicts plan (past (take count all)))
-    → parts'.frames ≡ frames_after verdicts plan (past (take count all)) count e.step (frames verdicts plan (past (take count all))) → IsReplay verdicts plan all (count + 1) parts'
-replay_add verdicts plan all count parts parts' e replay is room may h g v f =
+    → parts'.frames ≡ frames_after verdicts plan (past (take count all)) count e.step (frames verdicts plan (past (take count all)))
+    → ((fh : FhId) → events_of parts'.events fh.0 ≡ events_after verdicts plan e (past (take count all)) fh (events_of parts.events fh.0)) → IsReplay verdicts plan all (count + 1) parts'
+replay_add verdicts plan all count parts parts' e replay is room may h g v f ev =
     let more = replayed_next all count e replay.within is in
     let many : length (take count all) ≡ count = taken_many all count replay.within in
     let few : count < MAX_STEPS = below (take count all) count many room in
     record {
+      plans = replay.plans;
       within = omega (arith, more.1);
       few = omega (arith, few);
       made = subst (λ (s : History). AreMade verdicts plan s parts') (sym more.0) (record {
@@ -87,6 +90,7 @@ replay_add verdicts plan all count parts parts' e replay is room may h g v f =
         grabs = g ∙ sym (grabbed_add plan (take count all) e);
         values = v ∙ sym (now_add verdicts plan (take count all) e);
         frames = f ∙ ap (λ (n : ℕ). frames_after verdicts plan (past (take count all)) n e.step (frames verdicts plan (past (take count all)))) (sym many) ∙ sym (frames_add verdicts plan (take count all) e replay.made.legal may);
+        events = λ fh. subst (λ (k : FileEvents). AreEvents verdicts plan (past (take count all ++ e ∷ [])) fh k) (sym (ev fh)) (events_add verdicts plan (take count all) e fh (events_of parts.events fh.0) replay.plans replay.made.legal may (replay.made.events fh));
       });
     }
   where
@@ -99,29 +103,14 @@ replay_fresh verdicts plan all count parts replay =
     ap (lookup (nat_eq count)) replay.made.file_handles
     ∙ subst (λ (n : ℕ). lookup (nat_eq n) (opened (past (take count all))) ≡ None) (length_past (take count all) ∙ taken_many all count replay.within) (opened_fresh (past (take count all)))
 
--- the request that is kept under an id
-pub found : (verdicts : Verdicts) (plan : PlanData) (steps : History) (parts : Parts) (r : ℕ) → AreMade verdicts plan steps parts → find parts.frames.requests.all r ≡ request verdicts plan (past steps) r
-found verdicts plan steps parts r made = ap (λ (f : FramesData). find f.requests.all r) made.frames ∙ found_request verdicts plan (past steps) r made.legal
+-- there is a number for each raise of one more step
+pub numbered : (verdicts : Verdicts) (plan : PlanData) (all : History) (count : ℕ) (parts : Parts) → IsReplay verdicts plan all count parts → (j : ℕ) → (events_of parts.events j).next + length plan.controls ≤ 4294967295
+numbered verdicts plan all count parts replay j =
+    let many = taken_many all count replay.within in
+    let same = length_past (take count all) in
+    numbers_left verdicts plan (past (take count all)) (record { 0 = j }) (events_of parts.events j) replay.plans (omega (arith, many, same, replay.few)) (replay.made.events (record { 0 = j }))
 
--- a step that may follow can change what is kept
-pub fits_in : (verdicts : Verdicts) (plan : PlanData) (entries : History) (parts : Parts) (step : Step) → AreMade verdicts plan entries parts → MayFollow verdicts plan (past entries) step
-    → is_still step ≡ true → StoresKnown (length plan.controls) step → FitsIn (length entries) step parts.frames
-fits_in verdicts plan entries parts step made may still known = by step (fits verdicts plan (past entries) step may) still known
-  where
-    by : (step : Step) → FitsFrames verdicts plan (past entries) step → is_still step ≡ true → StoresKnown (length plan.controls) step → FitsIn (length entries) step parts.frames
-    by steps.Alloc fit still known = found verdicts plan entries parts (length entries) made ∙ fresh_request verdicts plan entries made.legal
-    by (steps.Store r pairs) fit still known = subst (λ (f : FramesData). All (λ p. p.control < f.requests.controls) pairs) (sym made.frames) known
-    by (steps.Buffer r number) fit still known =
-        ap (λ (f : FramesData). buffer_refusal f.requests.all number (find f.requests.all r.0)) made.frames
-        ∙ ap (buffer_refusal (requests verdicts plan (past entries)) number) (found_request verdicts plan (past entries) r.0 made.legal) ∙ fit
-    by (steps.Queue r) fit still known = ap queue_refusal (found verdicts plan entries parts r.0 made) ∙ fit
-    by (steps.Complete r) fit still known = ap (λ (f : FramesData). f.running) made.frames ∙ fit
-    by (steps.Cancel r) fit still known = ap cancel_refusal (found verdicts plan entries parts r.0 made) ∙ fit
-    by steps.StreamOff fit still known = tt
-    by (steps.Reinit r) fit still known = ap clear_refusal (found verdicts plan entries parts r.0 made) ∙ fit
-    by (steps.Free r) fit still known = ap clear_refusal (found verdicts plan entries parts r.0 made) ∙ fit
-    by (steps.OpenFh handler) fit still known = cc
-    by (steps.CloseFh fh) fit still known = cc
-    by (steps.Set fh pairs) fit still known = cc
-    by (steps.Grab c on) fit still known = cc
-    by (steps.Begin r) fit still known = cc
+-- the present values after one more entry
+pub now_next : (verdicts : Verdicts) (plan : PlanData) (e : Entry Step) (older : Past) → now verdicts plan (e ∷ older) ≡ now_after verdicts plan (grabbed plan older) (laid plan older e.step) (now verdicts plan older)
+unfolding now
+now_next verdicts plan e older = refl

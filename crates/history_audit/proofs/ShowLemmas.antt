@@ -17,6 +17,11 @@ use Rattle.ctrl_handlers.specs.Plan.{PlanData, IsPlan, control, control_in}
 use Rattle.ctrl_handlers.specs.Visible.{find, first_with_id, visible}
 use Rattle.ctrl_handlers.proofs.ShownLemmas.{Known, visible_known}
 use Rattle.ctrl_lists.specs.View.{is_meant, meant_one, named, pairs_of}
+use Rattle.ctrl_types.specs.declared.ids.FhId.{FhId}
+use Rattle.device_history.specs.Handles.{shown}
+use Rattle.device_history.specs.Steps.{Past}
+use Rattle.device_history.proofs.EventLemmas.{shown_known}
+use Rattle.history_audit.specs.Changing.{shows_it}
 use Rattle.device_history.specs.Asking.{first_storer, shows_pair, shows_pairs}
 
 -- a control that is found among known ones is known
@@ -77,3 +82,14 @@ by_handlers plan pairs (o ∷ os) = by (shows_pairs plan o.1 pairs) (by_handlers
         → cond b (Some o.1) (first_that (λ h. shows_pairs plan h pairs) (map (λ k. k.1) os)) ≡ option_map (λ h. h.1) (cond b (Some o) (first_storer plan pairs os))
     by true h = refl
     by false h = h
+
+-- nor to a file handle
+pub unshown_control : (plan : PlanData) (past : Past) (fh : FhId) (c : ℕ) → IsPlan plan → length plan.controls ≤ c → shows_it plan past fh c ≡ false
+unshown_control plan past fh c is beyond = by (shown plan past fh (control plan c).id) refl
+  where
+    apart : (d e n : ℕ) → d < n → n ≤ e → nat_eq d e ≡ false
+    apart d e n lt le = grind (arith, nat_tests)
+
+    by : (o : Option ℕ) → shown plan past fh (control plan c).id ≡ o → is_number o c ≡ false
+    by None e = refl
+    by (Some d) e = apart d c (length plan.controls) (shown_known plan past fh (control plan c).id d is e) beyond

@@ -3,7 +3,9 @@ use Rattle.std.specs.Prelude.{◌≡◌, ℕ, ◌≤◌, Bool, true, false, List
 use Rattle.history.specs.declared.entry.Entry.{Entry}
 use Rattle.history.specs.Past.{past}
 use Rattle.ctrl_calls.specs.Meanings.{Verdicts}
-use Rattle.ctrl_handlers.specs.Plan.{PlanData}
+use Rattle.ctrl_types.specs.declared.ids.FhId.{FhId}
+use Rattle.ctrl_events.specs.Events.{EventsData, events_of}
+use Rattle.ctrl_handlers.specs.Plan.{IsPlan, PlanData}
 use Rattle.ctrl_clusters.specs.Rows.{Grabs, Values}
 use Rattle.frame_queue.specs.Frames.{FramesData}
 use Rattle.device_history.specs.declared.ask.Step.{Step}
@@ -14,6 +16,7 @@ use Rattle.device_history.specs.Handles.{opened}
 use Rattle.device_history.specs.Grabs.{grabbed}
 use Rattle.device_history.specs.Snapshots.{frames}
 use Rattle.device_history.specs.Values.{now}
+use Rattle.device_history.specs.EventSteps.{AreEvents}
 use Rattle.device_history.specs.Legal.{IsLegal, MayFollow}
 
 -- what is replayed: the plan of the device, the steps that were replayed, and all that there are
@@ -43,6 +46,8 @@ pub record Parts : Type 0 where
   pub values : Values
   -- the requests and the queue
   pub frames : FramesData
+  -- the events of file handles
+  pub events : EventsData
 
 -- Steps came about, and each part is what they make of it.
 pub record AreMade (verdicts : Verdicts) (plan : PlanData) (steps : History) (parts : Parts) : Type 0 where
@@ -51,9 +56,11 @@ pub record AreMade (verdicts : Verdicts) (plan : PlanData) (steps : History) (pa
   pub grabs : parts.grabs ≡ grabbed plan (past steps)
   pub values : parts.values ≡ now verdicts plan (past steps)
   pub frames : parts.frames ≡ frames verdicts plan (past steps)
+  pub events : (fh : FhId) → AreEvents verdicts plan (past steps) fh (events_of parts.events fh.0)
 
 -- So many steps of all were replayed, no more than a device keeps, and they made the parts.
 pub record IsReplay (verdicts : Verdicts) (plan : PlanData) (all : History) (count : ℕ) (parts : Parts) : Type 0 where
+  pub plans : IsPlan plan
   pub within : count ≤ length all
   pub few : count ≤ MAX_STEPS
   pub made : AreMade verdicts plan (take count all) parts

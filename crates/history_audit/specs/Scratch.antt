@@ -1,25 +1,38 @@
 -- What a history makes of a device, worked out of its steps alone (of this project).
-use Rattle.std.specs.Prelude.{◌≡◌, List, map, length}
-use Rattle.std.specs.List.{range_with_len}
+use Rattle.std.specs.Prelude.{◌≡◌, ℕ, nat_eq, List, map, length, Option}
+use Rattle.std.specs.List.{find, range_with_len}
 use Rattle.ctrl_types.specs.declared.flags.Flags.{Flags}
+use Rattle.ctrl_types.specs.declared.ids.FhId.{FhId}
 use Rattle.ctrl_calls.specs.Meanings.{Verdicts}
 use Rattle.ctrl_handlers.specs.Plan.{PlanData}
+use Rattle.ctrl_events.specs.declared.event.Waiting.{Waiting}
+use Rattle.ctrl_events.specs.Events.{EventsData, FileEvents, events_of}
 use Rattle.ctrl_clusters.specs.PresentFlags.{flags_under}
 use Rattle.ctrl_clusters.specs.Rows.{Grabs, Values}
 use Rattle.ctrl_forecast.specs.declared.board.Forecast.{Forecast}
 use Rattle.frame_queue.specs.Frames.{FramesData}
 use Rattle.device_history.specs.Steps.{Past}
+use Rattle.device_history.specs.Handles.{opened}
+use Rattle.device_history.specs.Events.{next_sequence, pending}
 use Rattle.device_history.specs.Values.{now}
 use Rattle.device_history.specs.Flags.{flags_now}
 use Rattle.device_history.specs.Snapshots.{frames}
 use Rattle.device_history.specs.Forecasts.{forecast}
 
--- the present values and flags, by control; the requests and their queue; and what the queued frames will have
+-- an open file handle, with the events that wait for it, in order, and the number of its next event
+pub record OpenEvents : Type 0 where
+  pub fh : FhId
+  pub waiting : List Waiting
+  pub next : ℕ
+
+-- the present values and flags, by control; the requests and their queue; what the queued frames will have; and the events of the open file
+-- handles, in the order of their opening
 pub record ScratchData : Type 0 where
   pub values : Values
   pub flags : List Flags
   pub frames : FramesData
   pub forecasts : List Forecast
+  pub events : List OpenEvents
 
 -- the flags of each control under values and grabs
 abbrev pub flags_of_all : PlanData → Values → Grabs → List Flags
@@ -29,6 +42,26 @@ flags_of_all plan values grabs = map (flags_under plan values grabs) (range_with
 abbrev pub all_flags : Verdicts → PlanData → Past → List Flags
 all_flags verdicts plan past = map (flags_now verdicts plan past) (range_with_len 0 (length plan.controls))
 
+-- a file handle, with what is kept of its events
+abbrev pub open_with : ℕ → FileEvents → OpenEvents
+open_with fh kept = record { fh = record { 0 = fh }; waiting = kept.waiting; next = kept.next }
+
+-- the events of some file handles, each with its handler, out of all events that are kept
+abbrev pub open_events : EventsData → List (ℕ × ℕ) → List OpenEvents
+open_events events handles = map (λ h. open_with h.0 (events_of events h.0)) handles
+
+-- what is listed of a file handle, where it is open
+abbrev pub events_for : List OpenEvents → FhId → Option OpenEvents
+events_for all fh = find (λ o. nat_eq fh.0 o.fh.0) all
+
+-- the events of a file handle, as the history makes them
+abbrev pub its_events : Verdicts → PlanData → Past → FhId → OpenEvents
+its_events verdicts plan past fh = record { fh = fh; waiting = pending verdicts plan past fh; next = next_sequence verdicts plan past fh }
+
+-- the events of each open file handle, in the order of their opening
+abbrev pub all_events : Verdicts → PlanData → Past → List OpenEvents
+all_events verdicts plan past = map (λ h. its_events verdicts plan past (record { 0 = h.0 })) (opened past)
+
 -- each is its definition over the history
 abbrev pub scratch : Verdicts → PlanData → Past → ScratchData
 scratch verdicts plan past = record {
@@ -36,16 +69,20 @@ scratch verdicts plan past = record {
   flags = all_flags verdicts plan past;
   frames = frames verdicts plan past;
   forecasts = forecast verdicts plan past;
+  events = all_events verdicts plan past;
 }
 
--- Values, the flags that they have with grabs, and requests with their queue are those of a scratch.
-pub record HasParts (s : ScratchData) (plan : PlanData) (present : Values) (grabs : Grabs) (requests : FramesData) : Type 0 where
+-- Values, the flags that they have with grabs, requests with their queue, and the events of some file handles, each with its handler, are
+-- those of a scratch.
+pub record HasParts (s : ScratchData) (plan : PlanData) (present : Values) (grabs : Grabs) (requests : FramesData) (handles : List (ℕ × ℕ)) (kept : EventsData) : Type 0 where
   pub values : s.values ≡ present
   pub flags : s.flags ≡ flags_of_all plan present grabs
   pub frames : s.frames ≡ requests
+  pub events : s.events ≡ open_events kept handles
 
 -- All that a scratch has, the forecasts aside, is what a history makes of a device.
 pub record Agrees (verdicts : Verdicts) (plan : PlanData) (past : Past) (s : ScratchData) : Type 0 where
   pub values : s.values ≡ now verdicts plan past
   pub flags : s.flags ≡ all_flags verdicts plan past
   pub frames : s.frames ≡ frames verdicts plan past
+  pub events : s.events ≡ all_events verdicts plan past

@@ -12,6 +12,7 @@ ghost use Rattle.history_audit.specs.Scratch.{scratch};
 
 mod begins;
 mod evaluating;
+mod events;
 mod fitting;
 mod lists;
 mod plain;
@@ -19,6 +20,7 @@ mod plain;
 use crate::scratch::Scratch;
 use ctrl_calls::Driver;
 use ctrl_clusters::{default_values, no_grabs};
+use ctrl_events::Events;
 use ctrl_handlers::Plan;
 use ctrl_types::{CtrlValue, FhId};
 use device_history::{MAX_STEPS, Step};
@@ -44,6 +46,8 @@ pub struct Replay<'a, D: Driver> {
     values: Vec<CtrlValue>,
     // the media requests, and the queue of frames
     frames: Frames,
+    // the events of file handles
+    events: Events,
     alloc: Global,
 }
 
@@ -57,7 +61,7 @@ impl<'a, D: Driver> Model for Replay<'a, D> {
 
     ghost view = { λ r. record { plan = r.plan.now; steps = take r.count r.steps.now; all = r.steps.now } };
 
-    ghost invariant = { λ r. IsReplay D.verdict r.plan.now r.steps.now r.count (record { file_handles = r.file_handles.entries; grabs = r.grabs.items; values = r.values.items; frames = r.frames }) };
+    ghost invariant = { λ r. IsReplay D.verdict r.plan.now r.steps.now r.count (record { file_handles = r.file_handles.entries; grabs = r.grabs.items; values = r.values.items; frames = r.frames; events = r.events }) };
 }
 
 impl<'a, D: Driver> Drop for Replay<'a, D> {
@@ -70,6 +74,7 @@ impl<'a, D: Driver> Drop for Replay<'a, D> {
             grabs: _,
             values: _,
             frames: _,
+            events: _,
             alloc: _,
         } = self;
     }
@@ -103,6 +108,7 @@ impl<'a, D: Driver> Replay<'a, D> {
             grabs,
             values,
             frames,
+            events: Events::new(alloc),
             alloc,
         })
     }
@@ -150,9 +156,9 @@ impl<'a, D: Driver> Replay<'a, D> {
         match &entry.step {
             Step::OpenFh { handler } => self.open(entry, *handler)?,
             Step::CloseFh { fh } => self.close(entry, *fh),
-            Step::Grab { control, on } => self.grab(entry, *control, *on),
+            Step::Grab { control, on } => self.grab(entry, *control, *on)?,
             Step::Begin { request } => self.begin(entry, *request)?,
-            _ => self.change_frames(entry)?,
+            _ => self.change(entry)?,
         }
         Ok(true)
     }
@@ -170,13 +176,14 @@ impl<'a, D: Driver> Replay<'a, D> {
             plan: _,
             steps: _,
             count: _,
-            file_handles: _,
+            file_handles,
             grabs: _,
             values,
             frames,
+            events,
             alloc: _,
         } = self;
-        Ok(Scratch::of(values, flags, frames, forecasts))
+        Ok(Scratch::of(values, flags, frames, forecasts, file_handles, events))
     }
 
     // What the device is built of. The steps so far are legal.

@@ -1,16 +1,21 @@
-ghost use Rattle.std.specs.Prelude.{◌≡◌, ◌↔◌, IsTrue, length};
-ghost use Rattle.history_audit.specs.Scratch.{HasParts, flags_of_all};
+ghost use Rattle.std.specs.Prelude.{◌≡◌, ◌<◌, ◌↔◌, IsTrue, length, slice_get};
+ghost use Rattle.std.specs.Option.{option_and_then, option_map_or};
+ghost use Rattle.ctrl_events.specs.Events.{event_at};
+ghost use Rattle.history_audit.specs.Scratch.{HasParts, events_for, flags_of_all, open_events};
 
 use ctrl_calls::Driver;
 use ctrl_clusters::flags_under;
+use ctrl_events::{Event, Events};
 use ctrl_forecast::Board;
 use ctrl_handlers::Plan;
-use ctrl_types::{CtrlValue, Flags};
+use ctrl_types::{CtrlValue, FhId, Flags};
 use frame_queue::Frames;
+use indexmap::IndexMap;
 use std::marker::Model;
 
 /// What a history makes of a device, worked out of its steps alone. Contracts see it as its parts: the present values and flags, the
-/// requests with their queue, and what the queued frames will have.
+/// requests with their queue, what the queued frames will have, and, for each open file handle in the order of opening, the events that wait
+/// for it and the number of its next event.
 #[derive(Drop)]
 pub struct Scratch {
     // by control
@@ -19,14 +24,18 @@ pub struct Scratch {
     flags: Vec<Flags>,
     frames: Frames,
     forecasts: Board,
+    // the open file handles, each with its handler, in the order of their opening
+    file_handles: IndexMap<u32, u32>,
+    // the events of file handles
+    events: Events,
 }
 
 impl Model for Scratch {
-    ghost use Rattle.history_audit.specs.Scratch.{ScratchData};
+    ghost use Rattle.history_audit.specs.Scratch.{ScratchData, open_events};
 
     ghost Value = { ScratchData };
 
-    ghost view = { λ s. record { values = s.values.items; flags = s.flags.items; frames = s.frames; forecasts = s.forecasts } };
+    ghost view = { λ s. record { values = s.values.items; flags = s.flags.items; frames = s.frames; forecasts = s.forecasts; events = open_events s.events s.file_handles.entries } };
 }
 
 impl Scratch {
@@ -36,14 +45,18 @@ impl Scratch {
         flags: Vec<Flags>,
         frames: Frames,
         forecasts: Board,
+        file_handles: IndexMap<u32, u32>,
+        events: Events,
     ) -> Scratch
-        ensures { result ≡ record { values = values.items; flags = flags.items; frames = frames; forecasts = forecasts } }
+        ensures { result ≡ record { values = values.items; flags = flags.items; frames = frames; forecasts = forecasts; events = open_events events file_handles.entries } }
     {
         Scratch {
             values,
             flags,
             frames,
             forecasts,
+            file_handles,
+            events,
         }
     }
 
@@ -75,23 +88,49 @@ impl Scratch {
         &self.forecasts
     }
 
-    /// Whether it has these values, the flags that they make with these grabs, and these requests with their queue. The forecasts are left
-    /// out. It takes no memory and asks nobody.
+    /// The event that waits for a file handle at a place, from 0, with the number of its control; none where fewer wait, or where the file
+    /// handle isn't open. It is as it would be taken there: `pending` is the number of those that wait behind it. It takes no memory.
+    pub fn waiting(&self, fh: FhId, place: usize) -> Option<(u32, Event)>
+        ensures { result ≡ option_and_then (λ o. event_at o.waiting place) (events_for self.now.events fh) }
+    {
+        match self.file_handles.get(&fh.0) {
+            Some(_) => self.events.waiting(fh, place),
+            None => None,
+        }
+    }
+
+    /// The number of the next event that is raised for a file handle: how many were; 0 where it isn't open. It takes no memory.
+    pub fn next_sequence(&self, fh: FhId) -> u32
+        ensures { result ≡ option_map_or (λ o. o.next) (events_for self.now.events fh) 0 }
+    {
+        match self.file_handles.get(&fh.0) {
+            Some(_) => self.events.next_sequence(fh),
+            None => 0,
+        }
+    }
+
+    /// Whether it has these values, the flags that they make with these grabs, these requests with their queue, and these open file handles
+    /// with the same events that wait, in the same order, and the same numbers of their next events. The forecasts are left out, and so are
+    /// subscriptions and the handlers of file handles. It takes no memory and asks nobody.
     ///
     /// - `plan`: what the device is built of.
     /// - `values`, `grabs`: a value, and whether it is grabbed, for each control in the order of their numbers; the caller owes exactly as
     ///   many.
     /// - `frames`: the requests, their queue, and the one whose frame is being made.
+    /// - `file_handles`: the open file handles, each with its handler, in the order of their opening.
+    /// - `events`: the events of file handles, of these and any others.
     pub fn has_parts<D: Driver>(
         &self,
         plan: &Plan<D>,
         values: &[CtrlValue],
         grabs: &[bool],
         frames: &Frames,
+        file_handles: &IndexMap<u32, u32>,
+        events: &Events,
     ) -> bool
         requires values { length values.now ≡ length plan.now.controls }
         requires grabs { length grabs.now ≡ length plan.now.controls }
-        ensures { IsTrue result ↔ HasParts self.now plan.now values.now grabs.now frames.now }
+        ensures { IsTrue result ↔ HasParts self.now plan.now values.now grabs.now frames.now file_handles.now.entries events.now }
     {
         if !are_values(self.values(), values) {
             return false;
@@ -99,7 +138,17 @@ impl Scratch {
         if !are_flags(plan, values, grabs, self.flags()) {
             return false;
         }
-        self.frames().is_like(frames)
+        if !self.frames().is_like(frames) {
+            return false;
+        }
+        self.has_events(file_handles, events)
+    }
+
+    // Whether it has these open file handles and their events.
+    fn has_events(&self, file_handles: &IndexMap<u32, u32>, events: &Events) -> bool
+        ensures { IsTrue result ↔ (self.now.events ≡ open_events events.now file_handles.now.entries) }
+    {
+        are_events(&self.file_handles, &self.events, file_handles, events)
     }
 }
 
@@ -141,4 +190,48 @@ fn are_equal(one: Flags, other: Flags) -> bool
     ensures { IsTrue result ↔ (one ≡ other) }
 {
     one == other
+}
+
+// Whether the file handles are the same, in the same order, and each has the same events and the same number of the next.
+fn are_events(
+    own_handles: &IndexMap<u32, u32>,
+    own_events: &Events,
+    file_handles: &IndexMap<u32, u32>,
+    events: &Events,
+) -> bool
+    ensures { IsTrue result ↔ (open_events own_events.now own_handles.now.entries ≡ open_events events.now file_handles.now.entries) }
+{
+    let count = own_handles.len();
+    if file_handles.len() != count {
+        return false;
+    }
+    for place in 0..count {
+        if !are_alike_at(own_handles, own_events, file_handles, events, place) {
+            return false;
+        }
+    }
+    true
+}
+
+// The same of the file handles at a place.
+fn are_alike_at(
+    own_handles: &IndexMap<u32, u32>,
+    own_events: &Events,
+    file_handles: &IndexMap<u32, u32>,
+    events: &Events,
+    place: usize,
+) -> bool
+    requires own { place < length own_handles.now.entries }
+    requires others { place < length file_handles.now.entries }
+    ensures { IsTrue result ↔ (slice_get (open_events own_events.now own_handles.now.entries) place ≡ slice_get (open_events events.now file_handles.now.entries) place) }
+{
+    match (own_handles.get_index(place), file_handles.get_index(place)) {
+        (Some((own, _)), Some((other, _))) => {
+            if own != other {
+                return false;
+            }
+            own_events.is_like(events, FhId(*own))
+        }
+        _ => false,
+    }
 }

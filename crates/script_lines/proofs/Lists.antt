@@ -1,7 +1,7 @@
 -- The entries of a list, read one after another.
 use Rattle.std.proofs.Common.{◌≡◌, ◌≢◌, ℕ, ◌+◌, ◌<◌, zero, suc, List, [], ◌∷◌, ◌++◌, Option, None, Some, refl, length, get_or, arith, ap, map, take, Bor, add-one}
 use Rattle.ctrl_types.specs.declared.ids.ExtControl.{ExtControl}
-use Rattle.script_lines.specs.Commands.{entry_of, list_of, onto, query_of, menu_of}
+use Rattle.script_lines.specs.Commands.{entry_of, list_of, onto, handle_and_control, menu_of, subscribe_of}
 use Rattle.script_lines.specs.declared.parse.EntryForm.{EntryForm}
 
 onto-push : (x : Option ExtControl) (es fs : Option (List ExtControl)) (all : List ExtControl) (e : ExtControl)
@@ -52,12 +52,18 @@ push_at form ws i d r es e h front is some =
     let more = take_one_more ws i d h in
     rw (add-one, more) (list_of-push form (take i (map (λ w. w.now) ws)) (get_or ws i d).now es e front k)
 
--- other operands than two are no query
-pub not_two : (ws : List (Bor (List ℕ))) → length ws ≢ 2 → query_of (map (λ w. w.now) ws) ≡ None
+-- other operands than two are no file handle and control
+pub not_two : (ws : List (Bor (List ℕ))) → length ws ≢ 2 → handle_and_control (map (λ w. w.now) ws) ≡ None
 not_two [] h = refl
 not_two (a ∷ []) h = refl
 not_two (a ∷ b ∷ []) h = absurd (h refl)
 not_two (a ∷ b ∷ c ∷ ws) h = refl
+
+-- fewer operands than two subscribe to nothing
+pub below_two : (ws : List (Bor (List ℕ))) → length ws < 2 → subscribe_of (map (λ w. w.now) ws) ≡ None
+below_two [] h = refl
+below_two (a ∷ []) h = refl
+below_two (a ∷ b ∷ ws) h = absurd (omega arith)
 
 -- other operands than three ask for no item
 pub not_three : (ws : List (Bor (List ℕ))) → length ws ≢ 3 → menu_of (map (λ w. w.now) ws) ≡ None

@@ -1,15 +1,17 @@
 -- The commands of a script (of this project), over the words of a line.
-use Rattle.std.specs.Prelude.{◌≡◌, ℕ, ◌+◌, ◌==◌, Bool, true, false, not, ℤ, pos, if◌then◌else◌, List, [], ◌∷◌, length, take, drop, filter, position, Option, None, Some, Result, Ok, Err, codes, slice_get, slice_index, ⊤}
+use Rattle.std.specs.Prelude.{◌≡◌, ℕ, ◌+◌, ◌==◌, ◌&&◌, bit_or, Bool, true, false, not, ℤ, pos, if◌then◌else◌, List, [], ◌∷◌, length, take, drop, filter, position, Option, None, Some, Result, Ok, Err, codes, slice_get, slice_index, ⊤}
 use Rattle.std.specs.List.{slice_split}
 use Rattle.std.specs.Option.{option_and_then, option_map, option_or}
 use Rattle.std.specs.Str.{bytes_eq}
 use Rattle.ctrl_types.specs.declared.ids.CtrlId.{CtrlId}
 use Rattle.ctrl_types.specs.declared.ids.ExtControl.{ExtControl}
+use Rattle.ctrl_types.specs.declared.sub_flags.SubFlags.{SubFlags}
+use Rattle.ctrl_types.specs.declared.sub_flags.TheConstants.SubFlags.{SEND_INITIAL, ALLOW_FEEDBACK}
 use Rattle.sample_device.specs.Words.{sample_number}
 use Rattle.script_lines.specs.Lexemes.{after, control_id, decimal_i64, decimal_u32, hexadecimal_u32}
 use Rattle.script_lines.specs.Names.{name_of}
 use Rattle.script_lines.specs.declared.command.Command.{Command}
-use Rattle.script_lines.specs.declared.command.Command.TheVariants.{Open, Close, Get, Set, Try, Grab, Query, Next, Menu, Told, Alloc, Buffer, Queue, Cancel, Reinit, Free, State, Row, Begin, Complete, Off, Audit}
+use Rattle.script_lines.specs.declared.command.Command.TheVariants.{Open, Close, Get, Set, Try, Grab, Query, Next, Menu, Told, Alloc, Buffer, Queue, Cancel, Reinit, Free, State, Row, Begin, Complete, Off, Subscribe, Unsubscribe, Take, Audit}
 use Rattle.script_lines.specs.declared.command.WhichWord.{WhichWord}
 use Rattle.script_lines.specs.declared.command.WhichWord.TheVariants.{Number, Request}
 use Rattle.script_lines.specs.declared.fault.LineFault.{LineFault}
@@ -116,15 +118,19 @@ abbrev pub grab_of : List (List ℕ) → Option Command
 grab_of (control ∷ form ∷ []) = grab_parts (sample_number control) (on_or_off form)
 grab_of _ = None
 
-abbrev pub query_parts : Option Name → Option CtrlId → Option Command
-query_parts (Some fh) (Some id) = Some (Query fh id)
-query_parts (Some fh) None = None
-query_parts None id = None
+abbrev pub both : Option Name → Option CtrlId → Option (Name × CtrlId)
+both (Some fh) (Some id) = Some (fh, id)
+both (Some fh) None = None
+both None id = None
+
+-- a file handle and a control
+abbrev pub handle_and_control : List (List ℕ) → Option (Name × CtrlId)
+handle_and_control (fh ∷ control ∷ []) = both (name_of fh) (control_id control)
+handle_and_control _ = None
 
 -- the operands of `query`
 abbrev pub query_of : List (List ℕ) → Option Command
-query_of (fh ∷ control ∷ []) = query_parts (name_of fh) (control_id control)
-query_of _ = None
+query_of operands = option_map (λ p. Query p.0 p.1) (handle_and_control operands)
 
 abbrev pub next_parts : Option Name → Option ℕ → Option Command
 next_parts (Some fh) (Some id) = Some (Next fh (record { 0 = id }))
@@ -186,12 +192,49 @@ abbrev pub bare_of : Command → List (List ℕ) → Option Command
 bare_of command [] = Some command
 bare_of command _ = None
 
+-- how a file handle subscribes, by one word: `initial`, an event is raised at once, or `feedback`, it gets the events of its own sets too
+abbrev pub sub_flag : List ℕ → Option SubFlags
+sub_flag word =
+    if bytes_eq word (codes "initial") then Some SEND_INITIAL
+    else if bytes_eq word (codes "feedback") then Some ALLOW_FEEDBACK
+    else None
+
+-- the same by no word, by one, or by both in this order
+abbrev pub sub_flags : List (List ℕ) → Option SubFlags
+sub_flags [] = Some (record { 0 = 0 })
+sub_flags (word ∷ []) = sub_flag word
+sub_flags (first ∷ second ∷ []) =
+    if bytes_eq first (codes "initial") && bytes_eq second (codes "feedback") then Some (record { 0 = bit_or SEND_INITIAL.0 ALLOW_FEEDBACK.0 })
+    else None
+sub_flags _ = None
+
+abbrev pub subscribe_parts : Option Name → Option CtrlId → Option SubFlags → Option Command
+subscribe_parts (Some fh) (Some id) (Some flags) = Some (Subscribe fh id flags)
+subscribe_parts (Some fh) (Some id) None = None
+subscribe_parts (Some fh) None flags = None
+subscribe_parts None id flags = None
+
+-- the operands of `sub`
+abbrev pub subscribe_of : List (List ℕ) → Option Command
+subscribe_of [] = None
+subscribe_of (fh ∷ []) = None
+subscribe_of (fh ∷ control ∷ words) = subscribe_parts (name_of fh) (control_id control) (sub_flags words)
+
+-- the operands of `unsub`
+abbrev pub unsubscribe_of : List (List ℕ) → Option Command
+unsubscribe_of operands = option_map (λ p. Unsubscribe p.0 p.1) (handle_and_control operands)
+
+-- the operand of `take`
+abbrev pub take_of : List (List ℕ) → Option Command
+take_of (fh ∷ []) = option_map (λ name. Take name) (name_of fh)
+take_of _ = None
+
 -- the first words of commands
 abbrev pub verb_words : List (List ℕ)
 verb_words =
     codes "open" ∷ codes "close" ∷ codes "get" ∷ codes "set" ∷ codes "try" ∷ codes "grab" ∷ codes "query" ∷ codes "next" ∷ codes "menu" ∷ codes "told"
     ∷ codes "alloc" ∷ codes "buffer" ∷ codes "queue" ∷ codes "cancel" ∷ codes "reinit" ∷ codes "free" ∷ codes "state" ∷ codes "row" ∷ codes "begin"
-    ∷ codes "complete" ∷ codes "off" ∷ codes "audit" ∷ []
+    ∷ codes "complete" ∷ codes "off" ∷ codes "sub" ∷ codes "unsub" ∷ codes "take" ∷ codes "audit" ∷ []
 
 -- what they stand for, in the same order
 abbrev pub verbs_meant : List Verb
@@ -199,7 +242,7 @@ verbs_meant =
     verbs.Open ∷ verbs.Close ∷ verbs.Get ∷ verbs.Set ∷ verbs.Try ∷ verbs.Grab ∷ verbs.Query ∷ verbs.Next ∷ verbs.Menu ∷ verbs.Told
     ∷ verbs.OfRequest request_verbs.Alloc ∷ verbs.Buffer ∷ verbs.OfRequest request_verbs.Queue ∷ verbs.OfRequest request_verbs.Cancel
     ∷ verbs.OfRequest request_verbs.Reinit ∷ verbs.OfRequest request_verbs.Free ∷ verbs.OfRequest request_verbs.State ∷ verbs.Row ∷ verbs.Begin
-    ∷ verbs.Complete ∷ verbs.Off ∷ verbs.Audit ∷ []
+    ∷ verbs.Complete ∷ verbs.Off ∷ verbs.Subscribe ∷ verbs.Unsubscribe ∷ verbs.Take ∷ verbs.Audit ∷ []
 
 -- what the first word of a command stands for
 abbrev pub verb_of : List ℕ → Option Verb
@@ -223,6 +266,9 @@ command_of (Some verbs.Row) operands = row_of operands
 command_of (Some verbs.Begin) operands = bare_of Begin operands
 command_of (Some verbs.Complete) operands = bare_of Complete operands
 command_of (Some verbs.Off) operands = bare_of Off operands
+command_of (Some verbs.Subscribe) operands = subscribe_of operands
+command_of (Some verbs.Unsubscribe) operands = unsubscribe_of operands
+command_of (Some verbs.Take) operands = take_of operands
 command_of (Some verbs.Audit) operands = bare_of Audit operands
 command_of None operands = None
 

@@ -1,6 +1,6 @@
 use crate::entry_list::EntryList;
 use crate::name::Name;
-use ctrl_types::CtrlId;
+use ctrl_types::{CtrlId, SubFlags};
 
 /// Which values a list speaks of.
 #[derive(Clone, Copy, Debug, PartialEq, Eq)]
@@ -136,6 +136,27 @@ pub enum Command {
     Complete,
     /// `off`: ends the stream.
     Off,
+    /// `sub FH CTRL`, and behind it `initial`, `feedback` or both: subscribes a file handle to the events of a control.
+    Subscribe {
+        /// The file handle.
+        fh: Name,
+        /// The control.
+        id: CtrlId,
+        /// How it is subscribed.
+        flags: SubFlags,
+    },
+    /// `unsub FH CTRL`: ends the subscription of a file handle to the events of a control.
+    Unsubscribe {
+        /// The file handle.
+        fh: Name,
+        /// The control.
+        id: CtrlId,
+    },
+    /// `take FH`: takes the first event that waits for a file handle.
+    Take {
+        /// The file handle.
+        fh: Name,
+    },
     /// `audit`: works the device's steps out anew, and compares.
     Audit,
 }

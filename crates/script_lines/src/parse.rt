@@ -1,5 +1,5 @@
 ghost use Rattle.std.specs.Prelude.{◌≡◌, ◌+◌, ◌<◌, ◌≤◌, ◌^◌, ◌∷◌, ◌==◌, length, map, position, vec_len, IfOk, IfSome};
-ghost use Rattle.script_lines.specs.Commands.{IsRead, words as words_in, line_of, command_of, verb_of, open_of, close_of, grab_of, on_or_off as on_or_off_of, query_of, next_of, menu_of, told_of, buffer_of, request_of, on_request, row_of, bare_of, list_command_of, which_of, fixed_which_of, entry_of, entry_at, list_of};
+ghost use Rattle.script_lines.specs.Commands.{IsRead, words as words_in, line_of, command_of, verb_of, open_of, close_of, grab_of, on_or_off as on_or_off_of, handle_and_control as handle_and_control_of, query_of, next_of, menu_of, told_of, buffer_of, request_of, on_request, row_of, bare_of, subscribe_of, sub_flag as sub_flag_of, sub_flags as sub_flags_of, unsubscribe_of, take_of, list_command_of, which_of, fixed_which_of, entry_of, entry_at, list_of};
 ghost use Rattle.script_lines.specs.declared.command.Command.TheVariants as commands;
 
 use crate::command::{Command, WhichWord};
@@ -7,7 +7,8 @@ use crate::entry_list::EntryList;
 use crate::fault::LineFault;
 use crate::lexeme::{control_id, decimal_i64, decimal_u32, hexadecimal_u32};
 use crate::name::Name;
-use ctrl_types::{CtrlId, ExtControl};
+use bitflags::Flags as FlagSet;
+use ctrl_types::{CtrlId, ExtControl, SubFlags};
 use sample_device::{place_of_word, sample_number};
 use std::alloc::{AllocError, Global};
 
@@ -68,6 +69,9 @@ enum Verb {
     Begin,
     Complete,
     Off,
+    Subscribe,
+    Unsubscribe,
+    Take,
     Audit,
 }
 
@@ -83,7 +87,7 @@ enum RequestVerb {
 }
 
 // The words that stand for them, in the same order as `VERBS`.
-const VERB_WORDS: [&[u8]; 22] = [
+const VERB_WORDS: [&[u8]; 25] = [
     b"open",
     b"close",
     b"get",
@@ -105,10 +109,13 @@ const VERB_WORDS: [&[u8]; 22] = [
     b"begin",
     b"complete",
     b"off",
+    b"sub",
+    b"unsub",
+    b"take",
     b"audit",
 ];
 
-const VERBS: [Verb; 22] = [
+const VERBS: [Verb; 25] = [
     Verb::Open,
     Verb::Close,
     Verb::Get,
@@ -130,6 +137,9 @@ const VERBS: [Verb; 22] = [
     Verb::Begin,
     Verb::Complete,
     Verb::Off,
+    Verb::Subscribe,
+    Verb::Unsubscribe,
+    Verb::Take,
     Verb::Audit,
 ];
 
@@ -161,6 +171,9 @@ fn read_command(alloc: Global, verb: &[u8], operands: &[&[u8]]) -> Result<Comman
         Some(Verb::Begin) => read_bare(Command::Begin, operands),
         Some(Verb::Complete) => read_bare(Command::Complete, operands),
         Some(Verb::Off) => read_bare(Command::Off, operands),
+        Some(Verb::Subscribe) => read_subscribe(operands),
+        Some(Verb::Unsubscribe) => read_unsubscribe(operands),
+        Some(Verb::Take) => read_take(operands),
         Some(Verb::Audit) => read_bare(Command::Audit, operands),
         None => Err(LineFault::NotACommand),
     }
@@ -215,12 +228,22 @@ fn on_or_off(word: &[u8]) -> Option<bool>
 fn read_query(operands: &[&[u8]]) -> Result<Command, LineFault>
     ensures { IsRead result (query_of (map (λ w. w.now) operands.now)) }
 {
+    match handle_and_control(operands) {
+        Some((fh, id)) => Ok(Command::Query { fh, id }),
+        None => Err(LineFault::NotACommand),
+    }
+}
+
+// A file handle and a control, and nothing else.
+fn handle_and_control(operands: &[&[u8]]) -> Option<(Name, CtrlId)>
+    ensures { result ≡ handle_and_control_of (map (λ w. w.now) operands.now) }
+{
     let [fh, control] = operands else {
-        return Err(LineFault::NotACommand);
+        return None;
     };
     match (Name::read(*fh), control_id(*control)) {
-        (Some(fh), Some(id)) => Ok(Command::Query { fh, id }),
-        _ => Err(LineFault::NotACommand),
+        (Some(fh), Some(id)) => Some((fh, id)),
+        _ => None,
     }
 }
 
@@ -316,6 +339,70 @@ fn read_bare(command: Command, operands: &[&[u8]]) -> Result<Command, LineFault>
     match operands {
         [] => Ok(command),
         _ => Err(LineFault::NotACommand),
+    }
+}
+
+fn read_subscribe(operands: &[&[u8]]) -> Result<Command, LineFault>
+    ensures { IsRead result (subscribe_of (map (λ w. w.now) operands.now)) }
+{
+    let [fh, control, words @ ..] = operands else {
+        return Err(LineFault::NotACommand);
+    };
+    match (Name::read(*fh), control_id(*control), sub_flags(words)) {
+        (Some(fh), Some(id), Some(flags)) => Ok(Command::Subscribe { fh, id, flags }),
+        _ => Err(LineFault::NotACommand),
+    }
+}
+
+// How a file handle subscribes: no word, `initial`, `feedback`, or both in this order.
+fn sub_flags(words: &[&[u8]]) -> Option<SubFlags>
+    ensures { result ≡ sub_flags_of (map (λ w. w.now) words.now) }
+{
+    match words {
+        [] => Some(SubFlags::empty()),
+        [word] => sub_flag(*word),
+        [first, second] if *first == INITIAL && *second == FEEDBACK => {
+            Some(SubFlags::SEND_INITIAL.union(SubFlags::ALLOW_FEEDBACK))
+        }
+        _ => None,
+    }
+}
+
+// The words for the flags of a subscription.
+const INITIAL: &[u8] = b"initial";
+
+const FEEDBACK: &[u8] = b"feedback";
+
+fn sub_flag(word: &[u8]) -> Option<SubFlags>
+    ensures { result ≡ sub_flag_of word.now }
+{
+    if word == INITIAL {
+        Some(SubFlags::SEND_INITIAL)
+    } else if word == FEEDBACK {
+        Some(SubFlags::ALLOW_FEEDBACK)
+    } else {
+        None
+    }
+}
+
+fn read_unsubscribe(operands: &[&[u8]]) -> Result<Command, LineFault>
+    ensures { IsRead result (unsubscribe_of (map (λ w. w.now) operands.now)) }
+{
+    match handle_and_control(operands) {
+        Some((fh, id)) => Ok(Command::Unsubscribe { fh, id }),
+        None => Err(LineFault::NotACommand),
+    }
+}
+
+fn read_take(operands: &[&[u8]]) -> Result<Command, LineFault>
+    ensures { IsRead result (take_of (map (λ w. w.now) operands.now)) }
+{
+    let [fh] = operands else {
+        return Err(LineFault::NotACommand);
+    };
+    match Name::read(*fh) {
+        Some(fh) => Ok(Command::Take { fh }),
+        None => Err(LineFault::NotACommand),
     }
 }
 

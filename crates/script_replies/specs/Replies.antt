@@ -13,7 +13,7 @@ use Rattle.menu_items.specs.declared.item.MenuItem.TheVariants.{Name, Number}
 use Rattle.req_book.specs.declared.state.RequestState.{RequestState}
 use Rattle.req_book.specs.declared.state.RequestState.TheVariants.{Idle, Queued, Running, Complete}
 use Rattle.device_history.specs.declared.info.CtrlInfo.{CtrlInfo}
-use Rattle.ctrl_forecast.specs.declared.board.Forecast.{Forecast}
+use Rattle.ctrl_events.specs.declared.event.Event.{Event}
 use Rattle.device_history.specs.declared.ask.Ask.{Ask}
 use Rattle.device_history.specs.declared.ask.Ask.TheVariants as asks
 use Rattle.device_history.specs.declared.ask.Reply.{Reply}
@@ -68,6 +68,12 @@ state_line Queued = codes "ok queued\n"
 state_line Running = codes "ok running\n"
 state_line Complete = codes "ok complete\n"
 
+-- An event that was taken: its control, what changed as one number, the value and the flags that it tells, its number, and how many still wait.
+abbrev pub event_line : Event → List ℕ
+event_line event = codes "event " ++ (id_text event.id ++ (codes " changes " ++ (decimal event.changes.0
+    ++ (codes " value " ++ (signed_decimal event.value ++ (codes " flags " ++ (flags_text event.flags
+    ++ (codes " sequence " ++ (decimal event.sequence ++ (codes " pending " ++ (decimal event.pending ++ codes "\n")))))))))))
+
 -- a number behind a comma
 abbrev pub further_text : ℕ → List ℕ
 further_text cluster = 44 ∷ decimal cluster
@@ -108,6 +114,7 @@ line_of ask (Request request) = codes "ok\n"
 line_of ask (State state) = state_line state
 line_of ask (Frame request buffer refused) = frame_line buffer refused
 line_of ask (replies.Forecast row) = forecast_line (place_of ask) row.buffer row.refused row.values
+line_of ask (replies.Event event) = event_line event
 line_of ask (Info info) = info_line info
 line_of ask (Id id) = codes "ok " ++ (id_text id ++ codes "\n")
 line_of ask (Item item) = codes "ok " ++ (item_text item ++ codes "\n")

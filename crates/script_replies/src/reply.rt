@@ -2,11 +2,12 @@ ghost use Rattle.std.specs.Prelude.{◌≡◌, OnOk, ◌++◌, ◌∷◌, codes}
 ghost use Rattle.std.specs.Io.KnownBytes.{Appends};
 ghost use Rattle.std.specs.List.{flat_map};
 ghost use Rattle.ctrl_types.specs.Numbers.{errno_number};
-ghost use Rattle.script_replies.specs.Replies.{answer_line, audit_line, clusters_text, flags_text, forecast_line, frame_line, further_text, id_text, info_line, item_text, line_of, number_text, outcome_line, place_of as asked_place, range_text, refusal_line, state_line, value_text};
+ghost use Rattle.script_replies.specs.Replies.{answer_line, audit_line, clusters_text, event_line, flags_text, forecast_line, frame_line, further_text, id_text, info_line, item_text, line_of, number_text, outcome_line, place_of as asked_place, range_text, refusal_line, state_line, value_text};
 
 use crate::audited::Audited;
 use crate::outcome::Outcome;
 use bitflags::Flags as FlagSet;
+use ctrl_events::Event;
 use ctrl_forecast::Forecast;
 use ctrl_handlers::MenuItem;
 use ctrl_types::{CtrlId, CtrlValue, Errno, ExtControl, Fault, Flags};
@@ -42,6 +43,7 @@ fn print_reply<W: Write>(out: &mut W, ask: &Ask, reply: &Reply) -> io::Result<()
             ..
         } => print_frame(out, *buffer, refused.as_slice()),
         Reply::Forecast(row) => print_forecast(out, place_of(ask), row),
+        Reply::Event(event) => print_event(out, *event),
         Reply::Info(info) => print_info(out, *info),
         Reply::Id(id) => print_next(out, *id),
         Reply::Item(item) => print_item(out, item),
@@ -135,6 +137,21 @@ fn print_joined<W: Write>(out: &mut W, first: u32, more: &[u32]) -> io::Result<(
         write!(out, ",{cluster}")?;
     }
     Ok(())
+}
+
+// An event that was taken.
+fn print_event<W: Write>(out: &mut W, event: Event) -> io::Result<()>
+    ensures { OnOk result (Appends (W.contents out.old) (W.contents out.new) (event_line event)) }
+{
+    let changes = event.changes.bits();
+    let value = event.value;
+    let sequence = event.sequence;
+    let pending = event.pending;
+    write!(out, "event ")?;
+    print_id(out, event.id)?;
+    write!(out, " changes {changes} value {value} flags ")?;
+    print_flags(out, event.flags)?;
+    writeln!(out, " sequence {sequence} pending {pending}")
 }
 
 fn print_info<W: Write>(out: &mut W, info: CtrlInfo) -> io::Result<()>

@@ -1,7 +1,9 @@
 //! Lines on a writer that takes all that it is given, a few bytes a write, or fails at one of its writes.
 
+use bitflags::Flags as FlagSet;
+use ctrl_events::Event;
 use ctrl_lists::ControlList;
-use ctrl_types::{CtrlId, Errno, ExtControl, Fault};
+use ctrl_types::{Changes, CtrlId, Errno, ExtControl, Fault, Flags, Kind};
 use device_history::{Ask, Reply};
 use req_book::RequestState;
 use script_replies::{
@@ -47,6 +49,8 @@ enum Line {
     NoValues,
     Values(i64, i64),
     State(RequestState),
+    // Of the id, what changed, the value, the flags, the number, and how many still wait.
+    Event(u32, u32, i64, u32, u32, u32),
     Next(u32),
     Word(u64),
     Refused(Errno, Option<u32>),
@@ -76,6 +80,14 @@ const CASES: &[Case] = &[
     Case::Whole(Line::State(RequestState::Queued), b"ok queued\n"),
     Case::Whole(Line::State(RequestState::Running), b"ok running\n"),
     Case::Whole(Line::State(RequestState::Complete), b"ok complete\n"),
+    Case::Whole(
+        Line::Event(0x0098_0913, 3, -64, 0x12, 7, 5),
+        b"event 0x00980913 changes 3 value -64 flags 0x12 sequence 7 pending 5\n",
+    ),
+    Case::Whole(
+        Line::Event(1, 0, i64::MIN, 0, u32::MAX, 0),
+        b"event 0x00000001 changes 0 value -9223372036854775808 flags 0x0 sequence 4294967295 pending 0\n",
+    ),
     Case::Whole(Line::Next(0x0098_0900), b"ok 0x00980900\n"),
     Case::Whole(Line::Word(u64::MAX), b"ok 18446744073709551615\n"),
     Case::Whole(Line::Refused(Errno::ENOENT, None), b"error 2\n"),
@@ -111,6 +123,19 @@ fn write_line(
             Ok(Reply::Controls(ControlList::from_vec(list)))
         }
         Line::State(state) => Ok(Reply::State(state)),
+        Line::Event(id, changes, value, flags, sequence, pending) => Ok(Reply::Event(Event {
+            id: CtrlId(id),
+            kind: Kind::Integer,
+            changes: Changes::from_bits_retain(changes),
+            value,
+            flags: Flags::from_bits_retain(flags),
+            minimum: 0,
+            maximum: 0,
+            step: 1,
+            default_value: 0,
+            sequence,
+            pending,
+        })),
         Line::Next(id) => Ok(Reply::Id(CtrlId(id))),
         Line::Word(word) => Ok(Reply::Word(word)),
         Line::Refused(errno, index) => Err(Fault { errno, index }),

@@ -94,12 +94,92 @@ const REQUESTS: Script = Script {
     outcome: Outcome::Finished,
 };
 
+/// Each command on events, in each of its forms.
+const EVENTS: Script = Script {
+    kept: Kept::Sample,
+    lines: &[
+        ("open f 1", "ok", true),
+        ("open h 1", "ok", true),
+        ("sub f gain", "ok", true),
+        ("sub f red feedback", "ok", true),
+        ("sub f hue", "error 22", false),
+        ("sub h button initial", "ok", true),
+        ("sub h 0x00980900 initial feedback", "ok", true),
+        ("take f", "error 2", false),
+        ("set f cur autogain=0 gain=30 red=5", "ok 0 30 5", true),
+        (
+            "take f",
+            "event 0x00980913 changes 3 value 30 flags 0x0 sequence 0 pending 1",
+            true,
+        ),
+        ("unsub f red", "ok", true),
+        ("take f", "error 2", false),
+        ("set h cur button=1 brightness=8", "ok 0 8", true),
+        ("grab brightness on", "ok", true),
+        (
+            "take h",
+            "event 0x0098090d changes 2 value 0 flags 0x240 sequence 0 pending 1",
+            true,
+        ),
+        (
+            "take h",
+            "event 0x00980900 changes 3 value 8 flags 0x2 sequence 3 pending 0",
+            true,
+        ),
+        ("unsub h 0x00000001", "ok", true),
+        ("close h", "ok", true),
+        ("take h", "error 9", false),
+        ("sub h red", "error 9", false),
+        ("unsub h red", "error 9", false),
+    ],
+    is_cut: false,
+    outcome: Outcome::Finished,
+};
+
 /// The last line is cut off inside a word.
 const CUT: Script = Script {
     kept: Kept::Sample,
     lines: &[
         ("open f 0", "ok", true),
         ("set f cur hu", "line 2: not a command", false),
+    ],
+    is_cut: true,
+    outcome: Outcome::BadLine(2),
+};
+
+/// The last line has two words in the wrong order.
+const SWAPPED: Script = Script {
+    kept: Kept::Sample,
+    lines: &[
+        ("open f 1", "ok", true),
+        ("sub f red initial feedback", "ok", true),
+        (
+            "sub f blue feedback initial",
+            "line 3: not a command",
+            false,
+        ),
+    ],
+    is_cut: false,
+    outcome: Outcome::BadLine(3),
+};
+
+/// The last line lacks a word.
+const LACKING: Script = Script {
+    kept: Kept::Sample,
+    lines: &[
+        ("open f 1", "ok", true),
+        ("unsub f", "line 2: not a command", false),
+    ],
+    is_cut: false,
+    outcome: Outcome::BadLine(2),
+};
+
+/// The last line has one word too many.
+const LONG: Script = Script {
+    kept: Kept::Sample,
+    lines: &[
+        ("open f 1", "ok", true),
+        ("take f red", "line 2: not a command", false),
     ],
     is_cut: true,
     outcome: Outcome::BadLine(2),
@@ -127,7 +207,9 @@ const ITEMS: Script = Script {
 };
 
 /// Each script.
-pub const SCRIPTS: &[Script] = &[COMMANDS, REQUESTS, CUT, ITEMS];
+pub const SCRIPTS: &[Script] = &[
+    COMMANDS, REQUESTS, EVENTS, CUT, SWAPPED, LACKING, LONG, ITEMS,
+];
 
 impl Script {
     /// Its bytes. The line with the number `left_out`, from 0, is empty in place of a command.

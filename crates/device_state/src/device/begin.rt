@@ -17,10 +17,12 @@ use super::{Device, plain, refused};
 use ctrl_calls::{Driver, Work};
 use ctrl_clusters::notify_between;
 use ctrl_forecast::{Overlaid, applied, overlay};
+use ctrl_raises::Moment;
 use ctrl_types::{Errno, Fault, Pair, RequestId};
 use device_history::{Reply, Step};
 use history::Entry;
 use std::alloc::AllocError;
+use step_effects::raise_step;
 
 // A frame that can begin: its request, what the request's pairs make of the values, and those that are applied.
 #[derive(Drop)]
@@ -144,6 +146,14 @@ impl<D: Driver> Device<D> {
             applied.as_slice(),
             &mut self.words,
             &mut self.work,
+        );
+        raise_step(
+            &self.plan,
+            &Moment::new(self.values.as_slice(), self.grabs.as_slice()),
+            &Moment::new(values.as_slice(), self.grabs.as_slice()),
+            applied.as_slice(),
+            None,
+            &mut self.events,
         );
         self.values = values.into_vec();
         let buffer = match self.frames.begin(applied.as_slice()) {

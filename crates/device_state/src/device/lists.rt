@@ -22,9 +22,11 @@ use super::Device;
 use ctrl_calls::{Driver, Work};
 use ctrl_clusters::{notify_changed, write_rows};
 use ctrl_lists::{ControlList, Touched, View, plan_set, read_list, try_list};
+use ctrl_raises::Moment;
 use ctrl_types::{CtrlValue, Errno, Fault, FhId, Pair, RequestId, Which};
 use device_history::{PairList, Reply, Step};
 use history::Entry;
+use step_effects::{copied_values, raise_step};
 
 impl<D: Driver> Device<D> {
     /// Gets controls, as `handle` on `Ask::GetCtrls` of these fields at any seat does (Linux userspace API, "ioctl
@@ -64,7 +66,8 @@ impl<D: Driver> Device<D> {
     /// member order, and then the cluster's validator judges the row, asked at most once; it may change any member. The answer
     /// has the entries with the values that their controls took; the step keeps them as they were given. Where a member
     /// changed, that is where its value differs, or it acts on each write and was asked for, the cluster's notifier is told the
-    /// new row, once, and its word is kept; the clusters are told in rising number. A list without entries is a step, too.
+    /// new row, once, and its word is kept; the clusters are told in rising number. What changes is raised for the file handles that are
+    /// subscribed to it, as `handle` says. A list without entries is a step, too.
     ///
     /// Where `which` speaks of a request the values are stored in it, as they were given, for its frame (Linux userspace API, "Request
     /// API"); nothing else is changed, and nobody is told. Rows are judged all the same, over the present values with the earlier pairs
@@ -381,6 +384,9 @@ impl<D: Driver> Device<D> {
         if self.steps.reserve(1).is_err() {
             return Err(Errno::ENOMEM);
         }
+        let Ok(mut values) = copied_values(self.alloc, self.values.as_slice()) else {
+            return Err(Errno::ENOMEM);
+        };
         notify_changed(
             &self.plan,
             self.values.as_slice(),
@@ -389,7 +395,16 @@ impl<D: Driver> Device<D> {
             &mut self.words,
             &mut self.work,
         );
-        write_rows(&self.plan, &mut self.values, touch.rows());
+        write_rows(&self.plan, &mut values, touch.rows());
+        raise_step(
+            &self.plan,
+            &Moment::new(self.values.as_slice(), self.grabs.as_slice()),
+            &Moment::new(values.as_slice(), self.grabs.as_slice()),
+            touch.pairs(),
+            Some(fh),
+            &mut self.events,
+        );
+        self.values = values;
         let (controls, pairs) = touch.into_parts();
         self.steps.push_reserved(Entry {
             seat,

@@ -1,24 +1,25 @@
 //! What a device answers about media requests and its queue of frames, but for the begin of a frame.
 
-ghost use Rattle.std.specs.Prelude.{◌≡◌, false, true, [], length, None, Some, Ok, Err, MatchResult, OnOk, OnErr, slice_get};
+ghost use Rattle.std.specs.Prelude.{◌≡◌, false, true, length, None, Some, Ok, Err, MatchResult, OnOk, OnErr, slice_get};
 ghost use Rattle.std.specs.Option.{option_map};
 ghost use Rattle.history.specs.Past.{past};
 ghost use Rattle.req_book.specs.Refusals.{alloc_refusal, store_refusal, buffer_refusal, queue_refusal, clear_refusal, state_answer, buffer_answer, asked_answer, value_answer};
 ghost use Rattle.frame_queue.specs.Frames.{complete_refusal, cancel_refusal};
 ghost use Rattle.device_history.specs.Frames.{queue, running};
-ghost use Rattle.device_history.specs.FrameSteps.{frames_changed};
 ghost use Rattle.device_history.specs.Legal.{MayFollow};
 ghost use Rattle.device_history.specs.Refusals.{is_full};
 ghost use Rattle.device_history.specs.Snapshots.{frames, request as request_of, requests};
 ghost use Rattle.device_state.specs.Device.{Handles, with_step};
-ghost use Rattle.device_state.specs.Entering.{is_still, FitsIn, IsEntered, StoresKnown};
+ghost use Rattle.step_effects.specs.Quiet.{NamesKnown, is_quiet};
+ghost use Rattle.device_state.specs.Entering.{IsEntered};
 
 use super::{Device, refused};
 use ctrl_calls::{Driver, Work};
 use ctrl_types::{CtrlValue, Errno, Fault, Pair, RequestId};
 use device_history::{Ask, Reply, Step};
-use frame_queue::{Frames, RequestState};
+use frame_queue::RequestState;
 use history::Entry;
+use step_effects::change_quiet;
 
 impl<D: Driver> Device<D> {
     /// A request's state, for a driver's own use (Linux userspace API, "Request API"): that in which the last step that names it left it;
@@ -150,7 +151,7 @@ impl<D: Driver> Device<D> {
         }
     }
 
-    // Answers an ask that adds a step about requests which leaves the values: its own refusal, that no further step is kept, or the reply.
+    // Answers an ask whose step leaves file handles, grabs and values: its own refusal, that no further step is kept, or the reply.
     pub(super) fn enter(
         &mut self,
         seat: u32,
@@ -177,10 +178,10 @@ impl<D: Driver> Device<D> {
 
     // Adds such a step, after the refusals.
     pub(super) fn accept(&mut self, seat: u32, step: Step) -> Result<(), Errno>
-        requires still { is_still step ≡ true }
+        requires quiet { is_quiet step ≡ true }
         requires follows { MayFollow D.verdict self.old.plan (past self.old.steps) step }
         requires room { is_full (past self.old.steps) ≡ false }
-        requires known { StoresKnown (length self.old.plan.controls) step }
+        requires known { NamesKnown (length self.old.plan.controls) step }
         ensures ok { OnOk result (self.new ≡ with_step self.old seat step) }
         ensures err { OnErr result (self.new ≡ self.old) }
     {
@@ -188,36 +189,16 @@ impl<D: Driver> Device<D> {
         if self.steps.reserve(1).is_err() {
             return Err(Errno::ENOMEM);
         }
-        change(&mut self.frames, self.values.as_slice(), number, &step)?;
+        change_quiet(
+            &self.plan,
+            self.values.as_slice(),
+            self.grabs.as_slice(),
+            number,
+            &step,
+            &mut self.frames,
+            &mut self.events,
+        )?;
         self.steps.push_reserved(Entry { seat, step });
         Ok(())
-    }
-}
-
-// What a step makes of the requests and the queue.
-fn change(frames: &mut Frames, values: &[CtrlValue], number: u32, step: &Step) -> Result<(), Errno>
-    requires fits { FitsIn number step.now frames.old }
-    requires values { length values.now ≡ frames.old.requests.controls }
-    ensures ok { OnOk result (frames.new ≡ frames_changed values.now [] number step.now frames.old) }
-    ensures err { OnErr result (frames.new ≡ frames.old) }
-{
-    match step {
-        Step::Alloc => frames.alloc(RequestId(number)),
-        Step::Store { request, pairs } => frames.store(*request, pairs.as_slice()),
-        Step::Buffer { request, buffer } => frames.add_buffer(*request, *buffer),
-        Step::Queue { request } => frames.queue(*request),
-        Step::Complete { .. } => frames.complete(values),
-        Step::Cancel { request } => frames.cancel(*request, values),
-        Step::StreamOff => {
-            frames.stream_off(values);
-            Ok(())
-        }
-        Step::Reinit { request } => frames.reinit(*request),
-        Step::Free { request } => frames.free(*request),
-        Step::OpenFh { .. }
-        | Step::CloseFh { .. }
-        | Step::Set { .. }
-        | Step::Grab { .. }
-        | Step::Begin { .. } => Ok(()),
     }
 }

@@ -12,10 +12,12 @@ ghost use Rattle.history_audit.specs.Replay.{IsNext, with_next};
 use super::Replay;
 use ctrl_calls::{Driver, Work};
 use ctrl_forecast::{Overlaid, applied, overlay};
+use ctrl_raises::Moment;
 use ctrl_types::{Pair, RequestId};
 use device_history::Step;
 use history::Entry;
 use std::alloc::AllocError;
+use step_effects::raise_step;
 
 impl<'a, D: Driver> Replay<'a, D> {
     // Begins the frame of a request.
@@ -34,8 +36,17 @@ impl<'a, D: Driver> Replay<'a, D> {
         let overlaid = self.lay(request)?;
         let given = applied(self.alloc, self.plan, &overlaid, self.asked_by(request))?;
         let Overlaid { values, refused: _ } = overlaid;
+        let values = values.into_vec();
+        raise_step(
+            self.plan,
+            &Moment::new(self.values.as_slice(), self.grabs.as_slice()),
+            &Moment::new(values.as_slice(), self.grabs.as_slice()),
+            given.as_slice(),
+            None,
+            &mut self.events,
+        );
         let _ = self.frames.begin(given.as_slice());
-        self.values = values.into_vec();
+        self.values = values;
         self.count += 1;
         Ok(())
     }

@@ -48,6 +48,13 @@ impl<'a, D: Driver> Replay<'a, D> {
             Step::StreamOff => true,
             Step::Reinit { request } => self.frames.clear_refusal(*request).is_none(),
             Step::Free { request } => self.frames.clear_refusal(*request).is_none(),
+            Step::Subscribe { fh, control, .. } => self.shows(*fh, *control),
+            Step::Unsubscribe {
+                fh,
+                control: Some(control),
+            } => self.shows(*fh, *control),
+            Step::Unsubscribe { fh, control: None } => self.handler_of(*fh).is_some(),
+            Step::Take { fh, control } => self.waits_first(*fh, *control),
             Step::Set { .. } | Step::Store { .. } => false,
         }
     }

@@ -22,10 +22,12 @@ use bitflags::Flags as FlagSet;
 use ctrl_calls::{Driver, Work};
 use ctrl_clusters::write_rows;
 use ctrl_lists::{ControlList, MAX_ENTRIES, Touched, View, plan_set};
+use ctrl_raises::Moment;
 use ctrl_types::{Errno, ExtControl, FhId, Flags, Pair, RequestId, Which};
 use device_history::Step;
 use history::Entry;
 use std::alloc::AllocError;
+use step_effects::{copied_values, raise_step};
 
 impl<'a, D: Driver> Replay<'a, D> {
     // Replays a set.
@@ -43,7 +45,7 @@ impl<'a, D: Driver> Replay<'a, D> {
         let Some(touch) = self.touched_by_set(fh, pairs)? else {
             return Ok(false);
         };
-        self.write(entry, fh, &touch);
+        self.write(entry, fh, &touch)?;
         Ok(true)
     }
 
@@ -62,18 +64,28 @@ impl<'a, D: Driver> Replay<'a, D> {
     }
 
     // Gives the clusters that a set touches their rows.
-    fn write(&mut self, entry: &Entry<Step>, fh: FhId, touch: &Touched)
+    fn write(&mut self, entry: &Entry<Step>, fh: FhId, touch: &Touched) -> Result<(), AllocError>
         requires next { IsNext self.old entry.now }
         requires step { entry.now.step ≡ steps.Set fh touch.now.pairs }
         requires room { is_full (past self.old.steps) ≡ false }
         requires follows { MayFollow D.verdict self.old.plan (past self.old.steps) entry.now.step }
         requires touched { IsSet D.verdict self.old.plan (write_view D.verdict self.old.plan (past self.old.steps) fh 0 None) touch.now.pairs touch.now }
-        ensures { self.new ≡ with_next self.old entry.now }
+        ensures ok { OnOk result (self.new ≡ with_next self.old entry.now) }
+        ensures err { OnErr result (self.new ≡ self.old) }
     {
-        // the plan is one, as the contract of `controls` says
-        let _plan = self.plan.controls();
-        write_rows(self.plan, &mut self.values, touch.rows());
+        let mut values = copied_values(self.alloc, self.values.as_slice())?;
+        write_rows(self.plan, &mut values, touch.rows());
+        raise_step(
+            self.plan,
+            &Moment::new(self.values.as_slice(), self.grabs.as_slice()),
+            &Moment::new(values.as_slice(), self.grabs.as_slice()),
+            touch.pairs(),
+            Some(fh),
+            &mut self.events,
+        );
+        self.values = values;
         self.count += 1;
+        Ok(())
     }
 
     // Replays a store.
@@ -91,7 +103,7 @@ impl<'a, D: Driver> Replay<'a, D> {
         if !self.is_storable(request, pairs)? {
             return Ok(false);
         }
-        self.change_frames(entry)?;
+        self.change(entry)?;
         Ok(true)
     }
 

@@ -1,21 +1,22 @@
-//! What steps make of file handles, grabs, and requests but for the begin of a frame.
+//! What steps make of file handles and grabs, and what they do that leave these and the values.
 
-ghost use Rattle.std.specs.Prelude.{◌≡◌, true, false, [], length, OnOk, OnErr};
+ghost use Rattle.std.specs.Prelude.{◌≡◌, true, false, length, OnOk, OnErr};
 ghost use Rattle.history.specs.Past.{past};
 ghost use Rattle.device_history.specs.declared.ask.Step.TheVariants as steps;
-ghost use Rattle.device_history.specs.FrameSteps.{frames_changed};
 ghost use Rattle.device_history.specs.Legal.{MayFollow};
 ghost use Rattle.device_history.specs.Refusals.{is_full};
 ghost use Rattle.history_audit.specs.Replay.{IsNext, with_next};
-ghost use Rattle.history_audit.specs.Changing.{FitsIn, StoresKnown, is_still};
+ghost use Rattle.history_audit.specs.Changing.{StoresKnown};
+ghost use Rattle.step_effects.specs.Quiet.{is_quiet};
 
 use super::Replay;
 use ctrl_calls::Driver;
-use ctrl_types::{CtrlValue, Errno, FhId, RequestId};
+use ctrl_raises::Moment;
+use ctrl_types::FhId;
 use device_history::Step;
-use frame_queue::Frames;
 use history::Entry;
 use std::alloc::AllocError;
+use step_effects::{change_quiet, copied_grabs, raise_step};
 
 impl<'a, D: Driver> Replay<'a, D> {
     // Opens a file handle.
@@ -41,25 +42,43 @@ impl<'a, D: Driver> Replay<'a, D> {
         ensures { self.new ≡ with_next self.old entry.now }
     {
         self.file_handles.shift_remove(&fh.0);
+        self.events.drop_fh(fh);
         self.count += 1;
     }
 
     // Grabs a control, or lets it go.
-    pub(super) fn grab(&mut self, entry: &Entry<Step>, control: u32, on: bool)
+    pub(super) fn grab(
+        &mut self,
+        entry: &Entry<Step>,
+        control: u32,
+        on: bool,
+    ) -> Result<(), AllocError>
         requires next { IsNext self.old entry.now }
         requires step { entry.now.step ≡ steps.Grab control on }
         requires room { is_full (past self.old.steps) ≡ false }
         requires follows { MayFollow D.verdict self.old.plan (past self.old.steps) entry.now.step }
-        ensures { self.new ≡ with_next self.old entry.now }
+        ensures ok { OnOk result (self.new ≡ with_next self.old entry.now) }
+        ensures err { OnErr result (self.new ≡ self.old) }
     {
-        self.grabs[control as usize] = on;
+        let mut grabs = copied_grabs(self.alloc, self.grabs.as_slice())?;
+        grabs[control as usize] = on;
+        raise_step(
+            self.plan,
+            &Moment::new(self.values.as_slice(), self.grabs.as_slice()),
+            &Moment::new(self.values.as_slice(), grabs.as_slice()),
+            &[],
+            None,
+            &mut self.events,
+        );
+        self.grabs = grabs;
         self.count += 1;
+        Ok(())
     }
 
-    // Changes the requests and the queue alone.
-    pub(super) fn change_frames(&mut self, entry: &Entry<Step>) -> Result<(), AllocError>
+    // Makes a step that leaves file handles, grabs and values.
+    pub(super) fn change(&mut self, entry: &Entry<Step>) -> Result<(), AllocError>
         requires next { IsNext self.old entry.now }
-        requires still { is_still entry.now.step ≡ true }
+        requires quiet { is_quiet entry.now.step ≡ true }
         requires room { is_full (past self.old.steps) ≡ false }
         requires follows { MayFollow D.verdict self.old.plan (past self.old.steps) entry.now.step }
         requires known { StoresKnown (length self.old.plan.controls) entry.now.step }
@@ -67,45 +86,21 @@ impl<'a, D: Driver> Replay<'a, D> {
         ensures err { OnErr result (self.new ≡ self.old) }
     {
         let number = self.count as u32;
-        match change(
-            &mut self.frames,
+        let changed = change_quiet(
+            self.plan,
             self.values.as_slice(),
+            self.grabs.as_slice(),
             number,
             &entry.step,
-        ) {
+            &mut self.frames,
+            &mut self.events,
+        );
+        match changed {
             Ok(()) => {
                 self.count += 1;
                 Ok(())
             }
             Err(_) => Err(AllocError),
         }
-    }
-}
-
-// What a step makes of the requests and the queue.
-fn change(frames: &mut Frames, values: &[CtrlValue], number: u32, step: &Step) -> Result<(), Errno>
-    requires fits { FitsIn number step.now frames.old }
-    requires values { length values.now ≡ frames.old.requests.controls }
-    ensures ok { OnOk result (frames.new ≡ frames_changed values.now [] number step.now frames.old) }
-    ensures err { OnErr result (frames.new ≡ frames.old) }
-{
-    match step {
-        Step::Alloc => frames.alloc(RequestId(number)),
-        Step::Store { request, pairs } => frames.store(*request, pairs.as_slice()),
-        Step::Buffer { request, buffer } => frames.add_buffer(*request, *buffer),
-        Step::Queue { request } => frames.queue(*request),
-        Step::Complete { .. } => frames.complete(values),
-        Step::Cancel { request } => frames.cancel(*request, values),
-        Step::StreamOff => {
-            frames.stream_off(values);
-            Ok(())
-        }
-        Step::Reinit { request } => frames.reinit(*request),
-        Step::Free { request } => frames.free(*request),
-        Step::OpenFh { .. }
-        | Step::CloseFh { .. }
-        | Step::Set { .. }
-        | Step::Grab { .. }
-        | Step::Begin { .. } => Ok(()),
     }
 }

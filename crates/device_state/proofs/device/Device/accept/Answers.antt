@@ -1,4 +1,4 @@
-use Rattle.std.proofs.Common.{List, [], ◌∷◌, ◌++◌, ℕ, length, ◌≡◌, ap, sym, subst, ◌∙◌, arith}
+use Rattle.std.proofs.Common.{List, [], ◌∷◌, ◌++◌, ℕ, length, ◌≡◌, refl, ap, sym, subst, ◌∙◌, arith}
 use Rattle.history.specs.declared.entry.Entry.{Entry}
 use Rattle.history.specs.Past.{past}
 use Rattle.ctrl_types.specs.declared.ids.Pair.{Pair}
@@ -7,39 +7,51 @@ use Rattle.frame_queue.specs.Frames.{FramesData}
 use Rattle.device_history.specs.declared.ask.Step.{Step}
 use Rattle.device_history.specs.FrameSteps.{frames_changed}
 use Rattle.device_history.specs.Values.{now}
-use Rattle.device_history.proofs.PresentLemmas.{length_now}
-use Rattle.device_state.specs.Entering.{FitsIn}
-use Rattle.device_state.proofs.KeptLemmas.{kept_frames}
-use Rattle.device_state.proofs.EnterLemmas.{fits_in}
-use Rattle.device_state.proofs.StillLemmas.{given_still}
+use Rattle.device_history.proofs.PresentLemmas.{length_grabbed, length_now}
+use Rattle.step_effects.specs.Quiet.{FitsIn}
+use Rattle.step_effects.proofs.FitLemmas.{fits_in}
+use Rattle.step_effects.proofs.QuietLemmas.{given_quiet}
+use Rattle.device_state.proofs.KeptLemmas.{kept_quiet, numbered}
 use Rattle.device_state.proofs.device.Device.accept.Goals as goal
 
 -- the step fits what is kept
-pub change-requires-clause-fits : goal.change-requires-clause-fits
-change-requires-clause-fits g c =
+pub change_quiet-requires-clause-fits : goal.change_quiet-requires-clause-fits
+change_quiet-requires-clause-fits g c =
     let device = c.self.inside in
     let number : length device.steps.items ≡ c.len-number.result = omega (arith, c.len-number.ensures, device.steps.ok.0) in
     subst (λ (n : ℕ). FitsIn n c.args.step device.frames) number
-    (fits_in g.D.Validates.verdict g.D.Notifies.told device.plan device.steps.items _ c.args.step c.self.invariant (rw (← c.self.view_is) at c.requires.follows) c.requires.still (rw (← c.self.view_is) at c.requires.known))
+    (fits_in g.D.Validates.verdict device.plan device.steps.items device.frames c.args.step c.self.invariant.frames c.self.invariant.legal (rw (← c.self.view_is) at c.requires.follows) c.requires.quiet (rw (← c.self.view_is) at c.requires.known))
 
-pub change-requires-clause-values : goal.change-requires-clause-values
-change-requires-clause-values g c =
+-- there is a value and a grab for each control
+pub change_quiet-requires-clause-values : goal.change_quiet-requires-clause-values
+change_quiet-requires-clause-values g c =
     let device = c.self.inside in
-    ap length c.as_slice.ensures.value
-    ∙ ap length c.self.invariant.values
-    ∙ length_now g.D.Validates.verdict device.plan (past device.steps.items)
-    ∙ sym (ap (λ (f : FramesData). f.requests.controls) c.self.invariant.frames)
+    ap length (c.as_slice.ensures.value ∙ c.self.invariant.values) ∙ length_now g.D.Validates.verdict device.plan (past device.steps.items)
 
--- the requests and the queue are what the step makes of them
+pub change_quiet-requires-clause-grabs : goal.change_quiet-requires-clause-grabs
+change_quiet-requires-clause-grabs g c =
+    let device = c.self.inside in
+    ap length (c.as_slice-2.ensures.value ∙ c.self.invariant.grabs) ∙ length_grabbed device.plan (past device.steps.items)
+
+pub change_quiet-requires-clause-frames : goal.change_quiet-requires-clause-frames
+change_quiet-requires-clause-frames g c = ap (λ (f : FramesData). f.requests.controls) c.self.invariant.frames
+
+-- there are numbers
+pub change_quiet-requires-clause-numbers : goal.change_quiet-requires-clause-numbers
+change_quiet-requires-clause-numbers g c = numbered g.D.Validates.verdict g.D.Notifies.told c.self.inside.plan c.self.inside.steps.items _ c.self.invariant
+
+-- the requests, the queue and the events are what the step makes of them
 pub invariant_of-self-2 : goal.invariant_of-self-2
 invariant_of-self-2 g c =
     let device = c.self.inside in
     let entry : Entry Step = record { seat = c.args.seat; step = c.args.step } in
+    let P : List (Entry Step) = past device.steps.items in
     let number : c.len-number.result ≡ length device.steps.items = omega (arith, c.len-number.ensures, device.steps.ok.0) in
-    kept_frames g.D.Validates.verdict g.D.Notifies.told device.plan device.steps.items _ _ _ c.args.seat c.args.step c.self.invariant (rw (← c.self.view_is) at c.requires.room) (rw (← c.self.view_is) at c.requires.follows) c.requires.still
+    kept_quiet g.D.Validates.verdict g.D.Notifies.told device.plan device.steps.items _ _ _ _ c.args.seat c.args.step c.self.invariant (rw (← c.self.view_is) at c.requires.room) (rw (← c.self.view_is) at c.requires.follows) c.requires.quiet
     (c.push_reserved.ensures.items ∙ ap (λ (s : List (Entry Step)). s ++ entry ∷ []) c.reserve.ensures.items)
-    (c.in_ok-change.ensures.ok
+    (c.in_ok-change_quiet.ensures.frames
     ∙ ap (λ (v : Values). frames_changed v [] c.len-number.result c.args.step device.frames) (c.as_slice.ensures.value ∙ c.self.invariant.values)
-    ∙ ap (λ (n : ℕ). frames_changed (now g.D.Validates.verdict device.plan (past device.steps.items)) [] n c.args.step device.frames) number
-    ∙ ap (λ (l : List Pair). frames_changed (now g.D.Validates.verdict device.plan (past device.steps.items)) l (length device.steps.items) c.args.step device.frames)
-    (sym (given_still g.D.Validates.verdict device.plan (past device.steps.items) c.args.step c.requires.still)))
+    ∙ ap (λ (n : ℕ). frames_changed (now g.D.Validates.verdict device.plan P) [] n c.args.step device.frames) number
+    ∙ ap (λ (l : List Pair). frames_changed (now g.D.Validates.verdict device.plan P) l (length device.steps.items) c.args.step device.frames)
+    (sym (given_quiet g.D.Validates.verdict device.plan P c.args.step c.requires.quiet)))
+    (c.in_ok-change_quiet.ensures.events g.D.Validates.verdict entry P refl (c.as_slice.ensures.value ∙ c.self.invariant.values) (c.as_slice-2.ensures.value ∙ c.self.invariant.grabs))

@@ -1,10 +1,12 @@
-use Rattle.std.proofs.Common.{List, [], ◌∷◌, ◌++◌, length, ap, ◌∙◌}
+use Rattle.std.proofs.Common.{List, [], ◌∷◌, ◌++◌, length, refl, ap, ◌∙◌}
 use Rattle.history.specs.declared.entry.Entry.{Entry}
 use Rattle.history.specs.Past.{past}
 use Rattle.frame_queue.specs.Frames.{after_begin}
 use Rattle.device_history.specs.declared.ask.Step.{Step}
 use Rattle.device_history.specs.declared.ask.Step.TheVariants.{Begin}
-use Rattle.device_history.proofs.PresentLemmas.{length_now}
+use Rattle.ctrl_raises.specs.Raises.{MomentData}
+use Rattle.device_history.proofs.PresentLemmas.{length_grabbed, length_now}
+use Rattle.device_state.proofs.KeptLemmas.{around, moment, numbered}
 use Rattle.device_state.proofs.BeginLemmas.{kept_begin, length_begun}
 use Rattle.device_state.proofs.device.Device.accept_begin.Goals as goal
 
@@ -20,14 +22,45 @@ notify_between-requires-clause-after g c =
     let begun = rw (← c.self.view_is) at c.requires.begun in
     ap length (c.as_slice-2.ensures ∙ begun.are_values) ∙ length_begun g.D.Validates.verdict device.plan (past device.steps.items) c.args.begun.request.0
 
--- the values are those after the begin, and its frame is being made
+-- there is a value and a grab for each control, before and afterwards
+pub raise_step-requires-clause-values_before : goal.raise_step-requires-clause-values_before
+raise_step-requires-clause-values_before g c =
+    let device = c.self.inside in
+    ap (λ (m : MomentData). length m.values) c.new.ensures ∙ ap length (c.as_slice-4.ensures.value ∙ c.self.invariant.values) ∙ length_now g.D.Validates.verdict device.plan (past device.steps.items)
+
+pub raise_step-requires-clause-grabs_before : goal.raise_step-requires-clause-grabs_before
+raise_step-requires-clause-grabs_before g c =
+    let device = c.self.inside in
+    ap (λ (m : MomentData). length m.grabs) c.new.ensures ∙ ap length (c.as_slice-5.ensures.value ∙ c.self.invariant.grabs) ∙ length_grabbed device.plan (past device.steps.items)
+
+pub raise_step-requires-clause-values : goal.raise_step-requires-clause-values
+raise_step-requires-clause-values g c =
+    let device = c.self.inside in
+    let begun = rw (← c.self.view_is) at c.requires.begun in
+    ap (λ (m : MomentData). length m.values) c.new-2.ensures ∙ ap length (c.as_slice-6.ensures ∙ begun.are_values) ∙ length_begun g.D.Validates.verdict device.plan (past device.steps.items) c.args.begun.request.0
+
+pub raise_step-requires-clause-grabs : goal.raise_step-requires-clause-grabs
+raise_step-requires-clause-grabs g c =
+    let device = c.self.inside in
+    ap (λ (m : MomentData). length m.grabs) c.new-2.ensures ∙ ap length (c.as_slice-7.ensures.value ∙ c.self.invariant.grabs) ∙ length_grabbed device.plan (past device.steps.items)
+
+-- there are numbers
+pub raise_step-requires-clause-numbers : goal.raise_step-requires-clause-numbers
+raise_step-requires-clause-numbers g c = numbered g.D.Validates.verdict g.D.Notifies.told c.self.inside.plan c.self.inside.steps.items _ c.self.invariant
+
+-- the values are those after the begin, its frame is being made, and those are told for whom something changed
 pub invariant_of-self-2 : goal.invariant_of-self-2
 invariant_of-self-2 g c =
     let device = c.self.inside in
     let entry : Entry Step = record { seat = c.args.seat; step = Begin c.args.begun.request } in
+    let begun = rw (← c.self.view_is) at c.requires.begun in
     rw (c.into_vec.ensures)
-    (kept_begin g.D.Validates.verdict g.D.Notifies.told device.plan device.steps.items _ _ c.args.begun.overlaid.values _ _ c.args.begun.overlaid.refused c.args.begun.applied.items c.args.seat c.args.begun.request.0 c.self.invariant
-    (rw (← c.self.view_is) at c.requires.begun)
+    (kept_begin g.D.Validates.verdict g.D.Notifies.told device.plan device.steps.items _ _ c.args.begun.overlaid.values _ _ _ c.args.begun.overlaid.refused c.args.begun.applied.items c.args.seat c.args.begun.request.0 c.self.invariant begun
     (c.push_reserved.ensures.items ∙ ap (λ (s : List (Entry Step)). s ++ entry ∷ []) c.reserve.ensures.items)
-    (c.begin.ensures.frames ∙ ap (after_begin device.frames) c.as_slice-4.ensures.value)
-    (rw (c.as_slice.ensures.value, c.as_slice-2.ensures, c.as_slice-3.ensures.value) at c.notify_between.ensures.words))
+    (c.begin.ensures.frames ∙ ap (after_begin device.frames) c.as_slice-9.ensures.value)
+    (rw (c.as_slice.ensures.value, c.as_slice-2.ensures, c.as_slice-3.ensures.value) at c.notify_between.ensures.words)
+    (c.raise_step.ensures g.D.Validates.verdict entry (past device.steps.items)
+    (around g.D.Validates.verdict g.D.Notifies.told device.plan device.steps.items _ entry c.new.result c.new-2.result c.self.invariant (c.new.ensures ∙ moment c.as_slice-4.ensures.value c.as_slice-5.ensures.value)
+    (ap (λ (m : MomentData). m.values) c.new-2.ensures ∙ c.as_slice-6.ensures ∙ begun.are_values)
+    (ap (λ (m : MomentData). m.grabs) c.new-2.ensures ∙ c.as_slice-7.ensures.value ∙ c.self.invariant.grabs))
+    (c.as_slice-8.ensures.value ∙ begun.are_applied, refl)))

@@ -15,6 +15,6 @@ invariant_of-self-2 g c =
     let entry : Entry Step = record { seat = c.args.seat; step = CloseFh c.args.fh } in
     let accepted : IsOk (close_answer (past device.steps.items) c.args.fh) =
     subst (λ (d : DeviceData). IsOk (close_answer (past d.steps) c.args.fh)) (sym c.self.view_is) c.requires in
-    kept_close _ _ device.plan device.steps.items _ _ _ c.args.seat c.args.fh c.self.invariant accepted
+    kept_close _ _ device.plan device.steps.items _ _ _ _ c.args.seat c.args.fh c.self.invariant accepted
     (c.push_reserved.ensures.items ∙ ap (λ (s : List (Entry Step)). s ++ entry ∷ []) c.reserve.ensures.items)
-    c.shift_remove.ensures.entries
+    c.shift_remove.ensures.entries c.drop_fh.ensures

@@ -1,24 +1,16 @@
-use Rattle.std.proofs.Common.{List, [], ◌∷◌, ◌++◌, ◌≡◌, ◌<◌, length, IsOk, refl, sym, ap, subst, ◌∙◌, arith}
+use Rattle.std.proofs.Common.{List, [], ◌∷◌, ◌++◌, ◌≡◌, ◌<◌, length, slice_set, IsOk, refl, sym, ap, subst, ◌∙◌, arith}
 use Rattle.history.specs.declared.entry.Entry.{Entry}
 use Rattle.history.specs.Past.{past}
+use Rattle.ctrl_clusters.specs.Rows.{Grabs}
+use Rattle.ctrl_raises.specs.Raises.{MomentData}
 use Rattle.device_history.specs.declared.ask.Step.{Step}
 use Rattle.device_history.specs.declared.ask.Step.TheVariants.{Grab}
-use Rattle.device_history.specs.Grabs.{grab_answer}
+use Rattle.device_history.specs.Grabs.{grab_answer, grabbed}
 use Rattle.device_state.specs.Device.{DeviceData}
-use Rattle.device_state.proofs.KeptLemmas.{kept_grab, grab_known}
-use Rattle.device_history.proofs.PresentLemmas.{length_grabbed}
+use Rattle.device_state.proofs.KeptLemmas.{around, kept_grab, grab_known, moment, numbered}
+use Rattle.device_history.proofs.GrabLemmas.{grabbed_more}
+use Rattle.device_history.proofs.PresentLemmas.{length_grabbed, length_now}
 use Rattle.device_state.proofs.device.Device.accept_grab.Goals as goal
-
--- the control is grabbed now, or let go
-pub invariant_of-self-2 : goal.invariant_of-self-2
-invariant_of-self-2 g c =
-    let device = c.self.inside in
-    let entry : Entry Step = record { seat = c.args.seat; step = Grab c.args.control c.args.on } in
-    let accepted : IsOk (grab_answer device.plan (past device.steps.items) c.args.control) =
-    subst (λ (d : DeviceData). IsOk (grab_answer d.plan (past d.steps) c.args.control)) (sym c.self.view_is) c.requires in
-    kept_grab _ _ device.plan device.steps.items _ _ _ c.args.seat c.args.control c.args.on c.self.invariant accepted
-    (c.push_reserved.ensures.items ∙ ap (λ (s : List (Entry Step)). s ++ entry ∷ []) c.reserve.ensures.items)
-    refl
 
 -- the control is there
 pub index_mut-requires : goal.index_mut-requires
@@ -26,5 +18,51 @@ index_mut-requires g c =
     let device = c.self.inside in
     let known : c.args.control < length device.plan.controls =
     grab_known device.plan device.steps.items c.args.control (subst (λ (d : DeviceData). IsOk (grab_answer d.plan (past d.steps) c.args.control)) (sym c.self.view_is) c.requires) in
-    let many : length device.grabs.items ≡ length device.plan.controls = ap length c.self.invariant.grabs ∙ length_grabbed device.plan (past device.steps.items) in
-    omega (arith, known, many, device.grabs.ok.0)
+    let many : length c.in_ok-grabs.grabs.items ≡ length device.plan.controls = ap length (c.in_ok-grabs.ensures ∙ c.as_slice.ensures.value ∙ c.self.invariant.grabs) ∙ length_grabbed device.plan (past device.steps.items) in
+    omega (arith, known, many, c.in_ok-grabs.grabs.ok.0)
+
+-- there is a value and a grab for each control, before and afterwards
+pub raise_step-requires-clause-values_before : goal.raise_step-requires-clause-values_before
+raise_step-requires-clause-values_before g c =
+    let device = c.self.inside in
+    ap (λ (m : MomentData). length m.values) c.new.ensures ∙ ap length (c.as_slice-2.ensures.value ∙ c.self.invariant.values) ∙ length_now g.D.Validates.verdict device.plan (past device.steps.items)
+
+pub raise_step-requires-clause-grabs_before : goal.raise_step-requires-clause-grabs_before
+raise_step-requires-clause-grabs_before g c =
+    let device = c.self.inside in
+    ap (λ (m : MomentData). length m.grabs) c.new.ensures ∙ ap length (c.as_slice-3.ensures.value ∙ c.self.invariant.grabs) ∙ length_grabbed device.plan (past device.steps.items)
+
+pub raise_step-requires-clause-values : goal.raise_step-requires-clause-values
+raise_step-requires-clause-values g c =
+    let device = c.self.inside in
+    ap (λ (m : MomentData). length m.values) c.new-2.ensures ∙ ap length (c.as_slice-4.ensures.value ∙ c.self.invariant.values) ∙ length_now g.D.Validates.verdict device.plan (past device.steps.items)
+
+pub raise_step-requires-clause-grabs : goal.raise_step-requires-clause-grabs
+raise_step-requires-clause-grabs g c =
+    let device = c.self.inside in
+    let entry : Entry Step = record { seat = c.args.seat; step = Grab c.args.control c.args.on } in
+    ap (λ (m : MomentData). length m.grabs) c.new-2.ensures ∙ ap length c.as_slice-5.ensures.value
+    ∙ ap (λ (gs : Grabs). length (slice_set gs c.args.control c.args.on)) (c.in_ok-grabs.ensures ∙ c.as_slice.ensures.value ∙ c.self.invariant.grabs)
+    ∙ ap length (sym (grabbed_more device.plan entry (past device.steps.items))) ∙ length_grabbed device.plan (entry ∷ past device.steps.items)
+
+-- there are numbers
+pub raise_step-requires-clause-numbers : goal.raise_step-requires-clause-numbers
+raise_step-requires-clause-numbers g c = numbered g.D.Validates.verdict g.D.Notifies.told c.self.inside.plan c.self.inside.steps.items _ c.self.invariant
+
+-- the control is grabbed now, or let go, and those are told whose flags differ
+pub invariant_of-self-2 : goal.invariant_of-self-2
+invariant_of-self-2 g c =
+    let device = c.self.inside in
+    let entry : Entry Step = record { seat = c.args.seat; step = Grab c.args.control c.args.on } in
+    let accepted : IsOk (grab_answer device.plan (past device.steps.items) c.args.control) =
+    subst (λ (d : DeviceData). IsOk (grab_answer d.plan (past d.steps) c.args.control)) (sym c.self.view_is) c.requires in
+    let kept : slice_set c.in_ok-grabs.grabs.items c.args.control c.args.on ≡ slice_set (grabbed device.plan (past device.steps.items)) c.args.control c.args.on =
+    ap (λ (gs : Grabs). slice_set gs c.args.control c.args.on) (c.in_ok-grabs.ensures ∙ c.as_slice.ensures.value ∙ c.self.invariant.grabs) in
+    kept_grab _ _ device.plan device.steps.items _ _ _ _ c.args.seat c.args.control c.args.on c.self.invariant accepted
+    (c.push_reserved.ensures.items ∙ ap (λ (s : List (Entry Step)). s ++ entry ∷ []) c.reserve.ensures.items)
+    (ap (λ (gs : Grabs). slice_set gs c.args.control c.args.on) (c.in_ok-grabs.ensures ∙ c.as_slice.ensures.value))
+    (c.raise_step.ensures g.D.Validates.verdict entry (past device.steps.items)
+    (around g.D.Validates.verdict g.D.Notifies.told device.plan device.steps.items _ entry c.new.result c.new-2.result c.self.invariant (c.new.ensures ∙ moment c.as_slice-2.ensures.value c.as_slice-3.ensures.value)
+    (ap (λ (m : MomentData). m.values) c.new-2.ensures ∙ c.as_slice-4.ensures.value ∙ c.self.invariant.values)
+    (ap (λ (m : MomentData). m.grabs) c.new-2.ensures ∙ c.as_slice-5.ensures.value ∙ kept))
+    (refl, refl))

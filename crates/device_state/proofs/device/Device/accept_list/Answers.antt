@@ -1,24 +1,25 @@
-use Rattle.std.proofs.Common.{List, [], ◌∷◌, ◌++◌, length, ap, ◌∙◌}
+use Rattle.std.proofs.Common.{List, [], ◌∷◌, ◌++◌, length, refl, sym, ap, ◌∙◌}
 use Rattle.history.specs.declared.entry.Entry.{Entry}
 use Rattle.history.specs.Past.{past}
 use Rattle.ctrl_types.specs.declared.ids.Pair.{Pair}
 use Rattle.device_history.specs.declared.ask.Step.{Step}
 use Rattle.device_history.specs.declared.ask.Step.TheVariants.{Set}
-use Rattle.device_state.proofs.KeptLemmas.{kept_set}
+use Rattle.ctrl_raises.specs.Raises.{MomentData}
+use Rattle.device_state.proofs.KeptLemmas.{around, kept_set, moment, now_next, numbered, set_lays}
 use Rattle.device_state.proofs.SetLemmas.{new_rows}
-use Rattle.device_history.proofs.PresentLemmas.{length_now}
+use Rattle.device_history.proofs.PresentLemmas.{length_grabbed, length_now}
 use Rattle.device_state.proofs.device.Device.accept_list.Goals as goal
 
 -- there is a value for each control
 pub notify_changed-requires-clause-values : goal.notify_changed-requires-clause-values
 notify_changed-requires-clause-values g c =
     let device = c.self.inside in
-    ap length c.as_slice.ensures.value ∙ ap length c.self.invariant.values ∙ length_now g.D.Validates.verdict device.plan (past device.steps.items)
+    ap length c.as_slice-2.ensures.value ∙ ap length c.self.invariant.values ∙ length_now g.D.Validates.verdict device.plan (past device.steps.items)
 
 pub write_rows-requires-clause-values : goal.write_rows-requires-clause-values
 write_rows-requires-clause-values g c =
     let device = c.self.inside in
-    ap length c.self.invariant.values ∙ length_now g.D.Validates.verdict device.plan (past device.steps.items)
+    ap length (c.in-Ok.ensures ∙ c.as_slice.ensures.value ∙ c.self.invariant.values) ∙ length_now g.D.Validates.verdict device.plan (past device.steps.items)
 
 -- the rows are of other clusters each
 pub notify_changed-requires-clause-rows : goal.notify_changed-requires-clause-rows
@@ -33,13 +34,51 @@ write_rows-requires-clause-rows g c =
     let sets = rw (← c.self.view_is) at c.requires.settable in
     rw c.rows-2.ensures (new_rows g.D.Validates.verdict device.plan device.plan.controls _ _ c.args.touch.pairs c.args.touch.rows sets.judged)
 
--- the members have the rows, and their clusters words of them
+-- there is a value and a grab for each control, before and afterwards
+pub raise_step-requires-clause-values_before : goal.raise_step-requires-clause-values_before
+raise_step-requires-clause-values_before g c =
+    let device = c.self.inside in
+    ap (λ (m : MomentData). length m.values) c.new.ensures ∙ ap length (c.as_slice-3.ensures.value ∙ c.self.invariant.values) ∙ length_now g.D.Validates.verdict device.plan (past device.steps.items)
+
+pub raise_step-requires-clause-grabs_before : goal.raise_step-requires-clause-grabs_before
+raise_step-requires-clause-grabs_before g c =
+    let device = c.self.inside in
+    ap (λ (m : MomentData). length m.grabs) c.new.ensures ∙ ap length (c.as_slice-4.ensures.value ∙ c.self.invariant.grabs) ∙ length_grabbed device.plan (past device.steps.items)
+
+pub raise_step-requires-clause-values : goal.raise_step-requires-clause-values
+raise_step-requires-clause-values g c =
+    let device = c.self.inside in
+    let entry : Entry Step = record { seat = c.args.seat; step = Set c.args.fh c.args.touch.pairs } in
+    let lays =
+    set_lays g.D.Validates.verdict g.D.Notifies.told device.plan device.steps.items _ c.write_rows.new.values.items c.args.fh c.args.which c.args.request c.args.list.now c.args.touch c.self.invariant (rw (← c.self.view_is) at c.requires.settable) c.requires.present
+    (rw (c.in-Ok.ensures, c.as_slice.ensures.value, c.rows-2.ensures) at c.write_rows.ensures) in
+    ap (λ (m : MomentData). length m.values) c.new-2.ensures ∙ ap length (c.as_slice-5.ensures.value ∙ lays)
+    ∙ ap length (sym (now_next g.D.Validates.verdict device.plan entry (past device.steps.items))) ∙ length_now g.D.Validates.verdict device.plan (entry ∷ past device.steps.items)
+
+pub raise_step-requires-clause-grabs : goal.raise_step-requires-clause-grabs
+raise_step-requires-clause-grabs g c =
+    let device = c.self.inside in
+    ap (λ (m : MomentData). length m.grabs) c.new-2.ensures ∙ ap length (c.as_slice-6.ensures.value ∙ c.self.invariant.grabs) ∙ length_grabbed device.plan (past device.steps.items)
+
+-- there are numbers
+pub raise_step-requires-clause-numbers : goal.raise_step-requires-clause-numbers
+raise_step-requires-clause-numbers g c = numbered g.D.Validates.verdict g.D.Notifies.told c.self.inside.plan c.self.inside.steps.items _ c.self.invariant
+
+-- the members have the rows, their clusters words of them, and those are told for whom something changed
 pub invariant_of-self-2 : goal.invariant_of-self-2
 invariant_of-self-2 g c =
     let device = c.self.inside in
     let with : List Pair → Entry Step = λ pairs. record { seat = c.args.seat; step = Set c.args.fh pairs } in
-    kept_set g.D.Validates.verdict g.D.Notifies.told device.plan device.steps.items _ _ _ _ c.args.seat c.args.fh c.args.which c.args.request c.args.list.now c.args.touch c.self.invariant (rw (← c.self.view_is) at c.requires.settable) c.requires.present
+    let settable = rw (← c.self.view_is) at c.requires.settable in
+    let written = rw (c.in-Ok.ensures, c.as_slice.ensures.value, c.rows-2.ensures) at c.write_rows.ensures in
+    let lays = set_lays g.D.Validates.verdict g.D.Notifies.told device.plan device.steps.items _ c.write_rows.new.values.items c.args.fh c.args.which c.args.request c.args.list.now c.args.touch c.self.invariant settable c.requires.present written in
+    kept_set g.D.Validates.verdict g.D.Notifies.told device.plan device.steps.items _ _ _ _ _ c.args.seat c.args.fh c.args.which c.args.request c.args.list.now c.args.touch c.self.invariant settable c.requires.present
     (c.push_reserved.ensures.items
     ∙ ap (λ (s : List (Entry Step)). s ++ with c.from_vec.result ∷ []) c.reserve.ensures.items
     ∙ ap (λ (pairs : List Pair). device.steps.items ++ with pairs ∷ []) (c.from_vec.ensures ∙ c.into_parts-controls.ensures.pairs))
-    (rw c.rows-2.ensures at c.write_rows.ensures) (rw (c.as_slice.ensures.value, c.pairs.ensures, c.rows.ensures) at c.notify_changed.ensures.words)
+    written (rw (c.as_slice-2.ensures.value, c.pairs.ensures, c.rows.ensures) at c.notify_changed.ensures.words)
+    (c.raise_step.ensures g.D.Validates.verdict (with c.args.touch.pairs) (past device.steps.items)
+    (around g.D.Validates.verdict g.D.Notifies.told device.plan device.steps.items _ (with c.args.touch.pairs) c.new.result c.new-2.result c.self.invariant (c.new.ensures ∙ moment c.as_slice-3.ensures.value c.as_slice-4.ensures.value)
+    (ap (λ (m : MomentData). m.values) c.new-2.ensures ∙ c.as_slice-5.ensures.value ∙ lays)
+    (ap (λ (m : MomentData). m.grabs) c.new-2.ensures ∙ c.as_slice-6.ensures.value ∙ c.self.invariant.grabs))
+    (c.pairs-2.ensures, refl))

@@ -1,4 +1,4 @@
-use Rattle.std.proofs.Common.{ℕ, Option, unwrap_or, ap, sym, ◌∙◌}
+use Rattle.std.proofs.Common.{ℕ, Option, unwrap_or, ap, ◌∙◌}
 use Rattle.history.specs.Past.{past}
 use Rattle.device_state.proofs.ForecastLemmas.{buffer_is, buffer_there}
 use Rattle.device_state.proofs.device.Device.buffer_number.Goals as goal

@@ -10,4 +10,4 @@ returns g c = λ seat.
     let told = c.forecast_at-answer in
     handles_asked g.D.Validates.verdict c.args.self.now _ c.new-work.result told.new.work seat _ _
     (ap (λ (d : DeviceData). record d { work = told.new.work }) c.self.view_is) c.new-work.ensures told.ensures.told told.ensures.asked (λ _. omega arith)
-    (taken_forecast c.args.self.now.plan (past c.args.self.now.steps) c.args.place _) told.ensures.answers
+    (taken_forecast g.D.Validates.verdict c.args.self.now.plan (past c.args.self.now.steps) c.args.place _) told.ensures.answers

@@ -1,4 +1,4 @@
-use Rattle.std.proofs.Common.{◌≡◌, ◌≤◌, ◌+◌, ℕ, map, take, length}
+use Rattle.std.proofs.Common.{◌≡◌, map, take}
 use Rattle.history.specs.Past.{past}
 use Rattle.device_history.specs.Forecasts.{queued_frame}
 use Rattle.device_history.specs.Frames.{queue}

@@ -10,4 +10,4 @@ returns g c = λ seat.
     let tried = c.try_list-answer in
     handles_asked g.D.Validates.verdict c.args.self.now _ c.new-work.result tried.new.work seat _ _
     (ap (λ (d : DeviceData). record d { work = tried.new.work }) c.self.view_is) c.new-work.ensures tried.ensures.told tried.ensures.at_most (tried_all _ tried.new.work.asked _ c.new-work.result c.new-work.ensures tried.ensures.asked)
-    (taken_try c.args.self.now.plan (past c.args.self.now.steps) c.args.fh c.args.which c.args.request c.args.list.now _) tried.ensures.answers
+    (taken_try g.D.Validates.verdict c.args.self.now.plan (past c.args.self.now.steps) c.args.fh c.args.which c.args.request c.args.list.now _) tried.ensures.answers

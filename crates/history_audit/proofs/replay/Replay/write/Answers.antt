@@ -1,11 +1,17 @@
-use Rattle.std.proofs.Common.{◌≡◌, List, length, take, ap, ◌∙◌}
+use Rattle.std.proofs.Common.{◌≡◌, List, ◌∷◌, length, take, refl, ap, sym, ◌∙◌}
 use Rattle.history.specs.declared.entry.Entry.{Entry}
 use Rattle.history.specs.Past.{past}
+use Rattle.ctrl_clusters.specs.Overlay.{overlay}
+use Rattle.ctrl_raises.specs.Raises.{MomentData}
 use Rattle.device_history.specs.declared.ask.Step.{Step}
 use Rattle.device_history.specs.declared.ask.Step.TheVariants as steps
-use Rattle.device_history.proofs.PresentLemmas.{length_now}
+use Rattle.device_history.specs.EventSteps.{AreAround}
+use Rattle.device_history.specs.Grabs.{grabbed, grabbed_after}
+use Rattle.device_history.specs.Values.{laid, now, now_after}
+use Rattle.device_history.proofs.GrabLemmas.{grabbed_more}
+use Rattle.device_history.proofs.PresentLemmas.{length_grabbed, length_now}
 use Rattle.history_audit.specs.Replay.{ReplayData}
-use Rattle.history_audit.proofs.MadeLemmas.{replay_add, replayed_next}
+use Rattle.history_audit.proofs.MadeLemmas.{now_next, numbered, replay_add, replayed_next}
 use Rattle.history_audit.proofs.WriteLemmas.{set_rows, set_makes}
 use Rattle.history_audit.proofs.replay.Replay.write.Goals as goal
 
@@ -13,7 +19,7 @@ use Rattle.history_audit.proofs.replay.Replay.write.Goals as goal
 pub write_rows-requires-clause-values : goal.write_rows-requires-clause-values
 write_rows-requires-clause-values g c =
     let r = c.self.inside in
-    ap length c.self.invariant.made.values ∙ length_now g.D.Validates.verdict r.plan.now (past (take r.count r.steps.now))
+    ap length (c.in_ok-values.ensures ∙ c.as_slice.ensures.value ∙ c.self.invariant.made.values) ∙ length_now g.D.Validates.verdict r.plan.now (past (take r.count r.steps.now))
 
 -- the rows are of other clusters each
 pub write_rows-requires-clause-rows : goal.write_rows-requires-clause-rows
@@ -21,22 +27,61 @@ write_rows-requires-clause-rows g c =
     let r = c.self.inside in
     rw c.rows.ensures (set_rows g.D.Validates.verdict r.plan.now (past (take r.count r.steps.now)) c.args.fh c.args.touch.now.pairs c.args.touch.now (rw (← c.self.view_is) at c.requires.touched))
 
--- the values are what the set lays over them
+-- there is a value and a grab for each control, before and afterwards
+pub raise_step-requires-clause-values_before : goal.raise_step-requires-clause-values_before
+raise_step-requires-clause-values_before g c =
+    let r = c.self.inside in
+    ap (λ (m : MomentData). length m.values) c.new.ensures ∙ ap length (c.as_slice-2.ensures.value ∙ c.self.invariant.made.values) ∙ length_now g.D.Validates.verdict r.plan.now (past (take r.count r.steps.now))
+
+pub raise_step-requires-clause-grabs_before : goal.raise_step-requires-clause-grabs_before
+raise_step-requires-clause-grabs_before g c =
+    let r = c.self.inside in
+    ap (λ (m : MomentData). length m.grabs) c.new.ensures ∙ ap length (c.as_slice-3.ensures.value ∙ c.self.invariant.made.grabs) ∙ length_grabbed r.plan.now (past (take r.count r.steps.now))
+
+pub raise_step-requires-clause-values : goal.raise_step-requires-clause-values
+raise_step-requires-clause-values g c =
+    let r = c.self.inside in
+    let P : List (Entry Step) = past (take r.count r.steps.now) in
+    let step : c.args.entry.now.step ≡ steps.Set c.args.fh c.args.touch.now.pairs = c.requires.step in
+    let made =
+    set_makes g.D.Validates.verdict r.plan.now P c.args.fh c.args.touch.now.pairs c.args.touch.now c.rows.result.now c.in_ok-values.values.items c.write_rows.new.values.items c.self.invariant.plans
+    (rw (← c.self.view_is) at c.requires.touched) c.rows.ensures (c.in_ok-values.ensures ∙ c.as_slice.ensures.value ∙ c.self.invariant.made.values) c.write_rows.ensures in
+    ap (λ (m : MomentData). length m.values) c.new-2.ensures ∙ ap length (c.as_slice-4.ensures.value ∙ made)
+    ∙ ap length (sym (now_next g.D.Validates.verdict r.plan.now c.args.entry.now P ∙ ap (λ (s : Step). now_after g.D.Validates.verdict r.plan.now (grabbed r.plan.now P) (laid r.plan.now P s) (now g.D.Validates.verdict r.plan.now P)) step))
+    ∙ length_now g.D.Validates.verdict r.plan.now (c.args.entry.now ∷ P)
+
+pub raise_step-requires-clause-grabs : goal.raise_step-requires-clause-grabs
+raise_step-requires-clause-grabs g c =
+    let r = c.self.inside in
+    ap (λ (m : MomentData). length m.grabs) c.new-2.ensures ∙ ap length (c.as_slice-5.ensures.value ∙ c.self.invariant.made.grabs) ∙ length_grabbed r.plan.now (past (take r.count r.steps.now))
+
+pub raise_step-requires-clause-numbers : goal.raise_step-requires-clause-numbers
+raise_step-requires-clause-numbers g c = numbered g.D.Validates.verdict c.self.inside.plan.now c.self.inside.steps.now c.self.inside.count _ c.self.invariant
+
+-- the values are what the set lays over them, and those are told for whom something changed
 pub invariant_of-self : goal.invariant_of-self
 invariant_of-self g c =
     let r = c.self.inside in
     let made = c.self.invariant.made in
     let step : c.args.entry.now.step ≡ steps.Set c.args.fh c.args.touch.now.pairs = c.requires.step in
+    let P : List (Entry Step) = past (take r.count r.steps.now) in
+    let laid_over : c.write_rows.new.values.items ≡ overlay g.D.Validates.verdict r.plan.now r.plan.now.controls (now g.D.Validates.verdict r.plan.now P) (grabbed r.plan.now P) c.args.touch.now.pairs =
+    set_makes g.D.Validates.verdict r.plan.now P c.args.fh c.args.touch.now.pairs c.args.touch.now c.rows.result.now c.in_ok-values.values.items c.write_rows.new.values.items c.self.invariant.plans
+    (rw (← c.self.view_is) at c.requires.touched) c.rows.ensures (c.in_ok-values.ensures ∙ c.as_slice.ensures.value ∙ made.values) c.write_rows.ensures in
+    let around : AreAround g.D.Validates.verdict r.plan.now c.args.entry.now P c.new.result c.new-2.result = record {
+      old_values = ap (λ (m : MomentData). m.values) c.new.ensures ∙ c.as_slice-2.ensures.value ∙ made.values;
+      old_grabs = ap (λ (m : MomentData). m.grabs) c.new.ensures ∙ c.as_slice-3.ensures.value ∙ made.grabs;
+      values = ap (λ (m : MomentData). m.values) c.new-2.ensures ∙ c.as_slice-4.ensures.value ∙ laid_over
+          ∙ sym (now_next g.D.Validates.verdict r.plan.now c.args.entry.now P ∙ ap (λ (s : Step). now_after g.D.Validates.verdict r.plan.now (grabbed r.plan.now P) (laid r.plan.now P s) (now g.D.Validates.verdict r.plan.now P)) step);
+      grabs = ap (λ (m : MomentData). m.grabs) c.new-2.ensures ∙ c.as_slice-5.ensures.value ∙ made.grabs ∙ sym (grabbed_more r.plan.now c.args.entry.now P ∙ ap (λ (s : Step). grabbed_after s (grabbed r.plan.now P)) step);
+    } in
     replay_add g.D.Validates.verdict r.plan.now r.steps.now r.count _ _ c.args.entry.now c.self.invariant (rw (← c.self.view_is) at c.requires.next) (rw (← c.self.view_is) at c.requires.room) (rw (← c.self.view_is) at c.requires.follows)
-    (rw step made.file_handles) (rw step made.grabs)
-    (rw step
-    (set_makes g.D.Validates.verdict r.plan.now (past (take r.count r.steps.now)) c.args.fh c.args.touch.now.pairs c.args.touch.now c.rows.result.now r.values.items c.write_rows.new.values.items c.controls-plan.ensures.plan
-    (rw (← c.self.view_is) at c.requires.touched) c.rows.ensures made.values c.write_rows.ensures))
-    (rw step made.frames)
+    (rw step made.file_handles) (rw step made.grabs) (rw step laid_over) (rw step made.frames)
+    (c.raise_step.ensures g.D.Validates.verdict c.args.entry.now P around (rw step (c.pairs.ensures, refl)))
 
 -- one more step was replayed
-pub returns : goal.returns
-returns g c =
+pub returns-clause-ok : goal.returns-clause-ok
+returns-clause-ok g c =
     let r = c.self.inside in
     let next = rw (← c.self.view_is) at c.requires.next in
     rw (← c.self.view_is) (ap (λ (s : List (Entry Step)). (let d : ReplayData = record { plan = r.plan.now; steps = s; all = r.steps.now } in d)) (replayed_next r.steps.now r.count c.args.entry.now c.self.invariant.within next).0)

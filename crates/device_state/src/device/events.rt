@@ -1,0 +1,111 @@
+//! What a device answers about control events.
+
+ghost use Rattle.std.specs.Prelude.{◌≡◌, None, if◌then◌else◌, is_some};
+ghost use Rattle.history.specs.Past.{past};
+ghost use Rattle.ctrl_events.specs.Events.{event_at};
+ghost use Rattle.device_history.specs.declared.ask.Ask.TheVariants as asks;
+ghost use Rattle.device_history.specs.EventAnswers.{subscribe_refusal, unless_open};
+ghost use Rattle.ctrl_types.specs.declared.errno.Errno.TheVariants.{EBADF, ENOENT};
+ghost use Rattle.device_history.specs.Handles.{handler_of};
+ghost use Rattle.device_history.specs.Events.{next_sequence, pending};
+ghost use Rattle.device_history.specs.Subscriptions.{subscribed};
+ghost use Rattle.device_state.specs.Device.{Handles};
+
+use super::{Device, refused};
+use ctrl_calls::{Driver, Work};
+use ctrl_events::Event;
+use ctrl_types::{CtrlId, Errno, Fault, FhId, SubFlags};
+use device_history::{Ask, Reply, Step};
+
+impl<D: Driver> Device<D> {
+    /// How a file handle is subscribed to the events of a control, for a driver's own use (Linux userspace API, "ioctl VIDIOC_SUBSCRIBE_EVENT,
+    /// VIDIOC_UNSUBSCRIBE_EVENT"): the flags of its first subscription since the last that was ended; none where it isn't open or isn't
+    /// subscribed. It takes no memory.
+    ///
+    /// - `fh`: any file handle, open or not.
+    /// - `control`: any number, of a control or not.
+    pub fn subscribed(&self, fh: FhId, control: u32) -> Option<SubFlags>
+        ensures { result ≡ subscribed (past self.now.steps) fh control }
+    {
+        self.events.subscribed(fh, control)
+    }
+
+    /// The event at a place of those that wait for a file handle, with its control's number, for a driver's own use (Linux userspace API, "ioctl
+    /// VIDIOC_DQEVENT"): they wait in the order of their numbers, and `pending` counts those behind it; none where none waits there. It takes no
+    /// memory.
+    ///
+    /// - `fh`: any file handle, open or not.
+    /// - `place`: any place, from 0.
+    pub fn waiting(&self, fh: FhId, place: usize) -> Option<(u32, Event)>
+        ensures { result ≡ event_at (pending D.verdict self.now.plan (past self.now.steps) fh) place }
+    {
+        self.events.waiting(fh, place)
+    }
+
+    /// The number of the next event that is raised for a file handle, for a driver's own use (Linux userspace API, "ioctl VIDIOC_DQEVENT"): how
+    /// many were raised for it; 0 where it isn't open. It takes no memory.
+    ///
+    /// - `fh`: any file handle, open or not.
+    pub fn next_sequence(&self, fh: FhId) -> u32
+        ensures { result ≡ next_sequence D.verdict self.now.plan (past self.now.steps) fh }
+    {
+        self.events.next_sequence(fh)
+    }
+
+    /// Takes the first event that waits for a file handle, as `handle` on `Ask::Take` of it does (Linux userspace API, "ioctl VIDIOC_DQEVENT"): what
+    /// changed of its control, the control's value, flags and range as they were at the last raise, that raise's number, and how many events still
+    /// wait.
+    ///
+    /// - `seat`: the number that the step is entered for.
+    /// - `fh`: the file handle.
+    ///
+    /// Refused, in this order, without an index, with EBADF (9) where `fh` isn't open; ENOENT (2) where no event waits for it; ENOSPC (28) where
+    /// 1,000,000 steps are kept; and ENOMEM (12) where a growth was refused. Nothing is changed then but the counts of `work`.
+    pub fn take(&mut self, seat: u32, fh: FhId) -> Result<Reply, Fault>
+        ensures { Handles D.verdict self.old self.new seat (asks.Take fh) result }
+    {
+        match self.waiting(fh, 0) {
+            Some((control, event)) => {
+                let step = Step::Take { fh, control };
+                self.enter(seat, &Ask::Take { fh }, None, step, Reply::Event(event))
+            }
+            None => {
+                self.work = Work::new();
+                refused(self.nothing_waits(fh))
+            }
+        }
+    }
+
+    // Why an event can't be taken where none waits.
+    fn nothing_waits(&self, fh: FhId) -> Errno
+        ensures { result ≡ (if is_some (handler_of (past self.now.steps) fh) then ENOENT else EBADF) }
+    {
+        match self.handler_of(fh) {
+            Some(_) => Errno::ENOENT,
+            None => Errno::EBADF,
+        }
+    }
+
+    // Why a file handle isn't subscribed.
+    pub(super) fn subscribe_refusal(&self, fh: FhId, id: CtrlId) -> Option<Errno>
+        ensures { result ≡ subscribe_refusal self.now.plan (past self.now.steps) fh id }
+    {
+        if self.handler_of(fh).is_none() {
+            return Some(Errno::EBADF);
+        }
+        match self.shown(fh, id) {
+            Some(_) => None,
+            None => Some(Errno::EINVAL),
+        }
+    }
+
+    // Why no subscription of a file handle is ended.
+    pub(super) fn unsubscribe_refusal(&self, fh: FhId) -> Option<Errno>
+        ensures { result ≡ unless_open (past self.now.steps) fh None }
+    {
+        match self.handler_of(fh) {
+            Some(_) => None,
+            None => Some(Errno::EBADF),
+        }
+    }
+}

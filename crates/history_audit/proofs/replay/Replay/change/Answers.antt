@@ -1,0 +1,76 @@
+use Rattle.std.proofs.Common.{ℕ, List, [], length, take, Option, refl, ap, sym, subst, ◌∙◌}
+use Rattle.history.specs.declared.entry.Entry.{Entry}
+use Rattle.history.specs.Past.{past}
+use Rattle.device_history.specs.declared.ask.Step.{Step}
+use Rattle.ctrl_types.specs.declared.ids.Pair.{Pair}
+use Rattle.ctrl_clusters.specs.Rows.{Values}
+use Rattle.frame_queue.specs.Frames.{FramesData}
+use Rattle.device_history.specs.FrameSteps.{frames_changed}
+use Rattle.device_history.specs.Grabs.{grabbed}
+use Rattle.device_history.specs.Handles.{opened}
+use Rattle.device_history.specs.Snapshots.{frames}
+use Rattle.device_history.specs.Values.{now, now_after}
+use Rattle.device_history.proofs.PresentLemmas.{length_grabbed, length_now}
+use Rattle.step_effects.specs.Quiet.{FitsIn}
+use Rattle.step_effects.proofs.FitLemmas.{fits_in}
+use Rattle.history_audit.proofs.MadeLemmas.{taken_many}
+use Rattle.step_effects.proofs.QuietLemmas.{opened_quiet, grabbed_quiet, laid_quiet, given_quiet}
+use Rattle.history_audit.proofs.FollowLemmas.{names_known}
+use Rattle.history_audit.specs.Replay.{ReplayData}
+use Rattle.history_audit.proofs.MadeLemmas.{numbered, replay_add, replayed_next}
+use Rattle.history_audit.proofs.replay.Replay.change.Goals as goal
+
+-- the step fits what is kept
+pub change_quiet-changed-requires-clause-fits : goal.change_quiet-changed-requires-clause-fits
+change_quiet-changed-requires-clause-fits g c =
+    let r = c.self.inside in
+    subst (λ (n : ℕ). FitsIn n c.args.entry.now.step r.frames) (taken_many r.steps.now r.count c.self.invariant.within)
+    (fits_in g.D.Validates.verdict r.plan.now (take r.count r.steps.now) r.frames c.args.entry.now.step c.self.invariant.made.frames c.self.invariant.made.legal (rw (← c.self.view_is) at c.requires.follows) c.requires.quiet
+    (names_known g.D.Validates.verdict r.plan.now (past (take r.count r.steps.now)) c.args.entry.now.step c.self.invariant.plans (rw (← c.self.view_is) at c.requires.follows) (rw (← c.self.view_is) at c.requires.known)))
+
+pub change_quiet-changed-requires-clause-known : goal.change_quiet-changed-requires-clause-known
+change_quiet-changed-requires-clause-known g c =
+    let r = c.self.inside in
+    names_known g.D.Validates.verdict r.plan.now (past (take r.count r.steps.now)) c.args.entry.now.step c.self.invariant.plans (rw (← c.self.view_is) at c.requires.follows) (rw (← c.self.view_is) at c.requires.known)
+
+-- there is a value and a grab for each control
+pub change_quiet-changed-requires-clause-values : goal.change_quiet-changed-requires-clause-values
+change_quiet-changed-requires-clause-values g c =
+    let r = c.self.inside in
+    ap length (c.as_slice.ensures.value ∙ c.self.invariant.made.values) ∙ length_now g.D.Validates.verdict r.plan.now (past (take r.count r.steps.now))
+
+pub change_quiet-changed-requires-clause-grabs : goal.change_quiet-changed-requires-clause-grabs
+change_quiet-changed-requires-clause-grabs g c =
+    let r = c.self.inside in
+    ap length (c.as_slice-2.ensures.value ∙ c.self.invariant.made.grabs) ∙ length_grabbed r.plan.now (past (take r.count r.steps.now))
+
+pub change_quiet-changed-requires-clause-frames : goal.change_quiet-changed-requires-clause-frames
+change_quiet-changed-requires-clause-frames g c = ap (λ (f : FramesData). f.requests.controls) c.self.invariant.made.frames
+
+-- there are numbers
+pub change_quiet-changed-requires-clause-numbers : goal.change_quiet-changed-requires-clause-numbers
+change_quiet-changed-requires-clause-numbers g c = numbered g.D.Validates.verdict c.self.inside.plan.now c.self.inside.steps.now c.self.inside.count _ c.self.invariant
+
+-- the requests, the queue and the events are what the step makes of them
+pub invariant_of-self : goal.invariant_of-self
+invariant_of-self g c =
+    let r = c.self.inside in
+    let made = c.self.invariant.made in
+    let step : Step = c.args.entry.now.step in
+    let P : List (Entry Step) = past (take r.count r.steps.now) in
+    replay_add g.D.Validates.verdict r.plan.now r.steps.now r.count _ _ c.args.entry.now c.self.invariant (rw (← c.self.view_is) at c.requires.next) (rw (← c.self.view_is) at c.requires.room) (rw (← c.self.view_is) at c.requires.follows)
+    (made.file_handles ∙ sym (opened_quiet r.count step (opened P) c.requires.quiet))
+    (made.grabs ∙ sym (grabbed_quiet step (grabbed r.plan.now P) c.requires.quiet))
+    (made.values ∙ ap (λ (l : Option (List Pair)). now_after g.D.Validates.verdict r.plan.now (grabbed r.plan.now P) l (now g.D.Validates.verdict r.plan.now P)) (sym (laid_quiet r.plan.now P step c.requires.quiet)))
+    (c.in-Ok.ensures.frames
+    ∙ ap (λ (v : Values). frames_changed v [] r.count step r.frames) (c.as_slice.ensures.value ∙ made.values)
+    ∙ ap (frames_changed (now g.D.Validates.verdict r.plan.now P) [] r.count step) made.frames
+    ∙ ap (λ (l : List Pair). frames_changed (now g.D.Validates.verdict r.plan.now P) l r.count step (frames g.D.Validates.verdict r.plan.now P)) (sym (given_quiet g.D.Validates.verdict r.plan.now P step c.requires.quiet)))
+    (c.in-Ok.ensures.events g.D.Validates.verdict c.args.entry.now P refl (c.as_slice.ensures.value ∙ made.values) (c.as_slice-2.ensures.value ∙ made.grabs))
+
+-- one more step was replayed
+pub returns-in-Ok-clause-ok : goal.returns-in-Ok-clause-ok
+returns-in-Ok-clause-ok g c =
+    let r = c.self.inside in
+    let next = rw (← c.self.view_is) at c.requires.next in
+    rw (← c.self.view_is) (ap (λ (s : List (Entry Step)). (let d : ReplayData = record { plan = r.plan.now; steps = s; all = r.steps.now } in d)) (replayed_next r.steps.now r.count c.args.entry.now c.self.invariant.within next).0)

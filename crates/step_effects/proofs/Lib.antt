@@ -1,0 +1,3 @@
+pub mod QuietLemmas
+pub mod FitLemmas
+pub mod RaisedLemmas

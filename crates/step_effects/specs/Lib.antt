@@ -1,0 +1,17 @@
+pub use Rattle.history.specs.Past
+pub use Rattle.ctrl_calls.specs.Meanings
+pub use Rattle.ctrl_handlers.specs.Plan
+pub use Rattle.ctrl_clusters.specs.Rows
+pub use Rattle.ctrl_events.specs.Events
+pub use Rattle.ctrl_raises.specs.Raises
+pub use Rattle.frame_queue.specs.Frames
+pub use Rattle.device_history.specs.Steps
+pub use Rattle.device_history.specs.Grabs
+pub use Rattle.device_history.specs.Values
+pub use Rattle.device_history.specs.Requests
+pub use Rattle.device_history.specs.Snapshots
+pub use Rattle.device_history.specs.FrameSteps
+pub use Rattle.device_history.specs.EventSteps
+pub use Rattle.device_history.specs.Legal
+pub mod Quiet
+pub mod Given

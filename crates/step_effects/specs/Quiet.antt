@@ -1,0 +1,48 @@
+-- Steps that leave file handles, grabs and values: those about requests but for the begin of a frame, and those about events; and what they need
+-- of what they change (of this project).
+use Rattle.std.specs.Prelude.{◌≡◌, ◌<◌, ℕ, Bool, true, false, None, Some}
+use Rattle.std.specs.List.{All}
+use Rattle.req_book.specs.Requests.{find}
+use Rattle.req_book.specs.Refusals.{buffer_refusal, queue_refusal, clear_refusal}
+use Rattle.frame_queue.specs.Frames.{FramesData, cancel_refusal}
+use Rattle.device_history.specs.declared.ask.Step.{Step}
+use Rattle.device_history.specs.declared.ask.Step.TheVariants as steps
+
+-- a step that leaves file handles, grabs and values
+abbrev pub is_quiet : Step → Bool
+is_quiet steps.Alloc = true
+is_quiet (steps.Store r pairs) = true
+is_quiet (steps.Buffer r number) = true
+is_quiet (steps.Queue r) = true
+is_quiet (steps.Complete r) = true
+is_quiet (steps.Cancel r) = true
+is_quiet steps.StreamOff = true
+is_quiet (steps.Reinit r) = true
+is_quiet (steps.Free r) = true
+is_quiet (steps.Subscribe fh c flags) = true
+is_quiet (steps.Unsubscribe fh c) = true
+is_quiet (steps.Take fh c) = true
+is_quiet _ = false
+
+-- what a step stores, or subscribes to, are controls that are there
+abbrev pub NamesKnown : ℕ → Step → Type 0
+NamesKnown controls (steps.Store r pairs) = All (λ p. p.control < controls) pairs
+NamesKnown controls (steps.Subscribe fh c flags) = c < controls
+NamesKnown controls _ = Unit {0}
+
+-- What lets such a step change requests and a queue: nothing refuses it; the number of an allocation is new, and what is stored names
+-- controls that are there.
+abbrev pub FitsIn : ℕ → Step → FramesData → Type 0
+FitsIn n steps.Alloc f = find f.requests.all n ≡ None
+FitsIn n (steps.Store r pairs) f = All (λ p. p.control < f.requests.controls) pairs
+FitsIn n (steps.Buffer r number) f = buffer_refusal f.requests.all number (find f.requests.all r.0) ≡ None
+FitsIn n (steps.Queue r) f = queue_refusal (find f.requests.all r.0) ≡ None
+FitsIn n (steps.Complete r) f = f.running ≡ Some r.0
+FitsIn n (steps.Cancel r) f = cancel_refusal (find f.requests.all r.0) ≡ None
+FitsIn n steps.StreamOff f = Unit {0}
+FitsIn n (steps.Reinit r) f = clear_refusal (find f.requests.all r.0) ≡ None
+FitsIn n (steps.Free r) f = clear_refusal (find f.requests.all r.0) ≡ None
+FitsIn n (steps.Subscribe fh c flags) f = Unit {0}
+FitsIn n (steps.Unsubscribe fh c) f = Unit {0}
+FitsIn n (steps.Take fh c) f = Unit {0}
+FitsIn n _ f = ⊥

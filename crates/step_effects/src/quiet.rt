@@ -1,0 +1,141 @@
+//! What the steps do that leave file handles, grabs and values: those about requests but for the begin of a frame, and those about events.
+
+ghost use Rattle.std.specs.Prelude.{◌≡◌, ◌<◌, ◌≤◌, ◌+◌, ℕ, true, [], length, OnOk, OnErr};
+ghost use Rattle.history.specs.declared.entry.Entry.{Entry as EntryOf};
+ghost use Rattle.ctrl_calls.specs.Meanings.{Verdicts};
+ghost use Rattle.ctrl_types.specs.declared.ids.FhId.{FhId as FhIdOf};
+ghost use Rattle.ctrl_events.specs.Events.{events_of, only_at};
+ghost use Rattle.device_history.specs.declared.ask.Step.{Step as StepOf};
+ghost use Rattle.device_history.specs.declared.ask.Step.TheVariants as steps;
+ghost use Rattle.device_history.specs.Steps.{Past};
+ghost use Rattle.device_history.specs.Grabs.{grabbed};
+ghost use Rattle.device_history.specs.Values.{now};
+ghost use Rattle.device_history.specs.EventSteps.{ended_where, events_after};
+ghost use Rattle.device_history.specs.FrameSteps.{frames_changed};
+ghost use Rattle.step_effects.specs.Quiet.{FitsIn, NamesKnown, is_quiet};
+
+use ctrl_calls::Driver;
+use ctrl_events::Events;
+use ctrl_handlers::Plan;
+use ctrl_raises::{Moment, initial_changes, payload_at};
+use ctrl_types::{CtrlValue, Errno, FhId, RequestId, SubFlags};
+use device_history::Step;
+use frame_queue::Frames;
+
+/// Changes the requests, the queue and the events as a step does that leaves file handles, grabs and values (Linux userspace API, "Request API",
+/// "ioctl VIDIOC_SUBSCRIBE_EVENT, VIDIOC_UNSUBSCRIBE_EVENT", "ioctl VIDIOC_DQEVENT").
+///
+/// - `plan`: what the device is built of.
+/// - `values`, `grabs`: the present ones; the caller owes one for each control.
+/// - `number`: the step's place in the history, which is the id of a request that it makes.
+/// - `step`: the step; the caller owes such a one, that nothing refuses.
+/// - `frames`: the requests, their queue, and the one whose frame is being made.
+/// - `events`: the events of file handles; the caller owes that the number of each one's next event is at most 4294967295 less the number of
+///   controls.
+///
+/// The error is that a growth was refused, ENOMEM (12); nothing was changed then.
+pub fn change_quiet<D: Driver>(
+    plan: &Plan<D>,
+    values: &[CtrlValue],
+    grabs: &[bool],
+    number: u32,
+    step: &Step,
+    frames: &mut Frames,
+    events: &mut Events,
+) -> Result<(), Errno>
+    requires quiet { is_quiet step.now ≡ true }
+    requires fits { FitsIn number step.now frames.old }
+    requires known { NamesKnown (length plan.now.controls) step.now }
+    requires values { length values.now ≡ length plan.now.controls }
+    requires grabs { length grabs.now ≡ length plan.now.controls }
+    requires frames { frames.old.requests.controls ≡ length plan.now.controls }
+    requires numbers { (j : ℕ) → (events_of events.old j).next + length plan.now.controls ≤ 4294967295 }
+    ensures frames { OnOk result (frames.new ≡ frames_changed values.now [] number step.now frames.old) }
+    ensures events { OnOk result ((verdicts : Verdicts) (e : EntryOf StepOf) (older : Past) → e.step ≡ step.now → values.now ≡ now verdicts plan.now older → grabs.now ≡ grabbed plan.now older
+        → (fh : FhIdOf) → events_of events.new fh.0 ≡ events_after verdicts plan.now e older fh (events_of events.old fh.0)) }
+    ensures frames_kept { OnErr result (frames.new ≡ frames.old) }
+    ensures events_kept { OnErr result (events.new ≡ events.old) }
+{
+    match step {
+        Step::Subscribe { fh, control, flags } => {
+            let at = Moment::new(values, grabs);
+            subscribe(plan, &at, *fh, *control, *flags, events)
+        }
+        Step::Unsubscribe { fh, control } => {
+            unsubscribe(events, *fh, *control);
+            Ok(())
+        }
+        Step::Take { fh, .. } => {
+            let _ = events.take(*fh);
+            Ok(())
+        }
+        _ => change_frames(frames, values, number, step),
+    }
+}
+
+// Changes the requests and the queue, as a step about them does.
+fn change_frames(
+    frames: &mut Frames,
+    values: &[CtrlValue],
+    number: u32,
+    step: &Step,
+) -> Result<(), Errno>
+    requires fits { FitsIn number step.now frames.old }
+    requires values { length values.now ≡ frames.old.requests.controls }
+    ensures ok { OnOk result (frames.new ≡ frames_changed values.now [] number step.now frames.old) }
+    ensures err { OnErr result (frames.new ≡ frames.old) }
+{
+    match step {
+        Step::Alloc => frames.alloc(RequestId(number)),
+        Step::Store { request, pairs } => frames.store(*request, pairs.as_slice()),
+        Step::Buffer { request, buffer } => frames.add_buffer(*request, *buffer),
+        Step::Queue { request } => frames.queue(*request),
+        Step::Complete { .. } => frames.complete(values),
+        Step::Cancel { request } => frames.cancel(*request, values),
+        Step::StreamOff => {
+            frames.stream_off(values);
+            Ok(())
+        }
+        Step::Reinit { request } => frames.reinit(*request),
+        Step::Free { request } => frames.free(*request),
+        Step::OpenFh { .. }
+        | Step::CloseFh { .. }
+        | Step::Set { .. }
+        | Step::Grab { .. }
+        | Step::Begin { .. }
+        | Step::Subscribe { .. }
+        | Step::Unsubscribe { .. }
+        | Step::Take { .. } => Ok(()),
+    }
+}
+
+// Subscribes a file handle to the events of a control.
+fn subscribe<D: Driver>(
+    plan: &Plan<D>,
+    at: &Moment,
+    fh: FhId,
+    control: u32,
+    flags: SubFlags,
+    events: &mut Events,
+) -> Result<(), Errno>
+    requires known { control < length plan.now.controls }
+    requires values { length at.now.values ≡ length plan.now.controls }
+    requires grabs { length at.now.grabs ≡ length plan.now.controls }
+    requires numbers { (events_of events.old fh.0).next < 4294967295 }
+    ensures ok { OnOk result ((verdicts : Verdicts) (e : EntryOf StepOf) (older : Past) → e.step ≡ steps.Subscribe fh control flags → at.now.values ≡ now verdicts plan.now older → at.now.grabs ≡ grabbed plan.now older
+        → (j : FhIdOf) → events_of events.new j.0 ≡ events_after verdicts plan.now e older j (events_of events.old j.0)) }
+    ensures err { OnErr result (events.new ≡ events.old) }
+{
+    let payload = payload_at(plan, at, control);
+    let changes = initial_changes(plan, control);
+    events.subscribe(fh, control, flags, changes, &payload)
+}
+
+// Ends the subscription of a file handle, where a control is named.
+fn unsubscribe(events: &mut Events, fh: FhId, control: Option<u32>)
+    ensures { (j : ℕ) → events_of events.new j ≡ only_at fh.0 (ended_where control) j (events_of events.old j) }
+{
+    if let Some(control) = control {
+        events.unsubscribe(fh, control);
+    }
+}
