@@ -1,3 +1,10 @@
 pub mod LayingLemmas
 pub mod ApplyingLemmas
 pub mod BoardLemmas
+pub mod RisingLemmas
+pub mod RightLemmas
+pub mod RenewLemmas
+pub mod KeptLemmas
+pub mod ReadyLemmas
+pub mod LikeLemmas
+pub mod FrameLemmas

@@ -1,5 +1,5 @@
 -- Forecasts: what queued frames will make of a device's values, each over what the one before leaves (of this project).
-use Rattle.std.specs.Prelude.{◌≡◌, ℕ, List, [], ◌∷◌, length}
+use Rattle.std.specs.Prelude.{ℕ, List, [], ◌∷◌}
 use Rattle.std.specs.List.{sum_by}
 use Rattle.ctrl_types.specs.declared.ids.Pair.{Pair}
 use Rattle.ctrl_types.specs.declared.ids.RequestId.{RequestId}
@@ -36,11 +36,6 @@ forecasts verdicts plan controls grabs values (q ∷ qs) =
 abbrev pub values_behind : Values → List Forecast → Values
 values_behind values [] = values
 values_behind values (row ∷ rows) = values_behind row.values rows
-
--- each has a value for each control
-abbrev pub AreLong : ℕ → List Forecast → Type 0
-AreLong controls [] = Unit {0}
-AreLong controls (row ∷ rows) = (length row.values ≡ controls) × AreLong controls rows
 
 -- how many clusters queued frames touch, each for itself
 abbrev pub touched_by_all : PlanData → List QueuedData → ℕ

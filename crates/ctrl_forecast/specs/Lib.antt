@@ -3,3 +3,6 @@ pub use Rattle.ctrl_clusters.specs.Overlay
 pub mod Touched
 pub mod Applied
 pub mod Forecasts
+pub mod Boards
+pub mod Frames
+pub mod Looks

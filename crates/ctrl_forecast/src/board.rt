@@ -1,51 +1,22 @@
-//! What queued frames will have.
+//! What queued frames will have, kept while they wait.
 
-ghost use Rattle.std.specs.Prelude.{◌≡◌, ◌≤◌, ◌+◌, ◌++◌, ◌∷◌, [], length, IfOk, OnOk, OnErr};
-ghost use Rattle.ctrl_clusters.specs.Rows.{AreControlsOf};
-ghost use Rattle.ctrl_forecast.specs.Forecasts.{AreLong, forecast_over, forecasts, touched_by_all, values_behind};
+ghost use Rattle.std.specs.Prelude.{◌≡◌, nat_eq, ◌<◌, ◌≤◌, ◌+◌, ◌-◌, ◌*◌, ◌++◌, ◌∷◌, ◌↔◌, ℕ, [], drop, length, option_map, slice_get, IfOk, OnOk, OnErr, IsTrue};
+ghost use Rattle.std.specs.List.{All, position, remove};
+ghost use Rattle.ctrl_clusters.specs.Rows.{AreControlsOf, Grabs, Values};
+ghost use Rattle.ctrl_forecast.specs.Boards.{DifferOnlyIn, asked_at, board_of, no_board};
+ghost use Rattle.ctrl_forecast.specs.Forecasts.{touched_by_all, values_behind};
+ghost use Rattle.ctrl_forecast.specs.Looks.{seen};
 ghost use Rattle.ctrl_forecast.specs.Touched.{touched_count};
 
-use crate::laying::{Overlaid, overlay};
+use crate::frame::{Frame, Queued};
 use crate::lists::{ClusterList, ValueRow};
+use crate::renewing::renew_clusters;
 use ctrl_calls::{Driver, Work};
 use ctrl_handlers::Plan;
 use ctrl_settle::Ctrl;
-use ctrl_types::{CtrlValue, Pair, RequestId};
+use ctrl_types::{CtrlValue, RequestId};
 use std::alloc::{AllocError, Global};
 use std::marker::Model;
-
-/// A queued frame (of this project). Contracts see it as its parts.
-#[derive(Drop)]
-pub struct Queued<'a> {
-    request: RequestId,
-    buffer: u32,
-    asked: &'a [Pair],
-}
-
-impl<'a> Model for Queued<'a> {
-    ghost use Rattle.ctrl_forecast.specs.Forecasts.{QueuedData};
-
-    ghost Value = { QueuedData };
-
-    ghost view = { λ q. record { request = q.request; buffer = q.buffer; asked = q.asked.now } };
-}
-
-impl<'a> Queued<'a> {
-    /// The frame of a request that is queued.
-    ///
-    /// - `request`: the request.
-    /// - `buffer`: the number of its buffer.
-    /// - `asked`: what it asks for; of a control the last pair counts.
-    pub fn new(request: RequestId, buffer: u32, asked: &'a [Pair]) -> Queued<'a>
-        ensures { result ≡ record { request = request; buffer = buffer; asked = asked.now } }
-    {
-        Queued {
-            request,
-            buffer,
-            asked,
-        }
-    }
-}
 
 /// What a queued frame will have (of this project).
 #[derive(Debug, Drop)]
@@ -60,31 +31,67 @@ pub struct Forecast {
     pub refused: ClusterList,
 }
 
-/// What queued frames will have, in their order (of this project). Contracts see it as the list of them.
+/// What a queued frame will have, as it lies in the board that keeps it (of this project).
+#[derive(Clone, Copy)]
+pub struct Row<'a> {
+    /// Its request.
+    pub request: RequestId,
+    /// The number of the request's buffer.
+    pub buffer: u32,
+    /// The values of all controls, in the order of their numbers.
+    pub values: &'a [CtrlValue],
+    /// The clusters that will be refused, rising.
+    pub refused: &'a [u32],
+}
+
+impl<'a> Row<'a> {
+    /// The same in memory of its own, which is taken from `alloc`. The error is that a growth was refused.
+    pub fn to_forecast(&self, alloc: Global) -> Result<Forecast, AllocError>
+        ensures { IfOk result (λ forecast. forecast ≡ seen self.now) }
+    {
+        let values = Vec::from_slice(alloc, self.values)?;
+        let refused = Vec::from_slice(alloc, self.refused)?;
+        Ok(Forecast {
+            request: self.request,
+            buffer: self.buffer,
+            values: ValueRow::from_vec(values),
+            refused: ClusterList::from_vec(refused),
+        })
+    }
+
+    // Whether it is seen as another is.
+    fn is_like(&self, other: &Row<'_>) -> bool
+        ensures { IsTrue result ↔ (seen self.now ≡ seen other.now) }
+    {
+        (self.request.0, self.buffer, self.values, self.refused)
+            == (other.request.0, other.buffer, other.values, other.refused)
+    }
+}
+
+/// What queued frames will have, in their order, kept while they wait (of this project). Contracts see it as the frames as they were queued, for
+/// each of them the clusters with a member among its pairs, and the list of what they will have.
 #[derive(Drop)]
 pub struct Board {
-    rows: Vec<Forecast>,
+    frames: Vec<Frame>,
     alloc: Global,
 }
 
 impl Model for Board {
-    ghost use Rattle.std.specs.Prelude.{List};
-    ghost use Rattle.ctrl_forecast.specs.declared.board.Forecast.{Forecast};
+    ghost use Rattle.ctrl_forecast.specs.Boards.{BoardData};
+    ghost use Rattle.ctrl_forecast.specs.Frames.{board_seen};
 
-    ghost Value = { List Forecast };
+    ghost Value = { BoardData };
 
-    ghost view = { λ b. b.rows.items };
+    ghost view = { λ b. board_seen b.frames.items };
 }
 
 impl Board {
-    ghost use Rattle.std.specs.Prelude.{◌≡◌, slice_get, option_copied};
-
     /// No frame is queued. It takes no memory; other calls take theirs from `alloc`.
     pub fn empty(alloc: Global) -> Board
-        ensures { result ≡ [] }
+        ensures { result ≡ no_board }
     {
         Board {
-            rows: Vec::new(alloc),
+            frames: Vec::new(alloc),
             alloc,
         }
     }
@@ -92,29 +99,67 @@ impl Board {
     /// What the frame at a place will have; none where there is none. It takes no memory.
     ///
     /// - `place`: any place, from 0.
-    pub fn row(&self, place: usize) -> Option<&Forecast>
-        ensures { option_copied result ≡ slice_get self.now place }
+    pub fn row(&self, place: usize) -> Option<Row<'_>>
+        ensures { option_map seen result ≡ slice_get self.now.rows place }
     {
-        self.rows.get(place)
+        match self.frames.get(place) {
+            Some(frame) => Some(Row {
+                request: frame.request(),
+                buffer: frame.buffer(),
+                values: frame.values(),
+                refused: frame.refused(),
+            }),
+            None => None,
+        }
+    }
+
+    /// The place of the first frame of a request; none where it isn't queued. It takes no memory.
+    ///
+    /// - `request`: any request.
+    pub fn place_of(&self, request: RequestId) -> Option<usize>
+        ensures { result ≡ position (λ q. nat_eq request.0 q.request.0) self.now.queued }
+    {
+        place_in(self.frames.as_slice(), request)
     }
 
     /// How many frames there are. It takes no memory.
     pub fn len(&self) -> usize
-        ensures { result ≡ length self.now }
+        ensures rows { result ≡ length self.now.rows }
+        ensures queued { result ≡ length self.now.queued }
     {
-        self.rows.len()
+        self.frames.len()
     }
 
-    /// What the frame at a place will have; none where there is none. The other rows are let go. It takes no memory.
-    ///
-    /// - `place`: any place, from 0.
-    pub fn into_row(mut self, place: usize) -> Option<Forecast>
-        ensures { result ≡ slice_get self place }
+    /// Whether the frames of another board have the same requests, buffers, values and refused clusters, in the same order. It takes no memory.
+    pub fn is_like(&self, other: &Board) -> bool
+        ensures { IsTrue result ↔ (self.now.rows ≡ other.now.rows) }
     {
-        if place < self.rows.len() {
-            Some(self.rows.swap_remove(place))
-        } else {
-            None
+        if self.len() != other.len() {
+            return false;
+        }
+        self.is_like_below(other, self.len())
+    }
+
+    // Whether the first rows are seen as the same.
+    fn is_like_below(&self, other: &Board, count: usize) -> bool
+        ensures { IsTrue result ↔ ((place : ℕ) → place < count → slice_get self.now.rows place ≡ slice_get other.now.rows place) }
+    {
+        for place in 0..count {
+            if !self.is_like_at(other, place) {
+                return false;
+            }
+        }
+        true
+    }
+
+    // Whether the rows at a place are seen as the same, or there is none on either side.
+    fn is_like_at(&self, other: &Board, place: usize) -> bool
+        ensures { IsTrue result ↔ (slice_get self.now.rows place ≡ slice_get other.now.rows place) }
+    {
+        match (self.row(place), other.row(place)) {
+            (Some(own), Some(row)) => own.is_like(&row),
+            (None, None) => true,
+            _ => false,
         }
     }
 
@@ -122,9 +167,9 @@ impl Board {
     /// (of this project).
     ///
     /// - `plan`, `controls`, `values`, `grabs`, `work`: as of `overlay`; `values` are those before the first frame.
-    /// - `queued`: the frame.
+    /// - `queued`: the frame; what it asks for is copied.
     ///
-    /// The caller owes that each frame so far has a value for each control, as it has where all were added with this plan. The error is that a
+    /// The caller owes that the board was kept with this plan and these controls, over these values and under these grabs. The error is that a
     /// growth was refused; the frames stay as they were. Nobody is told.
     pub fn push<D: Driver>(
         &mut self,
@@ -137,30 +182,123 @@ impl Board {
     ) -> Result<(), AllocError>
         requires controls { AreControlsOf plan.now controls.now }
         requires values { length values.now ≡ length plan.now.controls }
-        requires rows { AreLong (length plan.now.controls) self.old }
-        ensures ok { OnOk result (self.new ≡ self.old ++ forecast_over D.verdict plan.now controls.now grabs.now (values_behind values.now self.old) queued.now ∷ []) }
-        ensures long { AreLong (length plan.now.controls) self.new }
+        requires kept { self.old ≡ board_of D.verdict plan.now controls.now grabs.now values.now self.old.queued }
+        ensures ok { OnOk result (self.new ≡ board_of D.verdict plan.now controls.now grabs.now values.now (self.old.queued ++ queued.now ∷ [])) }
         ensures err { OnErr result (self.new ≡ self.old) }
         ensures asked { work.new.asked ≤ work.old.asked + touched_count plan.now queued.now.asked }
         ensures told { work.new.told ≡ work.old.told }
     {
-        self.rows.reserve(1)?;
-        let Overlaid { values, refused } = overlay(
+        self.frames.reserve(1)?;
+        let frame = Frame::new(
             self.alloc,
             plan,
             controls,
             self.values_behind(values),
             grabs,
-            queued.asked,
+            queued,
             work,
         )?;
-        self.rows.push_reserved(Forecast {
-            request: queued.request,
-            buffer: queued.buffer,
-            values,
-            refused,
-        });
+        self.frames.push_reserved(frame);
         Ok(())
+    }
+
+    /// Takes the first frame out, and answers what it will have; none where no frame is queued. What the others will have stays as it is: it is
+    /// what they have over the values that the first one leaves. It takes no memory, and asks nobody.
+    pub fn pop(&mut self) -> Option<Forecast>
+        ensures first { result ≡ slice_get self.old.rows 0 }
+        ensures rest { self.new ≡ record { queued = drop 1 self.old.queued; named = drop 1 self.old.named; rows = drop 1 self.old.rows } }
+    {
+        if self.frames.is_empty() {
+            return None;
+        }
+        let first = self.frames.remove(0);
+        Some(first.into_forecast())
+    }
+
+    /// Takes the frame at a place out. Behind it only the clusters with a member among its pairs are judged anew (of this project).
+    ///
+    /// - `place`: a place, from 0; the caller owes a frame there.
+    /// - `plan`, `controls`, `values`, `grabs`: as of `overlay`; `values` are those before the first frame.
+    /// - `work`: its count `asked` grows by at most one for each frame behind the place and each cluster with a member among its pairs.
+    ///
+    /// The caller owes that the board was kept with this plan and these controls, over these values and under these grabs. It takes no memory and
+    /// refuses nothing. Nobody is told.
+    pub fn remove<D: Driver>(
+        &mut self,
+        place: usize,
+        plan: &Plan<D>,
+        controls: &[Ctrl],
+        values: &[CtrlValue],
+        grabs: &[bool],
+        work: &mut Work,
+    )
+        requires controls { AreControlsOf plan.now controls.now }
+        requires values { length values.now ≡ length plan.now.controls }
+        requires place { place < length self.old.queued }
+        requires kept { self.old ≡ board_of D.verdict plan.now controls.now grabs.now values.now self.old.queued }
+        ensures frames { self.new ≡ board_of D.verdict plan.now controls.now grabs.now values.now (remove self.old.queued place) }
+        ensures asked { work.new.asked ≤ work.old.asked + touched_count plan.now (asked_at self.old.queued place) * (length self.old.queued - 1 - place) }
+        ensures told { work.new.told ≡ work.old.told }
+    {
+        // the plan is a finished one, as the contract of `controls` says
+        let _plan = plan.controls();
+        let removed = self.frames.remove(place);
+        renew_clusters(
+            &mut self.frames,
+            place,
+            plan,
+            controls,
+            values,
+            grabs,
+            removed.named(),
+            work,
+        );
+    }
+
+    /// Renews some clusters in all frames, after the values before the first frame, or the grabs, were changed in these clusters (of this project).
+    ///
+    /// - `plan`, `controls`, `values`, `grabs`: as of `overlay`, as they are now; `values` are those before the first frame.
+    /// - `clusters`: the clusters, in any order; the caller owes that each is one of the plan.
+    /// - `work`: its count `asked` grows by at most one for each frame and each of the clusters.
+    ///
+    /// The caller owes that the board was kept with this plan and these controls, over values and under grabs that differ from these in the
+    /// clusters alone. It takes no memory and refuses nothing. Nobody is told.
+    pub fn renew<D: Driver>(
+        &mut self,
+        plan: &Plan<D>,
+        controls: &[Ctrl],
+        values: &[CtrlValue],
+        grabs: &[bool],
+        clusters: &[u32],
+        work: &mut Work,
+    )
+        requires controls { AreControlsOf plan.now controls.now }
+        requires values { length values.now ≡ length plan.now.controls }
+        requires clusters { All (λ k. k < length plan.now.clusters) clusters.now }
+        requires kept { (before : Values) × (held : Grabs) × (self.old ≡ board_of D.verdict plan.now controls.now held before self.old.queued) × DifferOnlyIn plan.now clusters.now before held values.now grabs.now }
+        ensures frames { self.new ≡ board_of D.verdict plan.now controls.now grabs.now values.now self.old.queued }
+        ensures asked { work.new.asked ≤ work.old.asked + length clusters.now * length self.old.queued }
+        ensures told { work.new.told ≡ work.old.told }
+    {
+        // the plan is a finished one, as the contract of `controls` says
+        let _plan = plan.controls();
+        renew_clusters(
+            &mut self.frames,
+            0,
+            plan,
+            controls,
+            values,
+            grabs,
+            clusters,
+            work,
+        );
+    }
+
+    /// Takes all frames out. It takes no memory, and asks nobody.
+    pub fn clear(&mut self)
+        ensures { self.new ≡ no_board }
+    {
+        self.frames.clear();
     }
 
     /// What queued frames will have, in their order: the first over the values that are handed in, each other over those of the one before
@@ -182,7 +320,7 @@ impl Board {
     ) -> Result<Board, AllocError>
         requires controls { AreControlsOf plan.now controls.now }
         requires values { length values.now ≡ length plan.now.controls }
-        ensures rows { IfOk result (λ b. b ≡ forecasts D.verdict plan.now controls.now grabs.now values.now queued.now) }
+        ensures frames { IfOk result (λ b. b ≡ board_of D.verdict plan.now controls.now grabs.now values.now queued.now) }
         ensures asked { work.new.asked ≤ work.old.asked + touched_by_all plan.now queued.now }
         ensures told { work.new.told ≡ work.old.told }
     {
@@ -195,11 +333,20 @@ impl Board {
 
     // The values that the last frame leaves, or those before the first.
     fn values_behind<'a>(&'a self, values: &'a [CtrlValue]) -> &'a [CtrlValue]
-        ensures { result.now ≡ values_behind values.now self.now }
+        ensures { result.now ≡ values_behind values.now self.now.rows }
     {
-        match self.rows.last() {
-            Some(row) => row.values.as_slice(),
+        match self.frames.last() {
+            Some(frame) => frame.values(),
             None => values,
         }
     }
+}
+
+// The place of the first frame of a request.
+fn place_in(frames: &[Frame], request: RequestId) -> Option<usize>
+    ensures { result ≡ position (λ f. nat_eq request.0 f.request.0) frames.now }
+{
+    frames
+        .iter()
+        .position(|frame| request.0 == frame.request().0)
 }

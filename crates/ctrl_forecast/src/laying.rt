@@ -65,7 +65,7 @@ pub fn overlay<D: Driver>(
 }
 
 // What the row of a cluster is then, or why it is refused.
-fn row_after<D: Driver>(
+pub(crate) fn row_after<D: Driver>(
     plan: &Plan<D>,
     controls: &[Ctrl],
     values: &[CtrlValue],
@@ -93,7 +93,7 @@ fn row_after<D: Driver>(
 }
 
 // Whether some member is among the pairs.
-fn is_touched(pairs: &[Pair], members: &[u32]) -> bool
+pub(crate) fn is_touched(pairs: &[Pair], members: &[u32]) -> bool
     ensures { result ≡ is_touched pairs.now members.now }
 {
     members.iter().any(|member| is_among(pairs, *member))

@@ -56,8 +56,7 @@ impl Model for ClusterList {
 }
 
 impl ClusterList {
-    ghost use Rattle.std.specs.Prelude.{◌≡◌, nat_eq};
-    ghost use Rattle.std.specs.List.{list_any};
+    ghost use Rattle.std.specs.Prelude.{◌≡◌};
 
     pub(crate) fn from_vec(clusters: Vec<u32>) -> ClusterList
         ensures { result ≡ clusters.items }
@@ -65,11 +64,12 @@ impl ClusterList {
         ClusterList { clusters }
     }
 
-    /// Whether a cluster is among them.
-    pub(crate) fn contains(&self, cluster: u32) -> bool
-        ensures { result ≡ list_any (nat_eq cluster) self.now }
+    /// The numbers, rising, with the memory that they lie in.
+    pub fn into_vec(self) -> Vec<u32>
+        ensures { result.items ≡ self }
     {
-        self.clusters.iter().any(|other| cluster == *other)
+        let ClusterList { clusters } = self;
+        clusters
     }
 
     /// The numbers, rising.

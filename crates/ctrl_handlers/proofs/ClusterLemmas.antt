@@ -255,3 +255,14 @@ is_plan_add plan named manual calls is may = record {
 -- a cluster's number is small
 pub place_within : (plan : PlanData) (c k : ℕ) → IsPlan plan → cluster_of plan c ≡ Some k → k < MAX_CONTROLS
 place_within plan c k is found = omega (arith, few_clusters plan is, is.few_controls, cluster_of_within plan c k found)
+
+-- one more control's cluster in a table of them
+pub places_more : (plan : PlanData) (places : List ℕ) (n k : ℕ) → length places ≡ n → ((c : ℕ) → c < n → cluster_of plan c ≡ Some (get_or places c 0)) → cluster_of plan n ≡ Some k
+    → (c : ℕ) → c < n + 1 → cluster_of plan c ≡ Some (get_or (places ++ k ∷ []) c 0)
+places_more plan places n k many are here c within = by (cases_lt c n)
+  where
+    by : (c < n) ⊎ (n ≤ c) → cluster_of plan c ≡ Some (get_or (places ++ k ∷ []) c 0)
+    by (inl before) = are c before ∙ ap (λ (i : ℕ). Some i) (sym (get_or_append_left places (k ∷ []) 0 c (omega (arith, before, many))))
+    by (inr last) =
+        let same : c ≡ n = omega (arith, last, within) in
+        ap (cluster_of plan) same ∙ here ∙ ap (λ (i : ℕ). Some i) (sym (get_or_at places k [] 0 c (omega (arith, same, many))))

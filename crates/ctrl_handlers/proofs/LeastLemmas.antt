@@ -1,30 +1,9 @@
 -- The least number above another.
-use Rattle.std.proofs.Common.{◌≡◌, ℕ, min, ◌<◌, ◌≤◌, ◌||◌, Bool, true, false, cond, nat_eq, nat_lt, List, [], ◌∷◌, ◌++◌, Option, None, Some, refl, sym, subst, arith, inl, inr, ◌⊎◌}
+use Rattle.std.proofs.Common.{◌≡◌, ℕ, min, ◌<◌, ◌≤◌, ◌||◌, Bool, true, false, cond, nat_eq, nat_lt, List, [], ◌∷◌, None, Some, refl, sym, subst, arith, inl, inr, ◌⊎◌}
 use Rattle.std.specs.List.{fold, filter, reduce, list_any}
-use Rattle.std.specs.Option.{option_to_list}
 use Rattle.std.proofs.lemmas.Bool.{cases_lt}
 use Rattle.std.proofs.lemmas.Bool.Decides.{nat_tests}
 use Rattle.ctrl_handlers.specs.Visible.{least_above}
-
--- the least of what was found so far and of the numbers that are left
-abbrev pub least_from : Option ℕ → ℕ → List ℕ → Option ℕ
-least_from so_far n numbers = reduce min (option_to_list so_far ++ filter (nat_lt n) numbers)
-
-pub least_end : (so_far : Option ℕ) (n : ℕ) → least_from so_far n [] ≡ so_far
-least_end None n = refl
-least_end (Some m) n = refl
-
--- a number that doesn't lie above is passed over
-pub least_skip : (so_far : Option ℕ) (n x : ℕ) (xs : List ℕ) → nat_lt n x ≡ false → least_from so_far n (x ∷ xs) ≡ least_from so_far n xs
-least_skip so_far n x xs h = rw h refl
-
--- the first that lies above
-pub least_first : (n x : ℕ) (xs : List ℕ) → nat_lt n x ≡ true → least_from None n (x ∷ xs) ≡ least_from (Some x) n xs
-least_first n x xs h = rw h refl
-
--- one more that lies above
-pub least_more : (m n x : ℕ) (xs : List ℕ) → nat_lt n x ≡ true → least_from (Some m) n (x ∷ xs) ≡ least_from (Some (min m x)) n xs
-least_more m n x xs h = rw h refl
 
 or_true : (b : Bool) → (b || true) ≡ true
 or_true true = refl

@@ -6,4 +6,5 @@ pub mod PlanLemmas
 pub mod ItemLemmas
 pub mod ShownLemmas
 pub mod LeastLemmas
+pub mod IndexLemmas
 pub mod BuilderLemmas

@@ -4,6 +4,7 @@ pub use Rattle.ctrl_settle.specs.Control
 pub use Rattle.ctrl_settle.specs.Settle
 pub use Rattle.ctrl_types.specs.Flags
 pub use Rattle.menu_items.specs.Places
+pub use Rattle.id_index.specs.Entries
 pub mod HandlerData
 pub mod ClusterData
 pub mod Plan

@@ -1,10 +1,11 @@
 -- The controls that a handler shows, and how they are found (Linux driver API, "V4L2 Controls", "Inheriting Controls" and
 -- "Preventing Controls inheritance").
-use Rattle.std.specs.Prelude.{ℕ, zero, suc, min, Bool, ◌==◌, ◌||◌, if◌then◌else◌, nat_lt, List, [], ◌∷◌, ◌++◌, Option, is_some, slice_index_or}
+use Rattle.std.specs.Prelude.{◌≡◌, ◌<◌, ℕ, zero, suc, min, Bool, ◌==◌, ◌||◌, if◌then◌else◌, nat_lt, List, [], ◌∷◌, ◌++◌, length, Option, is_some, slice_index_or}
 use Rattle.std.specs.List.{find as first_that, fold, filter, reduce}
 use Rattle.std.specs.Option.{option_map}
 use Rattle.ctrl_types.specs.declared.ids.CtrlId.{CtrlId}
 use Rattle.ctrl_settle.specs.Control.{Control}
+use Rattle.id_index.specs.Entries.{number_of}
 use Rattle.ctrl_handlers.specs.Plan.{PlanData, control_in, ids_of, own, added}
 
 -- the first of some controls that has an id
@@ -48,3 +49,12 @@ least_above n numbers = reduce min (filter (nat_lt n) numbers)
 -- the least id that a handler shows and that is greater than the given one
 abbrev pub next_id : PlanData → ℕ → CtrlId → Option CtrlId
 next_id plan h id = option_map (λ n. record { 0 = n }) (least_above id.0 (ids_of plan.controls (visible plan h)))
+
+-- an index of some controls: under each id stands the first of them that has it
+abbrev pub IsIndexOf : List Control → List ℕ → List (ℕ × ℕ) → Type 0
+IsIndexOf controls numbers entries = (id : ℕ) → number_of entries id ≡ first_with_id controls numbers (record { 0 = id })
+
+-- an index for each of some lists of controls, in their order
+abbrev pub AreIndexed : List Control → List (List ℕ) → List (List (ℕ × ℕ)) → Type 0
+AreIndexed controls lists indexes =
+    (length indexes ≡ length lists) × ((h : ℕ) → h < length lists → IsIndexOf controls (slice_index_or lists h []) (slice_index_or indexes h []))

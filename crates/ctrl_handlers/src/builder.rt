@@ -1,8 +1,8 @@
-ghost use Rattle.std.specs.Prelude.{◌≡◌, ◌<◌, true, length, None, Some, IfOk, IfErr, MatchResult};
+ghost use Rattle.std.specs.Prelude.{◌≡◌, ◌<◌, ◌≤◌, [], true, length, vec_capacity, None, Some, IfOk, IfErr, MatchResult};
 ghost use Rattle.ctrl_handlers.specs.Plan.{IsFinished, no_plan, with_handler, with_control, with_added, with_item, with_cluster, finished, control as control_of};
 ghost use Rattle.ctrl_handlers.specs.Builder.{handler_refusal, control_refusal, adding_refusal, name_refusal, number_refusal, cluster_refusal, IsRefusedBy};
 ghost use Rattle.menu_items.specs.Places.{takes};
-ghost use Rattle.ctrl_handlers.specs.Visible.{shown_below};
+ghost use Rattle.ctrl_handlers.specs.Visible.{shown_below, AreIndexed};
 ghost use Rattle.menu_items.specs.declared.item.MenuItem.TheVariants as items;
 ghost use Rattle.ctrl_handlers.specs.declared.fault.PlanFault.TheVariants.{Memory};
 
@@ -11,8 +11,10 @@ use crate::limits::MAX_HANDLERS;
 use crate::numbers::NumberList;
 use crate::outline::Outline;
 use crate::plan::Plan;
+use crate::showing::indexes;
 use ctrl_calls::{Calls, Driver};
 use ctrl_settle::Ctrl;
+use id_index::IdIndex;
 use menu_items::{MenuItem, MenuName};
 use std::alloc::Global;
 use std::marker::Model;
@@ -254,15 +256,30 @@ impl<D: Driver> PlanBuilder<D> {
         ensures finished { IfOk result (λ plan. IsFinished plan) }
         ensures err { IfErr result (λ e. (e.0 ≡ self) × (e.1 ≡ Memory)) }
     {
-        match self.outline.shown_lists(self.alloc) {
-            Ok(shown) => self.finish_with(shown),
-            Err(_) => Err((self, PlanFault::Memory)),
-        }
+        let Ok(shown) = self.outline.shown_lists(self.alloc) else {
+            return Err((self, PlanFault::Memory));
+        };
+        let Ok(index) = indexes(self.alloc, self.outline.controls(), shown.as_slice()) else {
+            return Err((self, PlanFault::Memory));
+        };
+        let Ok(clusters) = Vec::with_capacity(self.alloc, self.outline.control_count() as usize)
+        else {
+            return Err((self, PlanFault::Memory));
+        };
+        self.finish_with(shown, index, clusters)
     }
 
-    // The plan that was built, with what each handler shows.
-    fn finish_with(self, shown: Vec<NumberList>) -> Result<Plan<D>, (PlanBuilder<D>, PlanFault)>
-        requires { shown.items ≡ shown_below self (length self.handlers) }
+    // The plan that was built, with what each handler shows, an index of it, and room for a table of clusters.
+    fn finish_with(
+        self,
+        shown: Vec<NumberList>,
+        index: Vec<IdIndex>,
+        mut clusters: Vec<u32>,
+    ) -> Result<Plan<D>, (PlanBuilder<D>, PlanFault)>
+        requires shown { shown.items ≡ shown_below self (length self.handlers) }
+        requires index { AreIndexed self.controls shown.items index.items }
+        requires none { clusters.items ≡ [] }
+        requires room { length self.controls ≤ vec_capacity clusters }
         ensures ok { IfOk result (λ plan. plan ≡ finished self) }
         ensures finished { IfOk result (λ plan. IsFinished plan) }
         ensures err { IfErr result (λ e. (e.0 ≡ self) × (e.1 ≡ Memory)) }
@@ -273,7 +290,10 @@ impl<D: Driver> PlanBuilder<D> {
             alloc,
         } = self;
         match outline.cluster_rest() {
-            Ok(()) => Ok(Plan::of_parts(outline, calls, shown)),
+            Ok(()) => {
+                outline.cluster_places(&mut clusters);
+                Ok(Plan::of_parts(outline, calls, shown, index, clusters))
+            }
             Err(_) => Err((
                 PlanBuilder {
                     outline,

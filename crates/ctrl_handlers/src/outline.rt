@@ -1,6 +1,6 @@
 ghost use Rattle.std.specs.Prelude.{◌≡◌, ◌==◌, ◌<◌, ◌≤◌, ◌+◌, ℕ, true, false, if◌then◌else◌, [], ◌∷◌, ◌++◌, map, length, vec_capacity, None, Some, is_some, nat_lt, OnOk, OnErr, MatchOption, position, IfOk, IfSome, IsTrue, ◌↔◌};
-ghost use Rattle.ctrl_handlers.specs.Plan.{IsPlan, IsFinished, no_plan, with_handler, with_control, with_added, with_item, with_cluster, finished, in_none, alone, control as control_of, own, added, menu_item, cluster_of, cluster_at, members, has_member, leads, plan_flags, names_twice};
-ghost use Rattle.ctrl_handlers.specs.Builder.{control_refusal, adding_refusal, name_refusal, number_refusal, cluster_refusal, misfits};
+ghost use Rattle.ctrl_handlers.specs.Plan.{IsPlan, IsFinished, no_plan, with_handler, with_control, with_added, with_item, with_cluster, finished, in_none, alone, control as control_of, own, added, menu_item, cluster_of, cluster_at, members, has_member, leads, plan_flags, names_twice, HasPlaces};
+ghost use Rattle.ctrl_handlers.specs.Builder.{control_refusal, adding_refusal, name_refusal, number_refusal, cluster_refusal};
 ghost use Rattle.ctrl_settle.specs.Faults.{IsWellFormed};
 ghost use Rattle.menu_items.specs.Places.{takes};
 ghost use Rattle.ctrl_calls.specs.declared.row.TheConstants.{MAX_MEMBERS};
@@ -174,7 +174,7 @@ impl Outline {
     pub(crate) fn cluster_refusal(&self, members: &[u32]) -> Option<PlanFault>
         ensures { result ≡ cluster_refusal self.now members.now }
     {
-        if misfits(members) {
+        if members.is_empty() || members.len() > MAX_MEMBERS {
             return Some(PlanFault::ClusterSize);
         }
         if !are_below(members, self.control_count()) {
@@ -220,14 +220,16 @@ impl Outline {
         self.items.get(&(control, index))
     }
 
-    /// The cluster that a control is in, by its number.
-    pub(crate) fn cluster_of(&self, control: u32) -> Option<u32>
-        ensures cluster { result ≡ cluster_of self.now control }
-        ensures within { IfSome result (λ k. k < length self.now.clusters) }
+    /// Puts the cluster of each control, by its number, into a table that has room for them.
+    pub(crate) fn cluster_places(&self, places: &mut Vec<u32>)
+        requires finished { IsFinished self.now }
+        requires none { places.old.items ≡ [] }
+        requires room { length self.now.controls ≤ vec_capacity places.old }
+        ensures { HasPlaces self.now places.new.items }
     {
-        match place_of(self.clusters.as_slice(), control) {
-            Some(place) => Some(place as u32),
-            None => None,
+        for control in 0..self.control_count() {
+            let place = place_of(self.clusters.as_slice(), control).unwrap();
+            places.push_reserved(place as u32);
         }
     }
 
@@ -405,13 +407,6 @@ fn cluster_alone(clusters: &mut Vec<Cluster>, control: u32)
         };
         clusters.push_reserved(Cluster::new(&[control], None, calls));
     }
-}
-
-// Whether there are no numbers, or more than a cluster can have.
-fn misfits(numbers: &[u32]) -> bool
-    ensures { result ≡ misfits numbers.now }
-{
-    numbers.is_empty() || numbers.len() > MAX_MEMBERS
 }
 
 // Whether each number is below a bound.

@@ -8,10 +8,10 @@ ghost use Rattle.ctrl_handlers.specs.Visible.{visible, find as find_in, next_id}
 use crate::limits::{MAX_CONTROLS, MAX_HANDLERS};
 use crate::numbers::NumberList;
 use crate::outline::Outline;
-use crate::showing::{first_with_id, least_above};
 use ctrl_calls::{Calls, Driver, Notifier, Validator};
 use ctrl_settle::Ctrl;
 use ctrl_types::{CtrlId, Errno, Flags};
+use id_index::IdIndex;
 use menu_items::MenuItem;
 use std::marker::Model;
 
@@ -24,18 +24,22 @@ pub struct Plan<D: Driver> {
     calls: Vec<Calls<D>>,
     // what each handler shows
     shown: Vec<NumberList>,
+    // an index of it by id, for each handler
+    index: Vec<IdIndex>,
+    // the cluster of each control
+    clusters: Vec<u32>,
 }
 
 impl<D: Driver> Model for Plan<D> {
     ghost use Rattle.std.specs.Prelude.{◌≡◌, length};
-    ghost use Rattle.ctrl_handlers.specs.Plan.{PlanData, IsFinished, HasCalls};
-    ghost use Rattle.ctrl_handlers.specs.Visible.{shown_below};
+    ghost use Rattle.ctrl_handlers.specs.Plan.{PlanData, IsFinished, HasCalls, HasPlaces};
+    ghost use Rattle.ctrl_handlers.specs.Visible.{shown_below, AreIndexed};
 
     ghost Value = { PlanData };
 
     ghost view = { λ p. p.outline };
 
-    ghost invariant = { λ p. IsFinished p.outline × HasCalls p.outline p.calls.items × (p.shown.items ≡ shown_below p.outline (length p.outline.handlers)) };
+    ghost invariant = { λ p. IsFinished p.outline × HasCalls p.outline p.calls.items × (p.shown.items ≡ shown_below p.outline (length p.outline.handlers)) × AreIndexed p.outline.controls p.shown.items p.index.items × HasPlaces p.outline p.clusters.items };
 }
 
 impl<D: Driver> Drop for Plan<D> {
@@ -44,29 +48,37 @@ impl<D: Driver> Drop for Plan<D> {
             outline: _,
             calls: _,
             shown: _,
+            index: _,
+            clusters: _,
         } = self;
     }
 }
 
 impl<D: Driver> Plan<D> {
-    ghost use Rattle.ctrl_handlers.specs.Plan.{HasCalls};
-    ghost use Rattle.ctrl_handlers.specs.Visible.{shown_below};
+    ghost use Rattle.ctrl_handlers.specs.Plan.{HasCalls, HasPlaces};
+    ghost use Rattle.ctrl_handlers.specs.Visible.{shown_below, AreIndexed};
 
     /// The plan of these parts.
     pub(crate) fn of_parts(
         outline: Outline,
         calls: Vec<Calls<D>>,
         shown: Vec<NumberList>,
+        index: Vec<IdIndex>,
+        clusters: Vec<u32>,
     ) -> Plan<D>
         requires finished { IsFinished outline }
         requires calls { HasCalls outline calls.items }
         requires shown { shown.items ≡ shown_below outline (length outline.handlers) }
+        requires index { AreIndexed outline.controls shown.items index.items }
+        requires clusters { HasPlaces outline clusters.items }
         ensures { result ≡ outline }
     {
         Plan {
             outline,
             calls,
             shown,
+            index,
+            clusters,
         }
     }
 
@@ -81,7 +93,10 @@ impl<D: Driver> Plan<D> {
         ensures found { MatchResult result (λ c. find_in self.now handler id ≡ Some c) (λ e. (find_in self.now handler id ≡ None) × (e ≡ EINVAL)) }
         ensures known { MatchResult result (λ c. c < length self.now.controls) (λ _. Unit {0}) }
     {
-        match first_with_id(self.controls(), self.shown(handler), id) {
+        let Some(index) = self.index.get(handler as usize) else {
+            return Err(Errno::EINVAL);
+        };
+        match index.find(id.0) {
             Some(control) => Ok(control),
             None => Err(Errno::EINVAL),
         }
@@ -97,7 +112,10 @@ impl<D: Driver> Plan<D> {
     pub fn next_id(&self, handler: u32, id: CtrlId) -> Result<CtrlId, Errno>
         ensures { MatchResult result (λ next. next_id self.now handler id ≡ Some next) (λ e. (next_id self.now handler id ≡ None) × (e ≡ EINVAL)) }
     {
-        match least_above(self.controls(), self.shown(handler), id) {
+        let Some(ids) = self.index.get(handler as usize) else {
+            return Err(Errno::EINVAL);
+        };
+        match ids.next(id.0) {
             Some(next) => Ok(CtrlId(next)),
             None => Err(Errno::EINVAL),
         }
@@ -193,7 +211,7 @@ impl<D: Driver> Plan<D> {
         ensures cluster { cluster_of self.now control ≡ Some result }
         ensures within { result < length self.now.clusters }
     {
-        self.outline.cluster_of(control).unwrap()
+        self.clusters[control as usize]
     }
 
     /// A cluster's members, 1 to 8 of them, by their numbers; the first is its master. None stands there twice. The caller owes

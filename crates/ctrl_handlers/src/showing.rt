@@ -1,14 +1,14 @@
-//! What a handler shows: how its list is made from those of the handlers that it adds, and how it is searched.
+//! What a handler shows: how its list is made from those of the handlers that it adds, and how an index of it is made.
 
-ghost use Rattle.std.specs.Prelude.{◌≡◌, ◌<◌, ℕ, length, OnOk, IfSome, [], slice_index_or};
+ghost use Rattle.std.specs.Prelude.{◌≡◌, ◌<◌, ℕ, length, OnOk, IfOk, IfSome, [], slice_index_or};
 ghost use Rattle.std.specs.List.{All, fold};
-ghost use Rattle.ctrl_handlers.specs.Plan.{ids_of};
-ghost use Rattle.ctrl_handlers.specs.Visible.{first_with_id, is_left_out, brought, all_brought, least_above};
+ghost use Rattle.ctrl_handlers.specs.Visible.{first_with_id, brought, all_brought, IsIndexOf, AreIndexed};
 
 use crate::numbers::NumberList;
 use ctrl_settle::Ctrl;
 use ctrl_types::CtrlId;
-use std::alloc::AllocError;
+use id_index::IdIndex;
+use std::alloc::{AllocError, Global};
 
 /// The first of some controls that has the id.
 #[tactic(auto, using(crate::proofs::ListLemmas::find_drop))]
@@ -25,22 +25,34 @@ pub(crate) fn first_with_id(controls: &[Ctrl], numbers: &[u32], id: CtrlId) -> O
     None
 }
 
-/// The least id of some controls that is greater than another id.
-pub(crate) fn least_above(controls: &[Ctrl], numbers: &[u32], id: CtrlId) -> Option<u32>
-    requires { All (λ c. c < length controls.now) numbers.now }
-    ensures { result ≡ least_above id.0 (ids_of controls.now numbers.now) }
+/// An index by id of each of some lists of controls, in their order.
+pub(crate) fn indexes(
+    alloc: Global,
+    controls: &[Ctrl],
+    lists: &[NumberList],
+) -> Result<Vec<IdIndex>, AllocError>
+    requires { All (λ list. All (λ c. c < length controls.now) list) lists.now }
+    ensures { IfOk result (λ indexes. AreIndexed controls.now lists.now indexes.items) }
 {
-    let mut least: Option<u32> = None;
-    for &number in numbers {
-        let other = controls[number as usize].id().0;
-        if id.0 < other {
-            least = match least {
-                Some(so_far) => Some(so_far.min(other)),
-                None => Some(other),
-            };
-        }
+    let mut indexes = Vec::with_capacity(alloc, lists.len())?;
+    for list in lists {
+        let index = index_of(alloc, controls, list.as_slice())?;
+        indexes.push_reserved(index);
     }
-    least
+    Ok(indexes)
+}
+
+// An index of some controls by id.
+fn index_of(alloc: Global, controls: &[Ctrl], numbers: &[u32]) -> Result<IdIndex, AllocError>
+    requires { All (λ c. c < length controls.now) numbers.now }
+    ensures { IfOk result (λ index. IsIndexOf controls.now numbers.now index) }
+{
+    let mut entries = Vec::with_capacity(alloc, numbers.len())?;
+    for &number in numbers {
+        let ctrl = controls[number as usize];
+        entries.push_reserved((ctrl.id().0, number));
+    }
+    IdIndex::build(alloc, entries.as_slice())
 }
 
 /// Brings what each added handler shows into a list, in the order of adding. Where a growth was refused, the list has only
@@ -76,25 +88,16 @@ fn bring_all(controls: &[Ctrl], shown: &mut NumberList, numbers: &[u32]) -> Resu
     Ok(())
 }
 
-// Brings one control of an added handler into a list, unless it is left out.
+// Brings one control of an added handler into a list, unless it is left out: it is private, or its id is shown already.
 fn bring(controls: &[Ctrl], shown: &mut NumberList, number: u32) -> Result<(), AllocError>
     requires shown { All (λ c. c < length controls.now) shown.old }
     requires number { number < length controls.now }
     ensures brought { OnOk result (shown.new ≡ brought controls.now shown.old number) }
     ensures known { OnOk result (All (λ c. c < length controls.now) shown.new) }
 {
-    if is_left_out(controls, shown.as_slice(), number) {
+    let ctrl = controls[number as usize];
+    if ctrl.is_private() || first_with_id(controls, shown.as_slice(), ctrl.id()).is_some() {
         return Ok(());
     }
     shown.push(number)
-}
-
-// Whether a control of an added handler is left out.
-fn is_left_out(controls: &[Ctrl], shown: &[u32], number: u32) -> bool
-    requires shown { All (λ c. c < length controls.now) shown.now }
-    requires number { number < length controls.now }
-    ensures { result ≡ is_left_out controls.now shown.now number }
-{
-    let ctrl = controls[number as usize];
-    ctrl.is_private() || first_with_id(controls, shown, ctrl.id()).is_some()
 }

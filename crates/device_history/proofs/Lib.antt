@@ -20,4 +20,5 @@ pub mod SubscriptionLemmas
 pub mod EventLemmas
 pub mod RaiseLaw
 pub mod FrameLaw
+pub mod QueuedFrames
 pub mod StretchLemmas

@@ -1,5 +1,5 @@
 -- What becomes of a forecast while a history goes on, and of the frames that it is of.
-use Rattle.std.proofs.Common.{◌≡◌, ℕ, ◌+◌, zero, suc, ◌∙◌, Bool, true, false, cond, inl, inr, List, [], ◌∷◌, ◌++◌, length, map, filter, Option, None, Some, is_some, slice_get, unwrap_or, nat_eq, Ok, refl, sym, ap, subst, arith, append-nil, append_assoc, if◌then◌else◌}
+use Rattle.std.proofs.Common.{◌≡◌, ℕ, ◌+◌, zero, suc, ◌∙◌, Bool, true, false, cond, inl, inr, List, [], ◌∷◌, ◌++◌, length, map, filter, drop, Option, None, Some, is_some, slice_get, unwrap_or, nat_eq, Ok, refl, sym, ap, subst, arith, append-nil, append_assoc, if◌then◌else◌}
 use Rattle.std.specs.Option.{option_map}
 use Rattle.std.proofs.lemmas.Bool.{and_parts}
 use Rattle.std.proofs.lemmas.Bool.Decides.{eqb_tells}
@@ -47,91 +47,16 @@ use Rattle.device_history.specs.Lists.{list_pairs, meant, pairs_step, which_or}
 use Rattle.device_history.specs.Answers.{refusal, step_of, answer_of}
 use Rattle.device_history.specs.Legal.{IsLegal, MayFollow}
 use Rattle.device_history.specs.FrameSteps.{FitsFrames, frames_after}
-use Rattle.device_history.specs.Forecasts.{queued_frame, queued_frames, forecast}
+use Rattle.device_history.specs.Forecasts.{queued_frame, queued_frames, waiting_after, forecast}
 use Rattle.device_history.specs.Stretches.{goes_on, all_go_on, begins}
 use Rattle.device_history.proofs.AllFit.{AllFit}
+use Rattle.device_history.proofs.QueuedFrames.{frames_waiting}
 use Rattle.device_history.proofs.StateLemmas.{asked_more, asked_same, buffer_more}
 use Rattle.device_history.proofs.RequestLemmas.{request_some, first_queued}
 use Rattle.device_history.proofs.FrameLemmas.{idle_rests, store_idle, buffer_idle, next_none, find_request, frames_more, first_waits, begin_is, complete_is}
 use Rattle.device_history.proofs.GrabLemmas.{grabbed_more}
 use Rattle.device_history.proofs.PastLemmas.{legal_front, legal_last}
 use Rattle.device_history.proofs.FitLemmas.{fits, all_fit}
-
--- a queued frame after one more step, each field by itself
-abbrev frame_after : PlanData → Past → Step → ℕ → QueuedData
-frame_after plan older step j = record {
-  request = record { 0 = j };
-  buffer = unwrap_or (buffer_after (length older) step j (buffer older j)) 0;
-  asked = asked_after plan (length older) step j (asked plan older j);
-}
-
-frame_more : (plan : PlanData) (e : Entry Step) (older : Past) (j : ℕ) → queued_frame plan (e ∷ older) j ≡ frame_after plan older e.step j
-frame_more plan e older j = rw (asked_more plan e older j, buffer_more e older j) refl
-
--- a request is queued where its state says so
-queued_state : (verdicts : Verdicts) (plan : PlanData) (older : Past) (j : ℕ) → is_in is_queued (request verdicts plan older j) ≡ is_there is_queued (state older j)
-unfolding request
-queued_state verdicts plan older j = by (state older j)
-  where
-    by : (o : Option RequestState) → is_in is_queued (option_map (request_in verdicts plan older j) o) ≡ is_there is_queued o
-    by None = refl
-    by (Some s) = refl
-
--- a request that isn't queued is none that is
-others : (verdicts : Verdicts) (plan : PlanData) (older : Past) (r j : ℕ) → is_in is_queued (request verdicts plan older r) ≡ false → is_there is_queued (state older j) ≡ true → nat_eq r j ≡ false
-others verdicts plan older r j off waits = by (eqb_tells r j)
-  where
-    clash : true ≡ false → nat_eq r j ≡ false
-    clash h = cc
-
-    by : Tells r j → nat_eq r j ≡ false
-    by (inr other) = other.0
-    by (inl same) = clash (sym waits ∙ sym (queued_state verdicts plan older j) ∙ ap (λ (i : ℕ). is_in is_queued (request verdicts plan older i)) (sym same.1) ∙ off)
-
--- what a request asks for and its buffer stand while it is queued
-frame_stands : (verdicts : Verdicts) (plan : PlanData) (older : Past) (step : Step) (j : ℕ) → AllFit verdicts plan older → FitsFrames verdicts plan older step → is_there is_queued (state older j) ≡ true
-    → frame_after plan older step j ≡ queued_frame plan older j
-frame_stands verdicts plan older (steps.OpenFh handler) j fit fits waits = rw (asked_same plan older j) refl
-frame_stands verdicts plan older (steps.CloseFh fh) j fit fits waits = rw (asked_same plan older j) refl
-frame_stands verdicts plan older (steps.Set fh pairs) j fit fits waits = rw (asked_same plan older j) refl
-frame_stands verdicts plan older (steps.Grab c on) j fit fits waits = rw (asked_same plan older j) refl
-frame_stands verdicts plan older steps.Alloc j fit fits waits =
-    let other : nat_eq (length older) j ≡ false = others verdicts plan older (length older) j (ap (is_in is_queued) (next_none verdicts plan older fit)) waits in
-    rw (other, asked_same plan older j) refl
-frame_stands verdicts plan older (steps.Store r pairs) j fit fits waits =
-    let other : nat_eq r.0 j ≡ false = others verdicts plan older r.0 j (idle_rests (request verdicts plan older r.0) (store_idle (request verdicts plan older r.0) fits)).0 waits in
-    rw (other, asked_same plan older j) refl
-frame_stands verdicts plan older (steps.Buffer r number) j fit fits waits =
-    let other : nat_eq r.0 j ≡ false = others verdicts plan older r.0 j (idle_rests (request verdicts plan older r.0) (buffer_idle (requests verdicts plan older) number (request verdicts plan older r.0) fits)).0 waits in
-    rw (other, asked_same plan older j) refl
-frame_stands verdicts plan older (steps.Queue r) j fit fits waits = rw (asked_same plan older j) refl
-frame_stands verdicts plan older (steps.Begin r) j fit fits waits = rw (asked_same plan older j) refl
-frame_stands verdicts plan older (steps.Complete r) j fit fits waits = rw (asked_same plan older j) refl
-frame_stands verdicts plan older (steps.Cancel r) j fit fits waits = rw (asked_same plan older j) refl
-frame_stands verdicts plan older steps.StreamOff j fit fits waits = rw (asked_same plan older j) refl
-frame_stands verdicts plan older (steps.Reinit r) j fit fits waits =
-    let other : nat_eq r.0 j ≡ false = others verdicts plan older r.0 j (rests (request verdicts plan older r.0) fits).0 waits in
-    rw (other, asked_same plan older j) refl
-frame_stands verdicts plan older (steps.Free r) j fit fits waits = rw (asked_same plan older j) refl
-frame_stands verdicts plan older (steps.Subscribe f c flags) j fit fits waits = rw (asked_same plan older j) refl
-frame_stands verdicts plan older (steps.Unsubscribe f c) j fit fits waits = rw (asked_same plan older j) refl
-frame_stands verdicts plan older (steps.Take f c) j fit fits waits = rw (asked_same plan older j) refl
-
--- numbers that pass a test, of which two functions make the same
-same_frames : (f g : ℕ → QueuedData) (test : ℕ → Bool) (ids : List ℕ) → ((j : ℕ) → test j ≡ true → f j ≡ g j) → map f (filter test ids) ≡ map g (filter test ids)
-same_frames f g test [] same = refl
-same_frames f g test (j ∷ ids) same = by (test j) refl (same_frames f g test ids same)
-  where
-    by : (b : Bool) → test j ≡ b → map f (filter test ids) ≡ map g (filter test ids) → map f (cond b (j ∷ filter test ids) (filter test ids)) ≡ map g (cond b (j ∷ filter test ids) (filter test ids))
-    by true is rest = rw (same j is, rest) refl
-    by false is rest = rest
-
--- the frames that are queued stand as they did
-frames_stand : (verdicts : Verdicts) (plan : PlanData) (e : Entry Step) (older : Past) → AllFit verdicts plan older → FitsFrames verdicts plan older e.step → map (queued_frame plan (e ∷ older)) (queue older) ≡ queued_frames plan older
-frames_stand verdicts plan e older fit fits = same_frames (queued_frame plan (e ∷ older)) (queued_frame plan older) (λ j. is_there is_queued (state older j)) (ever_queued older) one
-  where
-    one : (j : ℕ) → is_there is_queued (state older j) ≡ true → queued_frame plan (e ∷ older) j ≡ queued_frame plan older j
-    one j h = frame_more plan e older j ∙ frame_stands verdicts plan older e.step j fit fits h
 
 -- a row stands as it did where further frames are queued
 row_stands : (verdicts : Verdicts) (plan : PlanData) (controls : List Control) (grabs : Grabs) (values : Values) (qs more : List QueuedData) (i : ℕ) (row : Forecast)
@@ -144,10 +69,6 @@ row_stands verdicts plan controls grabs values (q ∷ qs) more (suc i) row is = 
 -- a forecast is of the grabs, the present values and the queued frames
 forecast_of : (verdicts : Verdicts) (plan : PlanData) (a b : Grabs) (v w : Values) (q p : List QueuedData) → a ≡ b → v ≡ w → q ≡ p → forecasts verdicts plan plan.controls a v q ≡ forecasts verdicts plan plan.controls b w p
 forecast_of verdicts plan a b v w q p x y z = rw (x, y, z) refl
-
--- the frames behind the first
-frames_behind : (q p : QueuedData) (qs ps : List QueuedData) → q ∷ qs ≡ p ∷ ps → qs ≡ ps
-frames_behind q p qs ps h = cc
 
 -- the forecast, where a request is the first of the queue
 first_row : (verdicts : Verdicts) (plan : PlanData) (older : Past) (r : ℕ) (ids : List ℕ) → queue older ≡ r ∷ ids
@@ -162,42 +83,45 @@ begun_now : (verdicts : Verdicts) (plan : PlanData) (e : Entry Step) (older : Pa
 unfolding now
 begun_now verdicts plan e older r is = ap (λ (s : Step). now_after verdicts plan (grabbed plan older) (laid plan older s) (now verdicts plan older)) is
 
+-- a row behind the first
+row_behind : (verdicts : Verdicts) (plan : PlanData) (controls : List Control) (grabs : Grabs) (values : Values) (q : QueuedData) (qs : List QueuedData) (i : ℕ)
+    → slice_get (forecasts verdicts plan controls grabs values (q ∷ qs)) (suc i) ≡ slice_get (forecasts verdicts plan controls grabs (overlay verdicts plan controls values grabs q.asked) qs) i
+unfolding forecasts
+row_behind verdicts plan controls grabs values q qs i = refl
+
 -- a row of a forecast once a history goes on by one more step: a begin moves it up
 next_row : (verdicts : Verdicts) (plan : PlanData) (e : Entry Step) (older : Past) (i : ℕ) (row : Forecast) → AllFit verdicts plan older → FitsFrames verdicts plan older e.step → goes_on e.step ≡ true
     → slice_get (forecast verdicts plan older) (cond (is_some (begun_by e.step)) (suc i) i) ≡ Some row → slice_get (forecast verdicts plan (e ∷ older)) i ≡ Some row
 unfolding now
 next_row verdicts plan e older i row fit fits on stood = by e.step refl fits on stood
   where
-    turn : (step : Step) → e.step ≡ step → queue (e ∷ older) ≡ (frames_after verdicts plan older (length older) step (frames verdicts plan older)).queue
-    turn step is = ap (λ (f : FramesData). f.queue) (frames_more verdicts plan e older fit fits) ∙ ap (λ (s : Step). (frames_after verdicts plan older (length older) s (frames verdicts plan older)).queue) is
-
-    stays : (step : Step) → e.step ≡ step → (added : List ℕ) → queue (e ∷ older) ≡ queue older ++ added
+    stays : (step : Step) → e.step ≡ step → (added : List QueuedData) → waiting_after plan older step (queued_frames plan older) ≡ queued_frames plan older ++ added
         → grabbed_after step (grabbed plan older) ≡ grabbed plan older → now_after verdicts plan (grabbed plan older) (laid plan older step) (now verdicts plan older) ≡ now verdicts plan older
         → slice_get (forecast verdicts plan older) i ≡ Some row → slice_get (forecast verdicts plan (e ∷ older)) i ≡ Some row
     stays step is added line grabs values stood =
         ap (λ (rows : List Forecast). slice_get rows i)
-        (forecast_of verdicts plan (grabbed plan (e ∷ older)) (grabbed plan older) (now verdicts plan (e ∷ older)) (now verdicts plan older) (queued_frames plan (e ∷ older)) (queued_frames plan older ++ map (queued_frame plan (e ∷ older)) added)
+        (forecast_of verdicts plan (grabbed plan (e ∷ older)) (grabbed plan older) (now verdicts plan (e ∷ older)) (now verdicts plan older) (queued_frames plan (e ∷ older)) (queued_frames plan older ++ added)
         (grabbed_more plan e older ∙ ap (λ (s : Step). grabbed_after s (grabbed plan older)) is ∙ grabs)
         (ap (λ (s : Step). now_after verdicts plan (grabbed plan older) (laid plan older s) (now verdicts plan older)) is ∙ values)
-        (ap (map (queued_frame plan (e ∷ older))) line ∙ map-append (queued_frame plan (e ∷ older)) (queue older) added ∙ ap (λ (qs : List QueuedData). qs ++ map (queued_frame plan (e ∷ older)) added) (frames_stand verdicts plan e older fit fits)))
-        ∙ row_stands verdicts plan plan.controls (grabbed plan older) (now verdicts plan older) (queued_frames plan older) (map (queued_frame plan (e ∷ older)) added) i row stood
+        (frames_waiting verdicts plan e older fit fits ∙ ap (λ (s : Step). waiting_after plan older s (queued_frames plan older)) is ∙ line))
+        ∙ row_stands verdicts plan plan.controls (grabbed plan older) (now verdicts plan older) (queued_frames plan older) added i row stood
 
-    same : (step : Step) → e.step ≡ step → (frames_after verdicts plan older (length older) step (frames verdicts plan older)).queue ≡ queue older
+    same : (step : Step) → e.step ≡ step → waiting_after plan older step (queued_frames plan older) ≡ queued_frames plan older
         → grabbed_after step (grabbed plan older) ≡ grabbed plan older → now_after verdicts plan (grabbed plan older) (laid plan older step) (now verdicts plan older) ≡ now verdicts plan older
         → slice_get (forecast verdicts plan older) i ≡ Some row → slice_get (forecast verdicts plan (e ∷ older)) i ≡ Some row
-    same step is line grabs values stood = stays step is [] (turn step is ∙ line ∙ sym (append-nil (queue older))) grabs values stood
+    same step is line grabs values stood = stays step is [] (line ∙ sym (append-nil (queued_frames plan older))) grabs values stood
 
     begun : (r : RequestId) → e.step ≡ steps.Begin r → FitsFrames verdicts plan older (steps.Begin r) → slice_get (forecast verdicts plan older) (suc i) ≡ Some row → slice_get (forecast verdicts plan (e ∷ older)) i ≡ Some row
     begun r is fits_it stood =
         let first = first_waits (queue older) r.0 fits_it.1 in
+        let frames : queued_frames plan older ≡ queued_frame plan older r.0 ∷ map (queued_frame plan older) first.0 = ap (map (queued_frame plan older)) first.1 in
         ap (λ (rows : List Forecast). slice_get rows i)
         (forecast_of verdicts plan (grabbed plan (e ∷ older)) (grabbed plan older) (now verdicts plan (e ∷ older)) (overlay verdicts plan plan.controls (now verdicts plan older) (grabbed plan older) (asked plan older r.0)) (queued_frames plan (e ∷ older)) (map (queued_frame plan older) first.0)
         (grabbed_more plan e older ∙ ap (λ (s : Step). grabbed_after s (grabbed plan older)) is)
         (begun_now verdicts plan e older r is)
-        (ap (map (queued_frame plan (e ∷ older))) (turn (steps.Begin r) is ∙ ap (λ (f : FramesData). f.queue) (begin_is (frames verdicts plan older) (begun_pairs verdicts plan older r.0) r.0 first.0 fits_it.0 first.1))
-        ∙ frames_behind (queued_frame plan (e ∷ older) r.0) (queued_frame plan older r.0) (map (queued_frame plan (e ∷ older)) first.0) (map (queued_frame plan older) first.0)
-        (sym (ap (map (queued_frame plan (e ∷ older))) first.1) ∙ frames_stand verdicts plan e older fit fits ∙ ap (map (queued_frame plan older)) first.1)))
-        ∙ sym (ap (λ (rows : List Forecast). slice_get rows (suc i)) (first_row verdicts plan older r.0 first.0 first.1)) ∙ stood
+        (frames_waiting verdicts plan e older fit fits ∙ ap (λ (s : Step). waiting_after plan older s (queued_frames plan older)) is ∙ ap (drop 1) frames))
+        ∙ sym (row_behind verdicts plan plan.controls (grabbed plan older) (now verdicts plan older) (queued_frame plan older r.0) (map (queued_frame plan older) first.0) i)
+        ∙ sym (ap (λ (qs : List QueuedData). slice_get (forecasts verdicts plan plan.controls (grabbed plan older) (now verdicts plan older) qs) (suc i)) frames) ∙ stood
 
     by : (step : Step) → e.step ≡ step → FitsFrames verdicts plan older step → goes_on step ≡ true
         → slice_get (forecast verdicts plan older) (cond (is_some (begun_by step)) (suc i) i) ≡ Some row → slice_get (forecast verdicts plan (e ∷ older)) i ≡ Some row
@@ -208,9 +132,9 @@ next_row verdicts plan e older i row fit fits on stood = by e.step refl fits on 
     by steps.Alloc is fits_it on stood = same _ is refl refl refl stood
     by (steps.Store r pairs) is fits_it on stood = same _ is refl refl refl stood
     by (steps.Buffer r number) is fits_it on stood = same _ is refl refl refl stood
-    by (steps.Queue r) is fits_it on stood = stays _ is (r.0 ∷ []) (turn _ is) refl refl stood
+    by (steps.Queue r) is fits_it on stood = stays _ is (queued_frame plan older r.0 ∷ []) refl refl refl stood
     by (steps.Begin r) is fits_it on stood = begun r is fits_it stood
-    by (steps.Complete r) is fits_it on stood = same _ is (ap (λ (f : FramesData). f.queue) (complete_is (frames verdicts plan older) (now verdicts plan older) r.0 fits_it)) refl refl stood
+    by (steps.Complete r) is fits_it on stood = same _ is refl refl refl stood
     by (steps.Cancel r) is fits_it on stood = cc
     by steps.StreamOff is fits_it on stood = cc
     by (steps.Reinit r) is fits_it on stood = same _ is refl refl refl stood
@@ -257,7 +181,7 @@ pub rows_queued : (verdicts : Verdicts) (plan : PlanData) (older : Past) → map
 rows_queued verdicts plan older = rows_named verdicts plan plan.controls (grabbed plan older) (now verdicts plan older) (queued_frames plan older) ∙ frames_named plan older (queue older)
 
 -- the row of the frame that is begun next
-begun_row : (verdicts : Verdicts) (plan : PlanData) (older : Past) (r : RequestId) (row : Forecast) → FitsFrames verdicts plan older (steps.Begin r) → slice_get (forecast verdicts plan older) 0 ≡ Some row
+pub begun_row : (verdicts : Verdicts) (plan : PlanData) (older : Past) (r : RequestId) (row : Forecast) → FitsFrames verdicts plan older (steps.Begin r) → slice_get (forecast verdicts plan older) 0 ≡ Some row
     → row ≡ forecast_over verdicts plan plan.controls (grabbed plan older) (now verdicts plan older) (queued_frame plan older r.0)
 begun_row verdicts plan older r row fit stood =
     let first = first_waits (queue older) r.0 fit.1 in

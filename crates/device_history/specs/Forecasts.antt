@@ -1,11 +1,14 @@
 -- What the queued frames will have, as they stand (of this project).
-use Rattle.std.specs.Prelude.{ℕ, List, map, unwrap_or, Option, None, Some, slice_get, Ok}
+use Rattle.std.specs.Prelude.{ℕ, nat_eq, not, List, [], ◌∷◌, ◌++◌, map, filter, drop, unwrap_or, Option, None, Some, slice_get, Ok}
 use Rattle.ctrl_types.specs.declared.errno.Errno.TheVariants.{ENOENT}
 use Rattle.ctrl_calls.specs.Meanings.{Verdicts}
 use Rattle.ctrl_handlers.specs.Plan.{PlanData}
+use Rattle.ctrl_forecast.specs.Boards.{BoardData, board_of}
 use Rattle.ctrl_forecast.specs.Forecasts.{QueuedData, forecasts}
 use Rattle.ctrl_forecast.specs.declared.board.Forecast.{Forecast}
 use Rattle.device_history.specs.declared.ask.Reply.TheVariants as replies
+use Rattle.device_history.specs.declared.ask.Step.{Step}
+use Rattle.device_history.specs.declared.ask.Step.TheVariants as steps
 use Rattle.device_history.specs.Steps.{Past}
 use Rattle.device_history.specs.Refusals.{Answer, refused}
 use Rattle.device_history.specs.Grabs.{grabbed}
@@ -21,10 +24,23 @@ queued_frame plan past r = record { request = record { 0 = r }; buffer = unwrap_
 abbrev pub queued_frames : PlanData → Past → List QueuedData
 queued_frames plan past = map (queued_frame plan past) (queue past)
 
+-- What a step that follows a history makes of the queued frames, as the law `waiting_frames` says: a queueing puts its own last, a begin takes the
+-- first, a cancellation takes its own, and the end of the stream takes all.
+abbrev pub waiting_after : PlanData → Past → Step → List QueuedData → List QueuedData
+waiting_after plan older (steps.Queue r) frames = frames ++ queued_frame plan older r.0 ∷ []
+waiting_after plan older (steps.Begin r) frames = drop 1 frames
+waiting_after plan older (steps.Cancel r) frames = filter (λ q. not (nat_eq r.0 q.request.0)) frames
+waiting_after plan older steps.StreamOff frames = []
+waiting_after plan older _ frames = frames
+
 -- What the queued frames will have: the first over the present values, each other over what the one before leaves, all under the present
 -- grabs.
 abbrev pub forecast : Verdicts → PlanData → Past → List Forecast
 forecast verdicts plan past = forecasts verdicts plan plan.controls (grabbed plan past) (now verdicts plan past) (queued_frames plan past)
+
+-- the queued frames with that, as a board keeps them
+abbrev pub board : Verdicts → PlanData → Past → BoardData
+board verdicts plan past = board_of verdicts plan plan.controls (grabbed plan past) (now verdicts plan past) (queued_frames plan past)
 
 -- A forecast at a place of the queue: ENOENT where no frame is queued there. Neither a running frame nor the limit of steps refuses it.
 abbrev pub forecast_reply : Option Forecast → Answer

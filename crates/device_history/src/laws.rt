@@ -38,7 +38,7 @@ ghost use Rattle.device_history.specs.Requests.{asked, asked_after, buffer, buff
 ghost use Rattle.device_history.specs.Frames.{queue, queue_after, running, running_after};
 ghost use Rattle.device_history.specs.Snapshots.{begun_pairs, frames, request, requests};
 ghost use Rattle.device_history.specs.FrameSteps.{frames_after, request_after};
-ghost use Rattle.device_history.specs.Forecasts.{forecast};
+ghost use Rattle.device_history.specs.Forecasts.{forecast, queued_frames, waiting_after};
 ghost use Rattle.device_history.specs.Events.{next_sequence, payload, raises, raises_from, told_by};
 ghost use Rattle.ctrl_raises.specs.Raises.{MomentData, changed_between, needing_feedback, payload_at, raised_all};
 ghost use Rattle.device_history.specs.declared.limits.TheConstants.{MAX_STEPS};
@@ -188,6 +188,14 @@ pub fn kept_frames()
         → frames verdicts plan (past (steps ++ e ∷ [])) ≡ frames_after verdicts plan (past steps) (length steps) e.step (frames verdicts plan (past steps)) }
     ensures queue { (verdicts : Verdicts) (plan : PlanData) (older : Past) → IsLegal verdicts plan older → AreFrames (frames verdicts plan older) }
     ensures found { (verdicts : Verdicts) (plan : PlanData) (older : Past) (r : ℕ) → IsLegal verdicts plan older → find (requests verdicts plan older) r ≡ request verdicts plan older r }
+{}
+
+/// One more entry that may follow a legal history makes of the queued frames, each with its request, its buffer and what it asks for, what its
+/// step makes of them. No step changes what a queued frame asks for.
+#[tactic(auto, using(crate::proofs::QueuedFrames::waiting_add))]
+pub fn waiting_frames()
+    ensures { (verdicts : Verdicts) (plan : PlanData) (steps : History) (e : Entry Step) → IsLegal verdicts plan (past steps) → MayFollow verdicts plan (past steps) e.step
+        → queued_frames plan (past (steps ++ e ∷ [])) ≡ waiting_after plan (past steps) e.step (queued_frames plan (past steps)) }
 {}
 
 /// What the store of events keeps of a file handle, changed by the steps of a legal history one after another, is what the definitions over the

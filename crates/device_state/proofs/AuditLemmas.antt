@@ -15,6 +15,9 @@ use Rattle.device_history.specs.Steps.{Past}
 use Rattle.device_history.specs.Grabs.{grabbed}
 use Rattle.device_history.specs.Snapshots.{frames}
 use Rattle.device_history.specs.Values.{now}
+use Rattle.device_history.specs.Forecasts.{forecast}
+use Rattle.ctrl_forecast.specs.Boards.{BoardData}
+use Rattle.ctrl_forecast.specs.declared.board.Forecast.{Forecast}
 use Rattle.ctrl_events.specs.Events.{EventsData}
 use Rattle.history_audit.specs.Scratch.{Agrees, HasParts, ScratchData, all_events, all_flags, flags_of_all, open_events, scratch}
 use Rattle.device_state.specs.Device.{DeviceData}
@@ -40,15 +43,15 @@ own_fault verdicts device faults.Memory legal is = refl
 
 -- what it works out agrees
 pub own_agrees : (verdicts : Verdicts) (device : DeviceData) (s : ScratchData) → s ≡ scratch verdicts device.plan (past device.steps) → Agrees verdicts device.plan (past device.steps) s
-own_agrees verdicts device s is = record { values = ap (λ (d : ScratchData). d.values) is; flags = ap (λ (d : ScratchData). d.flags) is; frames = ap (λ (d : ScratchData). d.frames) is; events = ap (λ (d : ScratchData). d.events) is }
+own_agrees verdicts device s is = record { values = ap (λ (d : ScratchData). d.values) is; flags = ap (λ (d : ScratchData). d.flags) is; frames = ap (λ (d : ScratchData). d.frames) is; forecasts = ap (λ (d : ScratchData). d.forecasts) is; events = ap (λ (d : ScratchData). d.events) is }
 
 -- parts that are what a history makes are those of a scratch exactly where it agrees
-pub agrees_both : (verdicts : Verdicts) (plan : PlanData) (past : Past) (s : ScratchData) (values : Values) (grabs : Grabs) (requests : FramesData) (handles : List (ℕ × ℕ)) (kept : EventsData) → values ≡ now verdicts plan past
-    → grabs ≡ grabbed plan past → requests ≡ frames verdicts plan past → open_events kept handles ≡ all_events verdicts plan past
-    → (HasParts s plan values grabs requests handles kept → Agrees verdicts plan past s) × (Agrees verdicts plan past s → HasParts s plan values grabs requests handles kept)
-agrees_both verdicts plan past s values grabs requests handles kept v g f e = (
-  λ has. record { values = has.values ∙ v; flags = has.flags ∙ same; frames = has.frames ∙ f; events = has.events ∙ e },
-  λ agrees. record { values = agrees.values ∙ sym v; flags = agrees.flags ∙ sym same; frames = agrees.frames ∙ sym f; events = agrees.events ∙ sym e },
+pub agrees_both : (verdicts : Verdicts) (plan : PlanData) (past : Past) (s : ScratchData) (values : Values) (grabs : Grabs) (requests : FramesData) (rows : List Forecast) (handles : List (ℕ × ℕ)) (kept : EventsData) → values ≡ now verdicts plan past
+    → grabs ≡ grabbed plan past → requests ≡ frames verdicts plan past → rows ≡ forecast verdicts plan past → open_events kept handles ≡ all_events verdicts plan past
+    → (HasParts s plan values grabs requests rows handles kept → Agrees verdicts plan past s) × (Agrees verdicts plan past s → HasParts s plan values grabs requests rows handles kept)
+agrees_both verdicts plan past s values grabs requests rows handles kept v g f b e = (
+  λ has. record { values = has.values ∙ v; flags = has.flags ∙ same; frames = has.frames ∙ f; forecasts = has.forecasts ∙ b; events = has.events ∙ e },
+  λ agrees. record { values = agrees.values ∙ sym v; flags = agrees.flags ∙ sym same; frames = agrees.frames ∙ sym f; forecasts = agrees.forecasts ∙ sym b; events = agrees.events ∙ sym e },
 )
   where
     same : flags_of_all plan values grabs ≡ all_flags verdicts plan past

@@ -1,5 +1,5 @@
 -- The begin of a frame: what it is answered, and what it leaves.
-use Rattle.std.proofs.Common.{◌≡◌, ℕ, ◌+◌, ◌≤◌, false, true, List, [], ◌∷◌, ◌++◌, length, Option, None, Some, Result, Ok, Err, refl, ap, sym, ◌∙◌, arith, inl, inr}
+use Rattle.std.proofs.Common.{◌≡◌, ℕ, ◌+◌, ◌≤◌, false, true, List, [], ◌∷◌, ◌++◌, ◌<◌, length, map, drop, slice_get, subst, Option, None, Some, Result, Ok, Err, refl, ap, sym, ◌∙◌, arith, inl, inr}
 use Rattle.std.specs.List.{list_any}
 use Rattle.history.specs.Past.{past}
 use Rattle.ctrl_types.specs.declared.errno.Errno.{Errno}
@@ -11,7 +11,7 @@ use Rattle.ctrl_types.specs.declared.ids.FhId.{FhId}
 use Rattle.ctrl_events.specs.Events.{EventsData, events_of}
 use Rattle.device_history.specs.EventSteps.{events_after}
 use Rattle.ctrl_handlers.specs.Plan.{PlanData, members}
-use Rattle.ctrl_clusters.specs.Rows.{Values, row_of}
+use Rattle.ctrl_clusters.specs.Rows.{Grabs, Values, row_of}
 use Rattle.ctrl_clusters.specs.Changes.{members_change}
 use Rattle.ctrl_clusters.specs.Notified.{AreRenewed}
 use Rattle.ctrl_clusters.proofs.NotifyLemmas.{words_between}
@@ -36,9 +36,17 @@ use Rattle.device_history.specs.Requests.{asked}
 use Rattle.device_history.proofs.PresentLemmas.{length_now}
 use Rattle.device_history.proofs.WordLemmas.{changed_row}
 use Rattle.device_state.specs.Beginning.{BeginsAll, IsBegun, begin_changes}
-use Rattle.device_state.specs.Device.{DeviceData, Handles, may_ask, step_changes}
+use Rattle.device_state.specs.Device.{DeviceData, Handles, step_changes}
 use Rattle.device_state.specs.Kept.{Caches, IsKept}
-use Rattle.device_state.proofs.HandleLemmas.{at_rest, asked_since}
+use Rattle.device_state.proofs.HandleLemmas.{at_rest}
+use Rattle.device_state.proofs.BoardLemmas.{board_after}
+use Rattle.device_state.proofs.ForecastLemmas.{forecast_each, none_within}
+use Rattle.device_history.proofs.StretchLemmas.{begun_row}
+use Rattle.ctrl_forecast.specs.Boards.{BoardData, board_of, named_clusters}
+use Rattle.ctrl_forecast.specs.Forecasts.{QueuedData, forecasts}
+use Rattle.ctrl_forecast.specs.declared.board.Forecast.{Forecast}
+use Rattle.ctrl_clusters.specs.Overlay.{overlay}
+use Rattle.device_history.specs.Forecasts.{board, forecast, queued_frame}
 use Rattle.device_state.proofs.KeptLemmas.{kept_add, set_room}
 use Rattle.device_state.proofs.SetLemmas.{notified_same}
 
@@ -93,6 +101,13 @@ begin_reply verdicts plan older r id buffer f free first room own is =
     same : (a b c d : ℕ) → ◌≡◌ {A = Result (ℕ × ℕ) Errno} (Ok (a, b)) (Ok (c, d)) → b ≡ d
     same a b c d h = ap number h
 
+-- the queue refuses no such frame
+pub begin_some : (verdicts : Verdicts) (plan : PlanData) (older : Past) (r : ℕ) (errno : Errno) (f : FramesData) → running older ≡ None → first_of (queue older) ≡ Some r → f ≡ frames verdicts plan older → begin_answer f ≡ Err errno → ⊥
+begin_some verdicts plan older r errno f free first own is = clash (sym (answered_first verdicts plan older r free first) ∙ sym (ap begin_answer own) ∙ is)
+  where
+    clash : {a : ℕ × ℕ} → ◌≡◌ {A = Result (ℕ × ℕ) Errno} (Ok a) (Err errno) → ⊥
+    clash h = cc
+
 -- its step may follow
 begin_adds : (verdicts : Verdicts) (plan : PlanData) (older : Past) (r : ℕ) → first_of (queue older) ≡ Some r → step_of verdicts plan older asks.Begin ≡ Some (Begin (record { 0 = r }))
 begin_adds verdicts plan older r first = rw first refl
@@ -104,17 +119,66 @@ begin_follows verdicts plan older r free first room = (asks.Begin, ap fault_of (
 pub length_begun : (verdicts : Verdicts) (plan : PlanData) (older : Past) (r : ℕ) → length (begun_values verdicts plan older r) ≡ length plan.controls
 length_begun verdicts plan older r = length_overlay verdicts plan plan.controls (now verdicts plan older) (grabbed plan older) (asked plan older r) ∙ length_now verdicts plan older
 
+-- the first row of a forecast is of the frame that begins
+pub begun_first : (verdicts : Verdicts) (plan : PlanData) (older : Past) (r : ℕ) (row : Forecast) → running older ≡ None → first_of (queue older) ≡ Some r → slice_get (forecast verdicts plan older) 0 ≡ Some row
+    → (row.values ≡ begun_values verdicts plan older r) × (row.refused ≡ begun_refused verdicts plan older r)
+begun_first verdicts plan older r row free first stood =
+    let is = begun_row verdicts plan older (record { 0 = r }) row (free, first) stood in
+    (ap (λ (f : Forecast). f.values) is, ap (λ (f : Forecast). f.refused) is)
+
+-- and there is one
+pub begun_some : (verdicts : Verdicts) (plan : PlanData) (older : Past) (r : ℕ) → first_of (queue older) ≡ Some r → slice_get (forecast verdicts plan older) 0 ≡ None → ⊥
+begun_some verdicts plan older r first none = none_within (forecast verdicts plan older) 0 (subst (λ (n : ℕ). 0 < n) (sym (forecast_each verdicts plan older)) (some (queue older) first)) none
+  where
+    some : (ids : List ℕ) → first_of ids ≡ Some r → 0 < length ids
+    some [] h = cc
+    some (j ∷ ids) h = omega arith
+
+-- the rows behind the first
+rows_behind : (verdicts : Verdicts) (plan : PlanData) (grabs : Grabs) (values : Values) (q : QueuedData) (qs : List QueuedData)
+    → drop 1 (forecasts verdicts plan plan.controls grabs values (q ∷ qs)) ≡ forecasts verdicts plan plan.controls grabs (overlay verdicts plan plan.controls values grabs q.asked) qs
+unfolding forecasts
+rows_behind verdicts plan grabs values q qs = refl
+
+-- what is kept of the queued frames after a begin
+pub begun_board : (verdicts : Verdicts) (plan : PlanData) (older : Past) (r : ℕ) (old new : BoardData) → old ≡ board verdicts plan older → first_of (queue older) ≡ Some r
+    → new.queued ≡ drop 1 old.queued → new.named ≡ drop 1 old.named → new.rows ≡ drop 1 old.rows → new ≡ board_after verdicts plan (Begin (record { 0 = r })) older
+begun_board verdicts plan older r old new own first q n f = by (queue older) refl first
+  where
+    parts : {a b : BoardData} → a.queued ≡ b.queued → a.named ≡ b.named → a.rows ≡ b.rows → a ≡ b
+    parts x y z = rw (x, y, z) refl
+
+    by : (ids : List ℕ) → queue older ≡ ids → first_of ids ≡ Some r → new ≡ board_after verdicts plan (Begin (record { 0 = r })) older
+    by [] is h = cc
+    by (j ∷ ids) is h =
+        let same : j ≡ r = own_first j h in
+        let whole : old ≡ board_of verdicts plan plan.controls (grabbed plan older) (now verdicts plan older) (queued_frame plan older j ∷ map (queued_frame plan older) ids) =
+        own ∙ ap (λ (js : List ℕ). board_of verdicts plan plan.controls (grabbed plan older) (now verdicts plan older) (map (queued_frame plan older) js)) is in
+        parts (q ∙ ap (λ (b : BoardData). drop 1 b.queued) own) (n ∙ ap (λ (b : BoardData). drop 1 b.named) whole ∙ ap (λ (js : List ℕ). map (λ x. named_clusters plan x.asked) (drop 1 (map (queued_frame plan older) js))) (sym is))
+        (f ∙ ap (λ (b : BoardData). drop 1 b.rows) whole
+        ∙ behind j ids
+        ∙ ap (λ (k : ℕ). forecasts verdicts plan plan.controls (grabbed plan older) (overlay verdicts plan plan.controls (now verdicts plan older) (grabbed plan older) (asked plan older k)) (map (queued_frame plan older) ids)) same
+        ∙ ap (λ (js : List ℕ). forecasts verdicts plan plan.controls (grabbed plan older) (begun_values verdicts plan older r) (drop 1 (map (queued_frame plan older) js))) (sym is))
+      where
+        own_first : (j : ℕ) → Some j ≡ Some r → j ≡ r
+        own_first j h = cc
+
+        behind : (j : ℕ) (ids : List ℕ)
+            → drop 1 (forecasts verdicts plan plan.controls (grabbed plan older) (now verdicts plan older) (queued_frame plan older j ∷ map (queued_frame plan older) ids))
+            ≡ forecasts verdicts plan plan.controls (grabbed plan older) (overlay verdicts plan plan.controls (now verdicts plan older) (grabbed plan older) (asked plan older j)) (map (queued_frame plan older) ids)
+        behind j ids = rows_behind verdicts plan (grabbed plan older) (now verdicts plan older) (queued_frame plan older j) (map (queued_frame plan older) ids)
+
 -- what is kept after a begin
-pub kept_begin : (verdicts : Verdicts) (told : Words) (plan : PlanData) (entries entries' : History) (caches : Caches) (values : Values) (f : FramesData) (events : EventsData) (words refused : List ℕ) (applied : List Pair) (seat r : ℕ)
-    → IsKept verdicts told plan entries caches → IsBegun verdicts plan (past entries) r values refused applied → entries' ≡ entries ++ record { seat = seat; step = Begin (record { 0 = r }) } ∷ []
+pub kept_begin : (verdicts : Verdicts) (told : Words) (plan : PlanData) (entries entries' : History) (caches : Caches) (values : Values) (f : FramesData) (b : BoardData) (events : EventsData) (words : List ℕ) (applied : List Pair) (seat r : ℕ)
+    → IsKept verdicts told plan entries caches → IsBegun verdicts plan (past entries) r applied → values ≡ begun_values verdicts plan (past entries) r → entries' ≡ entries ++ record { seat = seat; step = Begin (record { 0 = r }) } ∷ []
     → f ≡ after_begin caches.frames applied → AreRenewed told plan (members_change plan caches.values values applied) (λ k. row_of values (members plan k)) caches.words words
     → ((fh : FhId) → events_of events fh.0 ≡ events_after verdicts plan (record { seat = seat; step = Begin (record { 0 = r }) }) (past entries) fh (events_of caches.events fh.0))
-    → IsKept verdicts told plan entries' (record caches { values = values; frames = f; events = events; words = words })
-kept_begin verdicts told plan entries entries' caches values f events words refused applied seat r kept begun s made renewed ev =
-    kept_add verdicts told plan entries entries' caches (record caches { values = values; frames = f; events = events; words = words }) (record { seat = seat; step = Begin (record { 0 = r }) }) kept (set_room entries begun.room)
-    (begin_follows verdicts plan (past entries) r begun.free begun.first begun.room) s kept.file_handles kept.grabs begun.are_values
+    → b ≡ board_after verdicts plan (Begin (record { 0 = r })) (past entries) → IsKept verdicts told plan entries' (record caches { values = values; frames = f; board = b; events = events; words = words })
+kept_begin verdicts told plan entries entries' caches values f b events words applied seat r kept begun v s made renewed ev popped =
+    kept_add verdicts told plan entries entries' caches (record caches { values = values; frames = f; board = b; events = events; words = words }) (record { seat = seat; step = Begin (record { 0 = r }) }) kept (set_room entries begun.room)
+    (begin_follows verdicts plan (past entries) r begun.free begun.first begun.room) s kept.file_handles kept.grabs v
     (made ∙ ap (λ (g : FramesData). after_begin g applied) kept.frames ∙ ap (after_begin (frames verdicts plan (past entries))) begun.are_applied)
-    (words_between told plan caches.values values applied caches.words words kept.words renewed) ev
+    (words_between told plan caches.values values applied caches.words words kept.words renewed) ev popped
 
 -- what a begin changes of the members of a cluster
 begin_changing : (verdicts : Verdicts) (plan : PlanData) (older : Past) (r j : ℕ) (reply : Reply) → first_of (queue older) ≡ Some r
@@ -124,10 +188,10 @@ begin_changing verdicts plan older r j reply first =
     ∙ changed_row plan (now verdicts plan older) (begun_values verdicts plan older r) (begun_pairs verdicts plan older r) (members plan j)
 
 -- a begin that is accepted
-pub handles_begin : (verdicts : Verdicts) (told : Words) (old between new : DeviceData) (start work : Work) (seat r : ℕ) (reply : Reply) → between ≡ record old { work = work } → start ≡ at_rest → work.told ≡ start.told
-    → work.asked ≤ start.asked + may_ask old.plan (past old.steps) asks.Begin → first_of (queue (past old.steps)) ≡ Some r → begin_frame_answer verdicts old.plan (past old.steps) ≡ Ok reply → BeginsAll verdicts told between new seat r
+pub handles_begin : (verdicts : Verdicts) (told : Words) (old between new : DeviceData) (work : Work) (seat r : ℕ) (reply : Reply) → between ≡ record old { work = work } → work ≡ at_rest
+    → first_of (queue (past old.steps)) ≡ Some r → begin_frame_answer verdicts old.plan (past old.steps) ≡ Ok reply → BeginsAll verdicts told between new seat r
     → Handles verdicts old new seat asks.Begin (Ok reply)
-handles_begin verdicts told old between new start work seat r reply begin rest untold asked first is does =
+handles_begin verdicts told old between new work seat r reply begin rest first is does =
     let done : BeginsAll verdicts told (record old { work = work }) new seat r = rw begin at does in
     record {
       plan = done.plan;
@@ -140,6 +204,6 @@ handles_begin verdicts told old between new start work seat r reply begin rest u
           ∙ notified_same old.plan (begin_changes verdicts old.plan (past old.steps) r)
           (λ k. list_any (step_changes verdicts old.plan (past old.steps) (taken verdicts old.plan (past old.steps) asks.Begin (Ok reply))) (members old.plan k))
           (λ j lt. sym (begin_changing verdicts old.plan (past old.steps) r j reply first));
-      asked = omega (arith, ap (λ (w : Work). w.asked) done.work, asked_since start work _ rest asked);
+      asked = omega (arith, ap (λ (w : Work). w.asked) done.work, ap (λ (w : Work). w.asked) rest);
       asked_all = λ _. omega arith;
     }

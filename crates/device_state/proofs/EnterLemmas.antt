@@ -31,9 +31,9 @@ use Rattle.device_history.proofs.FrameLaw.{found_request}
 use Rattle.ctrl_lists.specs.Touched.{with_calls}
 use Rattle.device_state.specs.Device.{DeviceData, Handles, may_ask, must_ask, with_step, step_changes}
 use Rattle.step_effects.specs.Quiet.{NamesKnown, is_quiet}
-use Rattle.device_state.specs.Entering.{IsEntered}
+use Rattle.device_state.specs.Entering.{IsEntered, quiet_asks}
 use Rattle.device_state.specs.Kept.{Caches, IsKept}
-use Rattle.device_state.proofs.HandleLemmas.{at_rest, asked_at_rest, told_since, asked_since, handles_set}
+use Rattle.device_state.proofs.HandleLemmas.{at_rest, asked_since, handles_asked, handles_set, set_at_least, told_since}
 use Rattle.device_state.proofs.SettingLemmas.{store_adds}
 use Rattle.device_state.specs.Setting.{IsSettable, SetsList}
 use Rattle.device_history.specs.Lists.{list_pairs, meant, which_or}
@@ -55,10 +55,10 @@ use Rattle.step_effects.proofs.QuietLemmas.{acted_quiet}
 pub entered : (verdicts : Verdicts) (plan : PlanData) (older : Past) (words : List ℕ) (ask : Ask) (refusal own : Option Errno) (step : Step) (reply : Reply) → refusal ≡ own → is_quiet step ≡ true
     → answer_of verdicts plan older words ask ≡ stepped own older reply → answer_of verdicts plan older [] ask ≡ stepped own older reply → (own ≡ None → step_of verdicts plan older ask ≡ Some step)
     → (IsOk (stepped own older reply) → MayLackMemory verdicts plan older ask) → no_memory ask ≡ refused ENOMEM → must_ask plan older ask ≡ 0 → (own ≡ None → NamesKnown (length plan.controls) step)
-    → IsEntered verdicts plan older words ask refusal step reply
-entered verdicts plan older words ask refusal own step reply is quiet answers alone adds lacks plain nobody known =
+    → quiet_asks plan older step ≤ may_ask plan older ask → IsEntered verdicts plan older words ask refusal step reply
+entered verdicts plan older words ask refusal own step reply is quiet answers alone adds lacks plain nobody known most =
     subst (λ (o : Option Errno). IsEntered verdicts plan older words ask o step reply) (sym is)
-    (record { quiet = quiet; answers = answers; answers_alone = alone; adds = adds; lacks = lacks; plain = plain; asks_nobody = nobody; known = known })
+    (record { quiet = quiet; answers = answers; answers_alone = alone; adds = adds; lacks = lacks; plain = plain; asks_nobody = nobody; known = known; most = most })
 
 -- its own refusal
 pub entered_refused : (verdicts : Verdicts) (plan : PlanData) (older : Past) (words : List ℕ) (ask : Ask) (errno : Errno) (step : Step) (reply : Reply)
@@ -105,11 +105,17 @@ handles_quiet verdicts old work seat ask step reply told asked all may adds quie
   asked_all = λ _. all;
 }
 
-pub handles_entered : (verdicts : Verdicts) (old : DeviceData) (work : Work) (seat : ℕ) (ask : Ask) (step : Step) (reply : Reply) → work ≡ at_rest
-    → IsEntered verdicts old.plan (past old.steps) old.words ask None step reply → is_full (past old.steps) ≡ false
+pub handles_entered : (verdicts : Verdicts) (old : DeviceData) (start work : Work) (seat : ℕ) (ask : Ask) (step : Step) (reply : Reply) → start ≡ at_rest → work.told ≡ start.told
+    → work.asked ≤ start.asked + quiet_asks old.plan (past old.steps) step → IsEntered verdicts old.plan (past old.steps) old.words ask None step reply → is_full (past old.steps) ≡ false
     → Handles verdicts old (with_step (record old { work = work }) seat step) seat ask (Ok reply)
-handles_entered verdicts old work seat ask step reply rest is room =
-    handles_quiet verdicts old work seat ask step reply (ap (λ (w : Work). w.told) rest) (asked_at_rest work _ rest) (rw is.asks_nobody (omega arith)) (inl (sym (is.answers ∙ rw room refl))) (is.adds refl) is.quiet
+handles_entered verdicts old start work seat ask step reply rest untold asked is room =
+    handles_quiet verdicts old work seat ask step reply (told_since start work rest untold) (omega (arith, asked_since start work _ rest asked, is.most)) (rw is.asks_nobody (omega arith)) (inl (sym (is.answers ∙ rw room refl))) (is.adds refl) is.quiet
+
+-- one for which there is no memory
+pub handles_lacking : (verdicts : Verdicts) (old new : DeviceData) (start work : Work) (seat : ℕ) (ask : Ask) (step : Step) (reply : Reply) → new ≡ record old { work = work } → start ≡ at_rest → work.told ≡ start.told
+    → work.asked ≤ start.asked + quiet_asks old.plan (past old.steps) step → IsEntered verdicts old.plan (past old.steps) old.words ask None step reply → is_full (past old.steps) ≡ false → Handles verdicts old new seat ask (refused ENOMEM)
+handles_lacking verdicts old new start work seat ask step reply begin rest untold asked is room =
+    handles_asked verdicts old new start work seat ask (refused ENOMEM) begin rest untold (omega (arith, asked, is.most)) (λ e. cc) refl (entered_lacks verdicts old.plan (past old.steps) old.words ask step reply is room)
 
 -- the request that is kept under an id
 pub found : (verdicts : Verdicts) (told : Words) (plan : PlanData) (entries : History) (caches : Caches) (r : ℕ) → IsKept verdicts told plan entries caches
@@ -140,7 +146,8 @@ pub handles_store : (verdicts : Verdicts) (old : DeviceData) (start work : Work)
     → with_calls (judged_count old.plan (touched old.plan (list_pairs old.plan (past old.steps) fh which list))) 0 ≤ work.asked
     → Handles verdicts old (with_step (record old { work = work }) seat (steps.Store stored touch.pairs)) seat (asks.SetCtrls fh which request list) (Ok (Controls controls))
 handles_store verdicts old start work seat fh which request stored list touch controls rest untold asked sets through reply all =
-    handles_quiet verdicts old work seat (asks.SetCtrls fh which request list) (steps.Store stored touch.pairs) (Controls controls) (told_since start work rest untold) (asked_since start work _ rest asked) all
+    handles_quiet verdicts old work seat (asks.SetCtrls fh which request list) (steps.Store stored touch.pairs) (Controls controls) (told_since start work rest untold)
+    (omega (arith, asked_since start work _ rest asked, set_at_least (past old.steps) (meant (which_or (which_of which)) request) (length (touched old.plan (list_pairs old.plan (past old.steps) fh which list))))) all
     (inl (ap (λ (l : List ExtControl). Ok (Controls l)) reply ∙ sym sets.accepted)) (store_adds verdicts old.plan (past old.steps) fh which request stored list touch sets through) refl
 
 -- a list that is accepted

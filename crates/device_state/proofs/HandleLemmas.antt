@@ -1,7 +1,7 @@
 -- What a call does to the device: where it adds no step, where it opens or closes a file handle, where it sets controls.
-use Rattle.std.proofs.Common.{◌≡◌, ℕ, ◌<◌, ◌≤◌, ◌+◌, Bool, List, [], ◌∷◌, ◌++◌, length, Option, Some, None, Ok, Err, IsOk, OnOk, refl, ap, sym, ◌∙◌, arith, inl}
+use Rattle.std.proofs.Common.{◌≡◌, ℕ, ◌<◌, ◌≤◌, ◌+◌, ◌*◌, Bool, List, [], ◌∷◌, ◌++◌, length, Option, Some, None, Ok, Err, IsOk, OnOk, refl, ap, sym, subst, ◌∙◌, arith, inl}
 use Rattle.std.specs.List.{list_any}
-use Rattle.std.proofs.lemmas.List.{append-nil}
+use Rattle.std.proofs.lemmas.List.{append-nil, length-map}
 use Rattle.history.specs.Past.{past}
 use Rattle.history.proofs.Pasts.{length_past}
 use Rattle.ctrl_calls.specs.Meanings.{Verdicts, Words}
@@ -30,7 +30,8 @@ use Rattle.device_history.specs.RequestAnswers.{state_answer}
 use Rattle.device_history.specs.Queries.{query_answer, next_answer, told_answer}
 use Rattle.device_history.specs.Lists.{list_pairs, meant, which_or}
 use Rattle.device_history.specs.Answers.{MayAnswer, taken}
-use Rattle.device_state.specs.Device.{DeviceData, Handles, may_ask, must_ask, with_step, step_changes}
+use Rattle.device_history.specs.Frames.{queue}
+use Rattle.device_state.specs.Device.{DeviceData, Handles, may_ask, must_ask, set_asks, with_step, step_changes}
 use Rattle.device_state.specs.Setting.{IsSettable, SetsAll}
 use Rattle.ctrl_clusters.specs.Changes.{cluster_changes}
 use Rattle.ctrl_lists.specs.Touched.{judged_count, with_calls}
@@ -135,6 +136,13 @@ pub handles_refused : (verdicts : Verdicts) (old new : DeviceData) (work : Work)
 handles_refused verdicts old new work seat ask fault begin rest may =
     rw begin (handles_none verdicts old work seat ask (Err fault) (ap (λ (w : Work). w.told) rest) (asked_at_rest work _ rest) (λ e. cc) refl may)
 
+-- what was counted since the start of a call
+pub told_since : (start work : Work) → start ≡ at_rest → work.told ≡ start.told → work.told ≡ 0
+told_since start work rest told = told ∙ ap (λ (w : Work). w.told) rest
+
+pub asked_since : (start work : Work) (n : ℕ) → start ≡ at_rest → work.asked ≤ start.asked + n → work.asked ≤ n
+asked_since start work n rest asked = omega (arith, asked, ap (λ (w : Work). w.asked) rest)
+
 abbrev opened_as : ℕ → Answer
 opened_as n = Ok (Fh (record { 0 = n }))
 
@@ -169,26 +177,19 @@ handles_close verdicts old work seat fh rest is = record {
 }
 
 -- a grab tells nobody
-pub handles_grab : (verdicts : Verdicts) (old : DeviceData) (work : Work) (seat c : ℕ) (on : Bool) → work ≡ at_rest
+pub handles_grab : (verdicts : Verdicts) (old : DeviceData) (start work : Work) (seat c : ℕ) (on : Bool) → start ≡ at_rest → work.told ≡ start.told → work.asked ≤ start.asked + length (queue (past old.steps))
     → grab_answer old.plan (past old.steps) c ≡ Ok Done
     → Handles verdicts old (with_step (record old { work = work }) seat (Grab c on)) seat (asks.Grab c on) (Ok Done)
-handles_grab verdicts old work seat c on rest is = record {
+handles_grab verdicts old start work seat c on rest untold asked is = record {
   plan = refl;
   answers = inl (sym is);
   refused = λ e. cc;
   steps = refl;
   words = λ k lt same. refl;
-  notified = ap (λ (w : Work). w.told) rest ∙ sym (notified_none old.plan (step_changes verdicts old.plan (past old.steps) (Some (Grab c on))) (λ c. refl));
-  asked = asked_at_rest work _ rest;
+  notified = told_since start work rest untold ∙ sym (notified_none old.plan (step_changes verdicts old.plan (past old.steps) (Some (Grab c on))) (λ c. refl));
+  asked = asked_since start work _ rest asked;
   asked_all = λ _. omega arith;
 }
-
--- what was counted since the start of a call
-pub told_since : (start work : Work) → start ≡ at_rest → work.told ≡ start.told → work.told ≡ 0
-told_since start work rest told = told ∙ ap (λ (w : Work). w.told) rest
-
-pub asked_since : (start work : Work) (n : ℕ) → start ≡ at_rest → work.asked ≤ start.asked + n → work.asked ≤ n
-asked_since start work n rest asked = omega (arith, asked, ap (λ (w : Work). w.asked) rest)
 
 -- a call that changes nothing, where validators were asked
 pub handles_asked : (verdicts : Verdicts) (old new : DeviceData) (start work : Work) (seat : ℕ) (ask : Ask) (answer : Answer) → new ≡ record old { work = work } → start ≡ at_rest
@@ -208,6 +209,12 @@ pub taken_forecast : (verdicts : Verdicts) (plan : PlanData) (older : Past) (pla
 taken_forecast verdicts plan older place (Ok reply) = refl
 taken_forecast verdicts plan older place (Err fault) = refl
 
+pub handles_forecast : (verdicts : Verdicts) (old : DeviceData) (work : Work) (seat place : ℕ) (answer : Answer) → work ≡ at_rest
+    → MayAnswer verdicts old.plan (past old.steps) old.words (asks.Forecast place) answer
+    → Handles verdicts old (record old { work = work }) seat (asks.Forecast place) answer
+handles_forecast verdicts old work seat place answer rest may =
+    handles_none verdicts old work seat _ answer (ap (λ (w : Work). w.told) rest) (asked_at_rest work _ rest) (λ _. omega arith) (taken_forecast verdicts old.plan (past old.steps) place answer) may
+
 -- what a set changes of the members of a cluster: what the row that it gets changes
 set_changing : (verdicts : Verdicts) (plan : PlanData) (older : Past) (fh : FhId) (which : ℕ) (request : Option RequestId) (list : List ExtControl) (touch : TouchedData) (reply : Reply)
     → IsSettable verdicts plan older fh which request list touch → meant (which_or (which_of which)) request ≡ None → (j : ℕ) → j < length plan.clusters
@@ -218,6 +225,11 @@ set_changing verdicts plan older fh which request list touch reply sets current 
     ∙ ap (λ (pairs : List Pair). list_any (step_changes verdicts plan older (Some (Set fh pairs))) (members plan j)) (sym sets.own_pairs)
     ∙ changes_written verdicts plan (now verdicts plan older) (grabbed plan older) touch.pairs touch.rows j sets.plans (length_now verdicts plan older) lt (own_judged verdicts plan older fh which request list touch sets current) sets.free
 
+-- a set asks for what its list touches, however many frames are queued
+pub set_at_least : (older : Past) (o : Option RequestId) (n : ℕ) → n ≤ set_asks older o n
+set_at_least older None n = omega arith
+set_at_least older (Some r) n = omega arith
+
 -- a set that is accepted
 pub handles_set : (verdicts : Verdicts) (told : Words) (old between new : DeviceData) (start work : Work) (seat : ℕ) (fh : FhId) (which : ℕ) (request : Option RequestId) (list : List ExtControl) (touch : TouchedData) (controls : List ExtControl)
     → between ≡ record old { work = work } → start ≡ at_rest → work.told ≡ start.told → work.asked ≤ start.asked + length (touched old.plan (list_pairs old.plan (past old.steps) fh which list))
@@ -226,6 +238,10 @@ pub handles_set : (verdicts : Verdicts) (told : Words) (old between new : Device
 handles_set verdicts told old between new start work seat fh which request list touch controls begin rest untold asked sets current reply all does =
     let done : SetsAll verdicts told (record old { work = work }) new seat fh touch = rw begin at does in
     let changing = set_changing verdicts old.plan (past old.steps) fh which request list touch (Controls controls) sets current in
+    let own : List ℕ = touched old.plan (list_pairs old.plan (past old.steps) fh which list) in
+    let many : length touch.rows ≡ length own =
+    sym (length-map touch.rows (λ r. r.cluster)) ∙ ap length sets.judged.each_once ∙ ap (λ (pairs : List Pair). length (touched old.plan pairs)) sets.own_pairs in
+    let renewed : new.work.asked ≤ work.asked + length own * length (queue (past old.steps)) = subst (λ (n : ℕ). new.work.asked ≤ work.asked + n * length (queue (past old.steps))) many done.asked in
     record {
       plan = done.plan;
       answers = inl (ap (λ (l : List ExtControl). Ok (Controls l)) reply ∙ sym sets.accepted);
@@ -235,11 +251,11 @@ handles_set verdicts told old between new start work seat fh which request list 
           ∙ ap (λ (step : Step). old.steps ++ record { seat = seat; step = step } ∷ []) (sym (set_step (meant (which_or (which_of which)) request) fh (list_pairs old.plan (past old.steps) fh which list) current));
       words = λ j lt same. done.words.others j (λ _. sym (changing j lt) ∙ same);
       notified =
-          ap (λ (w : Work). w.told) done.work
+          done.notified
           ∙ notified_same old.plan (cluster_changes old.plan (now verdicts old.plan (past old.steps)) touch.pairs touch.rows)
           (λ k. list_any (step_changes verdicts old.plan (past old.steps) (taken verdicts old.plan (past old.steps) (asks.SetCtrls fh which request list) (Ok (Controls controls)))) (members old.plan k)) (λ j lt. sym (changing j lt));
-      asked = omega (arith, ap (λ (w : Work). w.asked) done.work, asked_since start work _ rest asked);
-      asked_all = λ _. omega (arith, ap (λ (w : Work). w.asked) done.work, all);
+      asked = subst (λ (o : Option RequestId). new.work.asked ≤ set_asks (past old.steps) o (length own)) (sym current) (omega (arith, renewed, asked_since start work _ rest asked));
+      asked_all = λ _. omega (arith, done.counted, all);
     }
 
 -- an accepted list asked all that it must

@@ -28,6 +28,9 @@ use Rattle.device_history.specs.Handles.{opened, ever_opened, open_answer, close
 use Rattle.ctrl_clusters.specs.Rows.{Grabs, Values}
 use Rattle.device_history.specs.Grabs.{grabbed, grab_answer, grabbed_after}
 use Rattle.device_history.specs.Snapshots.{frames}
+use Rattle.ctrl_forecast.specs.Boards.{BoardData, board_of, no_board}
+use Rattle.step_effects.specs.Lines.{line_after}
+use Rattle.device_state.proofs.BoardLemmas.{board_add, board_after, board_same, board_start, line_kept}
 use Rattle.device_history.specs.FrameSteps.{frames_after}
 use Rattle.frame_queue.specs.Frames.{FramesData}
 use Rattle.device_history.proofs.FrameLaw.{frames_start, frames_add}
@@ -55,9 +58,9 @@ use Rattle.device_state.proofs.SettingLemmas.{own_judged, set_step}
 -- a device without steps
 pub kept_start : (verdicts : Verdicts) (told : Words) (plan : PlanData) (steps : History) (caches : Caches) → steps ≡ [] → caches.file_handles ≡ [] → caches.grabs ≡ map (λ _. false) plan.controls → caches.values ≡ defaults plan
     → ◌≡◌ {A = FramesData} caches.frames (record { requests = record { controls = length plan.controls; all = [] }; queue = []; running = None }) → HaveWords told plan (defaults plan) caches.words
-    → IsPlan plan → ((j : ℕ) → events_of caches.events j ≡ no_events) → IsKept verdicts told plan steps caches
+    → IsPlan plan → ((j : ℕ) → events_of caches.events j ≡ no_events) → ◌≡◌ {A = BoardData} caches.board no_board → IsKept verdicts told plan steps caches
 unfolding IsLegal opened ever_opened now
-kept_start verdicts told plan steps caches s h g v f w plans ev = rw s (record {
+kept_start verdicts told plan steps caches s h g v f w plans ev b = rw s (record {
   plans = plans;
   legal = tt;
   few = omega arith;
@@ -65,6 +68,7 @@ kept_start verdicts told plan steps caches s h g v f w plans ev = rw s (record {
   grabs = g ∙ sym (grabbed_start plan);
   values = v;
   frames = f ∙ sym (frames_start verdicts plan);
+  board = b ∙ sym (board_start verdicts plan);
   events = λ fh. subst (λ (k : FileEvents). AreEvents verdicts plan (past []) fh k) (sym (ev fh.0)) (events_start verdicts plan fh);
   words = subst (λ (values : Values). HaveWords told plan values caches.words) (sym v) w;
 })
@@ -81,8 +85,9 @@ pub kept_add : (verdicts : Verdicts) (told : Words) (plan : PlanData) (steps ste
     → caches'.file_handles ≡ opened_after (length steps) e.step (opened (past steps)) → caches'.grabs ≡ grabbed_after e.step (grabbed plan (past steps))
     → caches'.values ≡ now_after verdicts plan (grabbed plan (past steps)) (laid plan (past steps) e.step) (now verdicts plan (past steps))
     → caches'.frames ≡ frames_after verdicts plan (past steps) (length steps) e.step (frames verdicts plan (past steps)) → HaveWords told plan caches'.values caches'.words
-    → ((fh : FhId) → events_of caches'.events fh.0 ≡ events_after verdicts plan e (past steps) fh (events_of caches.events fh.0)) → IsKept verdicts told plan steps' caches'
-kept_add verdicts told plan steps steps' caches caches' e kept room may s h g v f w ev = rw s (record {
+    → ((fh : FhId) → events_of caches'.events fh.0 ≡ events_after verdicts plan e (past steps) fh (events_of caches.events fh.0))
+    → caches'.board ≡ board_after verdicts plan e.step (past steps) → IsKept verdicts told plan steps' caches'
+kept_add verdicts told plan steps steps' caches caches' e kept room may s h g v f w ev b = rw s (record {
   plans = kept.plans;
   legal = legal_add verdicts plan steps e kept.legal may;
   few = omega (arith, length-append steps (e ∷ []));
@@ -90,6 +95,7 @@ kept_add verdicts told plan steps steps' caches caches' e kept room may s h g v 
   grabs = g ∙ sym (grabbed_add plan steps e);
   values = v ∙ sym (now_add verdicts plan steps e);
   frames = f ∙ sym (frames_add verdicts plan steps e kept.legal may);
+  board = b ∙ sym (board_add verdicts plan steps e kept.legal may);
   events = λ fh. subst (λ (k : FileEvents). AreEvents verdicts plan (past (steps ++ e ∷ [])) fh k) (sym (ev fh)) (events_add verdicts plan steps e fh (events_of caches.events fh.0) kept.plans kept.legal may (kept.events fh));
   words = w;
 })
@@ -105,7 +111,7 @@ pub kept_open : (verdicts : Verdicts) (told : Words) (plan : PlanData) (steps st
 kept_open verdicts told plan steps steps' caches handles seat handler kept accepted s h =
     kept_add verdicts told plan steps steps' caches (record caches { file_handles = handles }) (record { seat = seat; step = OpenFh handler }) kept (open_room plan steps handler accepted)
     (asks.OpenFh handler, unrefused (open_answer plan (past steps) handler) accepted, refl) s
-    (h ∙ ap (λ (os : List (ℕ × ℕ)). os ++ (length steps, handler) ∷ []) kept.file_handles) kept.grabs kept.values kept.frames kept.words (λ fh. refl)
+    (h ∙ ap (λ (os : List (ℕ × ℕ)). os ++ (length steps, handler) ∷ []) kept.file_handles) kept.grabs kept.values kept.frames kept.words (λ fh. refl) kept.board
 
 -- where a close is accepted, one more step is kept
 close_room : (steps : History) (fh : FhId) → IsOk (close_answer (past steps) fh) → length steps < MAX_STEPS
@@ -119,7 +125,7 @@ pub kept_close : (verdicts : Verdicts) (told : Words) (plan : PlanData) (steps s
 kept_close verdicts told plan steps steps' caches handles events seat fh kept accepted s h ev =
     kept_add verdicts told plan steps steps' caches (record caches { file_handles = handles; events = events }) (record { seat = seat; step = CloseFh fh }) kept (close_room steps fh accepted)
     (asks.CloseFh fh, unrefused (close_answer (past steps) fh) accepted, refl) s
-    (h ∙ ap (remove_entry (nat_eq fh.0)) kept.file_handles ∙ drops_one fh.0 (opened (past steps)) (opened_rising (past steps))) kept.grabs kept.values kept.frames kept.words (λ j. ev j.0)
+    (h ∙ ap (remove_entry (nat_eq fh.0)) kept.file_handles ∙ drops_one fh.0 (opened (past steps)) (opened_rising (past steps))) kept.grabs kept.values kept.frames kept.words (λ j. ev j.0) kept.board
 
 -- where a grab is accepted, one more step is kept
 grab_room : (plan : PlanData) (steps : History) (c : ℕ) → IsOk (grab_answer plan (past steps) c) → length steps < MAX_STEPS
@@ -130,15 +136,17 @@ pub grab_known : (plan : PlanData) (steps : History) (c : ℕ) → IsOk (grab_an
 grab_known plan steps c accepted = grind (arith, common_steps, nat_tests)
 
 -- a grab
-pub kept_grab : (verdicts : Verdicts) (told : Words) (plan : PlanData) (steps steps' : History) (caches : Caches) (grabs : Grabs) (events : EventsData) (seat c : ℕ) (on : Bool)
+pub kept_grab : (verdicts : Verdicts) (told : Words) (plan : PlanData) (steps steps' : History) (caches : Caches) (grabs : Grabs) (b : BoardData) (events : EventsData) (seat c : ℕ) (on : Bool)
     → IsKept verdicts told plan steps caches → IsOk (grab_answer plan (past steps) c) → steps' ≡ steps ++ record { seat = seat; step = Grab c on } ∷ []
     → grabs ≡ slice_set caches.grabs c on
     → ((fh : FhId) → events_of events fh.0 ≡ events_after verdicts plan (record { seat = seat; step = Grab c on }) (past steps) fh (events_of caches.events fh.0))
-    → IsKept verdicts told plan steps' (record caches { grabs = grabs; events = events })
-kept_grab verdicts told plan steps steps' caches grabs events seat c on kept accepted s g ev =
-    kept_add verdicts told plan steps steps' caches (record caches { grabs = grabs; events = events }) (record { seat = seat; step = Grab c on }) kept (grab_room plan steps c accepted)
+    → b ≡ board_of verdicts plan plan.controls grabs caches.values caches.board.queued
+    → IsKept verdicts told plan steps' (record caches { grabs = grabs; board = b; events = events })
+kept_grab verdicts told plan steps steps' caches grabs b events seat c on kept accepted s g ev renewed =
+    kept_add verdicts told plan steps steps' caches (record caches { grabs = grabs; board = b; events = events }) (record { seat = seat; step = Grab c on }) kept (grab_room plan steps c accepted)
     (asks.Grab c on, unrefused (grab_answer plan (past steps) c) accepted, refl) s
     kept.file_handles (g ∙ ap (λ (gs : Grabs). slice_set gs c on) kept.grabs) kept.values kept.frames kept.words ev
+    (renewed ∙ board_same verdicts plan (g ∙ ap (λ (gs : Grabs). slice_set gs c on) kept.grabs) kept.values (ap (λ (x : BoardData). x.queued) kept.board))
 
 -- where a list is set, one more step is kept
 pub set_room : (steps : History) → is_full (past steps) ≡ false → length steps < MAX_STEPS
@@ -148,14 +156,15 @@ accepted_set : (answer : Answer) (reply : Reply) → answer ≡ Ok reply → IsO
 accepted_set answer reply is = rw is refl
 
 -- a set
-pub kept_set : (verdicts : Verdicts) (told : Words) (plan : PlanData) (steps steps' : History) (caches : Caches) (values : Values) (events : EventsData) (words : List ℕ) (seat : ℕ) (fh : FhId) (which : ℕ) (request : Option RequestId) (list : List ExtControl)
+pub kept_set : (verdicts : Verdicts) (told : Words) (plan : PlanData) (steps steps' : History) (caches : Caches) (values : Values) (b : BoardData) (events : EventsData) (words : List ℕ) (seat : ℕ) (fh : FhId) (which : ℕ) (request : Option RequestId) (list : List ExtControl)
     (touch : TouchedData) → IsKept verdicts told plan steps caches → IsSettable verdicts plan (past steps) fh which request list touch → meant (which_or (which_of which)) request ≡ None
     → steps' ≡ steps ++ record { seat = seat; step = Set fh touch.pairs } ∷ []
     → values ≡ written plan caches.values touch.rows
     → AreRenewed told plan (cluster_changes plan caches.values touch.pairs touch.rows) (row_given touch.rows) caches.words words
     → ((j : FhId) → events_of events j.0 ≡ events_after verdicts plan (record { seat = seat; step = Set fh touch.pairs }) (past steps) j (events_of caches.events j.0))
-    → IsKept verdicts told plan steps' (record caches { values = values; events = events; words = words })
-kept_set verdicts told plan steps steps' caches values events words seat fh which request list touch kept sets current s v retold ev =
+    → b ≡ board_of verdicts plan plan.controls caches.grabs values caches.board.queued
+    → IsKept verdicts told plan steps' (record caches { values = values; board = b; events = events; words = words })
+kept_set verdicts told plan steps steps' caches values b events words seat fh which request list touch kept sets current s v retold ev renewed =
     let many : length caches.values ≡ length plan.controls = ap length kept.values ∙ length_now verdicts plan (past steps) in
     let present : AreJudged verdicts plan plan.controls (now verdicts plan (past steps)) touch.pairs touch.pairs touch.rows = own_judged verdicts plan (past steps) fh which request list touch sets current in
     let judged : AreJudged verdicts plan plan.controls caches.values touch.pairs touch.pairs touch.rows =
@@ -163,14 +172,15 @@ kept_set verdicts told plan steps steps' caches values events words seat fh whic
     let adds : step_of verdicts plan (past steps) (asks.SetCtrls fh which request list) ≡ Some (Set fh touch.pairs) =
     ap Some (set_step (meant (which_or (which_of which)) request) fh (list_pairs plan (past steps) fh which list) current) ∙ ap (λ (pairs : List Pair). Some (Set fh pairs)) (sym sets.own_pairs) in
     let accepted : IsOk (set_list_answer verdicts plan (past steps) fh which request list) = accepted_set (set_list_answer verdicts plan (past steps) fh which request list) (Controls touch.answers) sets.accepted in
-    kept_add verdicts told plan steps steps' caches (record caches { values = values; events = events; words = words }) (record { seat = seat; step = Set fh touch.pairs }) kept (set_room steps sets.room)
+    let lays : values ≡ now_after verdicts plan (grabbed plan (past steps)) (laid plan (past steps) (Set fh touch.pairs)) (now verdicts plan (past steps)) =
+    v ∙ ap (λ (v : Values). written plan v touch.rows) kept.values ∙ sym (laid_written verdicts plan (now verdicts plan (past steps)) (grabbed plan (past steps)) touch.pairs touch.rows sets.plans present sets.free) in
+    kept_add verdicts told plan steps steps' caches (record caches { values = values; board = b; events = events; words = words }) (record { seat = seat; step = Set fh touch.pairs }) kept (set_room steps sets.room)
     (asks.SetCtrls fh which request list, unrefused (set_list_answer verdicts plan (past steps) fh which request list) accepted, adds) s
     kept.file_handles kept.grabs
-    (v ∙ ap (λ (v : Values). written plan v touch.rows) kept.values ∙ sym (laid_written verdicts plan (now verdicts plan (past steps)) (grabbed plan (past steps)) touch.pairs touch.rows sets.plans present sets.free))
-    kept.frames
+    lays kept.frames
     (subst (λ (v : Values). HaveWords told plan v words) (laid_written verdicts plan caches.values (grabbed plan (past steps)) touch.pairs touch.rows sets.plans judged sets.free ∙ sym v)
     (words_after told verdicts plan caches.values (grabbed plan (past steps)) touch.pairs touch.rows caches.words words sets.plans many judged sets.free kept.words retold))
-    ev
+    ev (renewed ∙ board_same verdicts plan kept.grabs lays (ap (λ (x : BoardData). x.queued) kept.board))
 
 -- what a set lays over the values
 pub set_lays : (verdicts : Verdicts) (told : Words) (plan : PlanData) (steps : History) (caches : Caches) (values : Values) (fh : FhId) (which : ℕ) (request : Option RequestId) (list : List ExtControl) (touch : TouchedData) → IsKept verdicts told plan steps caches
@@ -181,16 +191,21 @@ set_lays verdicts told plan steps caches values fh which request list touch kept
     ∙ sym (laid_written verdicts plan (now verdicts plan (past steps)) (grabbed plan (past steps)) touch.pairs touch.rows sets.plans (own_judged verdicts plan (past steps) fh which request list touch sets current) sets.free)
 
 -- a step that leaves file handles, grabs and values
-pub kept_quiet : (verdicts : Verdicts) (told : Words) (plan : PlanData) (steps steps' : History) (caches : Caches) (f : FramesData) (events : EventsData) (seat : ℕ) (step : Step)
+pub kept_quiet : (verdicts : Verdicts) (told : Words) (plan : PlanData) (steps steps' : History) (caches : Caches) (f : FramesData) (b : BoardData) (events : EventsData) (seat : ℕ) (step : Step)
     → IsKept verdicts told plan steps caches → is_full (past steps) ≡ false → MayFollow verdicts plan (past steps) step → is_quiet step ≡ true → steps' ≡ steps ++ record { seat = seat; step = step } ∷ []
     → f ≡ frames_after verdicts plan (past steps) (length steps) step caches.frames
-    → ((fh : FhId) → events_of events fh.0 ≡ events_after verdicts plan (record { seat = seat; step = step }) (past steps) fh (events_of caches.events fh.0)) → IsKept verdicts told plan steps' (record caches { frames = f; events = events })
-kept_quiet verdicts told plan steps steps' caches f events seat step kept room may quiet s made ev =
-    kept_add verdicts told plan steps steps' caches (record caches { frames = f; events = events }) (record { seat = seat; step = step }) kept (set_room steps room) may s
+    → ((fh : FhId) → events_of events fh.0 ≡ events_after verdicts plan (record { seat = seat; step = step }) (past steps) fh (events_of caches.events fh.0))
+    → b ≡ board_of verdicts plan plan.controls caches.grabs caches.values (line_after caches.frames step caches.board.queued) → IsKept verdicts told plan steps' (record caches { frames = f; board = b; events = events })
+kept_quiet verdicts told plan steps steps' caches f b events seat step kept room may quiet s made ev renewed =
+    kept_add verdicts told plan steps steps' caches (record caches { frames = f; board = b; events = events }) (record { seat = seat; step = step }) kept (set_room steps room) may s
     (kept.file_handles ∙ sym (opened_quiet (length steps) step (opened (past steps)) quiet))
     (kept.grabs ∙ sym (grabbed_quiet step (grabbed plan (past steps)) quiet))
     (kept.values ∙ ap (λ (l : Option (List Pair)). now_after verdicts plan (grabbed plan (past steps)) l (now verdicts plan (past steps))) (sym (laid_quiet plan (past steps) step quiet)))
     (made ∙ ap (frames_after verdicts plan (past steps) (length steps) step) kept.frames) kept.words ev
+    (renewed
+    ∙ board_same verdicts plan (kept.grabs ∙ sym (grabbed_quiet step (grabbed plan (past steps)) quiet))
+    (kept.values ∙ ap (λ (l : Option (List Pair)). now_after verdicts plan (grabbed plan (past steps)) l (now verdicts plan (past steps))) (sym (laid_quiet plan (past steps) step quiet)))
+    (line_kept verdicts plan (past steps) step caches.frames caches.board.queued kept.legal may quiet kept.frames (ap (λ (x : BoardData). x.queued) kept.board)))
 
 -- there is a number for each raise of one more step
 pub numbered : (verdicts : Verdicts) (told : Words) (plan : PlanData) (steps : History) (caches : Caches) → IsKept verdicts told plan steps caches → (j : ℕ) → (events_of caches.events j).next + length plan.controls ≤ 4294967295

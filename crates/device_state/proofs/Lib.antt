@@ -5,6 +5,8 @@ pub mod BeginLemmas
 pub mod SetLemmas
 pub mod AnswerLemmas
 pub mod SettingLemmas
+pub mod BoardLemmas
+pub mod RenewLemmas
 pub mod KeptLemmas
 pub mod HandleLemmas
 pub mod RunLemmas

@@ -15,14 +15,12 @@ use Rattle.device_history.specs.Snapshots.{begun_pairs, begun_refused, begun_val
 use Rattle.device_history.specs.Refusals.{is_full}
 use Rattle.device_state.specs.Device.{DeviceData}
 
--- A frame that can begin: none is being made, its request is the first that waits, there is room for one more step, and this is what its pairs
--- make of the values.
-pub record IsBegun (verdicts : Verdicts) (plan : PlanData) (older : Past) (r : ℕ) (values : Values) (refused : List ℕ) (applied : List Pair) : Type 0 where
+-- A frame that can begin: none is being made, its request is the first that waits, there is room for one more step, and these of its pairs are
+-- applied.
+pub record IsBegun (verdicts : Verdicts) (plan : PlanData) (older : Past) (r : ℕ) (applied : List Pair) : Type 0 where
   pub free : running older ≡ None
   pub first : first_of (queue older) ≡ Some r
   pub room : is_full older ≡ false
-  pub are_values : values ≡ begun_values verdicts plan older r
-  pub are_refused : refused ≡ begun_refused verdicts plan older r
   pub are_applied : applied ≡ begun_pairs verdicts plan older r
 
 -- whether a begin changes a member of a cluster

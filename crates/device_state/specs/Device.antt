@@ -1,5 +1,5 @@
 -- What a device is seen as, and what a call does to it (of this project).
-use Rattle.std.specs.Prelude.{◌≡◌, nat_le, if◌then◌else◌, ℕ, Bool, false, ◌≤◌, [], ◌∷◌, ◌++◌, List, Option, None, Some, IsErr, IsOk, length, ◌<◌, slice_index}
+use Rattle.std.specs.Prelude.{◌≡◌, ◌+◌, ◌*◌, ℕ, Bool, false, ◌≤◌, [], ◌∷◌, ◌++◌, List, Option, None, Some, IsErr, IsOk, length, ◌<◌, slice_index}
 use Rattle.std.specs.List.{list_any}
 use Rattle.history.specs.Past.{past, entered}
 use Rattle.ctrl_calls.specs.declared.work.Work.{Work}
@@ -15,13 +15,15 @@ use Rattle.device_history.specs.Grabs.{grabbed}
 use Rattle.device_history.specs.Values.{laid, now, now_after}
 use Rattle.device_history.specs.Words.{acted, changes}
 use Rattle.device_history.specs.Requests.{asked}
-use Rattle.device_history.specs.Frames.{queue, running, first_of}
+use Rattle.device_history.specs.Frames.{queue}
 use Rattle.ctrl_forecast.specs.Touched.{touched_count}
-use Rattle.ctrl_forecast.specs.Forecasts.{touched_by_all}
+use Rattle.step_effects.specs.Lines.{touched_behind}
 use Rattle.device_history.specs.Forecasts.{queued_frames}
-use Rattle.device_history.specs.Refusals.{Answer, is_full}
+use Rattle.device_history.specs.Refusals.{Answer}
 use Rattle.device_history.specs.Answers.{MayAnswer, taken}
-use Rattle.device_history.specs.Lists.{list_pairs}
+use Rattle.device_history.specs.Lists.{list_pairs, meant, which_or}
+use Rattle.ctrl_types.specs.Classes.{which_of}
+use Rattle.ctrl_types.specs.declared.ids.RequestId.{RequestId}
 
 -- A device: what it was built of, the steps that it accepted, the words that its clusters were told last, and how often
 -- the last call asked validators and told notifiers.
@@ -41,23 +43,22 @@ step_changes verdicts plan past None c = false
 step_changes verdicts plan past (Some step) c =
     changes plan (now verdicts plan past) (now_after verdicts plan (grabbed plan past) (laid plan past step) (now verdicts plan past)) (acted verdicts plan past step) c
 
--- how many clusters the pairs touch that a begin lays, where it isn't refused: no frame is being made, a request waits, and a further step is kept
-abbrev pub begin_asks : PlanData → Past → Option ℕ → Option ℕ → ℕ
-begin_asks plan past (Some runs) first = 0
-begin_asks plan past None None = 0
-begin_asks plan past None (Some r) = if is_full past then 0 else touched_count plan (asked plan past r)
+-- how many validators a set asks at most that touches so many clusters: one for each of them, and where it speaks of no request once more for
+-- each queued frame
+abbrev pub set_asks : Past → Option RequestId → ℕ → ℕ
+set_asks past None clusters = clusters + clusters * length (queue past)
+set_asks past (Some r) clusters = clusters
 
--- how many clusters the queued frames touch, each for itself, where one is queued at a place
-abbrev pub forecast_asks : PlanData → Past → ℕ → ℕ
-forecast_asks plan past place = if nat_le (length (queue past)) place then 0 else touched_by_all plan (queued_frames plan past)
-
--- how many validators an ask may have asked: a set and a try one for each cluster that they touch, a begin one for each that its request
--- names, a forecast one for each queued frame and each cluster that its request names, every other ask none
+-- How many validators an ask may have asked: a set of present values one for each cluster that it touches, and as many again for each queued
+-- frame; a set through a request and a try one for each cluster that they touch; queueing one for each cluster that its request names, and a
+-- cancellation that many for each frame queued behind; a grab one for each queued frame; every other ask none, so that the begin of a frame and a
+-- forecast ask nobody.
 abbrev pub may_ask : PlanData → Past → Ask → ℕ
-may_ask plan past (asks.SetCtrls fh which request list) = length (touched plan (list_pairs plan past fh which list))
+may_ask plan past (asks.SetCtrls fh which request list) = set_asks past (meant (which_or (which_of which)) request) (length (touched plan (list_pairs plan past fh which list)))
 may_ask plan past (asks.TryCtrls fh which request list) = length (touched plan (list_pairs plan past fh which list))
-may_ask plan past (asks.Forecast place) = forecast_asks plan past place
-may_ask plan past asks.Begin = begin_asks plan past (running past) (first_of (queue past))
+may_ask plan past (asks.Queue id) = touched_count plan (asked plan past id.0)
+may_ask plan past (asks.Cancel id) = touched_behind plan id.0 (queued_frames plan past)
+may_ask plan past (asks.Grab c on) = length (queue past)
 may_ask plan past _ = 0
 
 -- how many a set and a try ask where they are accepted: the clusters with a validator among them
@@ -67,7 +68,7 @@ must_ask plan past (asks.TryCtrls fh which request list) = judged_count plan (to
 must_ask plan past _ = 0
 
 -- What a call at a seat does: the answer is one that the ask may get, and the steps grow by the one that it takes, or by none.
--- Each cluster with a changed member is told once, and the word of every other stays. Only a set, a try, a begin and a forecast may ask validators.
+-- Each cluster with a changed member is told once, and the word of every other stays. Validators are asked as often as `may_ask` says at most.
 pub record Handles (verdicts : Verdicts) (old new : DeviceData) (seat : ℕ) (ask : Ask) (answer : Answer) : Type 0 where
   pub plan : new.plan ≡ old.plan
   pub answers : MayAnswer verdicts old.plan (past old.steps) old.words ask answer

@@ -11,9 +11,11 @@ use Rattle.device_history.specs.Steps.{History}
 use Rattle.device_history.specs.Handles.{opened}
 use Rattle.device_history.specs.Grabs.{grabbed}
 use Rattle.device_history.specs.Snapshots.{frames}
+use Rattle.device_history.specs.Forecasts.{board}
 use Rattle.device_history.specs.Values.{now}
 use Rattle.device_history.specs.EventSteps.{AreEvents}
 use Rattle.frame_queue.specs.Frames.{FramesData}
+use Rattle.ctrl_forecast.specs.Boards.{BoardData}
 use Rattle.ctrl_clusters.specs.Notified.{HaveWords}
 use Rattle.device_history.specs.Legal.{IsLegal}
 
@@ -25,6 +27,8 @@ pub record Caches : Type 0 where
   pub values : Values
   -- the requests and the queue
   pub frames : FramesData
+  -- the queued frames, with what they will have
+  pub board : BoardData
   -- the events of file handles
   pub events : EventsData
   -- the words that clusters were told last
@@ -40,5 +44,6 @@ pub record IsKept (verdicts : Verdicts) (told : Words) (plan : PlanData) (steps 
   pub grabs : caches.grabs ≡ grabbed plan (past steps)
   pub values : caches.values ≡ now verdicts plan (past steps)
   pub frames : caches.frames ≡ frames verdicts plan (past steps)
+  pub board : caches.board ≡ board verdicts plan (past steps)
   pub events : (fh : FhId) → AreEvents verdicts plan (past steps) fh (events_of caches.events fh.0)
   pub words : HaveWords told plan caches.values caches.words

@@ -1,5 +1,5 @@
 -- What an accepted list makes of the values, the words and the counts, one cluster after another (of this project).
-use Rattle.std.specs.Prelude.{◌≡◌, ◌<◌, ℕ, length, false, ◌++◌, List, [], ◌∷◌, Option, None, Some, Ok}
+use Rattle.std.specs.Prelude.{◌≡◌, ◌<◌, ◌≤◌, ◌+◌, ◌*◌, ℕ, length, false, ◌++◌, List, [], ◌∷◌, Option, None, Some, Ok}
 use Rattle.std.specs.List.{All, list_any}
 use Rattle.history.specs.Past.{past}
 use Rattle.ctrl_types.specs.declared.ids.ExtControl.{ExtControl}
@@ -14,6 +14,7 @@ use Rattle.device_history.specs.declared.ask.Step.TheVariants.{Set, Store}
 use Rattle.ctrl_clusters.specs.Rows.{is_grabbed}
 use Rattle.device_history.specs.Grabs.{grabbed}
 use Rattle.device_history.specs.Steps.{Past}
+use Rattle.device_history.specs.Frames.{queue}
 use Rattle.device_history.specs.Values.{now}
 use Rattle.device_history.specs.Refusals.{is_full}
 use Rattle.device_history.specs.Lists.{earlier_pairs, list_pairs, meant, set_list_answer, which_or}
@@ -38,7 +39,10 @@ pub record SetsAll (verdicts : Verdicts) (told : Words) (old new : DeviceData) (
   pub plan : new.plan ≡ old.plan
   pub steps : new.steps ≡ old.steps ++ record { seat = seat; step = Set fh touch.pairs } ∷ []
   pub words : AreRenewed told old.plan (cluster_changes old.plan (now verdicts old.plan (past old.steps)) touch.pairs touch.rows) (row_given touch.rows) old.words new.words
-  pub work : new.work ≡ record old.work { told = notified_count old.plan (cluster_changes old.plan (now verdicts old.plan (past old.steps)) touch.pairs touch.rows) }
+  pub notified : new.work.told ≡ notified_count old.plan (cluster_changes old.plan (now verdicts old.plan (past old.steps)) touch.pairs touch.rows)
+  -- the forecasts of the queued frames are renewed in the touched clusters
+  pub asked : new.work.asked ≤ old.work.asked + length touch.rows * length (queue (past old.steps))
+  pub counted : old.work.asked ≤ new.work.asked
 
 -- what accepting a list does: it stores the pairs in the request that it speaks of, or sets it
 abbrev pub SetsList : Verdicts → Words → DeviceData → DeviceData → ℕ → FhId → Option RequestId → TouchedData → Type 0

@@ -1,4 +1,4 @@
-ghost use Rattle.std.specs.Prelude.{◌≡◌, ◌<◌, ◌≤◌, ◌↔◌, ℕ, [], length, Ok, Err, IsOk, IsTrue, IfOk, IfErr, IfSome, OnOk, OnErr};
+ghost use Rattle.std.specs.Prelude.{◌≡◌, ◌<◌, ◌≤◌, ◌+◌, ◌↔◌, ℕ, [], length, Ok, Err, IsOk, IsTrue, IfOk, IfErr, IfSome, OnOk, OnErr};
 ghost use Rattle.history.specs.Past.{past};
 ghost use Rattle.ctrl_types.specs.declared.errno.Errno.TheVariants.{ENOMEM};
 ghost use Rattle.device_history.specs.declared.ask.Ask.TheVariants as asks;
@@ -7,7 +7,8 @@ ghost use Rattle.device_history.specs.declared.ask.Step.TheVariants as steps;
 ghost use Rattle.ctrl_clusters.specs.Rows.{is_grabbed};
 ghost use Rattle.device_history.specs.Grabs.{grabbed, grab_answer};
 ghost use Rattle.device_history.specs.Flags.{flags_now};
-ghost use Rattle.device_history.specs.Handles.{handler_of, shown, are_all_open, open_answer, close_answer};
+ghost use Rattle.device_history.specs.Frames.{queue};
+ghost use Rattle.device_history.specs.Handles.{handler_of, shown, open_answer, close_answer};
 ghost use Rattle.device_history.specs.Values.{defaults, now};
 ghost use Rattle.ctrl_clusters.specs.Notified.{HaveWords};
 ghost use Rattle.device_history.specs.Refusals.{refused, is_full};
@@ -27,6 +28,7 @@ mod requests;
 use ctrl_calls::{Driver, Work};
 use ctrl_clusters::{default_values, first_words, flags_under, no_grabs};
 use ctrl_events::Events;
+use ctrl_forecast::Board;
 use ctrl_handlers::Plan;
 use ctrl_raises::Moment;
 use ctrl_types::{CtrlId, Errno, Fault, FhId, Flags, RequestId};
@@ -41,8 +43,8 @@ use step_effects::{copied_grabs, raise_step};
 
 /// The controls of one device (Linux driver API, "V4L2 Controls"), and the history of the steps that it accepted. Contracts
 /// see it as its plan, those steps, the words that its clusters were told last, and the counts of the last call: its open file
-/// handles, its grabs, its present values and flags, its requests and their queue, its subscriptions and the events that wait are what the
-/// steps make of them, at every moment.
+/// handles, its grabs, its present values and flags, its requests, their queue and what its frames will have, its subscriptions and the
+/// events that wait are what the steps make of them, at every moment.
 pub struct Device<D: Driver> {
     plan: Plan<D>,
     // the open file handles, each with its handler, in the order of their opening
@@ -53,6 +55,8 @@ pub struct Device<D: Driver> {
     values: Vec<i64>,
     // the media requests, and the queue of frames
     frames: Frames,
+    // the queued frames, with what they will have
+    board: Board,
     // the events of file handles
     events: Events,
     // the words told last, by cluster
@@ -71,7 +75,7 @@ impl<D: Driver> Model for Device<D> {
 
     ghost view = { λ d. record { plan = d.plan; steps = d.steps.items; words = d.words.items; work = d.work } };
 
-    ghost invariant = { λ d. IsKept D.verdict D.told d.plan d.steps.items (record { file_handles = d.file_handles.entries; grabs = d.grabs.items; values = d.values.items; frames = d.frames; events = d.events; words = d.words.items }) };
+    ghost invariant = { λ d. IsKept D.verdict D.told d.plan d.steps.items (record { file_handles = d.file_handles.entries; grabs = d.grabs.items; values = d.values.items; frames = d.frames; board = d.board; events = d.events; words = d.words.items }) };
 }
 
 impl<D: Driver> Drop for Device<D> {
@@ -82,6 +86,7 @@ impl<D: Driver> Drop for Device<D> {
             grabs: _,
             values: _,
             frames: _,
+            board: _,
             events: _,
             words: _,
             steps: _,
@@ -121,6 +126,7 @@ impl<D: Driver> Device<D> {
             grabs,
             values,
             frames,
+            board: Board::empty(alloc),
             events: Events::new(alloc),
             words,
             steps: Vec::new(alloc),
@@ -192,8 +198,8 @@ impl<D: Driver> Device<D> {
     }
 
     /// Whether what an audit worked out of some history is what the device has: the present values and flags, the requests with their
-    /// state, buffer, pairs and snapshot, the queue, and of each open file handle the events that wait and the number of its next one. The forecasts are left out (of this project). It takes no memory, and neither
-    /// validators nor notifiers are called. An audit of the device's own plan and steps agrees, as the law `own_audits` says.
+    /// state, buffer, pairs and snapshot, the queue with its forecasts, and of each open file handle the events that wait and the number of its next
+    /// one (of this project). It takes no memory, and neither validators nor notifiers are called. An audit of the device's own plan and steps agrees, as the law `own_audits` says.
     ///
     /// - `scratch`: what an audit answered; the caller sees to it that it was of this device's plan.
     pub fn agrees(&self, scratch: &Scratch) -> bool
@@ -204,6 +210,7 @@ impl<D: Driver> Device<D> {
             self.values(),
             self.grabs(),
             &self.frames,
+            &self.board,
             &self.file_handles,
             &self.events,
         )
@@ -242,8 +249,8 @@ impl<D: Driver> Device<D> {
     ///   where it has no buffer.
     /// - `Begin` begins the frame of the first that waits: what the request asks for is laid over the present values, cluster by cluster; a
     ///   cluster of which the request names a grabbed control, or that settling or its validator refuses, keeps its row, and the reply names it. Each other cluster
-    ///   with a changed member is told its new row once. EBUSY where a frame is being made; ENOENT where no request waits. It asks at most
-    ///   one validator for each cluster that the request names.
+    ///   with a changed member is told its new row once. EBUSY where a frame is being made; ENOENT where no request waits. It asks no
+    ///   validator, as its forecast did.
     /// - `Complete` ends the frame that is being made. ENOENT where none is.
     /// - `Cancel` takes a request from the queue, without its frame being made. EINVAL where there is no such request; EBUSY where its frame
     ///   is being made; EINVAL where it doesn't wait.
@@ -462,7 +469,7 @@ impl<D: Driver> Device<D> {
         if !self.plan.has_handler(handler) {
             return Err(plain(Errno::EINVAL));
         }
-        if self.are_all_open() || self.is_full() {
+        if self.file_handles.len() >= MAX_FILE_HANDLES || self.is_full() {
             return Err(plain(Errno::ENOSPC));
         }
         Ok(())
@@ -557,12 +564,22 @@ impl<D: Driver> Device<D> {
     // Grabs a control or lets it go, after the refusals.
     fn accept_grab(&mut self, seat: u32, control: u32, on: bool) -> Result<(), AllocError>
         requires { IsOk (grab_answer self.old.plan (past self.old.steps) control) }
-        ensures ok { OnOk result (self.new ≡ with_step self.old seat (steps.Grab control on)) }
+        ensures ok { OnOk result (self.new ≡ with_step (record self.old { work = self.new.work }) seat (steps.Grab control on)) }
+        ensures asked { OnOk result (self.new.work.asked ≤ self.old.work.asked + length (queue (past self.old.steps))) }
+        ensures told { OnOk result (self.new.work.told ≡ self.old.work.told) }
         ensures err { OnErr result (self.new ≡ self.old) }
     {
         self.steps.reserve(1)?;
         let mut grabs = copied_grabs(self.alloc, self.grabs.as_slice())?;
         grabs[control as usize] = on;
+        self.board.renew(
+            &self.plan,
+            self.plan.controls(),
+            self.values.as_slice(),
+            grabs.as_slice(),
+            &[self.plan.cluster_of(control)],
+            &mut self.work,
+        );
         raise_step(
             &self.plan,
             &Moment::new(self.values.as_slice(), self.grabs.as_slice()),
@@ -577,12 +594,6 @@ impl<D: Driver> Device<D> {
             step: Step::Grab { control, on },
         });
         Ok(())
-    }
-
-    fn are_all_open(&self) -> bool
-        ensures { result ≡ are_all_open (past self.now.steps) }
-    {
-        self.file_handles.len() >= MAX_FILE_HANDLES
     }
 
     fn is_full(&self) -> bool

@@ -123,9 +123,9 @@ const CROWD: &[Row] = &[
         &[(1, 1, 0)],
     ),
     (Question::Buffer(64, 7), Want::Done, &[]),
-    (Question::Queue(64), Want::Done, &[]),
+    (Question::Queue(64), Want::Done, &[(1, 1, 0)]),
     (Question::TakeEach(0, 64), NONE, &[]),
-    (Question::Begin, Want::Frame(64, 7, &[]), &[(1, 1, 1)]),
+    (Question::Begin, Want::Frame(64, 7, &[]), &[(1, 0, 1)]),
     (
         Question::TakeEach(0, 5),
         Want::Event(RED, 0x1, 100, 0, 4, 0),
@@ -170,7 +170,7 @@ const BEGUN: &[Row] = &[
         &[(1, 1, 0)],
     ),
     (Question::Buffer(2, 7), Want::Done, &[]),
-    (Question::Queue(2), Want::Done, &[]),
+    (Question::Queue(2), Want::Done, &[(1, 1, 0)]),
     (
         Question::See(&[
             Look::Waiting(0, &[]),
@@ -184,7 +184,7 @@ const BEGUN: &[Row] = &[
     (
         Question::Begin,
         Want::Frame(2, 7, &[]),
-        &[(1, 1, 1), (2, 0, 1), (3, 0, 1)],
+        &[(1, 0, 1), (2, 0, 1), (3, 0, 1)],
     ),
     (
         Question::See(&[
@@ -235,8 +235,8 @@ const BEGUN: &[Row] = &[
         &[(0, 1, 0), (1, 1, 0)],
     ),
     (Question::Grab(9, true), Want::Done, &[]),
-    (Question::Queue(2), Want::Done, &[]),
-    (Question::Begin, Want::Frame(2, 8, &[1]), &[(0, 1, 1)]),
+    (Question::Queue(2), Want::Done, &[(0, 1, 0)]),
+    (Question::Begin, Want::Frame(2, 8, &[1]), &[(0, 0, 1)]),
     (
         Question::See(&[Look::Waiting(
             1,

@@ -23,6 +23,8 @@ mod handlers;
 #[cfg(test)]
 mod handles;
 #[cfg(test)]
+mod kept;
+#[cfg(test)]
 mod lists;
 #[cfg(test)]
 mod looks;

@@ -29,8 +29,8 @@ const RUNS: Result<RequestState, Errno> = Ok(RequestState::Running);
 
 const COMPLETE: Result<RequestState, Errno> = Ok(RequestState::Complete);
 
-// A begin asks the validator of each cluster that the request names once, though it name two of its controls, and tells each that
-// changes. Red is accepted as it is stored, and refused once blue has changed.
+// A queueing asks the validator of each cluster that the request names once, though it name two of its controls; the begin asks nobody, and tells
+// each that changes. Red is accepted as it is stored, and refused once blue has changed.
 const BEGUN: &[Row] = &[
     (Question::Open(1, 1), Want::Opened, &[]),
     (Question::Alloc(1), Want::Made, &[]),
@@ -46,12 +46,8 @@ const BEGUN: &[Row] = &[
         Want::Values(&[200]),
         &[(1, 1, 1)],
     ),
-    (Question::Queue(1), Want::Done, &[]),
-    (
-        Question::Begin,
-        Want::Frame(1, 7, &[1]),
-        &[(0, 1, 1), (1, 1, 0)],
-    ),
+    (Question::Queue(1), Want::Done, &[(0, 1, 0), (1, 1, 0)]),
+    (Question::Begin, Want::Frame(1, 7, &[1]), &[(0, 0, 1)]),
     (Question::Told(0), Want::Word(200), &[]),
     (Question::Told(1), Want::Word(32968), &[]),
     (
@@ -86,12 +82,8 @@ const BEGUN: &[Row] = &[
         Want::Values(&[200, 4]),
         &[(0, 1, 0)],
     ),
-    (Question::Queue(1), Want::Done, &[]),
-    (
-        Question::Begin,
-        Want::Frame(1, 8, &[]),
-        &[(0, 1, 0), (3, 0, 1)],
-    ),
+    (Question::Queue(1), Want::Done, &[(0, 1, 0)]),
+    (Question::Begin, Want::Frame(1, 8, &[]), &[(3, 0, 1)]),
     (Question::Told(3), Want::Word(13004), &[]),
 ];
 
@@ -118,12 +110,12 @@ const PRESSED: &[Row] = &[
         &[],
     ),
     (Question::Queue(1), Want::Done, &[]),
-    (Question::Queue(2), Want::Done, &[]),
+    (Question::Queue(2), Want::Done, &[(0, 1, 0)]),
     (Question::Queue(3), Want::Done, &[]),
     (Question::Begin, Want::Frame(1, 7, &[]), &[(2, 0, 1)]),
     (Question::Complete, Want::Done, &[]),
     (Question::Grab(7, true), Want::Done, &[]),
-    (Question::Begin, Want::Frame(2, 8, &[2]), &[(0, 1, 1)]),
+    (Question::Begin, Want::Frame(2, 8, &[2]), &[(0, 0, 1)]),
     (Question::Complete, Want::Done, &[]),
     (Question::Grab(7, false), Want::Done, &[]),
     (Question::Begin, Want::Frame(3, 9, &[]), &[(2, 0, 1)]),
@@ -262,11 +254,11 @@ const SHOWN: &[Row] = &[
         Want::Done,
         &[],
     ),
-    (Question::Queue(2), Want::Done, &[]),
+    (Question::Queue(2), Want::Done, &[(0, 1, 0), (1, 1, 0)]),
     (
         Question::Begin,
         Want::Frame(2, 7, &[]),
-        &[(0, 1, 1), (1, 1, 1)],
+        &[(0, 0, 1), (1, 0, 1)],
     ),
     (Question::Complete, Want::Done, &[]),
     (Question::List(GET, TWO, HIDDEN), Want::Values(&[5, 6]), &[]),
@@ -367,17 +359,17 @@ const HAD: &[Row] = &[
         Want::Values(&[0]),
         &[(0, 1, 0)],
     ),
-    (Question::Queue(1), Want::Done, &[]),
-    (Question::Queue(2), Want::Done, &[]),
-    (Question::Begin, Want::Frame(1, 7, &[]), &[(0, 1, 1)]),
+    (Question::Queue(1), Want::Done, &[(0, 1, 0)]),
+    (Question::Queue(2), Want::Done, &[(0, 1, 0)]),
+    (Question::Begin, Want::Frame(1, 7, &[]), &[(0, 0, 1)]),
     (Question::Told(0), Want::Word(99), &[]),
     (
         Question::List(SET, NOW, &[(1, 3)]),
         Want::Values(&[3]),
-        &[(0, 1, 1)],
+        &[(0, 2, 1)],
     ),
     (Question::Complete, Want::Done, &[]),
-    (Question::Begin, Want::Frame(2, 8, &[]), &[(0, 1, 0)]),
+    (Question::Begin, Want::Frame(2, 8, &[]), &[]),
     (
         Question::List(SET, NOW, &[(1, 4)]),
         Want::Values(&[4]),
@@ -427,10 +419,10 @@ const OFF: &[Row] = &[
     (Question::Cancel(3), Want::Done, &[]),
     (Question::Reinit(3), Want::Done, &[]),
     (Question::Buffer(3, 13), Want::Done, &[]),
-    (Question::Queue(1), Want::Done, &[]),
+    (Question::Queue(1), Want::Done, &[(0, 1, 0)]),
     (Question::Queue(3), Want::Done, &[]),
-    (Question::Queue(2), Want::Done, &[]),
-    (Question::Begin, Want::Frame(1, 11, &[]), &[(0, 1, 1)]),
+    (Question::Queue(2), Want::Done, &[(0, 1, 0), (1, 1, 0)]),
+    (Question::Begin, Want::Frame(1, 11, &[]), &[(0, 0, 1)]),
     (
         Question::See(&[
             Look::State(1, RUNS),
@@ -447,7 +439,7 @@ const OFF: &[Row] = &[
     (
         Question::List(SET, At(5, 0, None), &[(GAIN, 30), (BLUE, 3)]),
         Want::Values(&[30, 3]),
-        &[(0, 1, 1), (1, 1, 1)],
+        &[(0, 2, 1), (1, 2, 1)],
     ),
     (Question::StreamOff, Want::Done, &[]),
     (
@@ -596,12 +588,12 @@ const GROWTH: &[Row] = &[
         &[(0, 1, 0), (1, 1, 0)],
     ),
     // 4
-    (Question::Queue(1), Want::Done, &[]),
+    (Question::Queue(1), Want::Done, &[(0, 1, 0), (1, 1, 0)]),
     (Question::Grab(8, true), Want::Done, &[]),
     (Question::Alloc(1), Want::Made, &[]),
     (Question::Buffer(6, 8), Want::Done, &[]),
     // 8
-    (Question::Begin, Want::Frame(1, 7, &[1]), &[(0, 1, 1)]),
+    (Question::Begin, Want::Frame(1, 7, &[1]), &[(0, 0, 1)]),
     (Question::Queue(6), Want::Done, &[]),
     (Question::Open(0, 6), Want::Opened, &[]),
     // 16
@@ -635,7 +627,7 @@ const MORE_GROWTH: &[Row] = &[
         Want::Values(&[0, 200, 200]),
         &[(0, 1, 0), (1, 1, 0)],
     ),
-    (Question::Queue(1), Want::Done, &[]),
+    (Question::Queue(1), Want::Done, &[(0, 1, 0), (1, 1, 0)]),
     (Question::Open(0, 2), Want::Opened, &[]),
     // 8
     (Question::Buffer(2, 8), Want::Done, &[]),
@@ -643,7 +635,7 @@ const MORE_GROWTH: &[Row] = &[
     (
         Question::Begin,
         Want::Frame(1, 7, &[]),
-        &[(0, 1, 1), (1, 1, 1), (2, 0, 1)],
+        &[(0, 0, 1), (1, 0, 1), (2, 0, 1)],
     ),
     (Question::Open(0, 5), Want::Opened, &[]),
     // 16
@@ -666,7 +658,7 @@ const MORE_GROWTH: &[Row] = &[
 ];
 
 #[test]
-fn a_begin_asks_and_tells_each_cluster_once(rt: HostRuntime) {
+fn a_frame_asks_and_tells_each_cluster_once(rt: HostRuntime) {
     expect(&rt, &SAMPLE, BEGUN);
 }
 

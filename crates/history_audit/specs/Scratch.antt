@@ -72,17 +72,19 @@ scratch verdicts plan past = record {
   events = all_events verdicts plan past;
 }
 
--- Values, the flags that they have with grabs, requests with their queue, and the events of some file handles, each with its handler, are
--- those of a scratch.
-pub record HasParts (s : ScratchData) (plan : PlanData) (present : Values) (grabs : Grabs) (requests : FramesData) (handles : List (ℕ × ℕ)) (kept : EventsData) : Type 0 where
+-- Values, the flags that they have with grabs, requests with their queue, what the queued frames will have, and the events of some file handles,
+-- each with its handler, are those of a scratch.
+pub record HasParts (s : ScratchData) (plan : PlanData) (present : Values) (grabs : Grabs) (requests : FramesData) (rows : List Forecast) (handles : List (ℕ × ℕ)) (kept : EventsData) : Type 0 where
   pub values : s.values ≡ present
   pub flags : s.flags ≡ flags_of_all plan present grabs
   pub frames : s.frames ≡ requests
+  pub forecasts : s.forecasts ≡ rows
   pub events : s.events ≡ open_events kept handles
 
--- All that a scratch has, the forecasts aside, is what a history makes of a device.
+-- All that a scratch has is what a history makes of a device.
 pub record Agrees (verdicts : Verdicts) (plan : PlanData) (past : Past) (s : ScratchData) : Type 0 where
   pub values : s.values ≡ now verdicts plan past
   pub flags : s.flags ≡ all_flags verdicts plan past
   pub frames : s.frames ≡ frames verdicts plan past
+  pub forecasts : s.forecasts ≡ forecast verdicts plan past
   pub events : s.events ≡ all_events verdicts plan past

@@ -35,7 +35,7 @@ impl Model for Scratch {
 
     ghost Value = { ScratchData };
 
-    ghost view = { λ s. record { values = s.values.items; flags = s.flags.items; frames = s.frames; forecasts = s.forecasts; events = open_events s.events s.file_handles.entries } };
+    ghost view = { λ s. record { values = s.values.items; flags = s.flags.items; frames = s.frames; forecasts = s.forecasts.rows; events = open_events s.events s.file_handles.entries } };
 }
 
 impl Scratch {
@@ -48,7 +48,7 @@ impl Scratch {
         file_handles: IndexMap<u32, u32>,
         events: Events,
     ) -> Scratch
-        ensures { result ≡ record { values = values.items; flags = flags.items; frames = frames; forecasts = forecasts; events = open_events events file_handles.entries } }
+        ensures { result ≡ record { values = values.items; flags = flags.items; frames = frames; forecasts = forecasts.rows; events = open_events events file_handles.entries } }
     {
         Scratch {
             values,
@@ -83,7 +83,7 @@ impl Scratch {
 
     /// What the queued frames will have, in the order of the queue. It takes no memory.
     pub fn forecasts(&self) -> &Board
-        ensures { result.now ≡ self.now.forecasts }
+        ensures { result.now.rows ≡ self.now.forecasts }
     {
         &self.forecasts
     }
@@ -109,14 +109,15 @@ impl Scratch {
         }
     }
 
-    /// Whether it has these values, the flags that they make with these grabs, these requests with their queue, and these open file handles
-    /// with the same events that wait, in the same order, and the same numbers of their next events. The forecasts are left out, and so are
-    /// subscriptions and the handlers of file handles. It takes no memory and asks nobody.
+    /// Whether it has these values, the flags that they make with these grabs, these requests with their queue, the same of each queued frame, and
+    /// these open file handles with the same events that wait, in the same order, and the same numbers of their next events. Subscriptions and the
+    /// handlers of file handles are left out. It takes no memory and asks nobody.
     ///
     /// - `plan`: what the device is built of.
     /// - `values`, `grabs`: a value, and whether it is grabbed, for each control in the order of their numbers; the caller owes exactly as
     ///   many.
     /// - `frames`: the requests, their queue, and the one whose frame is being made.
+    /// - `board`: what the queued frames will have.
     /// - `file_handles`: the open file handles, each with its handler, in the order of their opening.
     /// - `events`: the events of file handles, of these and any others.
     pub fn has_parts<D: Driver>(
@@ -125,12 +126,13 @@ impl Scratch {
         values: &[CtrlValue],
         grabs: &[bool],
         frames: &Frames,
+        board: &Board,
         file_handles: &IndexMap<u32, u32>,
         events: &Events,
     ) -> bool
         requires values { length values.now ≡ length plan.now.controls }
         requires grabs { length grabs.now ≡ length plan.now.controls }
-        ensures { IsTrue result ↔ HasParts self.now plan.now values.now grabs.now frames.now file_handles.now.entries events.now }
+        ensures { IsTrue result ↔ HasParts self.now plan.now values.now grabs.now frames.now board.now.rows file_handles.now.entries events.now }
     {
         if !are_values(self.values(), values) {
             return false;
@@ -139,6 +141,9 @@ impl Scratch {
             return false;
         }
         if !self.frames().is_like(frames) {
+            return false;
+        }
+        if !self.forecasts().is_like(board) {
             return false;
         }
         self.has_events(file_handles, events)

@@ -4,6 +4,7 @@
 mod building;
 mod closures;
 mod clustering;
+mod ids;
 mod looks;
 mod refusals;
 mod shown;

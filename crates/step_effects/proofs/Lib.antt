@@ -1,3 +1,4 @@
 pub mod QuietLemmas
 pub mod FitLemmas
 pub mod RaisedLemmas
+pub mod LineLemmas

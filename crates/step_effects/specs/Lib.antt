@@ -15,3 +15,4 @@ pub use Rattle.device_history.specs.EventSteps
 pub use Rattle.device_history.specs.Legal
 pub mod Quiet
 pub mod Given
+pub mod Lines

@@ -1,22 +1,21 @@
 //! How a device begins a frame.
 
-ghost use Rattle.std.specs.Prelude.{◌≡◌, ◌≤◌, ◌+◌, true, false, None, Some, Ok, Err, is_some, IfOk, IfErr, OnOk, OnErr};
+ghost use Rattle.std.specs.Prelude.{◌≡◌, true, false, None, Some, Ok, Err, is_some, IfOk, IfErr, OnOk, OnErr};
 ghost use Rattle.history.specs.Past.{past};
 ghost use Rattle.frame_queue.specs.Frames.{begin_answer};
-ghost use Rattle.ctrl_forecast.specs.Touched.{touched_count};
 ghost use Rattle.device_history.specs.declared.ask.Ask.TheVariants as asks;
 ghost use Rattle.device_history.specs.Answers.{MayAnswer};
 ghost use Rattle.device_history.specs.Frames.{first_of, queue, running};
 ghost use Rattle.device_history.specs.RequestAnswers.{begin_frame_answer};
 ghost use Rattle.device_history.specs.Requests.{asked as asked_of, state};
-ghost use Rattle.device_history.specs.Snapshots.{begun_pairs, begun_refused, begun_values, frames};
+ghost use Rattle.device_history.specs.Snapshots.{begun_pairs, frames};
 ghost use Rattle.device_state.specs.Beginning.{BeginsAll, IsBegun};
-ghost use Rattle.device_state.specs.Device.{Handles, may_ask};
+ghost use Rattle.device_state.specs.Device.{Handles};
 
 use super::{Device, plain, refused};
 use ctrl_calls::{Driver, Work};
 use ctrl_clusters::notify_between;
-use ctrl_forecast::{Overlaid, applied, overlay};
+use ctrl_forecast::{Forecast, applied};
 use ctrl_raises::Moment;
 use ctrl_types::{Errno, Fault, Pair, RequestId};
 use device_history::{Reply, Step};
@@ -24,11 +23,10 @@ use history::Entry;
 use std::alloc::AllocError;
 use step_effects::raise_step;
 
-// A frame that can begin: its request, what the request's pairs make of the values, and those that are applied.
+// A frame that can begin: its request, and what is applied of what it asks for.
 #[derive(Drop)]
 struct Begun {
     request: RequestId,
-    overlaid: Overlaid,
     applied: Vec<Pair>,
 }
 
@@ -37,10 +35,8 @@ impl<D: Driver> Device<D> {
     pub(super) fn begin(&mut self, seat: u32) -> Result<Reply, Fault>
         ensures { Handles D.verdict self.old self.new seat asks.Begin result }
     {
-        let mut work = Work::new();
-        let planned = self.plan_begin(&mut work);
-        self.work = work;
-        let begun = match planned {
+        self.work = Work::new();
+        let begun = match self.plan_begin() {
             Ok(begun) => begun,
             Err(fault) => return Err(fault),
         };
@@ -50,12 +46,10 @@ impl<D: Driver> Device<D> {
         }
     }
 
-    // The refusals of a begin; else what it makes of the values.
-    fn plan_begin(&self, work: &mut Work) -> Result<Begun, Fault>
-        ensures ok { IfOk result (λ b. IsBegun D.verdict self.now.plan (past self.now.steps) b.request.0 b.overlaid.values b.overlaid.refused b.applied.items) }
+    // The refusals of a begin; else what it applies.
+    fn plan_begin(&self) -> Result<Begun, Fault>
+        ensures ok { IfOk result (λ b. IsBegun D.verdict self.now.plan (past self.now.steps) b.request.0 b.applied.items) }
         ensures err { IfErr result (λ fault. MayAnswer D.verdict self.now.plan (past self.now.steps) self.now.words asks.Begin (Err fault)) }
-        ensures asked { work.new.asked ≤ work.old.asked + may_ask self.now.plan (past self.now.steps) asks.Begin }
-        ensures told { work.new.told ≡ work.old.told }
     {
         let request = match self.next_frame() {
             Ok(request) => request,
@@ -64,8 +58,8 @@ impl<D: Driver> Device<D> {
         if self.is_full() {
             return Err(plain(Errno::ENOSPC));
         }
-        match self.lay(request, work) {
-            Ok(begun) => Ok(begun),
+        match self.applied_first(request) {
+            Ok(applied) => Ok(Begun { request, applied }),
             Err(_) => Err(plain(Errno::ENOMEM)),
         }
     }
@@ -96,49 +90,38 @@ impl<D: Driver> Device<D> {
         }
     }
 
-    // Lays what a request asks for over the present values.
-    fn lay(&self, request: RequestId, work: &mut Work) -> Result<Begun, AllocError>
-        requires { first_of (queue (past self.now.steps)) ≡ Some request.0 }
-        ensures request { IfOk result (λ b. b.request ≡ request) }
-        ensures values { IfOk result (λ b. b.overlaid.values ≡ begun_values D.verdict self.now.plan (past self.now.steps) request.0) }
-        ensures refused { IfOk result (λ b. b.overlaid.refused ≡ begun_refused D.verdict self.now.plan (past self.now.steps) request.0) }
-        ensures applied { IfOk result (λ b. b.applied.items ≡ begun_pairs D.verdict self.now.plan (past self.now.steps) request.0) }
-        ensures asked { work.new.asked ≤ work.old.asked + touched_count self.now.plan (asked_of self.now.plan (past self.now.steps) request.0) }
-        ensures told { work.new.told ≡ work.old.told }
+    // What the begin of the first frame in the queue applies.
+    fn applied_first(&self, request: RequestId) -> Result<Vec<Pair>, AllocError>
+        requires free { running (past self.now.steps) ≡ None }
+        requires first { first_of (queue (past self.now.steps)) ≡ Some request.0 }
+        ensures { IfOk result (λ pairs. pairs.items ≡ begun_pairs D.verdict self.now.plan (past self.now.steps) request.0) }
     {
+        let Some(row) = self.row(0) else {
+            return Ok(Vec::new(self.alloc));
+        };
         let pairs = self.asked_by(request);
-        let overlaid = overlay(
-            self.alloc,
-            &self.plan,
-            self.plan.controls(),
-            self.values(),
-            self.grabs(),
-            pairs,
-            work,
-        )?;
-        let applied = applied(self.alloc, &self.plan, &overlaid, pairs)?;
-        Ok(Begun {
-            request,
-            overlaid,
-            applied,
-        })
+        applied(self.alloc, &self.plan, row.values, row.refused, pairs)
     }
 
     // Begins a frame, after the refusals.
     fn accept_begin(&mut self, seat: u32, begun: Begun) -> Result<Reply, AllocError>
-        requires begun { IsBegun D.verdict self.old.plan (past self.old.steps) begun.request.0 begun.overlaid.values begun.overlaid.refused begun.applied.items }
+        requires begun { IsBegun D.verdict self.old.plan (past self.old.steps) begun.request.0 begun.applied.items }
         requires fresh { self.old.work.told ≡ 0 }
         ensures reply { IfOk result (λ reply. begin_frame_answer D.verdict self.old.plan (past self.old.steps) ≡ Ok reply) }
         ensures ok { OnOk result (BeginsAll D.verdict D.told self.old self.new seat begun.request.0) }
         ensures err { OnErr result (self.new ≡ self.old) }
     {
         self.steps.reserve(1)?;
-        let Begun {
-            request,
-            overlaid,
-            applied,
-        } = begun;
-        let Overlaid { values, refused } = overlaid;
+        let Begun { request, applied } = begun;
+        let Some(row) = self.board.pop() else {
+            return Err(AllocError);
+        };
+        let Forecast {
+            request: _,
+            buffer: _,
+            values,
+            refused,
+        } = row;
         notify_between(
             &self.plan,
             self.values.as_slice(),

@@ -71,18 +71,11 @@ impl<D: Driver> Device<D> {
             }
             None => {
                 self.work = Work::new();
-                refused(self.nothing_waits(fh))
+                match self.handler_of(fh) {
+                    Some(_) => refused(Errno::ENOENT),
+                    None => refused(Errno::EBADF),
+                }
             }
-        }
-    }
-
-    // Why an event can't be taken where none waits.
-    fn nothing_waits(&self, fh: FhId) -> Errno
-        ensures { result ≡ (if is_some (handler_of (past self.now.steps) fh) then ENOENT else EBADF) }
-    {
-        match self.handler_of(fh) {
-            Some(_) => Errno::ENOENT,
-            None => Errno::EBADF,
         }
     }
 

@@ -26,7 +26,7 @@ use ctrl_raises::Moment;
 use ctrl_types::{CtrlValue, Errno, Fault, FhId, Pair, RequestId, Which};
 use device_history::{PairList, Reply, Step};
 use history::Entry;
-use step_effects::{copied_values, raise_step};
+use step_effects::{clusters_of, copied_values, raise_step};
 
 impl<D: Driver> Device<D> {
     /// Gets controls, as `handle` on `Ask::GetCtrls` of these fields at any seat does (Linux userspace API, "ioctl
@@ -387,6 +387,9 @@ impl<D: Driver> Device<D> {
         let Ok(mut values) = copied_values(self.alloc, self.values.as_slice()) else {
             return Err(Errno::ENOMEM);
         };
+        let Ok(clusters) = clusters_of(self.alloc, touch.rows()) else {
+            return Err(Errno::ENOMEM);
+        };
         notify_changed(
             &self.plan,
             self.values.as_slice(),
@@ -396,6 +399,16 @@ impl<D: Driver> Device<D> {
             &mut self.work,
         );
         write_rows(&self.plan, &mut values, touch.rows());
+        let mut work = Work::new();
+        self.board.renew(
+            &self.plan,
+            self.plan.controls(),
+            values.as_slice(),
+            self.grabs.as_slice(),
+            clusters.as_slice(),
+            &mut work,
+        );
+        self.work.asked = self.work.asked.saturating_add(work.asked);
         raise_step(
             &self.plan,
             &Moment::new(self.values.as_slice(), self.grabs.as_slice()),

@@ -1,6 +1,6 @@
 //! What a device answers about media requests and its queue of frames, but for the begin of a frame.
 
-ghost use Rattle.std.specs.Prelude.{◌≡◌, false, true, length, None, Some, Ok, Err, MatchResult, OnOk, OnErr, slice_get};
+ghost use Rattle.std.specs.Prelude.{◌≡◌, ◌≤◌, ◌+◌, false, true, length, None, Some, Ok, Err, MatchResult, OnOk, OnErr, slice_get};
 ghost use Rattle.std.specs.Option.{option_map};
 ghost use Rattle.history.specs.Past.{past};
 ghost use Rattle.req_book.specs.Refusals.{alloc_refusal, store_refusal, buffer_refusal, queue_refusal, clear_refusal, state_answer, buffer_answer, asked_answer, value_answer};
@@ -11,7 +11,7 @@ ghost use Rattle.device_history.specs.Refusals.{is_full};
 ghost use Rattle.device_history.specs.Snapshots.{frames, request as request_of, requests};
 ghost use Rattle.device_state.specs.Device.{Handles, with_step};
 ghost use Rattle.step_effects.specs.Quiet.{NamesKnown, is_quiet};
-ghost use Rattle.device_state.specs.Entering.{IsEntered};
+ghost use Rattle.device_state.specs.Entering.{IsEntered, quiet_asks};
 
 use super::{Device, refused};
 use ctrl_calls::{Driver, Work};
@@ -19,7 +19,7 @@ use ctrl_types::{CtrlValue, Errno, Fault, Pair, RequestId};
 use device_history::{Ask, Reply, Step};
 use frame_queue::RequestState;
 use history::Entry;
-use step_effects::change_quiet;
+use step_effects::change_kept;
 
 impl<D: Driver> Device<D> {
     /// A request's state, for a driver's own use (Linux userspace API, "Request API"): that in which the last step that names it left it;
@@ -182,14 +182,18 @@ impl<D: Driver> Device<D> {
         requires follows { MayFollow D.verdict self.old.plan (past self.old.steps) step }
         requires room { is_full (past self.old.steps) ≡ false }
         requires known { NamesKnown (length self.old.plan.controls) step }
-        ensures ok { OnOk result (self.new ≡ with_step self.old seat step) }
-        ensures err { OnErr result (self.new ≡ self.old) }
+        ensures ok { OnOk result (self.new ≡ with_step (record self.old { work = self.new.work }) seat step) }
+        ensures err { OnErr result (self.new ≡ record self.old { work = self.new.work }) }
+        ensures asked { self.new.work.asked ≤ self.old.work.asked + quiet_asks self.old.plan (past self.old.steps) step }
+        ensures counted { self.old.work.asked ≤ self.new.work.asked }
+        ensures told { self.new.work.told ≡ self.old.work.told }
     {
         let number = self.steps.len() as u32;
         if self.steps.reserve(1).is_err() {
             return Err(Errno::ENOMEM);
         }
-        change_quiet(
+        let mut work = Work::new();
+        let changed = change_kept(
             &self.plan,
             self.values.as_slice(),
             self.grabs.as_slice(),
@@ -197,8 +201,16 @@ impl<D: Driver> Device<D> {
             &step,
             &mut self.frames,
             &mut self.events,
-        )?;
-        self.steps.push_reserved(Entry { seat, step });
-        Ok(())
+            &mut self.board,
+            &mut work,
+        );
+        self.work.asked = self.work.asked.saturating_add(work.asked);
+        match changed {
+            Ok(()) => {
+                self.steps.push_reserved(Entry { seat, step });
+                Ok(())
+            }
+            Err(_) => Err(Errno::ENOMEM),
+        }
     }
 }

@@ -34,7 +34,13 @@ impl<'a, D: Driver> Replay<'a, D> {
         ensures err { OnErr result (self.new ≡ self.old) }
     {
         let overlaid = self.lay(request)?;
-        let given = applied(self.alloc, self.plan, &overlaid, self.asked_by(request))?;
+        let given = applied(
+            self.alloc,
+            self.plan,
+            overlaid.values.as_slice(),
+            overlaid.refused.as_slice(),
+            self.asked_by(request),
+        )?;
         let Overlaid { values, refused: _ } = overlaid;
         let values = values.into_vec();
         raise_step(

@@ -2,7 +2,6 @@ use Rattle.std.proofs.Common.{rules, ◌≡◌, ◌∙◌, ◌++◌, ap, sym, �
 use Rattle.std.proofs.lemmas.List.{append-nil}
 use Rattle.ctrl_types.specs.Values.{CtrlValue}
 use Rattle.ctrl_types.specs.declared.ids.Pair.{Pair}
-use Rattle.ctrl_clusters.specs.Rows.{Values, value_at}
 use Rattle.ctrl_forecast.proofs.ApplyingLemmas.{applied_next}
 use Rattle.ctrl_forecast.proofs.applying.applied.Goals.{then-not-is_refused+in_ok-push, else-not-is_refused}
 use Rattle.ctrl_forecast.proofs.applying.applied.Goals as goal
@@ -18,12 +17,12 @@ loop-pair-preserved g c =
     elim c.if-not-is_refused.branch [
       | then-not-is_refused+in_ok-push w ↦
           let given : CtrlValue → Pair = λ value. record { control = k; value = value } in
-          let read : CtrlValue = get_or w.as_slice.result.now k (pos 0) in
+          let read : CtrlValue = get_or c.args.values.now k (pos 0) in
           let same : to_z w64 (of_z w64 read) ≡ read = search rules in
-          applied_next c.args.plan.now c.args.overlaid.now.values c.args.overlaid.now.refused c.args.pairs.now i d false old new c.loop-pair-test.true c.loop-pair.invariant w.if-not-is_refused.ensures
+          applied_next c.args.plan.now c.args.values.now c.args.refused.now c.args.pairs.now i d false old new c.loop-pair-test.true c.loop-pair.invariant w.if-not-is_refused.ensures
           (ap (λ (v : Vec Pair Global). v.items) w.applied-is ∙ w.in_ok-push.ensures.items
-          ∙ ap (λ value. old ++ given value ∷ []) (same ∙ ap (λ (values : Values). value_at values k) w.as_slice.ensures))
+          ∙ ap (λ value. old ++ given value ∷ []) same)
       | else-not-is_refused w ↦
-          applied_next c.args.plan.now c.args.overlaid.now.values c.args.overlaid.now.refused c.args.pairs.now i d true old new c.loop-pair-test.true c.loop-pair.invariant w.if-not-is_refused.ensures
+          applied_next c.args.plan.now c.args.values.now c.args.refused.now c.args.pairs.now i d true old new c.loop-pair-test.true c.loop-pair.invariant w.if-not-is_refused.ensures
           (ap (λ (v : Vec Pair Global). v.items) w.applied-is ∙ sym (append-nil old))
     ]

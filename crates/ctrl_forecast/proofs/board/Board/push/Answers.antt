@@ -1,13 +1,24 @@
-use Rattle.std.proofs.Common.{length, ap, sym, ◌∙◌}
-use Rattle.ctrl_forecast.proofs.BoardLemmas.{long_behind, long_more}
+use Rattle.std.proofs.Common.{◌∙◌, ◌++◌, List, [], ◌∷◌, length, map, ap}
+use Rattle.ctrl_clusters.specs.Rows.{Values}
+use Rattle.ctrl_forecast.specs.declared.board.Forecast.{Forecast}
+use Rattle.ctrl_forecast.specs.Boards.{BoardData}
+use Rattle.ctrl_forecast.specs.Forecasts.{values_behind}
+use Rattle.ctrl_forecast.specs.Frames.{FrameData, board_seen, forecast_of, frame_over}
+use Rattle.ctrl_forecast.proofs.FrameLemmas.{behind_long, kept_more}
 use Rattle.ctrl_forecast.proofs.board.Board.push.Goals as goal
 
-pub overlay-requires-clause-values : goal.overlay-requires-clause-values
-overlay-requires-clause-values g c =
-    ap length c.values_behind.ensures ∙ long_behind (length c.args.plan.now.controls) c.args.values.now _ c.requires.values (rw (← c.self.view_is, ← c.reserve.ensures.items) at c.requires.rows)
+pub new-requires-clause-values : goal.new-requires-clause-values
+new-requires-clause-values g c =
+    ap length c.values_behind.ensures
+    ∙ ap (λ (rows : List Forecast). length (values_behind c.args.values.now rows)) (ap (map forecast_of) c.reserve.ensures.items ∙ ap (λ (b : BoardData). b.rows) (c.self.view_is ∙ c.requires.kept))
+    ∙ behind_long g.D.Validates.verdict c.args.plan.now c.args.controls.now c.args.grabs.now c.args.values.now c.args.self.now.queued ∙ c.requires.values
 
-pub returns-clause-long : goal.returns-clause-long
-returns-clause-long g c =
-    rw (c.push_reserved.ensures.items, c.reserve.ensures.items)
-    (long_more (length c.args.plan.now.controls) c.self.inside.rows.items _ (rw (← c.self.view_is) at c.requires.rows)
-    (c.in_ok-values.ensures.long ∙ ap length c.values_behind.ensures ∙ long_behind (length c.args.plan.now.controls) c.args.values.now _ c.requires.values (rw (← c.self.view_is, ← c.reserve.ensures.items) at c.requires.rows)))
+pub returns-clause-ok : goal.returns-clause-ok
+returns-clause-ok g c =
+    let before : List FrameData = c.self.inside.frames.items in
+    let over : Values → FrameData = λ values. frame_over g.D.Validates.verdict c.args.plan.now c.args.controls.now c.args.grabs.now values c.args.queued.now in
+    ap board_seen
+    (c.push_reserved.ensures.items ∙ ap (λ (fs : List FrameData). fs ++ c.in_ok-frame.frame ∷ []) c.reserve.ensures.items
+    ∙ ap (λ (f : FrameData). before ++ f ∷ [])
+    (c.in_ok-frame.ensures.frame ∙ ap over (c.values_behind.ensures ∙ ap (λ (fs : List FrameData). values_behind c.args.values.now (map forecast_of fs)) c.reserve.ensures.items)))
+    ∙ kept_more g.D.Validates.verdict c.args.plan.now c.args.controls.now c.args.grabs.now c.args.values.now before c.args.self.now.queued c.args.queued.now (c.self.view_is ∙ c.requires.kept)

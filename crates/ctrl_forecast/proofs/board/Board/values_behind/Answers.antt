@@ -1,7 +1,10 @@
-use Rattle.std.proofs.Common.{length, ◌-◌, slice_get, ap, sym, ◌∙◌}
-use Rattle.ctrl_forecast.proofs.BoardLemmas.{values_at_last}
+use Rattle.std.proofs.Common.{◌∙◌, ap}
+use Rattle.ctrl_forecast.specs.Boards.{BoardData}
+use Rattle.ctrl_forecast.specs.Forecasts.{values_behind}
+use Rattle.ctrl_forecast.proofs.FrameLemmas.{frame_last}
 use Rattle.ctrl_forecast.proofs.board.Board.values_behind.Goals as goal
 
 pub returns-in-Some : goal.returns-in-Some
-returns-in-Some g =
-    rw (← g.self.view_is) (g.as_slice.ensures ∙ values_at_last g.args.values.now g.self.inside.rows.items g.in-Some.row.now (rw (g.deref.ensures.value) at g.in-Some.ensures.value))
+returns-in-Some c =
+    c.values.ensures ∙ frame_last c.args.values.now c.self.inside.frames.items c.in-Some.frame.now (rw c.deref.ensures.value at c.in-Some.ensures.value)
+    ∙ ap (λ (b : BoardData). values_behind c.args.values.now b.rows) c.self.view_is

@@ -1,6 +1,6 @@
-use Rattle.std.proofs.Common.{length, refl, ap, sym, ◌∙◌}
+use Rattle.std.proofs.Common.{length, refl, ap, sym, ◌∙◌, subst}
 use Rattle.ctrl_handlers.specs.Plan.{PlanData, all_calls, finished}
-use Rattle.ctrl_handlers.specs.Visible.{shown_below}
+use Rattle.ctrl_handlers.specs.Visible.{shown_below, AreIndexed}
 use Rattle.ctrl_handlers.proofs.FinishLemmas.{finished_calls, finished_shown}
 use Rattle.ctrl_handlers.proofs.builder.PlanBuilder.finish_with.Goals as goal
 
@@ -12,7 +12,12 @@ of_parts-requires-clause-calls g c =
 -- and what is shown stays
 pub of_parts-requires-clause-shown : goal.of_parts-requires-clause-shown
 of_parts-requires-clause-shown g c =
-    rw (c.in-Ok.ensures.ok.0) (c.requires ∙ ap (λ (p : PlanData). shown_below p (length p.handlers)) (sym c.self.view_is) ∙ sym (finished_shown c.self.inside.outline (length c.self.inside.outline.handlers)))
+    rw (c.in-Ok.ensures.ok.0) (c.requires.shown ∙ ap (λ (p : PlanData). shown_below p (length p.handlers)) (sym c.self.view_is) ∙ sym (finished_shown c.self.inside.outline (length c.self.inside.outline.handlers)))
+
+-- with its index
+pub of_parts-requires-clause-index : goal.of_parts-requires-clause-index
+of_parts-requires-clause-index g c =
+    rw (c.in-Ok.ensures.ok.0) (subst (λ (p : PlanData). AreIndexed p.controls c.args.shown.items c.args.index.items) (sym c.self.view_is) c.requires.index)
 
 -- the plan that is answered
 pub returns-in-Ok-clause-ok : goal.returns-in-Ok-clause-ok

@@ -11,47 +11,87 @@ use Rattle.device_history.proofs.PresentLemmas.{length_grabbed, length_now}
 use Rattle.step_effects.specs.Quiet.{FitsIn}
 use Rattle.step_effects.proofs.FitLemmas.{fits_in}
 use Rattle.step_effects.proofs.QuietLemmas.{given_quiet}
+use Rattle.ctrl_forecast.specs.Boards.{BoardData}
+use Rattle.device_history.specs.Grabs.{grabbed}
+use Rattle.device_history.specs.Forecasts.{queued_frames}
+use Rattle.device_state.proofs.BoardLemmas.{board_own, board_same, line_bound, queued_once}
 use Rattle.device_state.proofs.KeptLemmas.{kept_quiet, numbered}
+use Rattle.ctrl_calls.specs.declared.work.Work.{Work}
+use Rattle.device_state.proofs.device.Device.accept.Goals.{in-Set-2, in-Store-2, in-OpenFh-2}
 use Rattle.device_state.proofs.device.Device.accept.Goals as goal
 
 -- the step fits what is kept
-pub change_quiet-requires-clause-fits : goal.change_quiet-requires-clause-fits
-change_quiet-requires-clause-fits g c =
+pub change_kept-changed-requires-clause-fits : goal.change_kept-changed-requires-clause-fits
+change_kept-changed-requires-clause-fits g c =
     let device = c.self.inside in
     let number : length device.steps.items ≡ c.len-number.result = omega (arith, c.len-number.ensures, device.steps.ok.0) in
     subst (λ (n : ℕ). FitsIn n c.args.step device.frames) number
     (fits_in g.D.Validates.verdict device.plan device.steps.items device.frames c.args.step c.self.invariant.frames c.self.invariant.legal (rw (← c.self.view_is) at c.requires.follows) c.requires.quiet (rw (← c.self.view_is) at c.requires.known))
 
 -- there is a value and a grab for each control
-pub change_quiet-requires-clause-values : goal.change_quiet-requires-clause-values
-change_quiet-requires-clause-values g c =
+pub change_kept-changed-requires-clause-values : goal.change_kept-changed-requires-clause-values
+change_kept-changed-requires-clause-values g c =
     let device = c.self.inside in
     ap length (c.as_slice.ensures.value ∙ c.self.invariant.values) ∙ length_now g.D.Validates.verdict device.plan (past device.steps.items)
 
-pub change_quiet-requires-clause-grabs : goal.change_quiet-requires-clause-grabs
-change_quiet-requires-clause-grabs g c =
+pub change_kept-changed-requires-clause-grabs : goal.change_kept-changed-requires-clause-grabs
+change_kept-changed-requires-clause-grabs g c =
     let device = c.self.inside in
     ap length (c.as_slice-2.ensures.value ∙ c.self.invariant.grabs) ∙ length_grabbed device.plan (past device.steps.items)
 
-pub change_quiet-requires-clause-frames : goal.change_quiet-requires-clause-frames
-change_quiet-requires-clause-frames g c = ap (λ (f : FramesData). f.requests.controls) c.self.invariant.frames
+pub change_kept-changed-requires-clause-frames : goal.change_kept-changed-requires-clause-frames
+change_kept-changed-requires-clause-frames g c = ap (λ (f : FramesData). f.requests.controls) c.self.invariant.frames
 
 -- there are numbers
-pub change_quiet-requires-clause-numbers : goal.change_quiet-requires-clause-numbers
-change_quiet-requires-clause-numbers g c = numbered g.D.Validates.verdict g.D.Notifies.told c.self.inside.plan c.self.inside.steps.items _ c.self.invariant
+pub change_kept-changed-requires-clause-numbers : goal.change_kept-changed-requires-clause-numbers
+change_kept-changed-requires-clause-numbers g c = numbered g.D.Validates.verdict g.D.Notifies.told c.self.inside.plan c.self.inside.steps.items _ c.self.invariant
 
--- the requests, the queue and the events are what the step makes of them
-pub invariant_of-self-2 : goal.invariant_of-self-2
-invariant_of-self-2 g c =
+-- the board is of what is kept beside it, and no request is queued twice
+pub change_kept-changed-requires-clause-board : goal.change_kept-changed-requires-clause-board
+change_kept-changed-requires-clause-board g c =
+    let device = c.self.inside in
+    board_own g.D.Validates.verdict device.plan (grabbed device.plan (past device.steps.items)) _ (now g.D.Validates.verdict device.plan (past device.steps.items)) _ (queued_frames device.plan (past device.steps.items)) device.board c.self.invariant.board
+    (c.as_slice-2.ensures.value ∙ c.self.invariant.grabs) (c.as_slice.ensures.value ∙ c.self.invariant.values)
+
+pub change_kept-changed-requires-clause-once : goal.change_kept-changed-requires-clause-once
+change_kept-changed-requires-clause-once g c =
+    let device = c.self.inside in
+    queued_once g.D.Validates.verdict device.plan (past device.steps.items) device.board.queued c.self.invariant.legal (ap (λ (b : BoardData). b.queued) c.self.invariant.board)
+
+-- the requests, the queue, its forecasts and the events are what the step makes of them
+pub invariant_of-self-in-Ok : goal.invariant_of-self-in-Ok
+invariant_of-self-in-Ok g c =
     let device = c.self.inside in
     let entry : Entry Step = record { seat = c.args.seat; step = c.args.step } in
     let P : List (Entry Step) = past device.steps.items in
     let number : c.len-number.result ≡ length device.steps.items = omega (arith, c.len-number.ensures, device.steps.ok.0) in
-    kept_quiet g.D.Validates.verdict g.D.Notifies.told device.plan device.steps.items _ _ _ _ c.args.seat c.args.step c.self.invariant (rw (← c.self.view_is) at c.requires.room) (rw (← c.self.view_is) at c.requires.follows) c.requires.quiet
+    kept_quiet g.D.Validates.verdict g.D.Notifies.told device.plan device.steps.items _ _ _ _ _ c.args.seat c.args.step c.self.invariant (rw (← c.self.view_is) at c.requires.room) (rw (← c.self.view_is) at c.requires.follows) c.requires.quiet
     (c.push_reserved.ensures.items ∙ ap (λ (s : List (Entry Step)). s ++ entry ∷ []) c.reserve.ensures.items)
-    (c.in_ok-change_quiet.ensures.frames
+    (c.in-Ok.ensures.frames
     ∙ ap (λ (v : Values). frames_changed v [] c.len-number.result c.args.step device.frames) (c.as_slice.ensures.value ∙ c.self.invariant.values)
     ∙ ap (λ (n : ℕ). frames_changed (now g.D.Validates.verdict device.plan P) [] n c.args.step device.frames) number
     ∙ ap (λ (l : List Pair). frames_changed (now g.D.Validates.verdict device.plan P) l (length device.steps.items) c.args.step device.frames)
     (sym (given_quiet g.D.Validates.verdict device.plan P c.args.step c.requires.quiet)))
-    (c.in_ok-change_quiet.ensures.events g.D.Validates.verdict entry P refl (c.as_slice.ensures.value ∙ c.self.invariant.values) (c.as_slice-2.ensures.value ∙ c.self.invariant.grabs))
+    (c.in-Ok.ensures.events g.D.Validates.verdict entry P refl (c.as_slice.ensures.value ∙ c.self.invariant.values) (c.as_slice-2.ensures.value ∙ c.self.invariant.grabs))
+    (c.in-Ok.ensures.board ∙ board_same g.D.Validates.verdict device.plan c.as_slice-2.ensures.value c.as_slice.ensures.value refl)
+
+-- validators are asked as often as is said
+pub returns-in-Ok-clause-asked : goal.returns-in-Ok-clause-asked
+returns-in-Ok-clause-asked g c =
+    let device = c.self.inside in
+    let most =
+    line_bound g.D.Validates.verdict device.plan (past device.steps.items) c.args.step device.frames device.board.queued c.self.invariant.legal (rw (← c.self.view_is) at c.requires.follows) c.requires.quiet c.self.invariant.frames
+    (ap (λ (b : BoardData). b.queued) c.self.invariant.board) in
+    rw (← c.self.view_is) (omega (arith, c.saturating_add-self-inside.ensures, c.change_kept-changed.ensures.asked, ap (λ (w : Work). w.asked) c.new-work.ensures, most))
+
+pub returns-in-Err-clause-asked : goal.returns-in-Err-clause-asked
+returns-in-Err-clause-asked g c =
+    let device = c.self.inside in
+    let most =
+    line_bound g.D.Validates.verdict device.plan (past device.steps.items) c.args.step device.frames device.board.queued c.self.invariant.legal (rw (← c.self.view_is) at c.requires.follows) c.requires.quiet c.self.invariant.frames
+    (ap (λ (b : BoardData). b.queued) c.self.invariant.board) in
+    elim c.match-step-2.branch [
+      | in-Set-2 w ↦ rw (← c.self.view_is, w.self-is) (omega (arith, c.saturating_add-self-inside.ensures, c.change_kept-changed.ensures.asked, ap (λ (x : Work). x.asked) c.new-work.ensures, most))
+      | in-Store-2 w ↦ rw (← c.self.view_is, w.self-is) (omega (arith, c.saturating_add-self-inside.ensures, c.change_kept-changed.ensures.asked, ap (λ (x : Work). x.asked) c.new-work.ensures, most))
+      | in-OpenFh-2 w ↦ rw (← c.self.view_is, w.self-is) (omega (arith, c.saturating_add-self-inside.ensures, c.change_kept-changed.ensures.asked, ap (λ (x : Work). x.asked) c.new-work.ensures, most))
+    ]

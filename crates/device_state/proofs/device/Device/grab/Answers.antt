@@ -8,7 +8,8 @@ returns-in-Err g c =
 
 pub returns-in-Ok : goal.returns-in-Ok
 returns-in-Ok g c =
-    rw (← c.self.view_is, c.in-Ok.ensures.ok) (handles_grab g.D.Validates.verdict _ _ c.args.seat c.args.control c.args.on c.new-self-inside.ensures c.in_default.ensures.ok)
+    rw (← c.self.view_is, c.in-Ok.ensures.ok)
+    (handles_grab g.D.Validates.verdict _ c.new-self-inside.result c.accept_grab.new.self.work c.args.seat c.args.control c.args.on c.new-self-inside.ensures c.in-Ok.ensures.told c.in-Ok.ensures.asked c.in_default.ensures.ok)
 
 pub returns-in-Err-accept_grab : goal.returns-in-Err-accept_grab
 returns-in-Err-accept_grab g c =

@@ -36,7 +36,7 @@ applied-requires-clause-values g c =
     let r = c.self.inside in
     let P : List (Entry Step) = past (take r.count r.steps.now) in
     let values = rw (← c.self.view_is) at c.in_ok-overlaid.ensures.values in
-    ap length values
+    ap length (c.as_slice.ensures ∙ values)
     ∙ length_overlay g.D.Validates.verdict r.plan.now r.plan.now.controls (now g.D.Validates.verdict r.plan.now P) (grabbed r.plan.now P) (asked r.plan.now P c.args.request.0)
     ∙ length_now g.D.Validates.verdict r.plan.now P
 
@@ -52,26 +52,26 @@ applied-requires-clause-pairs g c =
 pub raise_step-requires-clause-values_before : goal.raise_step-requires-clause-values_before
 raise_step-requires-clause-values_before g c =
     let r = c.self.inside in
-    ap (λ (m : MomentData). length m.values) c.new.ensures ∙ ap length (c.as_slice.ensures.value ∙ c.self.invariant.made.values) ∙ length_now g.D.Validates.verdict r.plan.now (past (take r.count r.steps.now))
+    ap (λ (m : MomentData). length m.values) c.new.ensures ∙ ap length (c.as_slice-3.ensures.value ∙ c.self.invariant.made.values) ∙ length_now g.D.Validates.verdict r.plan.now (past (take r.count r.steps.now))
 
 pub raise_step-requires-clause-grabs_before : goal.raise_step-requires-clause-grabs_before
 raise_step-requires-clause-grabs_before g c =
     let r = c.self.inside in
-    ap (λ (m : MomentData). length m.grabs) c.new.ensures ∙ ap length (c.as_slice-2.ensures.value ∙ c.self.invariant.made.grabs) ∙ length_grabbed r.plan.now (past (take r.count r.steps.now))
+    ap (λ (m : MomentData). length m.grabs) c.new.ensures ∙ ap length (c.as_slice-4.ensures.value ∙ c.self.invariant.made.grabs) ∙ length_grabbed r.plan.now (past (take r.count r.steps.now))
 
 pub raise_step-requires-clause-values : goal.raise_step-requires-clause-values
 raise_step-requires-clause-values g c =
     let r = c.self.inside in
     let P : List (Entry Step) = past (take r.count r.steps.now) in
     let values = rw (← c.self.view_is) at c.in_ok-overlaid.ensures.values in
-    ap (λ (m : MomentData). length m.values) c.new-2.ensures ∙ ap length (c.as_slice-3.ensures.value ∙ c.into_vec-values.ensures ∙ values)
+    ap (λ (m : MomentData). length m.values) c.new-2.ensures ∙ ap length (c.as_slice-5.ensures.value ∙ c.into_vec-values.ensures ∙ values)
     ∙ length_overlay g.D.Validates.verdict r.plan.now r.plan.now.controls (now g.D.Validates.verdict r.plan.now P) (grabbed r.plan.now P) (asked r.plan.now P c.args.request.0)
     ∙ length_now g.D.Validates.verdict r.plan.now P
 
 pub raise_step-requires-clause-grabs : goal.raise_step-requires-clause-grabs
 raise_step-requires-clause-grabs g c =
     let r = c.self.inside in
-    ap (λ (m : MomentData). length m.grabs) c.new-2.ensures ∙ ap length (c.as_slice-4.ensures.value ∙ c.self.invariant.made.grabs) ∙ length_grabbed r.plan.now (past (take r.count r.steps.now))
+    ap (λ (m : MomentData). length m.grabs) c.new-2.ensures ∙ ap length (c.as_slice-6.ensures.value ∙ c.self.invariant.made.grabs) ∙ length_grabbed r.plan.now (past (take r.count r.steps.now))
 
 pub raise_step-requires-clause-numbers : goal.raise_step-requires-clause-numbers
 raise_step-requires-clause-numbers g c = numbered g.D.Validates.verdict c.self.inside.plan.now c.self.inside.steps.now c.self.inside.count _ c.self.invariant
@@ -87,23 +87,23 @@ invariant_of-self g c =
     let values = rw (← c.self.view_is) at c.in_ok-overlaid.ensures.values in
     let refused = rw (← c.self.view_is) at c.in_ok-overlaid.ensures.refused in
     let asks = rw (← c.self.view_is) at c.asked_by.ensures in
-    let given : c.as_slice-5.result.now ≡ begun_pairs g.D.Validates.verdict r.plan.now P n =
-    c.as_slice-5.ensures.value ∙ c.in_ok-given.ensures
-    ∙ ap (λ (v : Values). applied_pairs r.plan.now v c.in_ok-overlaid.overlaid.refused c.asked_by.result.now) values
-    ∙ ap (λ (l : List ℕ). applied_pairs r.plan.now (begun_values g.D.Validates.verdict r.plan.now P n) l c.asked_by.result.now) refused
+    let given : c.as_slice-7.result.now ≡ begun_pairs g.D.Validates.verdict r.plan.now P n =
+    c.as_slice-7.ensures.value ∙ c.in_ok-given.ensures
+    ∙ ap (λ (v : Values). applied_pairs r.plan.now v c.as_slice-2.result.now c.asked_by.result.now) (c.as_slice.ensures ∙ values)
+    ∙ ap (λ (l : List ℕ). applied_pairs r.plan.now (begun_values g.D.Validates.verdict r.plan.now P n) l c.asked_by.result.now) (c.as_slice-2.ensures ∙ refused)
     ∙ ap (λ (ps : List Pair). applied_pairs r.plan.now (begun_values g.D.Validates.verdict r.plan.now P n) (begun_refused g.D.Validates.verdict r.plan.now P n) ps) asks in
     let around : AreAround g.D.Validates.verdict r.plan.now c.args.entry.now P c.new.result c.new-2.result = record {
-      old_values = ap (λ (m : MomentData). m.values) c.new.ensures ∙ c.as_slice.ensures.value ∙ made.values;
-      old_grabs = ap (λ (m : MomentData). m.grabs) c.new.ensures ∙ c.as_slice-2.ensures.value ∙ made.grabs;
-      values = ap (λ (m : MomentData). m.values) c.new-2.ensures ∙ c.as_slice-3.ensures.value ∙ c.into_vec-values.ensures ∙ values
+      old_values = ap (λ (m : MomentData). m.values) c.new.ensures ∙ c.as_slice-3.ensures.value ∙ made.values;
+      old_grabs = ap (λ (m : MomentData). m.grabs) c.new.ensures ∙ c.as_slice-4.ensures.value ∙ made.grabs;
+      values = ap (λ (m : MomentData). m.values) c.new-2.ensures ∙ c.as_slice-5.ensures.value ∙ c.into_vec-values.ensures ∙ values
           ∙ sym (now_next g.D.Validates.verdict r.plan.now c.args.entry.now P ∙ ap (λ (s : Step). now_after g.D.Validates.verdict r.plan.now (grabbed r.plan.now P) (laid r.plan.now P s) (now g.D.Validates.verdict r.plan.now P)) step);
-      grabs = ap (λ (m : MomentData). m.grabs) c.new-2.ensures ∙ c.as_slice-4.ensures.value ∙ made.grabs ∙ sym (grabbed_more r.plan.now c.args.entry.now P ∙ ap (λ (s : Step). grabbed_after s (grabbed r.plan.now P)) step);
+      grabs = ap (λ (m : MomentData). m.grabs) c.new-2.ensures ∙ c.as_slice-6.ensures.value ∙ made.grabs ∙ sym (grabbed_more r.plan.now c.args.entry.now P ∙ ap (λ (s : Step). grabbed_after s (grabbed r.plan.now P)) step);
     } in
     replay_add g.D.Validates.verdict r.plan.now r.steps.now r.count _ _ c.args.entry.now c.self.invariant (rw (← c.self.view_is) at c.requires.next) (rw (← c.self.view_is) at c.requires.room) (rw (← c.self.view_is) at c.requires.follows)
     (rw step made.file_handles) (rw step made.grabs) (rw step (c.into_vec-values.ensures ∙ values))
     (rw step
     (c.begin.ensures.frames
-    ∙ ap (after_begin r.frames) (c.as_slice-6.ensures.value ∙ sym c.as_slice-5.ensures.value ∙ given)
+    ∙ ap (after_begin r.frames) (c.as_slice-8.ensures.value ∙ sym c.as_slice-7.ensures.value ∙ given)
     ∙ ap (λ (f : FramesData). after_begin f (begun_pairs g.D.Validates.verdict r.plan.now P n)) made.frames))
     (c.raise_step.ensures g.D.Validates.verdict c.args.entry.now P around (rw step (given, refl)))
 

@@ -1,0 +1,49 @@
+-- The forecasts that a device keeps, with the queued frames that they are of (of this project).
+use Rattle.std.specs.Prelude.{◌≡◌, ℕ, Bool, false, List, [], length, map, filter, Option, None, Some, nat_eq, slice_index_or}
+use Rattle.std.specs.List.{list_any, range_with_len}
+use Rattle.ctrl_types.specs.declared.ids.Pair.{Pair}
+use Rattle.ctrl_calls.specs.Meanings.{Verdicts}
+use Rattle.ctrl_settle.specs.Control.{Control}
+use Rattle.ctrl_handlers.specs.Plan.{PlanData, cluster_of, members}
+use Rattle.ctrl_clusters.specs.Rows.{Values, value_at, Grabs, is_grabbed}
+use Rattle.ctrl_clusters.specs.Overlay.{is_touched}
+use Rattle.ctrl_forecast.specs.Forecasts.{QueuedData, forecasts}
+use Rattle.ctrl_forecast.specs.declared.board.Forecast.{Forecast}
+
+-- the clusters with a member among pairs, rising
+abbrev pub named_clusters : PlanData → List Pair → List ℕ
+named_clusters plan pairs = filter (λ k. is_touched pairs (members plan k)) (range_with_len 0 (length plan.clusters))
+
+-- the queued frames, for each of them the clusters with a member among its pairs, and what each will have
+pub record BoardData : Type 0 where
+  pub queued : List QueuedData
+  pub named : List (List ℕ)
+  pub rows : List Forecast
+
+-- the board of no frame
+abbrev pub no_board : BoardData
+no_board = record { queued = []; named = []; rows = [] }
+
+-- What is kept of queued frames, where the first stands over these values, under these grabs: nothing of it depends on what was kept before.
+abbrev pub board_of : Verdicts → PlanData → List Control → Grabs → Values → List QueuedData → BoardData
+board_of verdicts plan controls grabs values queued = record {
+  queued = queued;
+  named = map (λ q. named_clusters plan q.asked) queued;
+  rows = forecasts verdicts plan controls grabs values queued;
+}
+
+-- what the frame at a place asks for; nothing where there is none
+abbrev pub asked_at : List QueuedData → ℕ → List Pair
+asked_at queued place = (slice_index_or queued place (record { request = record { 0 = 0 }; buffer = 0; asked = [] })).asked
+
+-- the cluster that a control is in is one of some
+abbrev pub is_in_one_of : List ℕ → Option ℕ → Bool
+is_in_one_of clusters None = false
+is_in_one_of clusters (Some k) = list_any (nat_eq k) clusters
+
+-- Values and grabs differ from those before in some clusters at most: every control of another cluster has its value, and is grabbed or not,
+-- as it was.
+pub record DifferOnlyIn (plan : PlanData) (clusters : List ℕ) (before : Values) (held : Grabs) (values : Values) (grabs : Grabs) : Type 0 where
+  pub many : length before ≡ length values
+  pub values_stay : (c : ℕ) → is_in_one_of clusters (cluster_of plan c) ≡ false → value_at before c ≡ value_at values c
+  pub grabs_stay : (c : ℕ) → is_in_one_of clusters (cluster_of plan c) ≡ false → is_grabbed held c ≡ is_grabbed grabs c

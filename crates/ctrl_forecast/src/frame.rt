@@ -1,0 +1,230 @@
+//! A queued frame that is kept, with what it will have.
+
+ghost use Rattle.std.specs.Prelude.{◌≡◌, ◌<◌, ◌≤◌, ◌+◌, length, count_by, nat_lt, IfOk, vec_capacity};
+ghost use Rattle.ctrl_handlers.specs.Plan.{members};
+ghost use Rattle.ctrl_clusters.specs.Rows.{AreControlsOf};
+ghost use Rattle.ctrl_forecast.specs.Boards.{named_clusters};
+ghost use Rattle.ctrl_forecast.specs.Frames.{forecast_of, frame_over, marked, others, with_outcome};
+ghost use Rattle.ctrl_forecast.specs.Touched.{touched_count};
+
+use crate::board::Forecast;
+use crate::laying::{Overlaid, is_touched, overlay};
+use crate::lists::{ClusterList, ValueRow};
+use ctrl_calls::{ClusterRow, Driver, Work};
+use ctrl_clusters::{NewRow, write_rows};
+use ctrl_handlers::Plan;
+use ctrl_settle::Ctrl;
+use ctrl_types::{CtrlValue, Pair, RequestId};
+use std::alloc::{AllocError, Global};
+use std::marker::Model;
+
+/// A queued frame (of this project). Contracts see it as its parts.
+#[derive(Drop)]
+pub struct Queued<'a> {
+    request: RequestId,
+    buffer: u32,
+    asked: &'a [Pair],
+}
+
+impl<'a> Model for Queued<'a> {
+    ghost use Rattle.ctrl_forecast.specs.Forecasts.{QueuedData};
+
+    ghost Value = { QueuedData };
+
+    ghost view = { λ q. record { request = q.request; buffer = q.buffer; asked = q.asked.now } };
+}
+
+impl<'a> Queued<'a> {
+    /// The frame of a request that is queued.
+    ///
+    /// - `request`: the request.
+    /// - `buffer`: the number of its buffer.
+    /// - `asked`: what it asks for; of a control the last pair counts.
+    pub fn new(request: RequestId, buffer: u32, asked: &'a [Pair]) -> Queued<'a>
+        ensures { result ≡ record { request = request; buffer = buffer; asked = asked.now } }
+    {
+        Queued {
+            request,
+            buffer,
+            asked,
+        }
+    }
+}
+
+// A queued frame, with what it will have. Whatever its clusters are, there is room for each that its pairs name among the refused ones.
+#[derive(Drop)]
+pub(crate) struct Frame {
+    request: RequestId,
+    buffer: u32,
+    asked: Vec<Pair>,
+    named: Vec<u32>,
+    values: Vec<CtrlValue>,
+    refused: Vec<u32>,
+}
+
+impl Model for Frame {
+    ghost use Rattle.std.specs.Prelude.{◌≤◌, length, vec_capacity};
+    ghost use Rattle.ctrl_forecast.specs.Frames.{FrameData};
+
+    ghost Value = { FrameData };
+
+    ghost view = { λ f. record { request = f.request; buffer = f.buffer; asked = f.asked.items; named = f.named.items; values = f.values.items; refused = f.refused.items } };
+
+    ghost invariant = { λ f. length f.named.items ≤ vec_capacity f.refused };
+}
+
+impl Frame {
+    ghost use Rattle.std.specs.Prelude.{◌≡◌, ◌<◌, ◌≤◌, ◌+◌, length, IfOk};
+
+    // A frame over values, with room for each cluster that its pairs name. The error is that a growth was refused.
+    pub(crate) fn new<D: Driver>(
+        alloc: Global,
+        plan: &Plan<D>,
+        controls: &[Ctrl],
+        values: &[CtrlValue],
+        grabs: &[bool],
+        queued: &Queued<'_>,
+        work: &mut Work,
+    ) -> Result<Frame, AllocError>
+        requires controls { AreControlsOf plan.now controls.now }
+        requires values { length values.now ≡ length plan.now.controls }
+        ensures frame { IfOk result (λ f. f ≡ frame_over D.verdict plan.now controls.now grabs.now values.now queued.now) }
+        ensures asked { work.new.asked ≤ work.old.asked + touched_count plan.now queued.now.asked }
+        ensures told { work.new.told ≡ work.old.told }
+    {
+        let asked = Vec::from_slice(alloc, queued.asked)?;
+        let named = named_clusters(alloc, plan, queued.asked)?;
+        let overlaid = overlay(alloc, plan, controls, values, grabs, queued.asked, work)?;
+        let Overlaid { values, refused } = overlaid;
+        let mut refused = refused.into_vec();
+        refused.reserve(named.len())?;
+        Ok(Frame {
+            request: queued.request,
+            buffer: queued.buffer,
+            asked,
+            named,
+            values: values.into_vec(),
+            refused,
+        })
+    }
+
+    pub(crate) fn request(&self) -> RequestId
+        ensures { result ≡ self.now.request }
+    {
+        self.request
+    }
+
+    pub(crate) fn buffer(&self) -> u32
+        ensures { result ≡ self.now.buffer }
+    {
+        self.buffer
+    }
+
+    pub(crate) fn asked(&self) -> &[Pair]
+        ensures { result.now ≡ self.now.asked }
+    {
+        self.asked.as_slice()
+    }
+
+    pub(crate) fn named(&self) -> &[u32]
+        ensures { result.now ≡ self.now.named }
+    {
+        self.named.as_slice()
+    }
+
+    pub(crate) fn values(&self) -> &[CtrlValue]
+        ensures { result.now ≡ self.now.values }
+    {
+        self.values.as_slice()
+    }
+
+    pub(crate) fn refused(&self) -> &[u32]
+        ensures { result.now ≡ self.now.refused }
+    {
+        self.refused.as_slice()
+    }
+
+    // What the frame will have, with the memory that it lies in.
+    pub(crate) fn into_forecast(self) -> Forecast
+        ensures { result ≡ forecast_of self }
+    {
+        let Frame {
+            request,
+            buffer,
+            asked: _,
+            named: _,
+            values,
+            refused,
+        } = self;
+        Forecast {
+            request,
+            buffer,
+            values: ValueRow::from_vec(values),
+            refused: ClusterList::from_vec(refused),
+        }
+    }
+
+    // Gives a cluster a row, and has it refused or not. It takes no memory.
+    pub(crate) fn set_outcome<D: Driver>(
+        &mut self,
+        plan: &Plan<D>,
+        cluster: u32,
+        row: ClusterRow,
+        is_refused: bool,
+    )
+        requires values { length self.old.values ≡ length plan.now.controls }
+        requires cluster { cluster < length plan.now.clusters }
+        requires row { length row ≡ length (members plan.now cluster) }
+        requires room { length (marked cluster is_refused self.old.refused) ≤ length self.old.named }
+        ensures { self.new ≡ with_outcome plan.now cluster row is_refused self.old }
+    {
+        write_rows(plan, &mut self.values, &[NewRow { cluster, row }]);
+        mark(&mut self.refused, cluster, is_refused);
+    }
+}
+
+// The clusters with a member among pairs, rising.
+fn named_clusters<D: Driver>(
+    alloc: Global,
+    plan: &Plan<D>,
+    pairs: &[Pair],
+) -> Result<Vec<u32>, AllocError>
+    ensures { IfOk result (λ named. named.items ≡ named_clusters plan.now pairs.now) }
+{
+    let mut named = Vec::new(alloc);
+    for cluster in 0..plan.cluster_count() {
+        if is_touched(pairs, plan.members(cluster)) {
+            named.push(cluster)?;
+        }
+    }
+    Ok(named)
+}
+
+// Puts a cluster among rising ones, in its place, or takes it out. There is room for it.
+fn mark(refused: &mut Vec<u32>, cluster: u32, is_refused: bool)
+    requires room { length (marked cluster is_refused refused.old.items) ≤ vec_capacity refused.old }
+    ensures clusters { refused.new.items ≡ marked cluster is_refused refused.old.items }
+    ensures room { vec_capacity refused.old ≤ vec_capacity refused.new }
+{
+    leave_out(refused, cluster);
+    if is_refused {
+        let place = count_below(refused.as_slice(), cluster);
+        let _ = refused.insert(place, cluster);
+    }
+}
+
+// Takes a number out.
+fn leave_out(numbers: &mut Vec<u32>, number: u32)
+    ensures others { numbers.new.items ≡ others number numbers.old.items }
+    ensures room { vec_capacity numbers.new ≡ vec_capacity numbers.old }
+{
+    numbers.retain(|other| number != *other);
+}
+
+// How many numbers are below another.
+fn count_below(numbers: &[u32], number: u32) -> usize
+    ensures count { result ≡ count_by (λ j. nat_lt j number) numbers.now }
+    ensures within { result ≤ length numbers.now }
+{
+    numbers.iter().filter(|other| **other < number).count()
+}

@@ -1,0 +1,136 @@
+//! Clusters that are renewed in frames that are kept, one cluster after another, each through the frames in their order.
+
+ghost use Rattle.std.specs.Prelude.{◌≡◌, ◌<◌, ◌≤◌, ◌+◌, ◌-◌, ◌*◌, ℕ, length, map, is_err};
+ghost use Rattle.std.specs.List.{All};
+ghost use Rattle.ctrl_handlers.specs.Plan.{members};
+ghost use Rattle.ctrl_clusters.specs.Rows.{AreControlsOf, row_of};
+ghost use Rattle.ctrl_clusters.specs.Overlay.{row_after};
+ghost use Rattle.ctrl_forecast.specs.Boards.{board_of};
+ghost use Rattle.ctrl_forecast.specs.Frames.{AreFrames, AreReady, IsRenewed, IsRightAt, board_seen, queued_of, renewed_at, row_or, setting, values_before};
+
+use crate::frame::Frame;
+use crate::laying::row_after;
+use ctrl_calls::{ClusterRow, Driver, Work};
+use ctrl_clusters::present_row;
+use ctrl_handlers::Plan;
+use ctrl_settle::Ctrl;
+use ctrl_types::{CtrlValue, Pair};
+
+// Renews some clusters from a place on, where all else is right already. Then all is.
+pub(crate) fn renew_clusters<D: Driver>(
+    frames: &mut Vec<Frame>,
+    from: usize,
+    plan: &Plan<D>,
+    controls: &[Ctrl],
+    values: &[CtrlValue],
+    grabs: &[bool],
+    clusters: &[u32],
+    work: &mut Work,
+)
+    requires controls { AreControlsOf plan.now controls.now }
+    requires values { length values.now ≡ length plan.now.controls }
+    requires clusters { All (λ k. k < length plan.now.clusters) clusters.now }
+    requires from { from ≤ length frames.old.items }
+    requires ready { AreReady (setting D.verdict plan.now controls.now grabs.now values.now) from clusters.now frames.old.items }
+    ensures frames { board_seen frames.new.items ≡ board_of D.verdict plan.now controls.now grabs.now values.now (map queued_of frames.old.items) }
+    ensures asked { work.new.asked ≤ work.old.asked + length clusters.now * (length frames.old.items - from) }
+    ensures told { work.new.told ≡ work.old.told }
+{
+    // the plan is a finished one, as the contract of `controls` says
+    let _plan = plan.controls();
+    for &cluster in clusters {
+        renew_cluster(frames, from, plan, controls, values, grabs, cluster, work);
+    }
+}
+
+// Renews a cluster from a place on, where it is right before that.
+fn renew_cluster<D: Driver>(
+    frames: &mut Vec<Frame>,
+    from: usize,
+    plan: &Plan<D>,
+    controls: &[Ctrl],
+    values: &[CtrlValue],
+    grabs: &[bool],
+    cluster: u32,
+    work: &mut Work,
+)
+    requires controls { AreControlsOf plan.now controls.now }
+    requires values { length values.now ≡ length plan.now.controls }
+    requires cluster { cluster < length plan.now.clusters }
+    requires from { from ≤ length frames.old.items }
+    requires frames { AreFrames plan.now frames.old.items }
+    requires before { (i : ℕ) → i < from → i < length frames.old.items → IsRightAt (setting D.verdict plan.now controls.now grabs.now values.now) frames.old.items cluster i }
+    ensures renewed { IsRenewed (setting D.verdict plan.now controls.now grabs.now values.now) cluster (length frames.new.items) frames.old.items frames.new.items }
+    ensures asked { work.new.asked ≤ work.old.asked + (length frames.old.items - from) }
+    ensures told { work.new.told ≡ work.old.told }
+{
+    // the plan is a finished one, as the contract of `controls` says
+    let _plan = plan.controls();
+    for place in from..frames.len() {
+        renew_at(frames, place, plan, controls, values, grabs, cluster, work);
+    }
+}
+
+// Renews a cluster of the frame at a place, over the values before it as they are.
+fn renew_at<D: Driver>(
+    frames: &mut Vec<Frame>,
+    place: usize,
+    plan: &Plan<D>,
+    controls: &[Ctrl],
+    values: &[CtrlValue],
+    grabs: &[bool],
+    cluster: u32,
+    work: &mut Work,
+)
+    requires controls { AreControlsOf plan.now controls.now }
+    requires values { length values.now ≡ length plan.now.controls }
+    requires cluster { cluster < length plan.now.clusters }
+    requires frames { AreFrames plan.now frames.old.items }
+    requires place { place < length frames.old.items }
+    ensures frames { frames.new.items ≡ renewed_at (setting D.verdict plan.now controls.now grabs.now values.now) cluster place frames.old.items }
+    ensures asked { work.new.asked ≤ work.old.asked + 1 }
+    ensures told { work.new.told ≡ work.old.told }
+{
+    let base = values_before(frames.as_slice(), place, values);
+    let asked = frames[place].asked();
+    let (row, is_refused) = row_over(plan, controls, base, grabs, asked, cluster, work);
+    let frame = &mut frames[place];
+    frame.set_outcome(plan, cluster, row, is_refused);
+}
+
+// The values before the frame at a place.
+fn values_before<'a>(frames: &'a [Frame], place: usize, values: &'a [CtrlValue]) -> &'a [CtrlValue]
+    requires { place < length frames.now }
+    ensures { result.now ≡ values_before values.now frames.now place }
+{
+    if place == 0 {
+        values
+    } else {
+        frames[place - 1].values()
+    }
+}
+
+// The row that a cluster has once pairs are laid over values, and whether it is refused, where it keeps its own.
+fn row_over<D: Driver>(
+    plan: &Plan<D>,
+    controls: &[Ctrl],
+    base: &[CtrlValue],
+    grabs: &[bool],
+    pairs: &[Pair],
+    cluster: u32,
+    work: &mut Work,
+) -> (ClusterRow, bool)
+    requires controls { AreControlsOf plan.now controls.now }
+    requires values { length base.now ≡ length plan.now.controls }
+    requires cluster { cluster < length plan.now.clusters }
+    ensures row { result.0 ≡ row_or (row_of base.now (members plan.now cluster)) (row_after D.verdict plan.now controls.now base.now grabs.now pairs.now cluster) }
+    ensures refused { result.1 ≡ is_err (row_after D.verdict plan.now controls.now base.now grabs.now pairs.now cluster) }
+    ensures long { length result.0 ≡ length (members plan.now cluster) }
+    ensures asked { work.new.asked ≤ work.old.asked + 1 }
+    ensures told { work.new.told ≡ work.old.told }
+{
+    match row_after(plan, controls, base, grabs, pairs, cluster, work) {
+        Ok(row) => (row, false),
+        Err(_) => (present_row(base, plan.members(cluster)), true),
+    }
+}

@@ -1,0 +1,132 @@
+-- The kept forecasts of the queued frames, once a history goes on.
+use Rattle.std.proofs.Common.{◌≡◌, ℕ, true, List, [], ◌∷◌, ◌++◌, map, Option, None, Some, refl, ap, sym, subst, ◌∙◌, arith}
+use Rattle.std.specs.Option.{option_map}
+use Rattle.history.specs.declared.entry.Entry.{Entry}
+use Rattle.history.specs.Past.{past}
+use Rattle.ctrl_calls.specs.Meanings.{Verdicts}
+use Rattle.ctrl_handlers.specs.Plan.{PlanData}
+use Rattle.ctrl_clusters.specs.Rows.{Grabs, Values}
+use Rattle.ctrl_forecast.specs.Boards.{BoardData, board_of, no_board}
+use Rattle.ctrl_forecast.specs.Forecasts.{QueuedData, forecasts}
+use Rattle.req_book.specs.Refusals.{queue_refusal}
+use Rattle.req_book.specs.Requests.{RequestData}
+use Rattle.req_book.specs.declared.state.RequestState.{RequestState}
+use Rattle.frame_queue.specs.Frames.{AreOnce, FramesData, buffer_number}
+use Rattle.device_history.specs.declared.ask.Step.{Step}
+use Rattle.device_history.specs.declared.ask.Step.TheVariants as steps
+use Rattle.device_history.specs.Steps.{History, Past}
+use Rattle.device_history.specs.Grabs.{grabbed, grabbed_after}
+use Rattle.device_history.specs.Values.{laid, now, now_after}
+use Rattle.device_history.specs.Frames.{queue}
+use Rattle.device_history.specs.Frames as F
+use Rattle.device_history.specs.Requests.{state}
+use Rattle.device_history.specs.Snapshots.{frames, request, request_in}
+use Rattle.device_history.specs.Forecasts.{board, queued_frame, queued_frames, waiting_after}
+use Rattle.device_history.specs.FrameSteps.{FitsFrames}
+use Rattle.device_history.specs.Legal.{IsLegal, MayFollow}
+use Rattle.device_history.proofs.GrabLemmas.{grabbed_add}
+use Rattle.device_history.proofs.PastLemmas.{now_add}
+use Rattle.device_history.proofs.QueuedFrames.{waiting_add}
+use Rattle.device_history.proofs.FitLemmas.{fits}
+use Rattle.device_history.proofs.FrameLaw.{found_request, frames_legal}
+use Rattle.ctrl_forecast.specs.Touched.{touched_count}
+use Rattle.device_state.specs.Entering.{quiet_asks}
+use Rattle.step_effects.specs.Lines.{frame_in, line_after, line_asks, pairs_in}
+use Rattle.step_effects.specs.Quiet.{is_quiet}
+
+-- a board is of the grabs, the values and the queued frames
+pub board_same : (verdicts : Verdicts) (plan : PlanData) {grabs grabs' : Grabs} {values values' : Values} {queued queued' : List QueuedData} → grabs ≡ grabs' → values ≡ values' → queued ≡ queued'
+    → board_of verdicts plan plan.controls grabs values queued ≡ board_of verdicts plan plan.controls grabs' values' queued'
+board_same verdicts plan g v q = rw (g, v, q) refl
+
+-- at first no frame is queued
+pub board_start : (verdicts : Verdicts) (plan : PlanData) → board verdicts plan (past []) ≡ no_board
+unfolding forecasts F.ever_queued
+board_start verdicts plan = refl
+
+-- what one more step makes of a board
+abbrev pub board_after : Verdicts → PlanData → Step → Past → BoardData
+board_after verdicts plan step older =
+    board_of verdicts plan plan.controls (grabbed_after step (grabbed plan older)) (now_after verdicts plan (grabbed plan older) (laid plan older step) (now verdicts plan older)) (waiting_after plan older step (queued_frames plan older))
+
+pub board_add : (verdicts : Verdicts) (plan : PlanData) (entries : History) (e : Entry Step) → IsLegal verdicts plan (past entries) → MayFollow verdicts plan (past entries) e.step
+    → board verdicts plan (past (entries ++ e ∷ [])) ≡ board_after verdicts plan e.step (past entries)
+board_add verdicts plan entries e legal may = board_same verdicts plan (grabbed_add plan entries e) (now_add verdicts plan entries e) (waiting_add verdicts plan entries e legal may)
+
+-- the frame of a request that is there
+frame_is : (verdicts : Verdicts) (plan : PlanData) (older : Past) (r : ℕ) → IsLegal verdicts plan older → (queue_refusal (request verdicts plan older r) ≡ None) → frame_in (frames verdicts plan older) r ≡ queued_frame plan older r
+unfolding request
+frame_is verdicts plan older r legal fits_it = ap of (found_request verdicts plan older r legal) ∙ by (state older r) fits_it
+  where
+    of : Option RequestData → QueuedData
+    of o = record { request = record { 0 = r }; buffer = buffer_number o; asked = pairs_in o }
+
+    by : (o : Option RequestState) → queue_refusal (option_map (request_in verdicts plan older r) o) ≡ None → of (option_map (request_in verdicts plan older r) o) ≡ queued_frame plan older r
+    by None h = cc
+    by (Some s) h = refl
+
+-- what a quiet step makes of the queued frames
+line_is : (verdicts : Verdicts) (plan : PlanData) (older : Past) (step : Step) (queued : List QueuedData) → IsLegal verdicts plan older → FitsFrames verdicts plan older step → is_quiet step ≡ true
+    → line_after (frames verdicts plan older) step queued ≡ waiting_after plan older step queued
+line_is verdicts plan older (steps.OpenFh handler) queued legal fits_it quiet = cc
+line_is verdicts plan older (steps.CloseFh fh) queued legal fits_it quiet = cc
+line_is verdicts plan older (steps.Set fh pairs) queued legal fits_it quiet = cc
+line_is verdicts plan older (steps.Grab c on) queued legal fits_it quiet = cc
+line_is verdicts plan older steps.Alloc queued legal fits_it quiet = refl
+line_is verdicts plan older (steps.Store r pairs) queued legal fits_it quiet = refl
+line_is verdicts plan older (steps.Buffer r number) queued legal fits_it quiet = refl
+line_is verdicts plan older (steps.Queue r) queued legal fits_it quiet = ap (λ (q : QueuedData). queued ++ q ∷ []) (frame_is verdicts plan older r.0 legal fits_it)
+line_is verdicts plan older (steps.Begin r) queued legal fits_it quiet = cc
+line_is verdicts plan older (steps.Complete r) queued legal fits_it quiet = refl
+line_is verdicts plan older (steps.Cancel r) queued legal fits_it quiet = refl
+line_is verdicts plan older steps.StreamOff queued legal fits_it quiet = refl
+line_is verdicts plan older (steps.Reinit r) queued legal fits_it quiet = refl
+line_is verdicts plan older (steps.Free r) queued legal fits_it quiet = refl
+line_is verdicts plan older (steps.Subscribe f c flags) queued legal fits_it quiet = refl
+line_is verdicts plan older (steps.Unsubscribe f c) queued legal fits_it quiet = refl
+line_is verdicts plan older (steps.Take f c) queued legal fits_it quiet = refl
+
+-- the same, of what is kept
+pub line_kept : (verdicts : Verdicts) (plan : PlanData) (older : Past) (step : Step) (f : FramesData) (queued : List QueuedData) → IsLegal verdicts plan older → MayFollow verdicts plan older step → is_quiet step ≡ true
+    → f ≡ frames verdicts plan older → queued ≡ queued_frames plan older → line_after f step queued ≡ waiting_after plan older step (queued_frames plan older)
+line_kept verdicts plan older step f queued legal may quiet own line =
+    rw (own, line) (line_is verdicts plan older step (queued_frames plan older) legal (fits verdicts plan older step may) quiet)
+
+-- each queued frame is of the request at its place
+frames_named : (plan : PlanData) (older : Past) (ids : List ℕ) → map (λ q. q.request.0) (map (queued_frame plan older) ids) ≡ ids
+frames_named plan older [] = refl
+frames_named plan older (j ∷ ids) = ap (λ (js : List ℕ). j ∷ js) (frames_named plan older ids)
+
+-- no request is queued twice
+pub queued_once : (verdicts : Verdicts) (plan : PlanData) (older : Past) (queued : List QueuedData) → IsLegal verdicts plan older → queued ≡ queued_frames plan older → AreOnce (map (λ q. q.request.0) queued)
+queued_once verdicts plan older queued legal line =
+    subst AreOnce (sym (ap (map (λ (q : QueuedData). q.request.0)) line ∙ frames_named plan older (queue older))) (frames_legal verdicts plan older legal).once
+
+-- what a quiet step asks at most, of what is kept
+pub line_bound : (verdicts : Verdicts) (plan : PlanData) (older : Past) (step : Step) (f : FramesData) (queued : List QueuedData) → IsLegal verdicts plan older → MayFollow verdicts plan older step → is_quiet step ≡ true
+    → f ≡ frames verdicts plan older → queued ≡ queued_frames plan older → line_asks plan f step queued ≡ quiet_asks plan older step
+line_bound verdicts plan older step f queued legal may quiet own line = rw (own, line) (by step (fits verdicts plan older step may) quiet)
+  where
+    by : (step : Step) → FitsFrames verdicts plan older step → is_quiet step ≡ true → line_asks plan (frames verdicts plan older) step (queued_frames plan older) ≡ quiet_asks plan older step
+    by (steps.OpenFh handler) fits_it q = cc
+    by (steps.CloseFh fh) fits_it q = cc
+    by (steps.Set fh pairs) fits_it q = cc
+    by (steps.Grab c on) fits_it q = cc
+    by steps.Alloc fits_it q = refl
+    by (steps.Store r pairs) fits_it q = refl
+    by (steps.Buffer r number) fits_it q = refl
+    by (steps.Queue r) fits_it q = omega (arith, ap (λ (frame : QueuedData). touched_count plan frame.asked) (frame_is verdicts plan older r.0 legal fits_it))
+    by (steps.Begin r) fits_it q = cc
+    by (steps.Complete r) fits_it q = refl
+    by (steps.Cancel r) fits_it q = omega arith
+    by steps.StreamOff fits_it q = refl
+    by (steps.Reinit r) fits_it q = refl
+    by (steps.Free r) fits_it q = refl
+    by (steps.Subscribe fh c flags) fits_it q = refl
+    by (steps.Unsubscribe fh c) fits_it q = refl
+    by (steps.Take fh c) fits_it q = refl
+
+-- the board that is kept, as one of what is kept beside it
+pub board_own : (verdicts : Verdicts) (plan : PlanData) (grabs grabs' : Grabs) (values values' : Values) (queued : List QueuedData) (b : BoardData) → b ≡ board_of verdicts plan plan.controls grabs values queued → grabs' ≡ grabs → values' ≡ values
+    → b ≡ board_of verdicts plan plan.controls grabs' values' b.queued
+board_own verdicts plan grabs grabs' values values' queued b is g v = is ∙ board_same verdicts plan (sym g) (sym v) (sym (ap (λ (x : BoardData). x.queued) is))

@@ -1,0 +1,62 @@
+-- What a set and a grab change, for the forecasts that are renewed.
+use Rattle.std.proofs.Common.{◌≡◌, ◌≢◌, ℕ, ◌<◌, ◌≤◌, ◌⊎◌, ◌==◌, Bool, true, false, nat_eq, List, [], ◌∷◌, length, pos, slice_set, Option, None, Some, is_some, unwrap_or, inl, inr, refl, ap, sym, subst, ◌∙◌, arith}
+use Rattle.std.specs.List.{All, list_any}
+use Rattle.std.specs.Option.{option_and_then}
+use Rattle.std.proofs.lemmas.Bool.Decides.{eqb_tells, leb_tells, nat_tests}
+use Rattle.std.proofs.lemmas.List.{get_or-set_other, get_or_past}
+use Rattle.std.proofs.Math.Dec.{leb}
+use Rattle.ctrl_types.specs.Values.{CtrlValue}
+use Rattle.ctrl_calls.specs.Meanings.{Verdicts}
+use Rattle.ctrl_settle.specs.Control.{Control}
+use Rattle.ctrl_handlers.specs.Plan.{PlanData, cluster_of, members}
+use Rattle.ctrl_clusters.specs.Rows.{Grabs, Values, value_at, value_in, is_grabbed}
+use Rattle.ctrl_clusters.specs.NewRows.{clusters_of, row_among, value_among, written}
+use Rattle.ctrl_clusters.specs.declared.new_row.NewRow.{NewRow}
+use Rattle.ctrl_clusters.proofs.NewRowLemmas.{has_row, length_written, written_at}
+use Rattle.ctrl_clusters.proofs.OverlayLemmas.{or_true}
+use Rattle.ctrl_forecast.specs.Boards.{BoardData, DifferOnlyIn, board_of, is_in_one_of}
+use Rattle.ctrl_forecast.specs.Forecasts.{QueuedData}
+
+-- a board is of the controls, the grabs, the values and the queued frames
+pub board_like : (verdicts : Verdicts) (plan : PlanData) {controls controls' : List Control} {grabs grabs' : Grabs} {values values' : Values} {queued queued' : List QueuedData} → controls ≡ controls' → grabs ≡ grabs' → values ≡ values' → queued ≡ queued'
+    → board_of verdicts plan controls grabs values queued ≡ board_of verdicts plan controls' grabs' values' queued'
+board_like verdicts plan c g v q = rw (c, g, v, q) refl
+
+-- the board that is kept, as one of what is handed in
+pub board_kept : (verdicts : Verdicts) (plan : PlanData) (controls : List Control) (grabs grabs' : Grabs) (values values' : Values) (queued : List QueuedData) (b : BoardData) → b ≡ board_of verdicts plan plan.controls grabs values queued → controls ≡ plan.controls
+    → grabs' ≡ grabs → values' ≡ values → b ≡ board_of verdicts plan controls grabs' values' b.queued
+board_kept verdicts plan controls grabs grabs' values values' queued b is c g v = is ∙ board_like verdicts plan (sym c) (sym g) (sym v) (sym (ap (λ (x : BoardData). x.queued) is))
+
+-- a cluster without a row gives nothing
+nothing_among : (plan : PlanData) (rows : List NewRow) (o : Option ℕ) (c : ℕ) → is_in_one_of (clusters_of rows) o ≡ false → value_among plan rows o c ≡ None
+nothing_among plan rows None c apart = refl
+nothing_among plan rows (Some k) c apart = by (row_among rows k) (sym (has_row rows k) ∙ apart)
+  where
+    by : (o : Option (List CtrlValue)) → is_some o ≡ false → option_and_then (λ row. value_in (members plan k) row c) o ≡ None
+    by None h = refl
+    by (Some row) h = cc
+
+-- rows that are written change values in their clusters alone
+pub written_apart : (plan : PlanData) (values : Values) (rows : List NewRow) (c : ℕ) → is_in_one_of (clusters_of rows) (cluster_of plan c) ≡ false → value_at values c ≡ value_at (written plan values rows) c
+written_apart plan values rows c apart = by (leb_tells (length values) c)
+  where
+    by : ((leb (length values) c ≡ true) × (length values ≤ c)) ⊎ ((leb (length values) c ≡ false) × (c < length values)) → value_at values c ≡ value_at (written plan values rows) c
+    by (inl past) = get_or_past values c (pos 0) past.1 ∙ sym (get_or_past (written plan values rows) c (pos 0) (omega (arith, past.1, length_written plan values rows)))
+    by (inr within) = sym (written_at plan values rows c within.1 ∙ ap (λ (o : Option CtrlValue). unwrap_or o (value_at values c)) (nothing_among plan rows (cluster_of plan c) c apart))
+
+-- a grab changes the grabs in the cluster of its control alone
+pub grab_apart : (plan : PlanData) (grabs : Grabs) (c k : ℕ) (on : Bool) (d : ℕ) → cluster_of plan c ≡ Some k → is_in_one_of (k ∷ []) (cluster_of plan d) ≡ false → is_grabbed grabs d ≡ is_grabbed (slice_set grabs c on) d
+grab_apart plan grabs c k on d is apart = by (eqb_tells d c)
+  where
+    own : nat_eq k k ≡ true
+    own = grind (arith, nat_tests)
+
+    differ : true ≡ false → ⊥
+    differ h = cc
+
+    clash : is_in_one_of (k ∷ []) (Some k) ≡ false → ⊥
+    clash h = differ (sym (or_true (nat_eq k k) false own) ∙ h)
+
+    by : ((d == c) ≡ true × (d ≡ c)) ⊎ ((d == c) ≡ false × (d ≢ c)) → is_grabbed grabs d ≡ is_grabbed (slice_set grabs c on) d
+    by (inl same) = absurd (clash (subst (λ (o : Option ℕ). is_in_one_of (k ∷ []) o ≡ false) (ap (cluster_of plan) same.1 ∙ is) apart))
+    by (inr other) = sym (get_or-set_other grabs c d on false other.1)

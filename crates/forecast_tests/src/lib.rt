@@ -1,0 +1,14 @@
+//! Tests of forecasts that are kept while frames wait: changes are drawn from a fixed seed, and after each of them the rows that are kept are
+//! compared with those that are computed anew, and the validators that were asked are counted.
+#![tactic(auto)]
+
+#[cfg(test)]
+mod dice;
+#[cfg(test)]
+mod driver;
+#[cfg(test)]
+mod planning;
+#[cfg(test)]
+mod scene;
+#[cfg(test)]
+mod turns;

@@ -1,0 +1,63 @@
+-- A frame that is taken out of those that are queued.
+use Rattle.std.proofs.Common.{◌≡◌, ℕ, suc, zero, ◌<◌, ◌+◌, ◌-◌, ◌*◌, Bool, true, false, not, cond, nat_eq, List, [], ◌∷◌, ◌++◌, length, map, filter, Option, None, Some, refl, ap, sym, subst, ◌∙◌, arith, length-append}
+use Rattle.std.specs.List.{list_any, position_from, remove}
+use Rattle.std.proofs.lemmas.Bool.Decides.{nat_tests}
+use Rattle.ctrl_handlers.specs.Plan.{PlanData}
+use Rattle.ctrl_handlers.proofs.ClusterLemmas.{or_false, or_false_right}
+use Rattle.ctrl_forecast.specs.Boards.{asked_at}
+use Rattle.ctrl_forecast.specs.Forecasts.{QueuedData}
+use Rattle.ctrl_forecast.specs.Touched.{touched_count}
+use Rattle.frame_queue.specs.Frames.{AreOnce}
+use Rattle.step_effects.specs.Lines.{touched_behind}
+
+-- the frames of other requests
+abbrev pub without : ℕ → List QueuedData → List QueuedData
+without r queued = filter (λ q. not (nat_eq r q.request.0)) queued
+
+-- numbers that are equal
+same_of : (r k : ℕ) → nat_eq r k ≡ true → r ≡ k
+same_of r k h = grind (arith, nat_tests, h)
+
+-- a request without a frame has none taken
+pub none_taken : (r : ℕ) (queued : List QueuedData) → list_any (nat_eq r) (map (λ q. q.request.0) queued) ≡ false → without r queued ≡ queued
+none_taken r [] none = refl
+none_taken r (q ∷ queued) none =
+    let other : nat_eq r q.request.0 ≡ false = or_false (nat_eq r q.request.0) (list_any (nat_eq r) (map (λ q. q.request.0) queued)) none in
+    rw other (ap (λ (qs : List QueuedData). q ∷ qs) (none_taken r queued (or_false_right (nat_eq r q.request.0) (list_any (nat_eq r) (map (λ q. q.request.0) queued)) none)))
+
+pub none_found : (r i : ℕ) (queued : List QueuedData) → position_from (λ q. nat_eq r q.request.0) i queued ≡ None → without r queued ≡ queued
+none_found r i [] none = refl
+none_found r i (q ∷ queued) none = by (nat_eq r q.request.0) refl none (none_found r (i + 1) queued)
+  where
+    by : (b : Bool) → nat_eq r q.request.0 ≡ b → cond b (Some i) (position_from (λ q. nat_eq r q.request.0) (i + 1) queued) ≡ None
+        → (position_from (λ q. nat_eq r q.request.0) (i + 1) queued ≡ None → without r queued ≡ queued) → without r (q ∷ queued) ≡ q ∷ queued
+    by true is h rest = cc
+    by false is h rest = rw is (ap (λ (qs : List QueuedData). q ∷ qs) (rest h))
+
+-- The frame at the place that was found is taken, and no other; and how many clusters it touches, once for each behind it.
+pub one_found : (plan : PlanData) (r i p : ℕ) (queued : List QueuedData) → AreOnce (map (λ q. q.request.0) queued) → position_from (λ q. nat_eq r q.request.0) i queued ≡ Some p
+    → (n : ℕ) × (p ≡ i + n) × (remove queued n ≡ without r queued) × (touched_behind plan r queued ≡ touched_count plan (asked_at queued n) * (length queued - 1 - n))
+one_found plan r i p [] once found = cc
+one_found plan r i p (q ∷ queued) once found = by (nat_eq r q.request.0) refl found (one_found plan r (i + 1) p queued once.1)
+  where
+    first : (a b : ℕ) → Some a ≡ Some b → a ≡ b
+    first a b h = cc
+
+    by : (b : Bool) → nat_eq r q.request.0 ≡ b → cond b (Some i) (position_from (λ q. nat_eq r q.request.0) (i + 1) queued) ≡ Some p
+        → (position_from (λ q. nat_eq r q.request.0) (i + 1) queued ≡ Some p
+        → (n : ℕ) × (p ≡ i + 1 + n) × (remove queued n ≡ without r queued) × (touched_behind plan r queued ≡ touched_count plan (asked_at queued n) * (length queued - 1 - n)))
+        → (n : ℕ) × (p ≡ i + n) × (remove (q ∷ queued) n ≡ without r (q ∷ queued)) × (touched_behind plan r (q ∷ queued) ≡ touched_count plan (asked_at (q ∷ queued) n) * (length (q ∷ queued) - 1 - n))
+    by true is h rest =
+        let same : q.request.0 ≡ r = sym (same_of r q.request.0 is) in
+        let none : list_any (nat_eq r) (map (λ q. q.request.0) queued) ≡ false = subst (λ (k : ℕ). list_any (nat_eq k) (map (λ q. q.request.0) queued) ≡ false) same once.0 in
+        let all : suc (length queued) - 1 - 0 ≡ length queued = omega arith in
+        (0, omega (arith, first i p h), sym (rw is (none_taken r queued none)), rw is (ap (λ (n : ℕ). touched_count plan q.asked * n) (sym all)))
+    by false is h rest =
+        let behind = rest h in
+        let left : length queued - 1 - behind.0 ≡ suc (length queued) - 1 - suc behind.0 = omega arith in
+        (suc behind.0, omega (arith, behind.1), rw is (ap (λ (qs : List QueuedData). q ∷ qs) behind.2), rw is (behind.3 ∙ ap (λ (n : ℕ). touched_count plan (asked_at queued behind.0) * n) left))
+
+-- the last of some is taken again
+pub last_taken : (queued : List QueuedData) (q : QueuedData) → remove (queued ++ q ∷ []) (length queued) ≡ queued
+last_taken [] q = refl
+last_taken (p ∷ queued) q = ap (λ (qs : List QueuedData). p ∷ qs) (last_taken queued q)

@@ -1,0 +1,51 @@
+use Rattle.std.proofs.Common.{◌≡◌, ◌+◌, ◌*◌, ◌-◌, ℕ, List, Some, None, length, nat_eq, ap, sym, subst, ◌∙◌, arith}
+use Rattle.std.specs.List.{position_from, remove}
+use Rattle.std.proofs.lemmas.Iterator.Adapters.{position_from-zero}
+use Rattle.ctrl_settle.specs.Control.{Control}
+use Rattle.ctrl_forecast.specs.Boards.{asked_at, board_of}
+use Rattle.ctrl_forecast.specs.Forecasts.{QueuedData, forecasts}
+use Rattle.ctrl_forecast.specs.Touched.{touched_count}
+use Rattle.device_history.specs.declared.ask.Step.{Step}
+use Rattle.device_history.specs.declared.ask.Step.TheVariants as steps
+use Rattle.step_effects.specs.Lines.{TakesOne, after_taking, taking_asks}
+use Rattle.step_effects.proofs.LineLemmas.{none_found, one_found, without}
+use Rattle.step_effects.proofs.lines.take_frames.Goals as goal
+
+-- the frame of the request is taken
+pub returns-in-Some-clause-board : goal.returns-in-Some-clause-board
+returns-in-Some-clause-board g c =
+    let queued : List QueuedData = c.args.board.now.queued in
+    let found : position_from (λ q. nat_eq c.in-Cancel.request.0 q.request.0) 0 queued ≡ Some c.in-Some.place = sym (position_from-zero (λ (q : QueuedData). nat_eq c.in-Cancel.request.0 q.request.0) queued) ∙ sym c.in-Some.ensures in
+    let taken = one_found c.args.plan.now c.in-Cancel.request.0 0 c.in-Some.place queued (subst (λ (s : Step). TakesOne s queued) c.in-Cancel.is c.requires.once) found in
+    let at : c.in-Some.place ≡ taken.0 = omega (arith, taken.1) in
+    let same : remove queued c.in-Some.place ≡ after_taking c.args.step.now queued =
+    ap (remove queued) at ∙ taken.2 ∙ sym (ap (λ (s : Step). after_taking s queued) c.in-Cancel.is) in
+    c.remove.ensures.frames ∙ ap (λ (cs : List Control). board_of g.D.Validates.verdict c.args.plan.now cs c.args.grabs.now c.args.values.now (remove queued c.in-Some.place)) c.controls.ensures.controls
+    ∙ ap (board_of g.D.Validates.verdict c.args.plan.now c.args.plan.now.controls c.args.grabs.now c.args.values.now) same
+
+-- each cluster that it touches is judged once for each frame behind it
+pub returns-in-Some-clause-asked : goal.returns-in-Some-clause-asked
+returns-in-Some-clause-asked g c =
+    let queued : List QueuedData = c.args.board.now.queued in
+    let found : position_from (λ q. nat_eq c.in-Cancel.request.0 q.request.0) 0 queued ≡ Some c.in-Some.place = sym (position_from-zero (λ (q : QueuedData). nat_eq c.in-Cancel.request.0 q.request.0) queued) ∙ sym c.in-Some.ensures in
+    let taken = one_found c.args.plan.now c.in-Cancel.request.0 0 c.in-Some.place queued (subst (λ (s : Step). TakesOne s queued) c.in-Cancel.is c.requires.once) found in
+    let at : c.in-Some.place ≡ taken.0 = omega (arith, taken.1) in
+    let most : touched_count c.args.plan.now (asked_at queued c.in-Some.place) * (length queued - 1 - c.in-Some.place) ≡ taking_asks c.args.plan.now c.args.step.now queued =
+    ap (λ (n : ℕ). touched_count c.args.plan.now (asked_at queued n) * (length queued - 1 - n)) at ∙ sym taken.3 ∙ sym (ap (λ (s : Step). taking_asks c.args.plan.now s queued) c.in-Cancel.is) in
+    omega (arith, c.remove.ensures.asked, most)
+
+-- none is of the request
+pub returns-in_default-place_of-clause-board : goal.returns-in_default-place_of-clause-board
+returns-in_default-place_of-clause-board g c =
+    let queued : List QueuedData = c.args.board.now.queued in
+    let none : position_from (λ q. nat_eq c.in-Cancel.request.0 q.request.0) 0 queued ≡ None = sym (position_from-zero (λ (q : QueuedData). nat_eq c.in-Cancel.request.0 q.request.0) queued) ∙ sym c.in_default-place_of.ensures in
+    c.requires.board
+    ∙ ap (board_of g.D.Validates.verdict c.args.plan.now c.args.plan.now.controls c.args.grabs.now c.args.values.now)
+    (sym (none_found c.in-Cancel.request.0 0 queued none) ∙ sym (ap (λ (s : Step). after_taking s queued) c.in-Cancel.is))
+
+-- all are taken
+pub returns-in-StreamOff-clause-board : goal.returns-in-StreamOff-clause-board
+unfolding forecasts
+returns-in-StreamOff-clause-board g c =
+    c.clear.ensures
+    ∙ ap (λ (s : Step). board_of g.D.Validates.verdict c.args.plan.now c.args.plan.now.controls c.args.grabs.now c.args.values.now (after_taking s c.args.board.now.queued)) (sym c.in-StreamOff.is)

@@ -1,0 +1,174 @@
+//! What the steps that leave file handles, grabs and values do where the forecasts of the queued frames are kept.
+
+ghost use Rattle.std.specs.Prelude.{◌≡◌, ◌<◌, ◌≤◌, ◌+◌, ◌++◌, ◌∷◌, ℕ, true, [], List, length, map, OnOk, OnErr};
+ghost use Rattle.history.specs.declared.entry.Entry.{Entry as EntryOf};
+ghost use Rattle.ctrl_calls.specs.Meanings.{Verdicts};
+ghost use Rattle.ctrl_types.specs.declared.ids.FhId.{FhId as FhIdOf};
+ghost use Rattle.ctrl_events.specs.Events.{events_of};
+ghost use Rattle.ctrl_forecast.specs.Boards.{board_of};
+ghost use Rattle.ctrl_forecast.specs.Forecasts.{QueuedData};
+ghost use Rattle.frame_queue.specs.Frames.{AreOnce, FramesData};
+ghost use Rattle.device_history.specs.declared.ask.Step.{Step as StepOf};
+ghost use Rattle.device_history.specs.Steps.{Past};
+ghost use Rattle.device_history.specs.Grabs.{grabbed};
+ghost use Rattle.device_history.specs.Values.{now};
+ghost use Rattle.device_history.specs.EventSteps.{events_after};
+ghost use Rattle.device_history.specs.FrameSteps.{frames_changed};
+ghost use Rattle.step_effects.specs.Lines.{TakesOne, after_queueing, after_taking, frame_in, line_after, line_asks, queueing_asks, taking_asks};
+ghost use Rattle.step_effects.specs.Quiet.{FitsIn, NamesKnown, is_quiet};
+
+use crate::quiet::change_quiet;
+use ctrl_calls::{Driver, Work};
+use ctrl_events::Events;
+use ctrl_forecast::{Board, Queued};
+use ctrl_handlers::Plan;
+use ctrl_types::{CtrlValue, RequestId};
+use device_history::Step;
+use frame_queue::Frames;
+use std::alloc::AllocError;
+
+/// Changes the requests, the queue and the events as `change_quiet` does, and the kept forecasts of the queued frames with them (the forecasts
+/// are of this project).
+///
+/// - `plan`, `values`, `grabs`, `number`, `step`, `frames`, `events`: as of `change_quiet`.
+/// - `board`: the queued frames, with what they will have over these values, under these grabs; the caller owes that no request is queued twice.
+/// - `work`: its count `asked` grows, where a frame is queued, by at most one for each cluster that it touches; where one is cancelled, by that many
+///   at most for each frame behind it; else by none.
+///
+/// The error is that a growth was refused; nothing was changed then but `work`.
+pub fn change_kept<D: Driver>(
+    plan: &Plan<D>,
+    values: &[CtrlValue],
+    grabs: &[bool],
+    number: u32,
+    step: &Step,
+    frames: &mut Frames,
+    events: &mut Events,
+    board: &mut Board,
+    work: &mut Work,
+) -> Result<(), AllocError>
+    requires quiet { is_quiet step.now ≡ true }
+    requires fits { FitsIn number step.now frames.old }
+    requires known { NamesKnown (length plan.now.controls) step.now }
+    requires values { length values.now ≡ length plan.now.controls }
+    requires grabs { length grabs.now ≡ length plan.now.controls }
+    requires frames { frames.old.requests.controls ≡ length plan.now.controls }
+    requires numbers { (j : ℕ) → (events_of events.old j).next + length plan.now.controls ≤ 4294967295 }
+    requires board { board.old ≡ board_of D.verdict plan.now plan.now.controls grabs.now values.now board.old.queued }
+    requires once { AreOnce (map (λ q. q.request.0) board.old.queued) }
+    ensures frames { OnOk result (frames.new ≡ frames_changed values.now [] number step.now frames.old) }
+    ensures events { OnOk result ((verdicts : Verdicts) (e : EntryOf StepOf) (older : Past) → e.step ≡ step.now → values.now ≡ now verdicts plan.now older → grabs.now ≡ grabbed plan.now older
+        → (fh : FhIdOf) → events_of events.new fh.0 ≡ events_after verdicts plan.now e older fh (events_of events.old fh.0)) }
+    ensures board { OnOk result (board.new ≡ board_of D.verdict plan.now plan.now.controls grabs.now values.now (line_after frames.old step.now board.old.queued)) }
+    ensures frames_kept { OnErr result (frames.new ≡ frames.old) }
+    ensures events_kept { OnErr result (events.new ≡ events.old) }
+    ensures board_kept { OnErr result (board.new ≡ board.old) }
+    ensures asked { work.new.asked ≤ work.old.asked + line_asks plan.now frames.old step.now board.old.queued }
+    ensures told { work.new.told ≡ work.old.told }
+{
+    queue_frame(plan, values, grabs, step, frames, board, work)?;
+    match change_quiet(plan, values, grabs, number, step, frames, events) {
+        Ok(()) => {
+            take_frames(plan, values, grabs, step, board, work);
+            Ok(())
+        }
+        Err(_) => {
+            unqueue_frame(plan, values, grabs, step, board, work);
+            Err(AllocError)
+        }
+    }
+}
+
+// Puts the frame of a request that is queued behind the others.
+fn queue_frame<D: Driver>(
+    plan: &Plan<D>,
+    values: &[CtrlValue],
+    grabs: &[bool],
+    step: &Step,
+    frames: &Frames,
+    board: &mut Board,
+    work: &mut Work,
+) -> Result<(), AllocError>
+    requires values { length values.now ≡ length plan.now.controls }
+    requires board { board.old ≡ board_of D.verdict plan.now plan.now.controls grabs.now values.now board.old.queued }
+    ensures ok { OnOk result (board.new ≡ board_of D.verdict plan.now plan.now.controls grabs.now values.now (after_queueing frames.now step.now board.old.queued)) }
+    ensures err { OnErr result (board.new ≡ board.old) }
+    ensures asked { work.new.asked ≤ work.old.asked + queueing_asks plan.now frames.now step.now }
+    ensures told { work.new.told ≡ work.old.told }
+{
+    match step {
+        Step::Queue { request } => {
+            let frame = frame_of(frames, *request);
+            board.push(plan, plan.controls(), values, grabs, &frame, work)
+        }
+        _ => Ok(()),
+    }
+}
+
+// Takes it out again.
+fn unqueue_frame<D: Driver>(
+    plan: &Plan<D>,
+    values: &[CtrlValue],
+    grabs: &[bool],
+    step: &Step,
+    board: &mut Board,
+    work: &mut Work,
+)
+    requires values { length values.now ≡ length plan.now.controls }
+    requires board { board.old ≡ board_of D.verdict plan.now plan.now.controls grabs.now values.now board.old.queued }
+    ensures board { (queued : List QueuedData) (f : FramesData) → board.old.queued ≡ after_queueing f step.now queued → board.new ≡ board_of D.verdict plan.now plan.now.controls grabs.now values.now queued }
+    ensures asked { work.new.asked ≤ work.old.asked }
+    ensures told { work.new.told ≡ work.old.told }
+{
+    let place = board.len().wrapping_sub(1);
+    match step {
+        Step::Queue { .. } => {
+            if place < board.len() {
+                board.remove(place, plan, plan.controls(), values, grabs, work);
+            }
+        }
+        _ => {}
+    }
+}
+
+// Takes the frame of a request that is cancelled out, and all at the end of the stream.
+fn take_frames<D: Driver>(
+    plan: &Plan<D>,
+    values: &[CtrlValue],
+    grabs: &[bool],
+    step: &Step,
+    board: &mut Board,
+    work: &mut Work,
+)
+    requires values { length values.now ≡ length plan.now.controls }
+    requires board { board.old ≡ board_of D.verdict plan.now plan.now.controls grabs.now values.now board.old.queued }
+    requires once { TakesOne step.now board.old.queued }
+    ensures board { board.new ≡ board_of D.verdict plan.now plan.now.controls grabs.now values.now (after_taking step.now board.old.queued) }
+    ensures asked { work.new.asked ≤ work.old.asked + taking_asks plan.now step.now board.old.queued }
+    ensures told { work.new.told ≡ work.old.told }
+{
+    match step {
+        Step::Cancel { request } => {
+            if let Some(place) = board.place_of(*request) {
+                board.remove(place, plan, plan.controls(), values, grabs, work);
+            }
+        }
+        Step::StreamOff => board.clear(),
+        _ => {}
+    }
+}
+
+// The frame of a request, as the requests have it.
+fn frame_of(frames: &Frames, request: RequestId) -> Queued<'_>
+    ensures { result ≡ frame_in frames.now request.0 }
+{
+    let buffer = match frames.buffer_of(request) {
+        Ok(buffer) => buffer.unwrap_or(0),
+        Err(_) => 0,
+    };
+    let asked = match frames.asked(request) {
+        Ok(asked) => asked,
+        Err(_) => &[],
+    };
+    Queued::new(request, buffer, asked)
+}
