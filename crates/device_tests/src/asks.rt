@@ -2,6 +2,7 @@
 
 use crate::closures::Counting;
 use crate::looks::Look;
+use crate::sample::HFLIP;
 use bitflags::Flags as FlagSet;
 use ctrl_events::Event;
 use ctrl_types::{CtrlId, Errno, ExtControl, Fault, FhId, Kind, Pair, RequestId, SubFlags};
@@ -35,6 +36,9 @@ pub struct At(pub u32, pub u32, pub Option<u32>);
 /// The present values, at the file handle 0.
 pub const NOW: At = At(0, 0, None);
 
+/// What sets ask that fill a history.
+pub const FILLING: &[(u32, i64)] = &[(HFLIP, 1)];
+
 /// What is asked.
 #[derive(Clone, Copy)]
 pub enum Question {
@@ -44,6 +48,8 @@ pub enum Question {
     /// A list of ids and values, in each of these forms.
     List(&'static [Form], At, &'static [(u32, i64)]),
     Grab(u32, bool),
+    /// So many sets of one control, at the file handle 0.
+    Fill(u32),
     /// So many requests that are made.
     Alloc(u32),
     /// A request and the number of its buffer.
@@ -127,7 +133,7 @@ impl Question {
     pub fn count(&self) -> usize {
         match *self {
             Question::Open(_, count) => count as usize,
-            Question::Alloc(count) => count as usize,
+            Question::Alloc(count) | Question::Fill(count) => count as usize,
             Question::List(forms, _, _) => forms.len(),
             Question::Wait(count) | Question::Run(count) => (count as usize).saturating_mul(2),
             Question::SubscribeAll(_, count, ids, _) => (count as usize).saturating_mul(ids.len()),
@@ -153,6 +159,7 @@ impl Question {
             Question::List(forms, at, pairs) => {
                 return list_ask(alloc, form_at(forms, number), at, pairs);
             }
+            Question::Fill(_) => return list_ask(alloc, Form::Set, NOW, FILLING),
             Question::Grab(control, on) => Ask::Grab { control, on },
             Question::Alloc(_) => Ask::Alloc,
             Question::Buffer(request, buffer) => Ask::AddBuffer {

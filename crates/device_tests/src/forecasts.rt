@@ -83,9 +83,49 @@ const ROWS: &[Row] = &[
     (Question::Row(0), NONE, &[]),
 ];
 
+// A direct set shows in both frames that are queued, and asks three validators: of what it sets, and of each row.
+const DIRECT: &[Row] = &[
+    (Question::Open(1, 1), Want::Opened, &[]),
+    (Question::Alloc(2), Want::Made, &[]),
+    (
+        Question::List(SET, ONE, &[(BLUE, 100)]),
+        Want::Values(&[100]),
+        &[(1, 1, 0)],
+    ),
+    (
+        Question::List(SET, TWO, &[(BLUE, 200)]),
+        Want::Values(&[200]),
+        &[(1, 1, 0)],
+    ),
+    (Question::Buffer(1, 1), Want::Done, &[]),
+    (Question::Buffer(2, 2), Want::Done, &[]),
+    (Question::Queue(1), Want::Done, &[(1, 1, 0)]),
+    (Question::Queue(2), Want::Done, &[(1, 1, 0)]),
+    (
+        Question::List(SET, NOW, &[(RED, 250)]),
+        Want::Values(&[250]),
+        &[(1, 3, 1)],
+    ),
+    (
+        Question::Row(0),
+        Want::Row(1, 1, &[1, 16, 0, 0, 0, 0, 1, 0, 250, 100], &[]),
+        &[],
+    ),
+    (
+        Question::Row(1),
+        Want::Row(2, 2, &[1, 16, 0, 0, 0, 0, 1, 0, 250, 100], &[1]),
+        &[],
+    ),
+];
+
 #[test]
 fn rows_ask_and_tell_nobody(rt: HostRuntime) {
     expect(&rt, &SAMPLE, ROWS);
+}
+
+#[test]
+fn a_direct_set_renews_each_row(rt: HostRuntime) {
+    expect(&rt, &SAMPLE, DIRECT);
 }
 
 // What the requests ask for in turn, each a control and a value, to which the number of the request is added.

@@ -1,0 +1,145 @@
+//! Makes the same asks of a sample device at the start and behind a long history, and says on standard error how long they took: no ask is to
+//! take longer for the steps that are kept. Its words are how many steps there are to be before the second time, and how many rounds of
+//! each load are made each time. On standard output it says how many asks were refused, which is none.
+#![tactic(auto)]
+
+mod loads;
+
+ghost use Rattle.ctrl_calls.specs.Meanings.{JudgesBy, TellsBy};
+
+use crate::loads::{LOADS, play, prepare, set_flip};
+use ctrl_calls::{Calls, ClusterRow, Driver, Notifier, Validator, Verdict};
+use device_state::Device;
+use sample_device::{
+    BALANCE_LIMIT, BRIGHTNESS_WORDS, BUTTON_WORDS, GAIN_LIMIT, PAIR_WORDS, Sample, balance_verdict,
+    brightness_word, button_word, gain_verdict, pair_word, sample_plan,
+};
+use std::alloc::AllocError;
+use std::process::ExitCode;
+use std::rt::Clock;
+use std::time::Instant;
+use std::{env, io};
+
+type Judge = Box<dyn Fn(ClusterRow) -> Verdict + Send>;
+
+type Teller = Box<dyn Fn(ClusterRow) -> u64 + Send>;
+
+fn main(rt: HostRuntime) -> io::Result<ExitCode> {
+    let words = env::args(&rt)?.collect::<Vec<String>>(rt.alloc())?;
+    let (Some(steps), Some(rounds)) = (
+        number_at(words.as_slice(), 1),
+        number_at(words.as_slice(), 2),
+    ) else {
+        eprintln!(rt; "usage: long_history STEPS ROUNDS")?;
+        return Ok(ExitCode::from(2));
+    };
+    let limit: Judge = Box::new(rt.alloc(), |row: ClusterRow| gain_verdict(&row))?;
+    let sum: Judge = Box::new(rt.alloc(), |row: ClusterRow| balance_verdict(&row))?;
+    let gain: Teller = Box::new(rt.alloc(), |row: ClusterRow| pair_word(&row))?;
+    let balance: Teller = Box::new(rt.alloc(), |row: ClusterRow| pair_word(&row))?;
+    let button: Teller = Box::new(rt.alloc(), |row: ClusterRow| button_word(&row))?;
+    let brightness: Teller = Box::new(rt.alloc(), |row: ClusterRow| brightness_word(&row))?;
+    run::<Sample, HostRuntime>(
+        &rt,
+        steps,
+        rounds,
+        (limit, sum),
+        (gain, balance, button, brightness),
+    )?;
+    Ok(ExitCode::from(0))
+}
+
+// The number that a word of the command line is.
+fn number_at(words: &[String], place: usize) -> Option<u32> {
+    words.get(place)?.parse::<u32>().ok()
+}
+
+// Makes the device and the asks. The device's clusters have these closures: of autogain and gain the first validator and the first notifier, of red
+// and blue the second ones, of the button and of brightness the last notifiers.
+fn run<D: Driver, R: AllocGlobal + Print + Eprint + Clock>(
+    rt: &R,
+    steps: u32,
+    rounds: u32,
+    judges: (D::Judge, D::Judge),
+    tellers: (D::Teller, D::Teller, D::Teller, D::Teller),
+) -> io::Result<()>
+    requires limit { D.Judge.callable judges.0 }
+    requires limit_judges { JudgesBy (D.Judge.answers judges.0) (D.verdict GAIN_LIMIT) }
+    requires sum { D.Judge.callable judges.1 }
+    requires sum_judges { JudgesBy (D.Judge.answers judges.1) (D.verdict BALANCE_LIMIT) }
+    requires gain { D.Teller.callable tellers.0 }
+    requires gain_tells { TellsBy (D.Teller.answers tellers.0) (D.told PAIR_WORDS) }
+    requires balance { D.Teller.callable tellers.1 }
+    requires balance_tells { TellsBy (D.Teller.answers tellers.1) (D.told PAIR_WORDS) }
+    requires button { D.Teller.callable tellers.2 }
+    requires button_tells { TellsBy (D.Teller.answers tellers.2) (D.told BUTTON_WORDS) }
+    requires brightness { D.Teller.callable tellers.3 }
+    requires brightness_tells { TellsBy (D.Teller.answers tellers.3) (D.told BRIGHTNESS_WORDS) }
+{
+    let (limit, sum) = judges;
+    let (gain, balance, button, brightness) = tellers;
+    let of_gain: Calls<D> = Calls {
+        validator: Some(Validator::new(GAIN_LIMIT, limit)),
+        notifier: Some(Notifier::new(PAIR_WORDS, gain)),
+    };
+    let of_balance: Calls<D> = Calls {
+        validator: Some(Validator::new(BALANCE_LIMIT, sum)),
+        notifier: Some(Notifier::new(PAIR_WORDS, balance)),
+    };
+    let of_button: Calls<D> = Calls {
+        validator: None,
+        notifier: Some(Notifier::new(BUTTON_WORDS, button)),
+    };
+    let of_brightness: Calls<D> = Calls {
+        validator: None,
+        notifier: Some(Notifier::new(BRIGHTNESS_WORDS, brightness)),
+    };
+    let Ok(plan) = sample_plan(rt.alloc(), of_gain, of_balance, of_button, of_brightness) else {
+        return Err(io::Error::from(io::ErrorKind::OutOfMemory));
+    };
+    let Ok(mut device) = Device::new(rt.alloc(), plan) else {
+        return Err(io::Error::from(io::ErrorKind::OutOfMemory));
+    };
+    prepare(rt.alloc(), &mut device)?;
+    measure(rt, &mut device, rounds)?;
+    fill(rt, &mut device, steps)?;
+    measure(rt, &mut device, rounds)
+}
+
+// Makes so many rounds of each load, and says how long they took.
+fn measure<D: Driver, R: AllocGlobal + Print + Eprint + Clock>(
+    rt: &R,
+    device: &mut Device<D>,
+    rounds: u32,
+) -> io::Result<()> {
+    for &(load, name) in LOADS {
+        let start = Instant::now(rt)?;
+        let mut refused = 0u32;
+        for round in 0..rounds {
+            refused = refused.saturating_add(play(rt.alloc(), device, load, round)?);
+        }
+        let elapsed = start.elapsed(rt)?;
+        println!(rt; "{name}: {rounds} rounds, {refused} asks refused")?;
+        eprintln!(rt;
+            "{name}: {} us, {} steps then",
+            elapsed.as_micros(),
+            device.steps().len()
+        )?;
+    }
+    Ok(())
+}
+
+// Sets until so many steps are kept, or no further step is.
+fn fill<D: Driver, R: AllocGlobal>(
+    rt: &R,
+    device: &mut Device<D>,
+    steps: u32,
+) -> Result<(), AllocError> {
+    for round in 0..steps {
+        if device.steps().len() >= steps as usize {
+            return Ok(());
+        }
+        set_flip(rt.alloc(), device, round)?;
+    }
+    Ok(())
+}
