@@ -25,7 +25,7 @@ type Judge = Box<dyn Fn(ClusterRow) -> Verdict + Send>;
 type Teller = Box<dyn Fn(ClusterRow) -> u64 + Send>;
 
 // The files that are read, in this order.
-const FILES: [&str; 8] = [
+const FILES: [&str; 9] = [
     "sample.txt",
     "words.txt",
     "lists.txt",
@@ -33,6 +33,7 @@ const FILES: [&str; 8] = [
     "forecasts.txt",
     "audits.txt",
     "events.txt",
+    "errors.txt",
     "examples.txt",
 ];
 
