@@ -101,9 +101,9 @@ where
 
     ghost may = { λ task. IsSeatOf task.desk.now task.seat };
 
-    ghost leaves = { λ task rest. StaysAt task.seat rest };
+    ghost finishes = { λ task rest. StaysAt task.seat rest };
 
-    ghost finishes = { λ _ _. Unit {0} };
+    ghost gives_up = { λ task rest. rest ≡ task.seat };
 
     fn work(self) -> DeskSeat<T> {
         let Task {

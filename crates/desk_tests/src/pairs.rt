@@ -1,15 +1,20 @@
 //! Two clients on two threads.
 
-ghost use Rattle.std.specs.Prelude.{◌≡◌};
+ghost use Rattle.std.specs.Prelude.{◌≡◌, IfSome};
 ghost use Rattle.turn_desk.specs.Views.{IsSeatOf};
+ghost use Rattle.turn_desk.specs.Runs.{IsEntered};
 
 use crate::counter::{Answer, Ask, Counter};
 use crate::seats::{listed, open};
+use history::Served;
+use std::alloc::Global;
+use std::sync::Wait;
 use std::sync::atomic::AtomicU64;
 use std::sync::atomic::Ordering::SeqCst;
 use std::test::Fail;
 use std::thread;
-use turn_desk::{Client, Gate, Party, run_clients};
+use std::thread::Threads;
+use turn_desk::{Client, Desk, Gate, Party, run_clients};
 
 const MOST_TURNS: u32 = 10_000_000;
 
@@ -48,11 +53,26 @@ impl Gate for Meeting {
     }
 }
 
-// Adds 1 so many times, and counts the sums that it is told.
+// Adds 1 so many times, and keeps each ask with the answer that it heard. Without memory it stops.
 #[derive(Drop)]
 struct Adder {
     left: u32,
-    sums: u32,
+    said: Vec<(Ask, Option<Answer>)>,
+}
+
+impl Adder {
+    fn new(alloc: Global, left: u32) -> Adder {
+        Adder {
+            left,
+            said: Vec::new(alloc),
+        }
+    }
+
+    // How many sums it heard.
+    fn sums(&self) -> usize {
+        let is_sum = |line: &&(Ask, Option<Answer>)| matches!(line.1, Some(Answer::Sum(_)));
+        self.said.iter().filter(is_sum).count()
+    }
 }
 
 impl Client<Counter> for Adder {
@@ -60,19 +80,59 @@ impl Client<Counter> for Adder {
 
     ghost is_done = { λ adder. adder.left ≡ 0 };
 
+    ghost transcript = { λ adder. adder.said.items };
+
     fn next(&mut self) -> Option<Ask> {
         if self.left == 0 {
             return None;
         }
+        let ask = Ask::Add(1);
+        if self.said.push((ask, None)).is_err() {
+            self.left = 0;
+            return None;
+        }
         self.left -= 1;
-        Some(Ask::Add(1))
+        Some(ask)
     }
 
     fn hear(&mut self, answer: Answer) {
-        if let Answer::Sum(_) = answer {
-            self.sums = self.sums.saturating_add(1);
+        if let Some(line) = self.said.last_mut() {
+            line.1 = Some(answer);
         }
     }
+}
+
+// Runs two clients, and closes the desk, whose steps at each seat are then the accepted ones of its client's calls.
+fn run_and_close<
+    T: Served + Send + Drop,
+    C: Client<T> + Drop + Send,
+    G: Gate + Sync,
+    R: Threads + Wait + Sync,
+>(
+    rt: &R,
+    alloc: Global,
+    desk: Desk<T>,
+    gate: &G,
+    first: Party<T, C>,
+    second: Party<T, C>,
+) -> Option<(T, C, C)>
+where
+    T::Ask: Drop + Send,
+    requires first { IsSeatOf desk first.seat }
+    requires second { IsSeatOf desk second.seat }
+    ensures first { IfSome result (λ r. IsEntered T.is_legal T.answers T.taken desk.plan first.seat (C.transcript first.client) (C.transcript r.1) (T.steps r.0)) }
+    ensures second { IfSome result (λ r. IsEntered T.is_legal T.answers T.taken desk.plan second.seat (C.transcript second.client) (C.transcript r.2) (T.steps r.0)) }
+    ensures done { IfSome result (λ r. C.is_done r.1 × C.is_done r.2) }
+{
+    let (one, two, outcome) = run_clients(rt, &desk, gate, first, second);
+    let Ok(()) = outcome else {
+        return None;
+    };
+    let both = listed(alloc, Some(one.seat), Some(two.seat))?;
+    let Ok(object) = desk.close(both) else {
+        return None;
+    };
+    Some((object, one.client, two.client))
 }
 
 // Each of two threads calls 1,000 times, and the history has all entries of both.
@@ -82,23 +142,15 @@ fn two_threads_call(rt: HostRuntime) -> Result<(), Fail> {
     let (first, second) = desk.another(&rt, first);
     let one = Party {
         seat: first,
-        client: Adder {
-            left: 1000,
-            sums: 0,
-        },
+        client: Adder::new(rt.alloc(), 1000),
     };
     let two = Party {
         seat: second?,
-        client: Adder {
-            left: 1000,
-            sums: 0,
-        },
+        client: Adder::new(rt.alloc(), 1000),
     };
-    let (one, two, outcome) = run_clients(&rt, &desk, &NoGate, one, two);
-    outcome?;
-    let are_told = one.client.sums == 1000 && two.client.sums == 1000;
-    let both = listed(rt.alloc(), Some(one.seat), Some(two.seat)).ok_or("memory")?;
-    let counter = desk.close(both).ok().ok_or("seats are out")?;
+    let ran = run_and_close(&rt, rt.alloc(), desk, &NoGate, one, two);
+    let (counter, one, two) = ran.ok_or("no memory, or seats are out")?;
+    let are_told = one.sums() == 1000 && two.sums() == 1000;
     let are_entered = counter.count(0) == 1000 && counter.count(1) == 1000;
     assert!(rt; are_told && are_entered && counter.total() == 2000);
     Ok(())
@@ -115,17 +167,17 @@ fn two_threads_meet_at_the_gate(rt: HostRuntime) -> Result<(), Fail> {
     };
     let one = Party {
         seat: first,
-        client: Adder { left: 3, sums: 0 },
+        client: Adder::new(rt.alloc(), 3),
     };
     let two = Party {
         seat: second?,
-        client: Adder { left: 3, sums: 0 },
+        client: Adder::new(rt.alloc(), 3),
     };
     let (one, two, outcome) = run_clients(&rt, &desk, &gate, one, two);
     outcome?;
     let alone = gate.alone.load(SeqCst);
     assert!(rt;
-        alone == 0 && one.client.sums == 3 && two.client.sums == 3,
+        alone == 0 && one.client.sums() == 3 && two.client.sums() == 3,
         "alone: {alone}"
     );
     Ok(())

@@ -78,6 +78,31 @@ fn desk_read_back(rt: HostRuntime) -> Result<(), Fail> {
     Ok(())
 }
 
+// A seat that looks again finds what another seat has written since.
+#[test]
+fn front_follows_later_writes(rt: HostRuntime) -> Result<(), Fail> {
+    let (desk, first) = open(&rt, rt.alloc());
+    let (first, second) = desk.another(&rt, first);
+    let mut second = second?;
+    let (first, _) = desk.call(&rt, first, &Ask::Add(4));
+    let one = desk.front(&mut second);
+    desk.call(&rt, first, &Ask::Add(5));
+    let two = desk.front(&mut second);
+    assert!(rt; one == 1 && two == 2, "{one}, then {two}");
+    Ok(())
+}
+
+// The number after an old seat's own is taken, so the next seat that it makes has the one after that.
+#[test]
+fn makes_a_seat_from_an_old_one(rt: HostRuntime) -> Result<(), Fail> {
+    let (desk, first) = open(&rt, rt.alloc());
+    let (first, second) = desk.another(&rt, first);
+    let (first, third) = desk.another(&rt, first);
+    let (second, third) = (second?, third?);
+    assert!(rt; first.number() == 0 && second.number() == 1 && third.number() == 2);
+    Ok(())
+}
+
 // The desk isn't closed without a seat, nor with one of two, and is with both.
 #[test]
 fn closes_with_all_seats_alone(rt: HostRuntime) -> Result<(), Fail> {

@@ -8,3 +8,4 @@ pub mod Hands
 pub mod Entering
 pub mod Sending
 pub mod Endings
+pub mod Runs

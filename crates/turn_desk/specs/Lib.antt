@@ -1,5 +1,6 @@
 pub mod Views
 pub mod Calls
+pub mod Runs
 pub mod Seated
 pub mod Rule
 pub mod Plays

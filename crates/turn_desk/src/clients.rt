@@ -1,6 +1,7 @@
 //! Clients at their seats, and the call that runs two of them on two threads.
 ghost use Rattle.std.specs.Prelude.{◌≡◌, IsOk, IfErr};
-ghost use Rattle.turn_desk.specs.Views.{IsSeatOf, IsSameSeat, StaysAt};
+ghost use Rattle.turn_desk.specs.Views.{IsSeatOf, StaysAt};
+ghost use Rattle.turn_desk.specs.Runs.{HasRun};
 
 use crate::desk::Desk;
 use crate::seat::{DeskFault, DeskSeat};
@@ -17,17 +18,24 @@ pub trait Gate {
 
 /// Who makes calls at a seat.
 pub trait Client<T: Served> {
-    ghost use Rattle.std.specs.Prelude.{IfNone};
+    ghost use Rattle.std.specs.Prelude.{◌≡◌, List, ◌++◌, Option, IfNone};
+    ghost use Rattle.turn_desk.specs.Runs.{asking, Awaits, IsAnswered};
 
     /// It has no further ask.
     ghost is_done: { Self → Type 0 };
 
+    /// Its asks so far, in order, each with the answer that it heard, or `None` while that is still to come.
+    ghost transcript: { Self → List (T.Ask × Option T.Answer) };
+
     /// The next ask, or `None` at the end.
     fn next(&mut self) -> Option<T::Ask>
-        ensures { IfNone result (is_done self.new) };
+        ensures done { IfNone result (is_done self.new) }
+        ensures asked { transcript self.new ≡ transcript self.old ++ asking result };
 
-    /// Is told the answer of the last ask.
-    fn hear(&mut self, answer: T::Answer);
+    /// Hears the answer of the last ask, which has none yet: it is called once after each ask.
+    fn hear(&mut self, answer: T::Answer)
+        requires { Awaits (transcript self.old) }
+        ensures { IsAnswered answer (transcript self.old) (transcript self.new) };
 }
 
 /// A client and its seat.
@@ -53,11 +61,13 @@ where
 {
     type Rest = Party<T, C>;
 
+    ghost use Rattle.std.specs.Prelude.{◌≡◌};
+
     ghost may = { λ s. IsSeatOf s.desk.now s.party.seat };
 
-    ghost leaves = { λ s rest. StaysAt s.party.seat rest.seat };
+    ghost finishes = { λ s rest. HasRun T.is_legal T.answers T.taken s.desk.now.plan s.party.seat (C.transcript s.party.client) rest.seat (C.transcript rest.client) × C.is_done rest.client };
 
-    ghost finishes = { λ s rest. C.is_done rest.client };
+    ghost gives_up = { λ s rest. rest ≡ s.party };
 
     fn work(self) -> Party<T, C> {
         let Session {
@@ -74,7 +84,8 @@ where
     }
 }
 
-/// Runs a client until it has no further ask. Each call waits for the turn.
+/// Runs a client until it has no further ask. Each ask is made at the seat, after the gate, and waits for the turn. The
+/// client hears its answer before it is asked for the next.
 pub fn run_client<T: Served, C: Client<T>, G: Gate, R: Wait>(
     rt: &R,
     desk: &Desk<T>,
@@ -85,6 +96,7 @@ where
     T::Ask: Drop,
     requires { IsSeatOf desk.now party.seat }
     ensures seat { StaysAt party.seat result.seat }
+    ensures run { HasRun T.is_legal T.answers T.taken desk.now.plan party.seat (C.transcript party.client) result.seat (C.transcript result.client) }
     ensures done { C.is_done result.client }
 {
     let Party {
@@ -105,10 +117,10 @@ where
     unreachable!()
 }
 
-/// Runs two clients at two seats, each on a thread of its own, and waits for both.
+/// Runs two clients at two seats, each on a thread of its own, and waits for both. Neither makes a call before there is
+/// a thread for each.
 ///
-/// Both come back with their seats, also with `Memory`, where a thread could not be made: then the client that had
-/// none has made no call.
+/// Both come back with their seats. Where a thread could not be made they come as they were, with `Memory`.
 pub fn run_clients<
     T: Served + Send,
     C: Client<T> + Drop + Send,
@@ -127,7 +139,10 @@ where
     requires second { IsSeatOf desk.now second.seat }
     ensures first { StaysAt first.seat result.0.seat }
     ensures second { StaysAt second.seat result.1.seat }
+    ensures first_run { IsOk result.2 → HasRun T.is_legal T.answers T.taken desk.now.plan first.seat (C.transcript first.client) result.0.seat (C.transcript result.0.client) }
+    ensures second_run { IsOk result.2 → HasRun T.is_legal T.answers T.taken desk.now.plan second.seat (C.transcript second.client) result.1.seat (C.transcript result.1.client) }
     ensures done { IsOk result.2 → C.is_done result.0.client × C.is_done result.1.client }
+    ensures kept { IfErr result.2 (λ _. (result.0 ≡ first) × (result.1 ≡ second)) }
     ensures fault { IfErr result.2 (λ fault. fault ≡ DeskFault.Memory) }
 {
     let one = Session {

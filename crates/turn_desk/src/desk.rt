@@ -1,5 +1,5 @@
 //! The desk and its calls.
-ghost use Rattle.std.specs.Prelude.{◌≡◌, ◌≢◌, ℕ, ◌<◌, List, [], ◌∷◌, All, length, Some, None, IfOk, IfErr};
+ghost use Rattle.std.specs.Prelude.{◌≡◌, ◌≢◌, ℕ, ◌<◌, List, [], ◌∷◌, All, length, Some, None, IfOk, IfErr, IsTrue, IsFalse};
 ghost use Rattle.history.specs.Past.{own, entered};
 ghost use Rattle.history.specs.Prefix.{IsPrefix};
 ghost use Rattle.turn_desk.specs.Views.{IsSeatOf, IsSameSeat, IsWhole};
@@ -212,7 +212,7 @@ impl<T: Served, A: Allocator> Desk<T, A> {
         let mut taking = HELD;
         let mut spins = 0;
         for _ in rt.forever() {
-            if shared.compare_exchange::<Try>(token, TURN, FREE, taking) == FREE {
+            if self.try_turn(token, spins > 0, taking) {
                 return;
             }
             if spins < SPINS {
@@ -226,6 +226,23 @@ impl<T: Served, A: Allocator> Desk<T, A> {
             }
         }
         unreachable!()
+    }
+
+    // Whether the turn was free, and is the seat's now. Who waits looks first, since a swap that fails would slow down
+    // who has the turn.
+    fn try_turn(&self, token: &mut Token<T>, waits: bool, taking: u64) -> bool
+        requires desk { token.old.table_id ≡ self.now.id }
+        requires account { 0 < length token.old.me.0.accounts }
+        requires taking { 0 < taking }
+        ensures same { token.new.table_id ≡ token.old.table_id }
+        ensures taken { IsTrue result → Takes T.is_legal T.plan T.steps token.old.me token.new.me }
+        ensures kept { IsFalse result → token.new.me ≡ token.old.me }
+    {
+        let shared = &self.table.shared;
+        if waits && shared.peek(TURN) != FREE {
+            return false;
+        }
+        shared.compare_exchange::<Try>(token, TURN, FREE, taking) == FREE
     }
 
     // Answers the ask, and enters the step that it took.

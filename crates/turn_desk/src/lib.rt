@@ -12,4 +12,4 @@ pub use clients::{Client, Gate, Party, run_client, run_clients};
 pub use desk::Desk;
 pub use seat::{DeskFault, DeskSeat, MOST_SEATS};
 pub use seats::SeatList;
-pub use workers::{Worker, run_both};
+pub use workers::{Worker, run_both, run_both_within};

@@ -1,12 +1,10 @@
 //! Two workers, each on a thread of its own.
-ghost use Rattle.std.specs.Prelude.{IsTrue};
+ghost use Rattle.std.specs.Prelude.{◌≡◌, IsTrue, IsFalse, IfOk, IfErr};
 
 use std::snapshot::Snapshot;
-use std::sync::Wait;
-use std::sync::atomic::AtomicU64;
-use std::sync::atomic::Ordering::SeqCst;
+use std::sync::{OnceLock, OnceToken, Wait};
 use std::thread;
-use std::thread::{Promise, Threads};
+use std::thread::{Promise, PromisedHandle, Scope, SpawnError, Threads};
 
 /// Work for one thread.
 pub trait Worker {
@@ -16,51 +14,101 @@ pub trait Worker {
     /// It may start.
     ghost may: { Self → Type 0 };
 
-    /// What may be left of it, whether it was done or given up.
-    ghost leaves: { Self → Self.Rest → Type 0 };
-
-    /// What holds once it is done.
+    /// What may be left once it is done.
     ghost finishes: { Self → Self.Rest → Type 0 };
+
+    /// What may be left where it was given up.
+    ghost gives_up: { Self → Self.Rest → Type 0 };
 
     /// Does the work.
     fn work(self) -> Self::Rest
         requires { may self }
-        ensures leaves { leaves self result }
-        ensures finishes { finishes self result };
+        ensures { finishes self result };
 
     /// Gives it up before it starts.
     fn rest(self) -> Self::Rest
         requires { may self }
-        ensures { leaves self result };
+        ensures { gives_up self result };
 }
 
-// What a thread leaves is left of its worker.
+// What a thread leaves is left of its worker, as it was said.
 #[derive(Drop)]
-struct Left<W>(Snapshot<W>);
-
-impl<W: Worker> Promise<(W::Rest, bool)> for Left<W> {
-    ghost use Rattle.std.specs.Prelude.{IsTrue};
-
-    ghost kept_by = { λ p r. W.leaves p.0.value r.0 × (IsTrue r.1 → W.finishes p.0.value r.0) };
+struct Left<'a, W> {
+    worker: Snapshot<W>,
+    goes: &'a OnceLock<bool>,
 }
 
-const GIVEN_UP: u64 = 1;
+impl<'a, W: Worker> Promise<(W::Rest, OnceToken<'a, bool>)> for Left<'a, W> {
+    ghost use Rattle.std.specs.Prelude.{◌≡◌, IsTrue, IsFalse};
 
-// Does the work, unless it was given up, and says whether it did.
-fn start<W: Worker>(state: &AtomicU64, worker: W) -> (W::Rest, bool)
-    requires { W.may worker }
-    ensures leaves { W.leaves worker result.0 }
-    ensures finishes { IsTrue result.1 → W.finishes worker result.0 }
+    ghost kept_by = { λ p r. (r.1.of ≡ p.goes.now.id) × (IsTrue r.1.value → W.finishes p.worker.value r.0) × (IsFalse r.1.value → W.gives_up p.worker.value r.0) };
+}
+
+// Waits until it is said whether both go, and shows what was said.
+fn hear<'a, R: Wait>(rt: &R, goes: &'a OnceLock<bool>) -> OnceToken<'a, bool>
+    ensures { result.of ≡ goes.now.id }
 {
-    if state.load(SeqCst) == GIVEN_UP {
-        (worker.rest(), false)
+    for _ in rt.forever() {
+        goes.wait(rt);
+        if let Some(token) = goes.witness() {
+            return token;
+        }
+    }
+    unreachable!()
+}
+
+// Does the work once it is said that both go, or else gives it up.
+fn start<'a, R: Wait, W: Worker>(
+    rt: &R,
+    goes: &'a OnceLock<bool>,
+    worker: W,
+) -> (W::Rest, OnceToken<'a, bool>)
+    requires { W.may worker }
+    ensures said { result.1.of ≡ goes.now.id }
+    ensures done { IsTrue result.1.value → W.finishes worker result.0 }
+    ensures given_up { IsFalse result.1.value → W.gives_up worker result.0 }
+{
+    let token = hear(rt, goes);
+    if *goes.value(&token) {
+        (worker.work(), token)
     } else {
-        (worker.work(), true)
+        (worker.rest(), token)
     }
 }
 
-/// Runs two workers, each on a thread of its own, and waits for both. It says whether both were done:
-/// where one could not be made, its worker gives up, and so does the second where there was none for the first.
+// The rest of a worker, which heard what this token shows.
+fn agreed<'a, X>(token: &OnceToken<'a, bool>, left: (X, OnceToken<'a, bool>)) -> X
+    requires { left.1.of ≡ token.now.of }
+    ensures rest { result ≡ left.entry.0 }
+    ensures agrees { left.entry.1.value ≡ token.now.value }
+{
+    let (rest, mine) = left;
+    mine.agrees(token);
+    rest
+}
+
+// A thread of the scope, or the closure back where none can be made, or none may be.
+fn spawned<'s, E, P: Promise<X> + Drop, F: FnOnce() -> X + Send + 's, X: Send + Drop + 's>(
+    scope: &Scope<'s, E>,
+    may: bool,
+    promise: P,
+    f: F,
+) -> Result<PromisedHandle<X, P>, SpawnError<F>>
+    requires runs { F.pre f }
+    requires keeps { (r : X) → F.post f r → P.kept_by promise r }
+    ensures ok { IfOk result (λ h. h.promise ≡ promise) }
+    ensures err { IfErr result (λ e. e.value ≡ f) }
+{
+    if may {
+        scope.spawn_with(promise, f)
+    } else {
+        Err(SpawnError { value: f })
+    }
+}
+
+/// Runs two workers, each on a thread of its own, and waits for both. Each begins only once there is a thread for both.
+///
+/// It says whether both were done. Where a thread could not be made, both were given up.
 pub fn run_both<R: Threads + Wait + Sync, W: Worker + Drop + Send>(
     rt: &R,
     first: W,
@@ -70,40 +118,61 @@ where
     W::Rest: Send + Drop,
     requires first { W.may first }
     requires second { W.may second }
-    ensures first { W.leaves first result.0 }
-    ensures second { W.leaves second result.1 }
     ensures done { IsTrue result.2 → W.finishes first result.0 × W.finishes second result.1 }
+    ensures given_up { IsFalse result.2 → W.gives_up first result.0 × W.gives_up second result.1 }
 {
-    let given_up = AtomicU64::new(0);
-    let state = &given_up;
+    run_both_within(rt, 2, first, second)
+}
+
+/// As `run_both`, where at most so many threads may be made: with fewer than 2 both workers are given up.
+pub fn run_both_within<R: Threads + Wait + Sync, W: Worker + Drop + Send>(
+    rt: &R,
+    threads: u32,
+    first: W,
+    second: W,
+) -> (W::Rest, W::Rest, bool)
+where
+    W::Rest: Send + Drop,
+    requires first { W.may first }
+    requires second { W.may second }
+    ensures done { IsTrue result.2 → W.finishes first result.0 × W.finishes second result.1 }
+    ensures given_up { IsFalse result.2 → W.gives_up first result.0 × W.gives_up second result.1 }
+{
+    let said = OnceLock::new();
+    let goes = &said;
     thread::scope(
         thread::scope_env(),
         rt,
         move |scope| -> (W::Rest, W::Rest, bool)
             requires { W.may first × W.may second }
-            ensures left { W.leaves first result.0 × W.leaves second result.1 }
             ensures done { IsTrue result.2 → W.finishes first result.0 × W.finishes second result.1 }
+            ensures given_up { IsFalse result.2 → W.gives_up first result.0 × W.gives_up second result.1 }
         {
-            let one = match scope.spawn_with(
-                Left(Snapshot::of(&first)),
-                move || start(state, first),
-            ) {
-                Ok(thread) => thread,
+            let worker = Snapshot::of(&first);
+            let promise = Left { worker, goes };
+            let one = match spawned(scope, threads > 0, promise, move || start(rt, goes, first)) {
+                Ok(one) => one,
                 Err(refused) => {
-                    state.store(GIVEN_UP, SeqCst);
-                    return ((refused.value)().0, second.rest(), false);
+                    let token = goes.init(rt, || false);
+                    let one = agreed(&token, (refused.value)());
+                    let two = agreed(&token, start(rt, goes, second));
+                    return (one, two, *goes.value(&token));
                 }
             };
-            match scope.spawn_with(Left(Snapshot::of(&second)), move || start(state, second)) {
+            let worker = Snapshot::of(&second);
+            let promise = Left { worker, goes };
+            match spawned(scope, threads > 1, promise, move || start(rt, goes, second)) {
                 Ok(two) => {
-                    let (one, one_done) = one.join(rt);
-                    let (two, two_done) = two.join(rt);
-                    (one, two, one_done && two_done)
+                    let token = goes.init(rt, || true);
+                    let one = agreed(&token, one.join(rt));
+                    let two = agreed(&token, two.join(rt));
+                    (one, two, *goes.value(&token))
                 }
                 Err(refused) => {
-                    let (one, _) = one.join(rt);
-                    state.store(GIVEN_UP, SeqCst);
-                    (one, (refused.value)().0, false)
+                    let token = goes.init(rt, || false);
+                    let one = agreed(&token, one.join(rt));
+                    let two = agreed(&token, (refused.value)());
+                    (one, two, *goes.value(&token))
                 }
             }
         },
