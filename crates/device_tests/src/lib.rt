@@ -13,6 +13,8 @@ mod audits;
 #[cfg(test)]
 mod closures;
 #[cfg(test)]
+mod crowds;
+#[cfg(test)]
 mod events;
 #[cfg(test)]
 mod flags;
@@ -30,6 +32,8 @@ mod limits;
 mod lists;
 #[cfg(test)]
 mod looks;
+#[cfg(test)]
+mod members;
 #[cfg(test)]
 mod menus;
 #[cfg(test)]

@@ -1,0 +1,702 @@
+//! Histories as data, each with what an audit makes of it.
+
+use ctrl_types::CtrlValue;
+
+// Controls, each with a value.
+pub type Pairs = &'static [(u32, CtrlValue)];
+
+// A step. File handles and requests stand by their numbers.
+#[derive(Clone, Copy)]
+pub enum Move {
+    Open(u32),
+    Close(u32),
+    Set(u32, Pairs),
+    Grab(u32, bool),
+    Alloc,
+    Store(u32, Pairs),
+    Buffer(u32, u32),
+    Queue(u32),
+    Begin(u32),
+    Complete(u32),
+    Cancel(u32),
+    Off,
+    Reinit(u32),
+    Free(u32),
+    // the bits of the flags stand last
+    Subscribe(u32, u32, u32),
+    Unsubscribe(u32, Option<u32>),
+    Take(u32, u32),
+}
+
+pub const DEFAULTS: &[CtrlValue] = &[3, 0, 4, 0, 0, 0];
+
+pub const MANY: [(u32, CtrlValue); 65] = [(0, 8); 65];
+
+pub const MOST: [(u32, CtrlValue); 64] = [(0, 8); 64];
+
+// Steps, with the present values that they make, or the place of the first that may not follow those before it.
+pub type Case = (&'static [Move], Result<&'static [CtrlValue], usize>);
+
+pub const CASES: &[Case] = &[
+    (&[], Ok(DEFAULTS)),
+    // each kind of step at once
+    (&[Move::Open(0)], Ok(DEFAULTS)),
+    (&[Move::Open(2)], Err(0)),
+    (&[Move::Close(0)], Err(0)),
+    (&[Move::Set(0, &[])], Err(0)),
+    (&[Move::Grab(5, true)], Ok(DEFAULTS)),
+    (&[Move::Grab(6, true)], Err(0)),
+    (&[Move::Alloc], Ok(DEFAULTS)),
+    (&[Move::Store(0, &[])], Err(0)),
+    (&[Move::Buffer(0, 1)], Err(0)),
+    (&[Move::Queue(0)], Err(0)),
+    (&[Move::Begin(0)], Err(0)),
+    (&[Move::Complete(0)], Err(0)),
+    (&[Move::Cancel(0)], Err(0)),
+    (&[Move::Off], Ok(DEFAULTS)),
+    (&[Move::Reinit(0)], Err(0)),
+    (&[Move::Free(0)], Err(0)),
+    // sets
+    (
+        &[Move::Open(0), Move::Set(0, &[(0, 7)])],
+        Ok(&[7, 0, 4, 0, 0, 0]),
+    ),
+    (
+        &[Move::Open(0), Move::Set(0, &[(0, 70), (3, -1)])],
+        Ok(&[9, 0, 4, 0, 0, 0]),
+    ),
+    (&[Move::Open(0), Move::Set(0, &[])], Ok(DEFAULTS)),
+    (&[Move::Open(0), Move::Set(1, &[(0, 7)])], Err(1)),
+    (
+        &[Move::Open(0), Move::Close(0), Move::Set(0, &[(0, 7)])],
+        Err(2),
+    ),
+    (&[Move::Open(0), Move::Close(0), Move::Close(0)], Err(2)),
+    // handler 1 finds another control under the id of control 0, and doesn't show control 3; no handler shows 2 and 3, or a control 6
+    (
+        &[Move::Open(1), Move::Set(0, &[(2, 7)])],
+        Ok(&[3, 0, 7, 0, 0, 0]),
+    ),
+    (&[Move::Open(1), Move::Set(0, &[(0, 7)])], Err(1)),
+    (&[Move::Open(1), Move::Set(0, &[(3, 7)])], Err(1)),
+    (&[Move::Open(0), Move::Set(0, &[(2, 7)])], Err(1)),
+    (&[Move::Open(0), Move::Set(0, &[(6, 7)])], Err(1)),
+    (
+        &[Move::Open(0), Move::Set(0, &[(4_294_967_295, 7)])],
+        Err(1),
+    ),
+    // DISABLED, READ_ONLY, refused by its validator, grabbed
+    (&[Move::Open(0), Move::Set(0, &[(4, 7)])], Err(1)),
+    (&[Move::Open(0), Move::Set(0, &[(5, 7)])], Err(1)),
+    (&[Move::Open(0), Move::Set(0, &[(1, 7)])], Err(1)),
+    (
+        &[
+            Move::Open(0),
+            Move::Grab(0, true),
+            Move::Grab(0, false),
+            Move::Set(0, &[(0, 7)]),
+            Move::Grab(0, true),
+            Move::Set(0, &[(0, 6)]),
+        ],
+        Err(5),
+    ),
+    // as many pairs as a list has entries, and one more
+    (
+        &[Move::Open(0), Move::Set(0, &MOST)],
+        Ok(&[8, 0, 4, 0, 0, 0]),
+    ),
+    (&[Move::Open(0), Move::Set(0, &MANY)], Err(1)),
+    (
+        &[Move::Open(0), Move::Alloc, Move::Store(1, &MOST)],
+        Ok(DEFAULTS),
+    ),
+    (&[Move::Open(0), Move::Alloc, Move::Store(1, &MANY)], Err(2)),
+    // a store that no open file handle could make
+    (&[Move::Alloc, Move::Store(0, &[])], Err(1)),
+    (
+        &[Move::Open(1), Move::Alloc, Move::Store(1, &[(3, 1)])],
+        Err(2),
+    ),
+    (
+        &[
+            Move::Open(1),
+            Move::Open(0),
+            Move::Alloc,
+            Move::Store(2, &[(3, 1)]),
+            Move::Store(2, &[(2, 1)]),
+            Move::Store(2, &[(2, 1), (3, 1)]),
+        ],
+        Err(5),
+    ),
+    (
+        &[
+            Move::Open(0),
+            Move::Alloc,
+            Move::Store(1, &[(0, 1)]),
+            Move::Close(0),
+            Move::Store(1, &[(0, 1)]),
+        ],
+        Err(4),
+    ),
+    (
+        &[Move::Open(0), Move::Alloc, Move::Store(1, &[(1, 7)])],
+        Err(2),
+    ),
+    (
+        &[Move::Open(0), Move::Alloc, Move::Store(0, &[(0, 7)])],
+        Err(2),
+    ),
+    // a begin and an end that name another than the first that is queued, and the one that runs
+    (
+        &[
+            Move::Alloc,
+            Move::Alloc,
+            Move::Buffer(0, 1),
+            Move::Buffer(1, 2),
+            Move::Queue(0),
+            Move::Queue(1),
+            Move::Begin(1),
+        ],
+        Err(6),
+    ),
+    (
+        &[
+            Move::Alloc,
+            Move::Alloc,
+            Move::Buffer(0, 1),
+            Move::Buffer(1, 2),
+            Move::Queue(0),
+            Move::Queue(1),
+            Move::Begin(0),
+            Move::Complete(1),
+        ],
+        Err(7),
+    ),
+    // requests out of turn
+    (&[Move::Alloc, Move::Buffer(1, 1)], Err(1)),
+    (
+        &[Move::Alloc, Move::Buffer(0, 1), Move::Buffer(0, 1)],
+        Err(2),
+    ),
+    (
+        &[
+            Move::Alloc,
+            Move::Alloc,
+            Move::Buffer(0, 1),
+            Move::Buffer(1, 1),
+        ],
+        Err(3),
+    ),
+    (&[Move::Alloc, Move::Queue(0)], Err(1)),
+    (
+        &[
+            Move::Alloc,
+            Move::Buffer(0, 1),
+            Move::Queue(0),
+            Move::Queue(0),
+        ],
+        Err(3),
+    ),
+    (
+        &[
+            Move::Alloc,
+            Move::Buffer(0, 1),
+            Move::Queue(0),
+            Move::Free(0),
+        ],
+        Err(3),
+    ),
+    (
+        &[
+            Move::Alloc,
+            Move::Buffer(0, 1),
+            Move::Queue(0),
+            Move::Complete(0),
+        ],
+        Err(3),
+    ),
+    (
+        &[
+            Move::Alloc,
+            Move::Buffer(0, 1),
+            Move::Queue(0),
+            Move::Begin(0),
+            Move::Begin(0),
+        ],
+        Err(4),
+    ),
+    (
+        &[
+            Move::Alloc,
+            Move::Buffer(0, 1),
+            Move::Queue(0),
+            Move::Begin(0),
+            Move::Cancel(0),
+        ],
+        Err(4),
+    ),
+    (
+        &[
+            Move::Alloc,
+            Move::Buffer(0, 1),
+            Move::Queue(0),
+            Move::Off,
+            Move::Begin(0),
+        ],
+        Err(4),
+    ),
+    (
+        &[
+            Move::Alloc,
+            Move::Buffer(0, 1),
+            Move::Queue(0),
+            Move::Cancel(0),
+            Move::Cancel(0),
+        ],
+        Err(4),
+    ),
+    (&[Move::Alloc, Move::Free(0), Move::Reinit(0)], Err(2)),
+    // a whole frame, and one whose control is grabbed then
+    (
+        &[
+            Move::Open(0),
+            Move::Alloc,
+            Move::Store(1, &[(0, 8)]),
+            Move::Buffer(1, 4),
+            Move::Queue(1),
+            Move::Begin(1),
+            Move::Complete(1),
+            Move::Reinit(1),
+            Move::Free(1),
+        ],
+        Ok(&[8, 0, 4, 0, 0, 0]),
+    ),
+    (
+        &[
+            Move::Open(0),
+            Move::Alloc,
+            Move::Store(1, &[(0, 8), (3, 5)]),
+            Move::Buffer(1, 4),
+            Move::Queue(1),
+            Move::Grab(0, true),
+            Move::Begin(1),
+        ],
+        Ok(&[3, 0, 4, 5, 0, 0]),
+    ),
+];
+
+// Steps about events, likewise.
+pub const EVENTS: &[Case] = &[
+    (&[Move::Subscribe(0, 0, 0)], Err(0)),
+    (&[Move::Unsubscribe(0, Some(0))], Err(0)),
+    (&[Move::Unsubscribe(0, None)], Err(0)),
+    (&[Move::Take(0, 0)], Err(0)),
+    // what a handler finds under its id, DISABLED and READ_ONLY ones too; a second time, and with any bits
+    (
+        &[
+            Move::Open(0),
+            Move::Subscribe(0, 0, 0),
+            Move::Subscribe(0, 0, 0x3),
+            Move::Subscribe(0, 1, u32::MAX),
+            Move::Subscribe(0, 3, 0),
+            Move::Subscribe(0, 4, 0x1),
+            Move::Subscribe(0, 5, 0x1),
+        ],
+        Ok(DEFAULTS),
+    ),
+    (
+        &[
+            Move::Open(1),
+            Move::Subscribe(0, 2, 0),
+            Move::Subscribe(0, 1, 0),
+            Move::Subscribe(0, 4, 0),
+            Move::Unsubscribe(0, Some(2)),
+            Move::Unsubscribe(0, Some(5)),
+        ],
+        Ok(DEFAULTS),
+    ),
+    // what it doesn't: one whose id it finds another under, one that isn't shown, one of another handler, and none
+    (&[Move::Open(1), Move::Subscribe(0, 0, 0)], Err(1)),
+    (&[Move::Open(1), Move::Subscribe(0, 3, 0)], Err(1)),
+    (&[Move::Open(0), Move::Subscribe(0, 2, 0)], Err(1)),
+    (&[Move::Open(0), Move::Subscribe(0, 6, 0)], Err(1)),
+    (
+        &[Move::Open(0), Move::Subscribe(0, 4_294_967_295, 0x1)],
+        Err(1),
+    ),
+    (&[Move::Open(1), Move::Unsubscribe(0, Some(0))], Err(1)),
+    (&[Move::Open(1), Move::Unsubscribe(0, Some(3))], Err(1)),
+    (&[Move::Open(0), Move::Unsubscribe(0, Some(2))], Err(1)),
+    (&[Move::Open(0), Move::Unsubscribe(0, Some(6))], Err(1)),
+    (
+        &[Move::Open(0), Move::Unsubscribe(0, Some(4_294_967_295))],
+        Err(1),
+    ),
+    // each through its own file handle
+    (
+        &[
+            Move::Open(0),
+            Move::Open(1),
+            Move::Subscribe(0, 0, 0),
+            Move::Subscribe(1, 2, 0),
+            Move::Subscribe(1, 0, 0),
+        ],
+        Err(4),
+    ),
+    // the end of what isn't subscribed, and of what isn't shown
+    (
+        &[
+            Move::Open(0),
+            Move::Unsubscribe(0, Some(0)),
+            Move::Unsubscribe(0, Some(0)),
+            Move::Unsubscribe(0, None),
+        ],
+        Ok(DEFAULTS),
+    ),
+    // file handles that were never opened, or are closed
+    (
+        &[Move::Open(0), Move::Alloc, Move::Subscribe(1, 0, 0)],
+        Err(2),
+    ),
+    (
+        &[Move::Open(0), Move::Alloc, Move::Unsubscribe(1, None)],
+        Err(2),
+    ),
+    (
+        &[Move::Open(0), Move::Close(0), Move::Subscribe(0, 0, 0)],
+        Err(2),
+    ),
+    (
+        &[
+            Move::Open(0),
+            Move::Subscribe(0, 0, 0),
+            Move::Close(0),
+            Move::Unsubscribe(0, Some(0)),
+        ],
+        Err(3),
+    ),
+    (
+        &[Move::Open(0), Move::Close(0), Move::Unsubscribe(0, None)],
+        Err(2),
+    ),
+    (
+        &[
+            Move::Open(0),
+            Move::Subscribe(0, 0, 0x1),
+            Move::Close(0),
+            Move::Take(0, 0),
+        ],
+        Err(3),
+    ),
+    (
+        &[
+            Move::Open(0),
+            Move::Subscribe(0, 0, 0x1),
+            Move::Close(0),
+            Move::Open(0),
+            Move::Take(3, 0),
+        ],
+        Err(4),
+    ),
+    // a take where nothing waits: no subscription, one that tells nothing at once, or what is told already
+    (&[Move::Open(0), Move::Take(0, 0)], Err(1)),
+    (&[Move::Open(0), Move::Take(0, 4_294_967_295)], Err(1)),
+    (
+        &[Move::Open(0), Move::Subscribe(0, 0, 0x2), Move::Take(0, 0)],
+        Err(2),
+    ),
+    (
+        &[
+            Move::Open(0),
+            Move::Subscribe(0, 0, 0),
+            Move::Subscribe(0, 0, 0x1),
+            Move::Take(0, 0),
+        ],
+        Err(3),
+    ),
+    (
+        &[
+            Move::Open(0),
+            Move::Subscribe(0, 0, 0x1),
+            Move::Take(0, 0),
+            Move::Take(0, 0),
+        ],
+        Err(3),
+    ),
+    (
+        &[
+            Move::Open(0),
+            Move::Open(0),
+            Move::Subscribe(0, 0, 0x1),
+            Move::Take(1, 0),
+        ],
+        Err(3),
+    ),
+    (
+        &[
+            Move::Open(0),
+            Move::Subscribe(0, 0, 0x1),
+            Move::Unsubscribe(0, Some(0)),
+            Move::Take(0, 0),
+        ],
+        Err(3),
+    ),
+    // its own set without feedback, and what a set leaves
+    (
+        &[
+            Move::Open(0),
+            Move::Subscribe(0, 0, 0),
+            Move::Set(0, &[(0, 7)]),
+            Move::Take(0, 0),
+        ],
+        Err(3),
+    ),
+    (
+        &[
+            Move::Open(0),
+            Move::Open(0),
+            Move::Subscribe(0, 0, 0),
+            Move::Set(1, &[(0, 3)]),
+            Move::Take(0, 0),
+        ],
+        Err(4),
+    ),
+    // a grab that holds already
+    (
+        &[
+            Move::Open(0),
+            Move::Grab(0, true),
+            Move::Subscribe(0, 0, 0),
+            Move::Grab(0, true),
+            Move::Take(0, 0),
+        ],
+        Err(4),
+    ),
+    // a frame whose cluster is refused
+    (
+        &[
+            Move::Open(0),
+            Move::Alloc,
+            Move::Store(1, &[(0, 8)]),
+            Move::Buffer(1, 4),
+            Move::Queue(1),
+            Move::Grab(0, true),
+            Move::Subscribe(0, 0, 0),
+            Move::Begin(1),
+            Move::Take(0, 0),
+        ],
+        Err(8),
+    ),
+    // a take of another control than the first
+    (
+        &[
+            Move::Open(0),
+            Move::Subscribe(0, 3, 0x1),
+            Move::Subscribe(0, 0, 0x1),
+            Move::Take(0, 0),
+        ],
+        Err(3),
+    ),
+    (
+        &[
+            Move::Open(0),
+            Move::Open(0),
+            Move::Subscribe(0, 3, 0),
+            Move::Subscribe(0, 0, 0),
+            Move::Set(1, &[(3, 1), (0, 1)]),
+            Move::Take(0, 3),
+        ],
+        Err(5),
+    ),
+    (
+        &[
+            Move::Open(0),
+            Move::Open(0),
+            Move::Subscribe(0, 3, 0),
+            Move::Subscribe(0, 0, 0),
+            Move::Set(1, &[(0, 7)]),
+            Move::Set(1, &[(3, 1)]),
+            Move::Set(1, &[(0, 6)]),
+            Move::Take(0, 0),
+        ],
+        Err(7),
+    ),
+    // takes: at once, of another's set, its own with feedback, grabs, and frames
+    (
+        &[Move::Open(0), Move::Subscribe(0, 0, 0x1), Move::Take(0, 0)],
+        Ok(DEFAULTS),
+    ),
+    (
+        &[
+            Move::Open(0),
+            Move::Open(0),
+            Move::Subscribe(0, 0, 0),
+            Move::Set(1, &[(0, 7)]),
+            Move::Take(0, 0),
+        ],
+        Ok(&[7, 0, 4, 0, 0, 0]),
+    ),
+    (
+        &[
+            Move::Open(0),
+            Move::Subscribe(0, 0, 0x2),
+            Move::Set(0, &[(0, 7)]),
+            Move::Take(0, 0),
+            Move::Set(0, &[(0, 6)]),
+            Move::Take(0, 0),
+        ],
+        Ok(&[6, 0, 4, 0, 0, 0]),
+    ),
+    (
+        &[
+            Move::Open(0),
+            Move::Subscribe(0, 5, 0),
+            Move::Grab(5, true),
+            Move::Grab(4, true),
+            Move::Take(0, 5),
+            Move::Grab(5, false),
+            Move::Take(0, 5),
+        ],
+        Ok(DEFAULTS),
+    ),
+    (
+        &[
+            Move::Open(0),
+            Move::Subscribe(0, 0, 0),
+            Move::Alloc,
+            Move::Store(2, &[(0, 8)]),
+            Move::Buffer(2, 4),
+            Move::Queue(2),
+            Move::Begin(2),
+            Move::Take(0, 0),
+        ],
+        Ok(&[8, 0, 4, 0, 0, 0]),
+    ),
+    // the end of another subscription, and of none, leaves what waits
+    (
+        &[
+            Move::Open(0),
+            Move::Subscribe(0, 0, 0x1),
+            Move::Unsubscribe(0, None),
+            Move::Unsubscribe(0, Some(1)),
+            Move::Subscribe(0, 0, 0),
+            Move::Take(0, 0),
+        ],
+        Ok(DEFAULTS),
+    ),
+    // several wait: in the order of the controls after one step, and of the last raises after several
+    (
+        &[
+            Move::Open(0),
+            Move::Open(0),
+            Move::Subscribe(0, 3, 0),
+            Move::Subscribe(0, 0, 0),
+            Move::Set(1, &[(3, 1), (0, 1)]),
+            Move::Take(0, 0),
+            Move::Take(0, 3),
+        ],
+        Ok(&[1, 0, 4, 1, 0, 0]),
+    ),
+    (
+        &[
+            Move::Open(0),
+            Move::Open(0),
+            Move::Subscribe(0, 3, 0),
+            Move::Subscribe(0, 0, 0),
+            Move::Subscribe(0, 5, 0),
+            Move::Set(1, &[(0, 7)]),
+            Move::Set(1, &[(3, 1)]),
+            Move::Grab(5, true),
+            Move::Set(1, &[(0, 6)]),
+            Move::Unsubscribe(0, Some(5)),
+            Move::Take(0, 3),
+            Move::Set(1, &[(3, 2)]),
+            Move::Take(0, 0),
+            Move::Take(0, 3),
+        ],
+        Ok(&[6, 0, 4, 2, 0, 0]),
+    ),
+];
+
+// What an event tells that waits: its control, the bits of what changed, its value, and its number.
+pub type Told = (u32, u32, CtrlValue, u32);
+
+// Steps, with what waits for a file handle behind them, and the number of its next event.
+pub const WAITING: &[(&[Move], u32, &[Told], u32)] = &[
+    (&[], 0, &[], 0),
+    (&[Move::Open(0)], 0, &[], 0),
+    (
+        &[
+            Move::Open(0),
+            Move::Set(0, &[(0, 7)]),
+            Move::Subscribe(0, 5, 0x1),
+            Move::Subscribe(0, 0, 0x3),
+            Move::Subscribe(0, 3, 0),
+        ],
+        0,
+        &[(5, 0x3, 0, 0), (0, 0x3, 7, 1)],
+        2,
+    ),
+    // what changed is joined, and the first that was taken still counts
+    (
+        &[
+            Move::Open(0),
+            Move::Open(0),
+            Move::Subscribe(0, 0, 0),
+            Move::Subscribe(0, 3, 0),
+            Move::Set(1, &[(0, 7), (3, 2)]),
+            Move::Take(0, 0),
+            Move::Set(1, &[(0, 6)]),
+            Move::Grab(3, true),
+        ],
+        0,
+        &[(0, 0x1, 6, 2), (3, 0x3, 2, 3)],
+        4,
+    ),
+    // of each file handle its own
+    (
+        &[
+            Move::Open(0),
+            Move::Open(1),
+            Move::Subscribe(0, 0, 0),
+            Move::Subscribe(1, 2, 0x2),
+            Move::Set(0, &[(0, 7)]),
+            Move::Set(1, &[(2, 5)]),
+        ],
+        0,
+        &[],
+        0,
+    ),
+    (
+        &[
+            Move::Open(0),
+            Move::Open(1),
+            Move::Subscribe(0, 0, 0),
+            Move::Subscribe(1, 2, 0x2),
+            Move::Set(0, &[(0, 7)]),
+            Move::Set(1, &[(2, 5)]),
+        ],
+        1,
+        &[(2, 0x1, 5, 0)],
+        1,
+    ),
+    // closed, and opened anew
+    (
+        &[Move::Open(0), Move::Subscribe(0, 0, 0x1), Move::Close(0)],
+        0,
+        &[],
+        0,
+    ),
+    (
+        &[
+            Move::Open(0),
+            Move::Subscribe(0, 0, 0x1),
+            Move::Close(0),
+            Move::Open(0),
+            Move::Subscribe(3, 4, 0x1),
+        ],
+        3,
+        &[(4, 0x3, 0, 0)],
+        1,
+    ),
+];
