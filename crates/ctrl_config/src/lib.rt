@@ -1,0 +1,55 @@
+//! A control described by named fields, as a driver writes it. Nothing here takes memory.
+#![tactic(auto)]
+
+ghost use Rattle.std.specs.Prelude.{◌≡◌, ◌↔◌, IsOk, IfOk, IfErr};
+ghost use Rattle.ctrl_config.specs.Config.{control_of};
+ghost use Rattle.ctrl_settle.specs.Faults.{IsFirstFault, IsWellFormed};
+
+use ctrl_settle::{Ctrl, CtrlFault};
+use ctrl_types::{CtrlId, CtrlValue, Flags, Kind};
+
+/// What a driver says of a control, not checked yet (Linux driver API, "V4L2 Controls", `struct v4l2_ctrl_config`). What each field may
+/// be stands at `Ctrl::new`, whose arguments they are.
+#[derive(Clone, Copy, Debug, PartialEq, Eq)]
+pub struct CtrlConfig {
+    /// The number by which userspace asks for it; any.
+    pub id: CtrlId,
+    /// What values it takes.
+    pub kind: Kind,
+    /// The least value.
+    pub minimum: i64,
+    /// The greatest value; of a `Bitmask` the mask.
+    pub maximum: i64,
+    /// How far the values of a number lie apart, 1 or more; 1 for a `Boolean` and the menus, 0 for a `Button` and a `Bitmask`.
+    pub step: u64,
+    /// The value at the start, one that the control takes as it is.
+    pub default_value: CtrlValue,
+    /// Bit i leaves out item i of a menu; 0 for other kinds.
+    pub skip: u64,
+    /// What holds of it from the start.
+    pub flags: Flags,
+    /// Whether handlers that add this control's handler leave it out.
+    pub is_private: bool,
+}
+
+impl CtrlConfig {
+    /// The control that the fields describe, as `Ctrl::new` makes it of them. Its faults, of which the first is answered, are 1 `BadRange`,
+    /// 2 `ZeroStep`, 4 `KindBounds` and 3 `BadDefault`, in this order; nothing is made then.
+    pub fn build(&self) -> Result<Ctrl, CtrlFault>
+        ensures ok { IsOk result ↔ IsWellFormed (control_of self.now) }
+        ensures value { IfOk result (λ c. c ≡ control_of self.now) }
+        ensures fault { IfErr result (IsFirstFault (control_of self.now)) }
+    {
+        Ctrl::new(
+            self.id,
+            self.kind,
+            self.minimum,
+            self.maximum,
+            self.step,
+            self.default_value,
+            self.skip,
+            self.flags,
+            self.is_private,
+        )
+    }
+}
