@@ -1,0 +1,95 @@
+//! What the camera's closures answer, and the relations that say so.
+
+ghost use Rattle.std.specs.Prelude.{◌≡◌, ◌≢◌, ◌↔◌, IsTrue, pos, ◌+ℤ◌, ◌*ℤ◌};
+ghost use Rattle.example_driver.specs.Camera.{Fits, camera_told, camera_verdict};
+
+use ctrl_calls::{ClusterRow, Notifies, Relation, Validates, Verdict};
+
+/// The driver of the camera. It has no value: it only ties the meanings to the types of the closures.
+pub enum Camera {}
+
+impl Validates for Camera {
+    type Judge = Box<dyn Fn(ClusterRow) -> Verdict + Send>;
+
+    ghost verdict = { camera_verdict };
+}
+
+impl Notifies for Camera {
+    type Teller = Box<dyn Fn(ClusterRow) -> u64 + Send>;
+
+    ghost told = { camera_told };
+}
+
+/// What the validator of red and blue answers by: blue is at most red and 64.
+pub const BLUE_LIMIT: Relation = Relation {
+    number: 1,
+    bounds: [64, 0, 0, 0],
+};
+
+/// What the notifier of mode, time and gain answers by: nothing is written unless the mode is 1, manual.
+pub const EXPOSURE_WORDS: Relation = Relation {
+    number: 2,
+    bounds: [1, 0, 0, 0],
+};
+
+/// What the notifier of brightness answers by: the register counts from 128.
+pub const BRIGHTNESS_WORDS: Relation = Relation {
+    number: 3,
+    bounds: [128, 0, 0, 0],
+};
+
+/// What the validator of red and blue makes of a row, the values of the two: it is accepted with the lesser of blue and red and 64 in
+/// the place of blue. A row of another length is accepted as it is.
+pub fn blue_verdict(row: &ClusterRow) -> Verdict
+    ensures { result ≡ camera_verdict BLUE_LIMIT row.now }
+{
+    if row.len() != 2 {
+        return Verdict::Accept(*row);
+    }
+    // the sum of any two values fits
+    let most = i128::from(row.value(0)) + i128::from(BLUE_LIMIT.bounds[0]);
+    if i128::from(row.value(1)) <= most {
+        return Verdict::Accept(*row);
+    }
+    Verdict::Accept(row.with(1, most as i64))
+}
+
+/// What the notifier of mode, time and gain says of a row, the values of the three: 0 where the mode isn't manual; else the word for
+/// the exposure register, 256 times the time and the gain, or 0 where one of them doesn't fit. Of a row of another length it says 0.
+pub fn exposure_word(row: &ClusterRow) -> u64
+    ensures { camera_told EXPOSURE_WORDS row.now result }
+{
+    if row.len() != 3 || row.value(0) != EXPOSURE_WORDS.bounds[0] {
+        return 0;
+    }
+    joined(row.value(1), row.value(2))
+}
+
+fn joined(time: i64, gain: i64) -> u64
+    ensures { Fits (pos 65536) time → Fits (pos 256) gain → pos result ≡ pos 256 *ℤ time +ℤ gain }
+{
+    if time < 0 || time > 65535 || gain < 0 || gain > 255 {
+        return 0;
+    }
+    256 * time as u64 + gain as u64
+}
+
+/// What the notifier of brightness says of a row, its value: the word for the brightness register, the value and 128, or 0 where
+/// this doesn't fit a byte. Of a row of another length it says 0.
+pub fn brightness_word(row: &ClusterRow) -> u64
+    ensures { camera_told BRIGHTNESS_WORDS row.now result }
+{
+    if row.len() != 1 {
+        return 0;
+    }
+    byte(i128::from(row.value(0)) + i128::from(BRIGHTNESS_WORDS.bounds[0]))
+}
+
+fn byte(level: i128) -> u64
+    ensures { Fits (pos 256) level → pos result ≡ level }
+{
+    if level < 0 || level > 255 {
+        return 0;
+    }
+    level as u64
+}

@@ -1,0 +1,185 @@
+//! A driver of a camera, from nothing: it describes the device, makes the closures, and asks what an application would.
+#![tactic(auto)]
+
+mod device;
+mod driver;
+
+ghost use Rattle.std.specs.Prelude.{◌<◌, ◌^◌, length};
+ghost use Rattle.ctrl_calls.specs.Meanings.{JudgesBy, TellsBy};
+
+use crate::device::{BLUE, BRIGHTNESS, GAIN, HFLIP, MODE, POWER_LINE, RED, TIME, camera_plan};
+use crate::driver::{
+    BLUE_LIMIT, BRIGHTNESS_WORDS, Camera, EXPOSURE_WORDS, blue_verdict, brightness_word,
+    exposure_word,
+};
+use anyhow::{Result, bail};
+use ctrl_calls::{Calls, ClusterRow, Driver, Notifier, Validator, Verdict};
+use ctrl_types::{CtrlId, ExtControl, Fault, FhId, RequestId};
+use device_state::{Ask, ControlList, Device, MenuItem, Reply};
+use std::io;
+
+type Judge = Box<dyn Fn(ClusterRow) -> Verdict + Send>;
+
+type Teller = Box<dyn Fn(ClusterRow) -> u64 + Send>;
+
+fn main(rt: HostRuntime) -> Result<()> {
+    let limit: Judge = Box::new(rt.alloc(), |row: ClusterRow| blue_verdict(&row))?;
+    let exposure: Teller = Box::new(rt.alloc(), |row: ClusterRow| exposure_word(&row))?;
+    let brightness: Teller = Box::new(rt.alloc(), |row: ClusterRow| brightness_word(&row))?;
+    run::<Camera, HostRuntime>(&rt, limit, exposure, brightness)
+}
+
+// Makes the device, whose clusters have these closures, and plays with it. It is generic, since the type of a stored box can't be
+// named here.
+fn run<D: Driver, R: AllocGlobal + Print>(
+    rt: &R,
+    limit: D::Judge,
+    exposure: D::Teller,
+    brightness: D::Teller,
+) -> Result<()>
+    requires limit { D.Judge.callable limit }
+    requires limit_judges { JudgesBy (D.Judge.answers limit) (D.verdict BLUE_LIMIT) }
+    requires exposure { D.Teller.callable exposure }
+    requires exposure_tells { TellsBy (D.Teller.answers exposure) (D.told EXPOSURE_WORDS) }
+    requires brightness { D.Teller.callable brightness }
+    requires brightness_tells { TellsBy (D.Teller.answers brightness) (D.told BRIGHTNESS_WORDS) }
+{
+    let of_exposure: Calls<D> = Calls {
+        validator: None,
+        notifier: Some(Notifier::new(EXPOSURE_WORDS, exposure)),
+    };
+    let of_balance: Calls<D> = Calls {
+        validator: Some(Validator::new(BLUE_LIMIT, limit)),
+        notifier: None,
+    };
+    let of_brightness: Calls<D> = Calls {
+        validator: None,
+        notifier: Some(Notifier::new(BRIGHTNESS_WORDS, brightness)),
+    };
+    let plan = camera_plan(rt.alloc(), of_exposure, of_balance, of_brightness)?;
+    let Ok(mut device) = Device::new(rt.alloc(), plan) else {
+        bail!("no memory for the device");
+    };
+    play(rt, &mut device)
+}
+
+// What an application asks.
+fn play<D: Driver, R: AllocGlobal + Print>(rt: &R, device: &mut Device<D>) -> Result<()> {
+    let Ok(Reply::Fh(fh)) = device.handle(0, &Ask::OpenFh { handler: 1 }) else {
+        bail!("the video node can't be opened");
+    };
+    set_values(rt, device, fh)?;
+    queue_frame(rt, device, fh, &[entry(RED, 30), entry(BRIGHTNESS, 20)], 7)?;
+    queue_frame(rt, device, fh, &[entry(BLUE, 200), entry(HFLIP, 1)], 8)?;
+    for place in 0..2 {
+        ask(rt, device, "will have", &Ask::Forecast { place })?;
+    }
+    for _ in 0..2 {
+        ask(rt, device, "begin", &Ask::Begin)?;
+        println!(rt; "has: {:?}", device.values())?;
+        ask(rt, device, "complete", &Ask::Complete)?;
+    }
+    Ok(())
+}
+
+// Sets controls, and reads what was told of them.
+fn set_values<D: Driver, R: AllocGlobal + Print>(
+    rt: &R,
+    device: &mut Device<D>,
+    fh: FhId,
+) -> Result<()> {
+    set(rt, device, fh, None, &[entry(BRIGHTNESS, 10)])?;
+    ask(rt, device, "register", &Ask::Told { cluster: 2 })?;
+    let exposure = [entry(MODE, 1), entry(TIME, 500), entry(GAIN, 32)];
+    set(rt, device, fh, None, &exposure)?;
+    ask(rt, device, "register", &Ask::Told { cluster: 0 })?;
+    set(rt, device, fh, None, &[entry(RED, 50), entry(BLUE, 255)])?;
+    set(rt, device, fh, None, &[entry(POWER_LINE, 3)])?;
+    let (id, index) = (POWER_LINE, 1);
+    ask(rt, device, "item 1", &Ask::MenuItem { fh, id, index })
+}
+
+// Makes a request of these controls, with this buffer, and queues it.
+fn queue_frame<D: Driver, R: AllocGlobal + Print>(
+    rt: &R,
+    device: &mut Device<D>,
+    fh: FhId,
+    entries: &[ExtControl],
+    buffer: u32,
+) -> Result<()>
+    requires { length entries.now < 2 ^ 32 }
+{
+    let Ok(Reply::Request(request)) = device.handle(0, &Ask::Alloc) else {
+        bail!("no request");
+    };
+    set(rt, device, fh, Some(request), entries)?;
+    ask(rt, device, "buffer", &Ask::AddBuffer { request, buffer })?;
+    ask(rt, device, "queue", &Ask::Queue { request })
+}
+
+fn entry(id: CtrlId, value: i64) -> ExtControl {
+    ExtControl { id, value }
+}
+
+// Sets controls, now or through a request.
+fn set<D: Driver, R: AllocGlobal + Print>(
+    rt: &R,
+    device: &mut Device<D>,
+    fh: FhId,
+    request: Option<RequestId>,
+    entries: &[ExtControl],
+) -> Result<()>
+    requires { length entries.now < 2 ^ 32 }
+{
+    let list = ControlList::from_vec(Vec::from_slice(rt.alloc(), entries)?);
+    let (what, which) = match request {
+        Some(_) => ("store", 0x0f01_0000),
+        None => ("set", 0),
+    };
+    let set = Ask::SetCtrls {
+        fh,
+        which,
+        request,
+        list,
+    };
+    ask(rt, device, what, &set)
+}
+
+// Asks, and prints what is answered.
+fn ask<D: Driver, R: AllocGlobal + Print>(
+    rt: &R,
+    device: &mut Device<D>,
+    what: &str,
+    ask: &Ask,
+) -> Result<()> {
+    show(rt, what, &device.handle(0, ask))?;
+    Ok(())
+}
+
+fn show<R: Print>(rt: &R, what: &str, answer: &Result<Reply, Fault>) -> io::Result<()> {
+    match answer {
+        Ok(Reply::Controls(list)) => {
+            print!(rt; "{what}:")?;
+            for control in list.as_slice() {
+                print!(rt; " {}", control.value)?;
+            }
+            println!(rt; "")
+        }
+        Ok(Reply::Word(word)) => println!(rt; "{what}: {word:#x}"),
+        Ok(Reply::Item(MenuItem::Name(name))) => println!(rt; "{what}: {}", name.as_str()),
+        Ok(Reply::Forecast(frame)) => println!(rt;
+            "{what}: {:?}, refused {:?}",
+            frame.values.as_slice(),
+            frame.refused.as_slice()
+        ),
+        Ok(
+            Reply::Frame {
+                buffer,
+                refused,
+                ..
+            },
+        ) => println!(rt; "{what}: buffer {buffer}, refused {:?}", refused.as_slice()),
+        Ok(_) => println!(rt; "{what}: ok"),
+        Err(fault) => println!(rt; "{what}: error {}", fault.errno.number()),
+    }
+}
