@@ -1,16 +1,23 @@
 //! The control interface of a sample video device, driven by scripts: reads a script on standard input and writes a
-//! reply line for each command, or at the end a line for each frame that is queued.
+//! reply line for each command, or at the end a line for each frame that is queued. Why a line isn't a command it says on
+//! standard error.
 #![tactic(auto)]
+
+mod kept;
 
 ghost use Rattle.ctrl_calls.specs.Meanings.{JudgesBy, TellsBy};
 
+use crate::kept::Kept;
 use command_line::{Mode, ModeFault, mode_of};
 use ctl_script::{
-    BALANCE_LIMIT, BRIGHTNESS_WORDS, BUTTON_WORDS, GAIN_LIMIT, PAIR_WORDS, Sample, balance_verdict,
-    brightness_word, button_word, gain_verdict, pair_word, run_board, run_script, sample_plan,
+    BALANCE_LIMIT, BRIGHTNESS_WORDS, BUTTON_WORDS, GAIN_LIMIT, Outcome, PAIR_WORDS, Sample,
+    balance_verdict, brightness_word, button_word, gain_verdict, pair_word, run_board, run_script,
+    sample_plan,
 };
 use ctrl_calls::{Calls, ClusterRow, Driver, Notifier, Validator, Verdict};
 use device_state::Device;
+use line_reasons::{Complaint, reason_of};
+use std::io::Read;
 use std::process::ExitCode;
 use std::{env, io};
 
@@ -57,7 +64,7 @@ fn main(rt: HostRuntime) -> ExitCode {
 
 // Runs the script on standard input, as the mode says, on a fresh sample device, whose clusters have these closures: `limit` and `gain` are the
 // validator and the notifier of autogain and gain, `sum` and `balance` those of red and blue.
-fn run<D: Driver, R: AllocGlobal + Input + Print>(
+fn run<D: Driver, R: AllocGlobal + Input + Print + Eprint>(
     rt: &R,
     mode: Mode,
     limit: D::Judge,
@@ -102,13 +109,26 @@ fn run<D: Driver, R: AllocGlobal + Input + Print>(
     let Ok(device) = Device::new(rt.alloc(), plan) else {
         return no_memory(rt);
     };
-    let mut reader = rt.reader();
+    let mut reader = Kept::new(rt.alloc(), rt.reader());
     let mut writer = io::writer(rt);
     let (_, outcome) = match mode {
         Mode::Run => run_script(rt.alloc(), device, &mut reader, &mut writer),
         Mode::Board => run_board(rt.alloc(), device, &mut reader, &mut writer),
     };
+    if let Outcome::BadLine(number) = outcome {
+        explain(rt, &reader, number);
+    }
     ExitCode::from(outcome.status())
+}
+
+// Says why a line isn't a command, as far as there is memory to find it out. Nothing else depends on it.
+fn explain<R: AllocGlobal + Eprint, I: Read>(rt: &R, reader: &Kept<I>, number: u32) {
+    let Some(line) = reader.line(number) else {
+        return;
+    };
+    if let Ok(Some(Complaint { word, reason })) = reason_of(rt.alloc(), line) {
+        let _ = eprintln!(rt; "line {number}, word {word}: {}", reason.text());
+    }
 }
 
 // Says that a growth of the tool's own was refused. Where that can't be written, the status says it.

@@ -1,0 +1,82 @@
+/// What a word of a line has that no command has there.
+#[derive(Clone, Copy, Debug, PartialEq, Eq)]
+pub enum Reason {
+    /// The line ends in a carriage return, as lines of other systems do.
+    CarriageReturn,
+    /// A tab stands in it.
+    Tab,
+    /// No command begins with it.
+    Command,
+    /// The command has further words.
+    Missing,
+    /// The command has fewer words.
+    Further,
+    /// It is to be a name, and is too long.
+    LongName,
+    /// It is to be a name, and has none or other characters.
+    Name,
+    /// It is to be a number without a sign, and is too large.
+    LargeNumber,
+    /// It is to be a number without a sign.
+    Number,
+    /// It is to be a control.
+    Control,
+    /// It is to be a word of the sample device.
+    Word,
+    /// It is to be an id.
+    Id,
+    /// It is to say which values.
+    Which,
+    /// It is to be `on` or `off`.
+    OnOff,
+    /// It is to be a control with a value, and has no `=`.
+    Equals,
+    /// It is to be a control with a value, and the value is no number of 64 bits.
+    Value,
+    /// It is to say how is subscribed.
+    Subscription,
+}
+
+impl Reason {
+    /// The reason in words.
+    pub fn text(self) -> &'static str {
+        match self {
+            Reason::CarriageReturn => {
+                "a carriage return at the end of the line; lines end with a line feed alone"
+            }
+            Reason::Tab => "a tab; words are separated by spaces",
+            Reason::Command => "no command begins with this word",
+            Reason::Missing => "missing; the command has further words",
+            Reason::Further => "the command ends before this word",
+            Reason::LongName => "a name has at most 16 characters",
+            Reason::Name => "a name is of ASCII letters and digits",
+            Reason::LargeNumber => "a number is at most 4294967295, and has at most 10 digits",
+            Reason::Number => "a decimal number without a sign belongs here",
+            Reason::Control => {
+                "a control belongs here: a word of the sample device, or 0x and 1 to 8 hexadecimal digits"
+            }
+            Reason::Word => "a word of the sample device belongs here",
+            Reason::Id => "an id belongs here: 0x and 1 to 8 hexadecimal digits",
+            Reason::Which => {
+                "cur, def, user, camera, req: with a name, or 0x and 1 to 8 hexadecimal digits belongs here"
+            }
+            Reason::OnOff => "on or off belongs here",
+            Reason::Equals => "a control belongs here, an equals sign and a value",
+            Reason::Value => {
+                "a value is a decimal number of 64 bits, of at most 19 digits behind an optional minus sign"
+            }
+            Reason::Subscription => {
+                "only initial, feedback, or initial feedback may stand behind the control"
+            }
+        }
+    }
+}
+
+/// Which word of a line is wrong, and why.
+#[derive(Clone, Copy, Debug, PartialEq, Eq)]
+pub struct Complaint {
+    /// The number of the word, from 1; of one that is missing, the number that it would have.
+    pub word: usize,
+    /// What is wrong with it.
+    pub reason: Reason,
+}
