@@ -1,20 +1,15 @@
 //! Two clients on two threads.
 
-ghost use Rattle.std.specs.Prelude.{◌≡◌, IfSome};
-ghost use Rattle.turn_desk.specs.Views.{IsSeatOf};
-ghost use Rattle.turn_desk.specs.Runs.{IsEntered};
+ghost use Rattle.std.specs.Prelude.{◌≡◌};
 
 use crate::counter::{Answer, Ask, Counter};
-use crate::seats::{listed, open};
-use history::Served;
+use crate::seats::open;
 use std::alloc::Global;
-use std::sync::Wait;
 use std::sync::atomic::AtomicU64;
 use std::sync::atomic::Ordering::SeqCst;
 use std::test::Fail;
 use std::thread;
-use std::thread::Threads;
-use turn_desk::{Client, Desk, Gate, Party, run_clients};
+use turn_desk::{Client, Gate, Party, run_clients, serve_both};
 
 const MOST_TURNS: u32 = 10_000_000;
 
@@ -82,17 +77,21 @@ impl Client<Counter> for Adder {
 
     ghost transcript = { λ adder. adder.said.items };
 
-    fn next(&mut self) -> Option<Ask> {
+    fn next(&mut self) -> bool {
         if self.left == 0 {
-            return None;
+            return false;
         }
-        let ask = Ask::Add(1);
-        if self.said.push((ask, None)).is_err() {
+        if self.said.push((Ask::Add(1), None)).is_err() {
             self.left = 0;
-            return None;
+            return false;
         }
         self.left -= 1;
-        Some(ask)
+        true
+    }
+
+    fn ask(&self) -> &Ask {
+        let last = self.said.len() - 1;
+        &self.said[last].0
     }
 
     fn hear(&mut self, answer: Answer) {
@@ -102,54 +101,14 @@ impl Client<Counter> for Adder {
     }
 }
 
-// Runs two clients, and closes the desk, whose steps at each seat are then the accepted ones of its client's calls.
-fn run_and_close<
-    T: Served + Send + Drop,
-    C: Client<T> + Drop + Send,
-    G: Gate + Sync,
-    R: Threads + Wait + Sync,
->(
-    rt: &R,
-    alloc: Global,
-    desk: Desk<T>,
-    gate: &G,
-    first: Party<T, C>,
-    second: Party<T, C>,
-) -> Option<(T, C, C)>
-where
-    T::Ask: Drop + Send,
-    requires first { IsSeatOf desk first.seat }
-    requires second { IsSeatOf desk second.seat }
-    ensures first { IfSome result (λ r. IsEntered T.is_legal T.answers T.taken desk.plan first.seat (C.transcript first.client) (C.transcript r.1) (T.steps r.0)) }
-    ensures second { IfSome result (λ r. IsEntered T.is_legal T.answers T.taken desk.plan second.seat (C.transcript second.client) (C.transcript r.2) (T.steps r.0)) }
-    ensures done { IfSome result (λ r. C.is_done r.1 × C.is_done r.2) }
-{
-    let (one, two, outcome) = run_clients(rt, &desk, gate, first, second);
-    let Ok(()) = outcome else {
-        return None;
-    };
-    let both = listed(alloc, Some(one.seat), Some(two.seat))?;
-    let Ok(object) = desk.close(both) else {
-        return None;
-    };
-    Some((object, one.client, two.client))
-}
-
 // Each of two threads calls 1,000 times, and the history has all entries of both.
 #[test]
 fn two_threads_call(rt: HostRuntime) -> Result<(), Fail> {
-    let (desk, first) = open(&rt, rt.alloc());
-    let (first, second) = desk.another(&rt, first);
-    let one = Party {
-        seat: first,
-        client: Adder::new(rt.alloc(), 1000),
-    };
-    let two = Party {
-        seat: second?,
-        client: Adder::new(rt.alloc(), 1000),
-    };
-    let ran = run_and_close(&rt, rt.alloc(), desk, &NoGate, one, two);
-    let (counter, one, two) = ran.ok_or("no memory, or seats are out")?;
+    let counter = Counter::new(rt.alloc(), 1_000_000);
+    let one = Adder::new(rt.alloc(), 1000);
+    let two = Adder::new(rt.alloc(), 1000);
+    let served = serve_both(&rt, rt.alloc(), counter, &NoGate, one, two);
+    let (counter, one, two) = served.ok().ok_or("no memory, or seats are out")?;
     let are_told = one.sums() == 1000 && two.sums() == 1000;
     let are_entered = counter.count(0) == 1000 && counter.count(1) == 1000;
     assert!(rt; are_told && are_entered && counter.total() == 2000);

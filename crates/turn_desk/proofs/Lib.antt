@@ -9,3 +9,5 @@ pub mod Entering
 pub mod Sending
 pub mod Endings
 pub mod Runs
+pub mod Lines
+pub mod Served

@@ -8,16 +8,20 @@ use Rattle.turn_desk.specs.Calls.{IsCall}
 
 -- A transcript has each ask with its answer, and None where that is still to come.
 module _ {Ask Answer : Type 0} where
-  -- what an ask adds, if there is one
-  abbrev pub asking : Option Ask → List (Ask × Option Answer)
-  asking None = []
-  asking (Some ask) = (ask, None) ∷ []
+  -- one ask more, which has no answer yet
+  pub record HasAsked (said after : List (Ask × Option Answer)) : Type 0 where
+    pub ask : Ask
+    pub last : after ≡ said ++ (ask, None) ∷ []
 
   -- the last ask has no answer yet
   pub record Awaits (said : List (Ask × Option Answer)) : Type 0 where
     pub before : List (Ask × Option Answer)
     pub ask : Ask
     pub last : said ≡ before ++ (ask, None) ∷ []
+
+  -- it is the last ask, which has no answer yet
+  abbrev pub IsAwaited : Ask → List (Ask × Option Answer) → Type 0
+  IsAwaited ask said = (before : List (Ask × Option Answer)) (last : Ask) → said ≡ before ++ (last, None) ∷ [] → ask ≡ last
 
   -- the last ask, which had no answer, has this one then
   abbrev pub IsAnswered : Answer → List (Ask × Option Answer) → List (Ask × Option Answer) → Type 0
@@ -71,3 +75,14 @@ module _ {P S Ask Answer : Type 0} (is_legal : P → List (Entry S) → Type 0) 
     pub later : IsPrefix seen steps
     -- of the steps, the seat's own are those that it had, and those of the accepted calls
     pub own : own before.number steps ≡ own before.number before.seen ++ accepted before.number made
+
+  -- what a client's run at a new seat with this number has left in the steps of a closed desk
+  pub record HasServed (number : ℕ) (said said_after : List (Ask × Option Answer)) (steps : List (Entry S)) : Type 0 where
+    pub made : List (Made Ask Answer S)
+    pub transcript : said_after ≡ said ++ said_in made
+    -- the calls were made at beginnings of the steps
+    pub seen : List (Entry S)
+    pub calls : AreMade number [] made seen
+    pub later : IsPrefix seen steps
+    -- of the steps, those with the number are the accepted calls', in order
+    pub own : own number steps ≡ accepted number made

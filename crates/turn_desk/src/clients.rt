@@ -16,10 +16,10 @@ pub trait Gate {
     fn pass(&self, seat: u32, k: u32);
 }
 
-/// Who makes calls at a seat.
+/// Who makes calls at a seat. It keeps each of its asks until it has heard the answer.
 pub trait Client<T: Served> {
-    ghost use Rattle.std.specs.Prelude.{◌≡◌, List, ◌++◌, Option, IfNone};
-    ghost use Rattle.turn_desk.specs.Runs.{asking, Awaits, IsAnswered};
+    ghost use Rattle.std.specs.Prelude.{◌≡◌, List, Option, IsTrue, IsFalse};
+    ghost use Rattle.turn_desk.specs.Runs.{HasAsked, Awaits, IsAwaited, IsAnswered};
 
     /// It has no further ask.
     ghost is_done: { Self → Type 0 };
@@ -27,10 +27,16 @@ pub trait Client<T: Served> {
     /// Its asks so far, in order, each with the answer that it heard, or `None` while that is still to come.
     ghost transcript: { Self → List (T.Ask × Option T.Answer) };
 
-    /// The next ask, or `None` at the end.
-    fn next(&mut self) -> Option<T::Ask>
-        ensures done { IfNone result (is_done self.new) }
-        ensures asked { transcript self.new ≡ transcript self.old ++ asking result };
+    /// Whether it has a further ask, which it then makes.
+    fn next(&mut self) -> bool
+        ensures asked { IsTrue result → HasAsked (transcript self.old) (transcript self.new) }
+        ensures done { IsFalse result → is_done self.new }
+        ensures same { IsFalse result → transcript self.new ≡ transcript self.old };
+
+    /// Its last ask, which has no answer yet.
+    fn ask(&self) -> &T::Ask
+        requires { Awaits (transcript self.now) }
+        ensures { IsAwaited result.now (transcript self.now) };
 
     /// Hears the answer of the last ask, which has none yet: it is called once after each ask.
     fn hear(&mut self, answer: T::Answer)
@@ -55,10 +61,7 @@ struct Session<'a, T: Served, C, G, R> {
     party: Party<T, C>,
 }
 
-impl<'a, T: Served, C: Client<T>, G: Gate, R: Wait> Worker for Session<'a, T, C, G, R>
-where
-    T::Ask: Drop,
-{
+impl<'a, T: Served, C: Client<T>, G: Gate, R: Wait> Worker for Session<'a, T, C, G, R> {
     type Rest = Party<T, C>;
 
     ghost use Rattle.std.specs.Prelude.{◌≡◌};
@@ -92,8 +95,6 @@ pub fn run_client<T: Served, C: Client<T>, G: Gate, R: Wait>(
     gate: &G,
     party: Party<T, C>,
 ) -> Party<T, C>
-where
-    T::Ask: Drop,
     requires { IsSeatOf desk.now party.seat }
     ensures seat { StaysAt party.seat result.seat }
     ensures run { HasRun T.is_legal T.answers T.taken desk.now.plan party.seat (C.transcript party.client) result.seat (C.transcript result.client) }
@@ -105,12 +106,12 @@ where
     } = party;
     let mut k = 0u32;
     for _ in rt.forever() {
-        let Some(ask) = client.next() else {
+        if !client.next() {
             return Party { seat, client };
-        };
+        }
         k = k.saturating_add(1);
         gate.pass(seat.number(), k);
-        let (back, answer) = desk.call(rt, seat, &ask);
+        let (back, answer) = desk.call(rt, seat, client.ask());
         seat = back;
         client.hear(answer);
     }
@@ -133,8 +134,6 @@ pub fn run_clients<
     first: Party<T, C>,
     second: Party<T, C>,
 ) -> (Party<T, C>, Party<T, C>, Result<(), DeskFault>)
-where
-    T::Ask: Drop + Send,
     requires first { IsSeatOf desk.now first.seat }
     requires second { IsSeatOf desk.now second.seat }
     ensures first { StaysAt first.seat result.0.seat }

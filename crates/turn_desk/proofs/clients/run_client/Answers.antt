@@ -1,3 +1,4 @@
+use Rattle.std.proofs.Common.{[], ◌∷◌, ◌++◌, None, sym, ap, ◌∙◌}
 use Rattle.turn_desk.proofs.Runs.{seat_of_same, run_none, run_more}
 use Rattle.turn_desk.proofs.clients.run_client.Goals as goal
 
@@ -12,8 +13,11 @@ loop-preserved g c =
     let said = g.C.Client.transcript in
     let call = c.call-back.ensures in
     let back = c.call-back.result.0 in
+    let asked = c.next-in-loop.ensures.asked c.if-not-next.false in
+    let so_far = said c.loop.client in
+    let asks = asked.last ∙ ap (λ a. so_far ++ (a, None) ∷ []) (sym (c.ask.ensures so_far asked.ask asked.last)) in
     record {
       seat = seat_of_same c.args.desk.now c.loop.seat back c.loop.invariant.seat call.seat;
-      run = run_more t.is_legal t.answers t.taken c.args.desk.now.plan c.args.party.seat c.loop.seat back (said c.args.party.client) (said c.loop.client) (said c.next-in-loop.new.self) (said c.hear.new.self)
-          c.in-Some-next.ask c.call-back.result.1 c.loop.invariant.run call.seat call.call c.in-Some-next.ensures.asked c.hear.ensures;
+      run = run_more t.is_legal t.answers t.taken c.args.desk.now.plan c.args.party.seat c.loop.seat back (said c.args.party.client) so_far (said c.next-in-loop.new.self) (said c.hear.new.self)
+          c.ask.result.now c.call-back.result.1 c.loop.invariant.run call.seat call.call asks c.hear.ensures;
     }

@@ -1,4 +1,4 @@
-use Rattle.desk_tests.proofs.Lines.{last_heard}
+use Rattle.turn_desk.proofs.Lines.{last_heard}
 use Rattle.desk_tests.proofs.pairs.AdderClientCounter.hear.Goals as goal
 
 pub returns-in-Some : goal.returns-in-Some
