@@ -50,16 +50,9 @@ pub fn camera_plan<D: Driver>(
     builder.add_handler(video, sensor)?;
     let exposure = add_sensor(&mut builder, sensor)?;
     let (balance, brightness) = add_video(&mut builder, video)?;
-    // a refused cluster hands its calls back, which are let go here
-    if let Err((_, fault)) = builder.auto_cluster(&exposure, 1, of_exposure) {
-        return Err(fault.into());
-    }
-    if let Err((_, fault)) = builder.cluster(&balance, of_balance) {
-        return Err(fault.into());
-    }
-    if let Err((_, fault)) = builder.cluster(&[brightness], of_brightness) {
-        return Err(fault.into());
-    }
+    name_cluster(&mut builder, &exposure, Some(1), of_exposure)?;
+    name_cluster(&mut builder, &balance, None, of_balance)?;
+    name_cluster(&mut builder, &[brightness], None, of_brightness)?;
     match builder.finish() {
         Ok(plan) => Ok(plan),
         Err((_, fault)) => Err(fault.into()),
@@ -91,6 +84,23 @@ fn add_video<D: Driver>(builder: &mut PlanBuilder<D>, video: u32) -> Result<([u3
 fn add<D: Driver>(builder: &mut PlanBuilder<D>, handler: u32, config: CtrlConfig) -> Result<u32> {
     let ctrl = config.build()?;
     Ok(builder.control(handler, ctrl)?)
+}
+
+// Names a cluster, which is an auto cluster where it has a manual value. A refusal hands the calls back, which are let go here.
+fn name_cluster<D: Driver>(
+    builder: &mut PlanBuilder<D>,
+    members: &[u32],
+    manual: Option<i64>,
+    calls: Calls<D>,
+) -> Result<()> {
+    let named = match manual {
+        Some(manual) => builder.auto_cluster(members, manual, calls),
+        None => builder.cluster(members, calls),
+    };
+    match named {
+        Ok(_) => Ok(()),
+        Err((_, fault)) => Err(fault.into()),
+    }
 }
 
 fn name_items<D: Driver>(builder: &mut PlanBuilder<D>, menu: u32, names: &[&str]) -> Result<()> {
