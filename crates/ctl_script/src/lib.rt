@@ -11,9 +11,14 @@ mod input;
 mod names;
 mod run;
 
+pub use ask::ask_of;
+pub use auditing::audit_of;
+pub use binding::Binding;
 pub use board::run_board;
-pub use input::{MAX_INPUT, MAX_READS};
-pub use run::run_script;
+pub use fault::InputFault;
+pub use input::{MAX_INPUT, MAX_READS, read_input};
+pub use names::Bindings;
+pub use run::{first_line, run_script, with_line, without_line};
 pub use sample_device::{
     BALANCE_LIMIT, BRIGHTNESS_WORDS, BUTTON_WORDS, GAIN_LIMIT, PAIR_WORDS, Sample, balance_verdict,
     brightness_word, button_word, gain_verdict, pair_word, sample_builder, sample_plan,

@@ -51,8 +51,9 @@ pub fn run_script<D: Driver, R: Read, W: Write>(
     (device, with_line(writer, &mut reply, outcome))
 }
 
-// The outcome where no room for a line could be made; its line needs none.
-pub(crate) fn without_line<W: Write>(writer: &mut W) -> Outcome
+/// Writes the line of the outcome `Memory`, where no room for a line could be made; this needs none. The outcome is `WriteFault` where it
+/// could not be written.
+pub fn without_line<W: Write>(writer: &mut W) -> Outcome
     ensures memory { result ≢ Outcome.WriteFault → result ≡ Outcome.Memory }
     ensures line { result ≢ Outcome.WriteFault → Appends (W.contents writer.old) (W.contents writer.new) (outcome_line Outcome.Memory) }
 {
@@ -62,12 +63,8 @@ pub(crate) fn without_line<W: Write>(writer: &mut W) -> Outcome
     }
 }
 
-// Writes the line of an outcome, if it has one.
-pub(crate) fn with_line<W: Write>(
-    writer: &mut W,
-    reply: &mut ReplyLine,
-    outcome: Outcome,
-) -> Outcome
+/// Writes the line of an outcome, if it has one. The outcome is `WriteFault` where it could not be written.
+pub fn with_line<W: Write>(writer: &mut W, reply: &mut ReplyLine, outcome: Outcome) -> Outcome
     ensures same { result ≢ Outcome.WriteFault → result ≡ outcome }
     ensures line { result ≢ Outcome.WriteFault → Appends (W.contents writer.old) (W.contents writer.new) (outcome_line outcome) }
 {
@@ -125,8 +122,8 @@ fn answer_script<D: Driver, W: Write>(
     Outcome::Finished
 }
 
-// The first line of a text, and what stands behind its line feed, if it has one.
-fn first_line(text: &[u8]) -> (&[u8], Option<&[u8]>)
+/// The first line of a text, and what stands behind its line feed, if it has one.
+pub fn first_line(text: &[u8]) -> (&[u8], Option<&[u8]>)
     ensures { MatchOption result.1 (result.0.now ≡ text.now) (λ more. text.now ≡ result.0.now ++ 10 ∷ more.now) }
 {
     match text.iter().position(|byte| *byte == b'\n') {

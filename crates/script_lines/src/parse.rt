@@ -1,5 +1,6 @@
 ghost use Rattle.std.specs.Prelude.{◌≡◌, ◌+◌, ◌<◌, ◌≤◌, ◌^◌, ◌∷◌, ◌==◌, length, map, position, vec_len, IfOk, IfSome};
 ghost use Rattle.script_lines.specs.Commands.{IsRead, words as words_in, line_of, command_of, verb_of, open_of, close_of, grab_of, on_or_off as on_or_off_of, handle_and_control as handle_and_control_of, query_of, next_of, menu_of, told_of, buffer_of, request_of, on_request, row_of, bare_of, subscribe_of, sub_flag as sub_flag_of, sub_flags as sub_flags_of, unsubscribe_of, take_of, list_command_of, which_of, fixed_which_of, entry_of, entry_at, list_of};
+ghost use Rattle.script_lines.specs.Dividing.{divides as divides_of};
 ghost use Rattle.script_lines.specs.declared.command.Command.TheVariants as commands;
 
 use crate::command::{Command, WhichWord};
@@ -24,6 +25,17 @@ pub fn read_line(alloc: Global, line: &[u8]) -> Result<Option<Command>, LineFaul
     match words.as_slice() {
         [] => Ok(None),
         [verb, operands @ ..] => read_words(alloc, *verb, operands),
+    }
+}
+
+/// Whether a line, without its line feed, divides an input into two scripts: its only word is `==`.
+pub fn divides(alloc: Global, line: &[u8]) -> Result<bool, AllocError>
+    ensures { IfOk result (λ divides. divides ≡ divides_of (words_in line.now)) }
+{
+    let words = words_of(alloc, line)?;
+    match words.as_slice() {
+        [word] => Ok(*word == b"==".as_slice()),
+        _ => Ok(false),
     }
 }
 

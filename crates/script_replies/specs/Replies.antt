@@ -131,6 +131,14 @@ audit_line (Equal count) = codes "audit equal " ++ (decimal count ++ codes "\n")
 audit_line Differs = codes "audit differs\n"
 audit_line audited.Memory = refusal_line (errno_number ENOMEM) None
 
+-- a line behind the number of the script whose it is
+abbrev pub numbered_line : ℕ → List ℕ → List ℕ
+numbered_line script line = decimal script ++ (codes " " ++ line)
+
+-- how many steps of each of two scripts were accepted
+abbrev pub accepted_line : ℕ → ℕ → List ℕ
+accepted_line first second = codes "accepted " ++ (decimal first ++ (codes " " ++ (decimal second ++ codes "\n")))
+
 -- the line of an outcome; some print none
 abbrev pub outcome_line : Outcome → List ℕ
 outcome_line Finished = []

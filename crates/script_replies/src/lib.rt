@@ -9,5 +9,6 @@ mod reply_line;
 pub use audited::Audited;
 pub use outcome::Outcome;
 pub use reply_line::{
-    MAX_LINE, ReplyLine, write_answer, write_audit, write_no_frames, write_no_memory, write_outcome,
+    MAX_LINE, ReplyLine, write_accepted, write_answer, write_audit, write_no_frames,
+    write_no_memory, write_numbered_answer, write_outcome,
 };

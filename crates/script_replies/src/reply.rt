@@ -2,7 +2,7 @@ ghost use Rattle.std.specs.Prelude.{◌≡◌, OnOk, ◌++◌, ◌∷◌, codes}
 ghost use Rattle.std.specs.Io.KnownBytes.{Appends};
 ghost use Rattle.std.specs.List.{flat_map};
 ghost use Rattle.ctrl_types.specs.Numbers.{errno_number};
-ghost use Rattle.script_replies.specs.Replies.{answer_line, audit_line, clusters_text, event_line, flags_text, forecast_line, frame_line, further_text, id_text, info_line, item_text, line_of, number_text, outcome_line, place_of as asked_place, range_text, refusal_line, state_line, value_text};
+ghost use Rattle.script_replies.specs.Replies.{accepted_line, answer_line, audit_line, clusters_text, event_line, flags_text, forecast_line, frame_line, further_text, id_text, info_line, item_text, line_of, number_text, outcome_line, place_of as asked_place, range_text, refusal_line, state_line, value_text};
 
 use crate::audited::Audited;
 use crate::outcome::Outcome;
@@ -244,6 +244,13 @@ pub fn print_audit<W: Write>(out: &mut W, audited: Audited) -> io::Result<()>
             },
         ),
     }
+}
+
+/// Prints how many steps of each of two scripts were accepted to a writer, piece by piece. It takes no memory.
+pub fn print_accepted<W: Write>(out: &mut W, first: usize, second: usize) -> io::Result<()>
+    ensures { OnOk result (Appends (W.contents out.old) (W.contents out.new) (accepted_line first second)) }
+{
+    writeln!(out, "accepted {first} {second}")
 }
 
 /// Prints the line of an outcome that has one to a writer, piece by piece. It takes no memory.

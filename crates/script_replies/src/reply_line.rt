@@ -1,11 +1,11 @@
 ghost use Rattle.std.specs.Prelude.{◌≡◌, [], IfOk, OnOk, Some};
 ghost use Rattle.std.specs.Io.KnownBytes.{Appends};
-ghost use Rattle.script_replies.specs.Replies.{answer_line, audit_line, no_frames_line, outcome_line};
+ghost use Rattle.script_replies.specs.Replies.{accepted_line, answer_line, audit_line, no_frames_line, numbered_line, outcome_line};
 ghost use Rattle.script_replies.specs.declared.outcome.Outcome.TheVariants as outcomes;
 
 use crate::audited::Audited;
 use crate::outcome::Outcome;
-use crate::reply::{print_answer, print_audit, print_outcome};
+use crate::reply::{print_accepted, print_answer, print_audit, print_outcome};
 use ctrl_handlers::MAX_CONTROLS;
 use ctrl_types::Fault;
 use device_history::{Ask, Reply};
@@ -88,6 +88,37 @@ pub fn write_answer<W: Write>(
 {
     line.clear();
     print_answer(line, ask, answer)?;
+    write_whole(writer, line.as_slice())
+}
+
+/// Writes the line of an answer to an ask of the script with this number, behind the number and a space, as `write_answer` writes it
+/// without them. It takes no memory.
+pub fn write_numbered_answer<W: Write>(
+    writer: &mut W,
+    line: &mut ReplyLine,
+    script: u32,
+    ask: &Ask,
+    answer: &Result<Reply, Fault>,
+) -> io::Result<()>
+    ensures { OnOk result (Appends (W.contents writer.old) (W.contents writer.new) (numbered_line script (answer_line ask.now answer.now))) }
+{
+    line.clear();
+    write!(line, "{script} ")?;
+    print_answer(line, ask, answer)?;
+    write_whole(writer, line.as_slice())
+}
+
+/// Writes how many steps of each of two scripts were accepted, as `write_answer` writes the line of an answer. It takes no memory.
+pub fn write_accepted<W: Write>(
+    writer: &mut W,
+    line: &mut ReplyLine,
+    first: usize,
+    second: usize,
+) -> io::Result<()>
+    ensures { OnOk result (Appends (W.contents writer.old) (W.contents writer.new) (accepted_line first second)) }
+{
+    line.clear();
+    print_accepted(line, first, second)?;
     write_whole(writer, line.as_slice())
 }
 
