@@ -1,4 +1,4 @@
--- A command line of the tool names `run` or `board`.
+-- A command line of the tool names `run`, `pair` or `board`.
 use Rattle.std.proofs.Common.{◌≡◌, ◌⊎◌, ◌∙◌, Bool, true, false, List, [], ◌∷◌, Option, None, Some, is_some, inl, inr, refl, sym, subst, ap, codes, option_map, ℕ}
 use Rattle.std.specs.Prelude.{Box, IfSome, fold}
 use Rattle.std.specs.Str.{bytes_eq}
@@ -114,27 +114,32 @@ is_required : (rows : List Row) (has : Bool) → check_fault (built tool).top ro
 is_required rows true e = refl
 is_required rows false e = cc
 
-abbrev NamesOne : Option (Text × List Row) → Type 0
-NamesOne o = (option_map (λ p. p.0) o ≡ Some (codes "run")) ⊎ (option_map (λ p. p.0) o ≡ Some (codes "board"))
+-- it is one of the tool's subcommands
+abbrev IsOne : Option Text → Type 0
+IsOne name = (name ≡ Some (codes "run")) ⊎ ((name ≡ Some (codes "pair")) ⊎ (name ≡ Some (codes "board")))
 
-one_of_two : (stop : Option (Text × List Text)) → IsNotHelp stop → is_some (entered (built tool) stop) ≡ true → NamesOne (entered (built tool) stop)
-one_of_two None h e = cc
-one_of_two (Some p) h e = go (bytes_eq (codes "run") p.0) (bytes_eq (codes "board") p.0) (bytes_eq (codes "help") p.0) refl refl refl
+abbrev NamesOne : Option (Text × List Row) → Type 0
+NamesOne o = IsOne (option_map (λ p. p.0) o)
+
+one_of_three : (stop : Option (Text × List Text)) → IsNotHelp stop → is_some (entered (built tool) stop) ≡ true → NamesOne (entered (built tool) stop)
+one_of_three None h e = cc
+one_of_three (Some p) h e = go (bytes_eq (codes "run") p.0) (bytes_eq (codes "pair") p.0) (bytes_eq (codes "board") p.0) (bytes_eq (codes "help") p.0) refl refl refl refl
   where
-    go : (run board help : Bool) → bytes_eq (codes "run") p.0 ≡ run → bytes_eq (codes "board") p.0 ≡ board → bytes_eq (codes "help") p.0 ≡ help
+    go : (run pair board help : Bool) → bytes_eq (codes "run") p.0 ≡ run → bytes_eq (codes "pair") p.0 ≡ pair → bytes_eq (codes "board") p.0 ≡ board → bytes_eq (codes "help") p.0 ≡ help
         → NamesOne (entered (built tool) (Some p))
-    go true board help r b l = inl (rw r refl)
-    go false true help r b l = inr (rw (r, b) refl)
-    go false false true r b l =
+    go true pair board help r q b l = inl (rw r refl)
+    go false true board help r q b l = inr (inl (rw (r, q) refl))
+    go false false true help r q b l = inr (inr (rw (r, q, b) refl))
+    go false false false true r q b l =
         let same : codes "help" ≡ p.0 = (bytes_eq-Decides _ _).0 l in
         let other : bytes_eq (codes "help") (codes "help") ≡ false = rw (← same) at h in
         cc
-    go false false false r b l =
-        let none : false ≡ true = rw (r, b, l) at e in
+    go false false false false r q b l =
+        let none : false ≡ true = rw (r, q, b, l) at e in
         cc
 
--- a command line of the tool names `run` or `board`
-names_one : (words : List Text) → IsCommandLine words → (subcommand_named words ≡ Some (codes "run")) ⊎ (subcommand_named words ≡ Some (codes "board"))
+-- a command line of the tool names one of its subcommands
+names_one : (words : List Text) → IsCommandLine words → IsOne (subcommand_named words)
 names_one words e =
     let a = built tool in
     let start = walk_from nothing_held in
@@ -143,7 +148,7 @@ names_one words e =
     let walks = first_none (walk_fault a.top (names_of a) start given) _ e in
     let after = rest_none (entered_fault a end.stopped) _ (rest_none (walk_fault a.top (names_of a) start given) _ e) in
     let checks = rest_none _ _ (rest_none _ _ after) in
-    one_of_two end.stopped (walk_leaves a.top (names_of a) refl start given tt walks) (is_required (finished a.top.rules end.held) _ checks)
+    one_of_three end.stopped (walk_leaves a.top (names_of a) refl start given tt walks) (is_required (finished a.top.rules end.held) _ checks)
 
 -- the name of the subcommand that a parse met
 module _ {Z : Type 0} where
@@ -151,12 +156,16 @@ module _ {Z : Type 0} where
   same_name None = refl
   same_name (Some b) = refl
 
--- what is not `board` is `run`
+-- what is neither `pair` nor `board` is `run`
 pub run_named : (words : List Text) (m : ArgMatches) (name : Option (Bor Text)) → IsCommandLine words → subcommand_rows_of m ≡ subcommand_of tool words
-    → option_map (λ s. s.now) name ≡ subcommand_name_of m → (option_map (λ s. s.now) name ≡ Some (codes "board") → ⊥) → subcommand_named words ≡ Some (codes "run")
-run_named words m name e rows is other =
+    → option_map (λ s. s.now) name ≡ subcommand_name_of m → (option_map (λ s. s.now) name ≡ Some (codes "pair") → ⊥) → (option_map (λ s. s.now) name ≡ Some (codes "board") → ⊥)
+    → subcommand_named words ≡ Some (codes "run")
+run_named words m name e rows is no_pair no_board =
     let named = is ∙ same_name (out-ArgMatches m).subcommand ∙ ap (option_map (λ p. p.0)) rows in
     elim (names_one words e) [
       | inl h ↦ h
-      | inr h ↦ absurd (other (named ∙ h))
+      | inr more ↦ elim more [
+          | inl h ↦ absurd (no_pair (named ∙ h))
+          | inr h ↦ absurd (no_board (named ∙ h))
+        ]
     ]

@@ -13,6 +13,8 @@ use thiserror::Error as ErrorType;
 pub enum Mode {
     /// Answers a script line by line.
     Run,
+    /// Answers two scripts, each on a thread of its own.
+    Pair,
     /// Runs a script and prints what its queued frames will have.
     Board,
 }
@@ -47,9 +49,10 @@ fn find_subcommand<S: AsStr>(alloc: Global, words: &[S]) -> Result<Mode, Error>
     ensures named { IfOk result (λ mode. subcommand_named (map S.text words.now) ≡ Some (name_of mode)) }
 {
     match tool(alloc)?.try_get_matches_from(words) {
-        // each command line of the tool names one of the two
+        // each command line of the tool names one of the three
         Ok(matches) => match matches.subcommand_name() {
             Some("board") => Ok(Mode::Board),
+            Some("pair") => Ok(Mode::Pair),
             _ => Ok(Mode::Run),
         },
         Err(error) => Err(error),
@@ -60,9 +63,11 @@ fn tool<'a>(alloc: Global) -> Result<Command<'a>, AllocError>
     ensures { IfOk result (λ command. app_of command ≡ tool_of) }
 {
     let run = Command::new(alloc, "run");
+    let pair = Command::new(alloc, "pair");
     let board = Command::new(alloc, "board");
     Command::new(alloc, "ctl_tool")
         .subcommand_required(true)
         .subcommand(run)?
+        .subcommand(pair)?
         .subcommand(board)
 }

@@ -1,6 +1,6 @@
 //! The control interface of a sample video device, driven by scripts: reads a script on standard input and writes a
-//! reply line for each command, or at the end a line for each frame that is queued. Why a line isn't a command it says on
-//! standard error.
+//! reply line for each command, or at the end a line for each frame that is queued; or reads two scripts, and answers them on
+//! two threads. Why a line isn't a command it says on standard error.
 #![tactic(auto)]
 
 mod kept;
@@ -9,6 +9,7 @@ ghost use Rattle.ctrl_calls.specs.Meanings.{JudgesBy, TellsBy};
 
 use crate::kept::Kept;
 use command_line::{Mode, ModeFault, mode_of};
+use ctl_pair::{Gate, run_pair};
 use ctl_script::{
     BALANCE_LIMIT, BRIGHTNESS_WORDS, BUTTON_WORDS, GAIN_LIMIT, Outcome, PAIR_WORDS, Sample,
     balance_verdict, brightness_word, button_word, gain_verdict, pair_word, run_board, run_script,
@@ -19,6 +20,8 @@ use device_state::Device;
 use line_reasons::{Complaint, reason_of};
 use std::io::Read;
 use std::process::ExitCode;
+use std::sync::Wait;
+use std::thread::Threads;
 use std::{env, io};
 
 const USAGE: &str = "usage: ctl_tool run | pair | board";
@@ -26,6 +29,13 @@ const USAGE: &str = "usage: ctl_tool run | pair | board";
 type Judge = Box<dyn Fn(ClusterRow) -> Verdict + Send>;
 
 type Teller = Box<dyn Fn(ClusterRow) -> u64 + Send>;
+
+// Lets each command pass at once.
+struct OpenGate;
+
+impl Gate for OpenGate {
+    fn pass(&self, _seat: u32, _k: u32) {}
+}
 
 fn main(rt: HostRuntime) -> ExitCode {
     let words = match env::args(&rt) {
@@ -62,9 +72,9 @@ fn main(rt: HostRuntime) -> ExitCode {
     run::<Sample, HostRuntime>(&rt, mode, limit, sum, gain, balance, button, brightness)
 }
 
-// Runs the script on standard input, as the mode says, on a fresh sample device, whose clusters have these closures: `limit` and `gain` are the
+// Runs what standard input gives, as the mode says, on a fresh sample device, whose clusters have these closures: `limit` and `gain` are the
 // validator and the notifier of autogain and gain, `sum` and `balance` those of red and blue.
-fn run<D: Driver, R: AllocGlobal + Input + Print + Eprint>(
+fn run<D: Driver + Send, R: AllocGlobal + Input + Print + Eprint + Threads + Wait + Sync>(
     rt: &R,
     mode: Mode,
     limit: D::Judge,
@@ -74,6 +84,9 @@ fn run<D: Driver, R: AllocGlobal + Input + Print + Eprint>(
     button: D::Teller,
     brightness: D::Teller,
 ) -> ExitCode
+where
+    D::Judge: Send,
+    D::Teller: Send,
     requires limit { D.Judge.callable limit }
     requires limit_judges { JudgesBy (D.Judge.answers limit) (D.verdict GAIN_LIMIT) }
     requires sum { D.Judge.callable sum }
@@ -111,9 +124,10 @@ fn run<D: Driver, R: AllocGlobal + Input + Print + Eprint>(
     };
     let mut reader = Kept::new(rt.alloc(), rt.reader());
     let mut writer = io::writer(rt);
-    let (_, outcome) = match mode {
-        Mode::Run => run_script(rt.alloc(), device, &mut reader, &mut writer),
-        Mode::Board => run_board(rt.alloc(), device, &mut reader, &mut writer),
+    let outcome = match mode {
+        Mode::Run => run_script(rt.alloc(), device, &mut reader, &mut writer).1,
+        Mode::Pair => run_pair(rt, rt.alloc(), device, &OpenGate, &mut reader, &mut writer).1,
+        Mode::Board => run_board(rt.alloc(), device, &mut reader, &mut writer).1,
     };
     if let Outcome::BadLine(number) = outcome {
         explain(rt, &reader, number);

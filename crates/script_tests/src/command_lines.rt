@@ -5,12 +5,14 @@ use command_line::{Mode, ModeFault, mode_of};
 // The words of a command line, and what they ask for; the first is the program.
 const COMMAND_LINES: &[(&[&str], Result<Mode, ModeFault>)] = &[
     (&["ctl_tool", "run"], Ok(Mode::Run)),
+    (&["ctl_tool", "pair"], Ok(Mode::Pair)),
     (&["ctl_tool", "board"], Ok(Mode::Board)),
     (&["run", "board"], Ok(Mode::Board)),
     (&["board", "run"], Ok(Mode::Run)),
     (&[], Err(ModeFault::Usage)),
     (&["ctl_tool"], Err(ModeFault::Usage)),
-    (&["ctl_tool", "pair"], Err(ModeFault::Usage)),
+    (&["ctl_tool", "pai"], Err(ModeFault::Usage)),
+    (&["ctl_tool", "pair", "run"], Err(ModeFault::Usage)),
     (&["ctl_tool", "ru"], Err(ModeFault::Usage)),
     (&["ctl_tool", "Run"], Err(ModeFault::Usage)),
     (&["ctl_tool", "--help"], Err(ModeFault::Usage)),
