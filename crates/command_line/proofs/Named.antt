@@ -165,7 +165,7 @@ run_named words m name e rows is no_pair no_board =
     elim (names_one words e) [
       | inl h ↦ h
       | inr more ↦ elim more [
-          | inl h ↦ absurd (no_pair (named ∙ h))
-          | inr h ↦ absurd (no_board (named ∙ h))
-        ]
+        | inl h ↦ absurd (no_pair (named ∙ h))
+        | inr h ↦ absurd (no_board (named ∙ h))
+      ]
     ]

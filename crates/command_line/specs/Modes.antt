@@ -14,8 +14,8 @@ with_required a = record { top = record a.top { subcommand_required = true }; su
 abbrev pub tool : App
 tool = with_subcommand
     (with_subcommand
-        (with_subcommand (with_required (new_app (codes "ctl_tool"))) (new_app (codes "run")).top)
-        (new_app (codes "pair")).top)
+    (with_subcommand (with_required (new_app (codes "ctl_tool"))) (new_app (codes "run")).top)
+    (new_app (codes "pair")).top)
     (new_app (codes "board")).top
 
 -- The words are a command line of the tool, the first being the program.
