@@ -8,6 +8,7 @@ mod case;
 ghost use Rattle.ctrl_calls.specs.Meanings.{JudgesBy, TellsBy};
 
 use crate::case::{Case, CaseFault, Program, read_cases};
+use ctl_pair::{Gate, run_pair};
 use ctl_script::{
     BALANCE_LIMIT, BRIGHTNESS_WORDS, BUTTON_WORDS, GAIN_LIMIT, Outcome, PAIR_WORDS, Sample,
     balance_verdict, brightness_word, button_word, gain_verdict, pair_word, run_board, run_script,
@@ -18,6 +19,8 @@ use device_state::Device;
 use std::alloc::{AllocError, Global};
 use std::process::ExitCode;
 use std::rt::Files;
+use std::sync::Wait;
+use std::thread::Threads;
 use std::{fs, io};
 
 type Judge = Box<dyn Fn(ClusterRow) -> Verdict + Send>;
@@ -25,7 +28,7 @@ type Judge = Box<dyn Fn(ClusterRow) -> Verdict + Send>;
 type Teller = Box<dyn Fn(ClusterRow) -> u64 + Send>;
 
 // The files that are read, in this order.
-const FILES: [&str; 9] = [
+const FILES: [&str; 10] = [
     "sample.txt",
     "words.txt",
     "lists.txt",
@@ -35,7 +38,15 @@ const FILES: [&str; 9] = [
     "events.txt",
     "errors.txt",
     "examples.txt",
+    "pairs.txt",
 ];
+
+// Lets each command of two scripts pass at once.
+struct OpenGate;
+
+impl Gate for OpenGate {
+    fn pass(&self, _seat: u32, _k: u32) {}
+}
 
 fn main(rt: HostRuntime) -> io::Result<ExitCode> {
     let texts = read_files(&rt)?;
@@ -50,8 +61,8 @@ fn main(rt: HostRuntime) -> io::Result<ExitCode> {
         let balance: Teller = Box::new(rt.alloc(), |row: ClusterRow| pair_word(&row))?;
         let button: Teller = Box::new(rt.alloc(), |row: ClusterRow| button_word(&row))?;
         let brightness: Teller = Box::new(rt.alloc(), |row: ClusterRow| brightness_word(&row))?;
-        let (printed, outcome) = run::<Sample>(
-            rt.alloc(),
+        let (printed, outcome) = run::<Sample, HostRuntime>(
+            &rt,
             case.program,
             case.script.as_slice(),
             (limit, sum),
@@ -93,15 +104,18 @@ fn cases_of<'a, R: AllocGlobal + Print>(
     Ok(Some(cases))
 }
 
-// What a script prints on a fresh sample device, and how it ends. The device's clusters have these closures: of autogain and gain the
+// What a script, or two of them, prints on a fresh sample device, and how it ends. The device's clusters have these closures: of autogain and gain the
 // first validator and the first notifier, of red and blue the second ones, of the button and of brightness the last notifiers.
-fn run<D: Driver>(
-    alloc: Global,
+fn run<D: Driver + Send, R: AllocGlobal + Threads + Wait + Sync>(
+    rt: &R,
     program: Program,
     script: &[u8],
     judges: (D::Judge, D::Judge),
     tellers: (D::Teller, D::Teller, D::Teller, D::Teller),
 ) -> Result<(Vec<u8>, Outcome), AllocError>
+where
+    D::Judge: Send,
+    D::Teller: Send,
     requires limit { D.Judge.callable judges.0 }
     requires limit_judges { JudgesBy (D.Judge.answers judges.0) (D.verdict GAIN_LIMIT) }
     requires sum { D.Judge.callable judges.1 }
@@ -115,6 +129,7 @@ fn run<D: Driver>(
     requires brightness { D.Teller.callable tellers.3 }
     requires brightness_tells { TellsBy (D.Teller.answers tellers.3) (D.told BRIGHTNESS_WORDS) }
 {
+    let alloc = rt.alloc();
     let (limit, sum) = judges;
     let (gain, balance, button, brightness) = tellers;
     let of_gain: Calls<D> = Calls {
@@ -141,9 +156,10 @@ fn run<D: Driver>(
     };
     let mut printed = Vec::new(alloc);
     let mut reader = script;
-    let (_, outcome) = match program {
-        Program::Run => run_script(alloc, device, &mut reader, &mut printed),
-        Program::Board => run_board(alloc, device, &mut reader, &mut printed),
+    let outcome = match program {
+        Program::Run => run_script(alloc, device, &mut reader, &mut printed).1,
+        Program::Board => run_board(alloc, device, &mut reader, &mut printed).1,
+        Program::Pair => run_pair(rt, alloc, device, &OpenGate, &mut reader, &mut printed).1,
     };
     Ok((printed, outcome))
 }

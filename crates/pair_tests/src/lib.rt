@@ -1,0 +1,12 @@
+//! Tests of the device at the desk, and of two scripts on two threads: a gate that lets each go on only once the other has come as far, a
+//! write that is read back through another seat, seats that are left out, many asks at once, and memory that runs out.
+#![tactic(auto)]
+
+#[cfg(test)]
+mod desk;
+#[cfg(test)]
+mod gate;
+#[cfg(test)]
+mod many;
+#[cfg(test)]
+mod sample;
