@@ -97,8 +97,9 @@ impl<D: Driver> PlanBuilder<D> {
         }
     }
 
-    /// Has handler `to` show what handler `added` shows, too, after all that it shows so far (Linux driver API, "V4L2
-    /// Controls", "Inheriting Controls"); controls that `added` is given later are shown as well. Adding again does nothing.
+    /// Has handler `to` show what handler `added` shows, too, after all of its own controls and after the handlers that it added before
+    /// (Linux driver API, "V4L2 Controls", "Inheriting Controls"). Controls that either is given later have their places likewise. Adding
+    /// again does nothing.
     /// `UnknownNumber` (5) where one of the two isn't there; `LaterHandler` (4) where `added` isn't a smaller number than `to`;
     /// `Memory` (7) where a growth was refused. A refusal leaves the plan as it was.
     pub fn add_handler(&mut self, to: u32, added: u32) -> Result<(), PlanFault>
