@@ -1,6 +1,6 @@
 //! The device at the desk, one caller after another.
 
-ghost use Rattle.std.specs.Prelude.{◌≡◌, ◌≤◌, [], All, vec_len};
+ghost use Rattle.std.specs.Prelude.{◌≡◌, []};
 ghost use Rattle.ctrl_calls.specs.Meanings.{JudgesBy, TellsBy};
 ghost use Rattle.turn_desk.specs.Views.{IsSeatOf};
 
@@ -138,22 +138,44 @@ fn opens<D: Driver, R: Wait>(
     }
 }
 
-// Closes a desk with too few seats, and then with one more; says why the first was refused, and how many steps the device has.
-fn closes<D: Driver>(
+// Closes a desk without its one seat, and then with it; says why the first was refused, and how many steps the device has.
+fn closes_alone<D: Driver>(
+    alloc: Global,
     desk: Desk<Device<D>>,
-    few: Vec<DeskSeat<Device<D>>>,
-    last: DeskSeat<Device<D>>,
+    seat: DeskSeat<Device<D>>,
 ) -> Result<Option<(DeskFault, usize)>, AllocError>
-    requires few { vec_len few ≤ 1 }
-    requires seats { All (IsSeatOf desk) few.items }
-    requires last { IsSeatOf desk last }
+    requires { IsSeatOf desk seat }
 {
-    let (desk, few, fault) = match desk.close(SeatList::from_vec(few)) {
+    let (desk, none, fault) = match desk.close(SeatList::from_vec(Vec::new(alloc))) {
         Ok(_) => return Ok(None),
         Err(back) => back,
     };
-    let mut seats = few.into_vec();
-    seats.push(last).map_err(AllocError::from)?;
+    let mut seats = none.into_vec();
+    seats.push(seat).map_err(AllocError::from)?;
+    match desk.close(SeatList::from_vec(seats)) {
+        Ok(device) => Ok(Some((fault, device.steps().len()))),
+        Err(_) => Ok(None),
+    }
+}
+
+// The same with one of its two seats, and then with both.
+fn closes_both<D: Driver>(
+    alloc: Global,
+    desk: Desk<Device<D>>,
+    first: DeskSeat<Device<D>>,
+    second: DeskSeat<Device<D>>,
+) -> Result<Option<(DeskFault, usize)>, AllocError>
+    requires first { IsSeatOf desk first }
+    requires second { IsSeatOf desk second }
+{
+    let mut one = Vec::new(alloc);
+    one.push(first).map_err(AllocError::from)?;
+    let (desk, one, fault) = match desk.close(SeatList::from_vec(one)) {
+        Ok(_) => return Ok(None),
+        Err(back) => back,
+    };
+    let mut seats = one.into_vec();
+    seats.push(second).map_err(AllocError::from)?;
     match desk.close(SeatList::from_vec(seats)) {
         Ok(device) => Ok(Some((fault, device.steps().len()))),
         Err(_) => Ok(None),
@@ -177,7 +199,7 @@ fn one_seat<D: Driver, R: Wait>(
     };
     let (seat, is_set) = answers(rt, &desk, seat, &set(alloc, fh, 2)?, 4);
     let (seat, is_read) = answers(rt, &desk, seat, &get(alloc, fh)?, 4);
-    let closed = closes(desk, Vec::new(alloc), seat)?;
+    let closed = closes_alone(alloc, desk, seat)?;
     Ok(is_set && is_read && closed == Some((DeskFault::SeatsOut { given: 0, made: 1 }, 2)))
 }
 
@@ -226,9 +248,7 @@ fn reads_again<D: Driver, R: Wait>(
     let front = desk.front(&mut second);
     let (first, second) = desk.meet(first, second);
     let (second, is_read) = answers(rt, &desk, second, &get(alloc, fh)?, 8);
-    let mut one = Vec::new(alloc);
-    one.push(first).map_err(AllocError::from)?;
-    let closed = closes(desk, one, second)?;
+    let closed = closes_both(alloc, desk, first, second)?;
     let is_closed = closed == Some((DeskFault::SeatsOut { given: 1, made: 2 }, 3));
     Ok(is_set && is_read && front == 3 && is_closed)
 }
