@@ -109,8 +109,8 @@ impl Events {
     /// - `control`: the number of a control.
     /// - `changes`, `payload`: what such an event says.
     ///
-    /// The caller owes that the number of the file handle's next event is below 4294967295. ENOMEM (12) where a growth was refused, which
-    /// changes nothing.
+    /// The caller owes that the number of the file handle's next event is below 4294967295. Refused by check 34 of docs/RULES.md (ENOMEM, 12),
+    /// which changes nothing.
     pub fn subscribe(
         &mut self,
         fh: FhId,
@@ -167,8 +167,8 @@ impl Events {
         }
     }
 
-    /// Takes the first event that waits for a file handle (`VIDIOC_DQEVENT`). ENOENT (2) where none does, which changes nothing. It takes no
-    /// memory.
+    /// Takes the first event that waits for a file handle (`VIDIOC_DQEVENT`). Refused by check 32 of docs/RULES.md (ENOENT, 2), which changes
+    /// nothing. It takes no memory.
     pub fn take(&mut self, fh: FhId) -> Result<Event, Errno>
         ensures answer { result ≡ take_answer (events_of self.old fh.0).waiting }
         ensures events { (j : ℕ) → events_of self.new j ≡ only_at fh.0 after_take j (events_of self.old j) }

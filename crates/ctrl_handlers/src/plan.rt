@@ -88,7 +88,7 @@ impl<D: Driver> Plan<D> {
     /// - `handler`: the number of a handler, 0 to 15.
     /// - `id`: any id.
     ///
-    /// Refused with EINVAL (22) where the handler shows none of this id, and where there is no such handler.
+    /// Refused by check 15 of docs/RULES.md (EINVAL, 22), also where there is no such handler.
     pub fn find(&self, handler: u32, id: CtrlId) -> Result<u32, Errno>
         ensures found { MatchResult result (λ c. find_in self.now handler id ≡ Some c) (λ e. (find_in self.now handler id ≡ None) × (e ≡ EINVAL)) }
         ensures known { MatchResult result (λ c. c < length self.now.controls) (λ _. Unit {0}) }
@@ -108,7 +108,7 @@ impl<D: Driver> Plan<D> {
     /// - `handler`: the number of a handler, 0 to 15.
     /// - `id`: any id, shown or not.
     ///
-    /// Refused with EINVAL (22) where the handler shows no greater id, and where there is no such handler.
+    /// Refused by check 16 of docs/RULES.md (EINVAL, 22), also where there is no such handler.
     pub fn next_id(&self, handler: u32, id: CtrlId) -> Result<CtrlId, Errno>
         ensures { MatchResult result (λ next. next_id self.now handler id ≡ Some next) (λ e. (next_id self.now handler id ≡ None) × (e ≡ EINVAL)) }
     {
@@ -126,8 +126,7 @@ impl<D: Driver> Plan<D> {
     /// - `control`: the number of a control, 0 to 255.
     /// - `index`: the place of an item.
     ///
-    /// Refused with EINVAL (22) where no item was given there: the control isn't there or isn't a menu, the index lies outside its
-    /// range or is skipped, or nobody named it.
+    /// Refused by check 17 of docs/RULES.md (EINVAL, 22), also where there is no such control.
     pub fn menu_item(&self, control: u32, index: u32) -> Result<&MenuItem, Errno>
         ensures { MatchResult result (λ item. menu_item self.now control index ≡ Some item.now) (λ e. (menu_item self.now control index ≡ None) × (e ≡ EINVAL)) }
     {

@@ -34,10 +34,8 @@ use std::alloc::{AllocError, Global};
 ///   kinds, flags and skipped items, and a value for each. Its grabs and pairs count for nothing.
 /// - `list`: the entries; their values are ignored. It is lent, and never changed.
 ///
-/// Refused, in this order: EINVAL (22) where there are more than 64 entries; EINVAL where there are none and `view` speaks of a class
-/// of which the handler shows no control; EINVAL where an entry's id isn't shown, isn't of the class, or its control is DISABLED;
-/// EACCES (13) where a control is WRITE_ONLY, also for the defaults. ENOMEM (12) may stand in place of any answer from the third on,
-/// unless there are no entries. The index is the number of entries.
+/// Refused by the first of the checks 4 to 7 of a list in docs/RULES.md that doesn't hold: EINVAL (22) or EACCES (13). ENOMEM (12) may
+/// stand in place of any answer from check 6 on, unless there are no entries. The index is the number of entries.
 #[tactic(auto, unfolding(crate::specs::Answers::get_answer))]
 pub fn read_list<D: Driver>(
     alloc: Global,
@@ -71,13 +69,8 @@ pub fn read_list<D: Driver>(
 /// - `work`: its count `asked` grows by one for each validator that is asked, by no more than the clusters that the list touches; `told`
 ///   stays. After a refusal, too, `asked` may have grown.
 ///
-/// Refused, in this order: EINVAL (22) where there are more than 64 entries; EINVAL where there are none and `view` speaks of a class
-/// of which the handler shows no control; EINVAL where an entry's id isn't shown, isn't of the class, or its control is DISABLED; for
-/// the first control that can't be written EACCES (13) where it is READ_ONLY, EBUSY (16) where it is grabbed, ERANGE (34) where its value
-/// is no item of its menu's range, and EINVAL where this item is skipped; for the first control whose cluster is refused ERANGE or EINVAL
-/// of the first member that doesn't settle, or else EACCES, EBUSY, EINVAL or ERANGE as the validator refuses, and EINVAL where it refuses
-/// with another errno or accepts a row that the members don't take. ENOMEM (12) may stand in place of any answer from the third on,
-/// unless there are no entries. The index is the number of entries.
+/// Refused by the first of the checks 4 to 8 of a list in docs/RULES.md that doesn't hold: EACCES (13), EBUSY (16), EINVAL (22) or ERANGE
+/// (34). ENOMEM (12) may stand in place of any answer from check 6 on, unless there are no entries. The index is the number of entries.
 #[tactic(auto, unfolding(crate::specs::Answers::set_answer))]
 pub fn plan_set<D: Driver>(
     alloc: Global,
@@ -109,9 +102,8 @@ pub fn plan_set<D: Driver>(
 ///
 /// - `alloc`, `plan`, `view`, `list`, `work`: as of `plan_set`.
 ///
-/// Refused as by `plan_set`, with EBUSY (16) only where a validator refuses with it. The index is the place of the first entry whose id
-/// isn't shown, isn't of the class, or whose control is DISABLED; of the first control that can't be written; and of the first entry of
-/// the first cluster that is refused. It is the number of entries where the list is refused as a whole, and with ENOMEM (12).
+/// Refused as by `plan_set`, with EBUSY (16) only where a validator refuses with it. In the checks 6, 7 and 8 the index is the place of the
+/// entry that is refused, and in check 8 of the first one of its cluster. It is the number of entries in the others, and with ENOMEM (12).
 #[tactic(auto, unfolding(crate::specs::Answers::try_answer))]
 pub fn try_list<D: Driver>(
     alloc: Global,

@@ -103,7 +103,7 @@ impl<D: Driver> Device<D> {
     /// - `alloc`: where the device lies, and later its steps and answers.
     /// - `plan`: what the device is built of.
     ///
-    /// Refused with ENOMEM (12) where a growth was refused. The plan is handed back as it was then, and nobody was told.
+    /// Refused by check 34 of docs/RULES.md (ENOMEM, 12). The plan is handed back as it was then, and nobody was told.
     pub fn new(alloc: Global, plan: Plan<D>) -> Result<Device<D>, (Plan<D>, Errno)>
         ensures ok { IfOk result (λ d. (d.plan ≡ plan) × (d.steps ≡ []) × HaveWords D.told plan (defaults plan) d.words × (d.work ≡ record { asked = 0; told = 0 })) }
         ensures err { IfErr result (λ e. (e.0 ≡ plan) × (e.1 ≡ ENOMEM)) }
@@ -230,62 +230,47 @@ impl<D: Driver> Device<D> {
     /// - `seat`: the number of the seat that asks, any `u32`; the step is entered for it.
     /// - `ask`: what is asked. It is lent, and never changed.
     ///
-    /// `OpenFh` (of this project) is refused, without an index, with EINVAL (22) where there is no such handler, with ENOSPC (28)
-    /// where 64 file handles are open or 1,000,000 steps are kept, and with ENOMEM (12) where a growth was refused. `CloseFh` (of
-    /// this project) is refused, without an index, with EBADF (9) where `fh` isn't open, with ENOSPC where 1,000,000 steps are
-    /// kept, and with ENOMEM where a growth was refused; a file handle that was closed isn't opened again. `Grab` grabs a control,
-    /// whatever its flags, or lets it go (Linux driver API, `v4l2_ctrl_grab`): as long as it is grabbed it has GRABBED and a set of
-    /// it is refused; it is refused, without an index, with EINVAL where there is no such control, with ENOSPC where 1,000,000
-    /// steps are kept, and with ENOMEM where a growth was refused; a grab that holds already is accepted, and is a step.
+    /// An ask is refused by the first of its checks that doesn't hold. They have their numbers, and their text, in docs/RULES.md; an ask that
+    /// adds a step has the checks 33 (ENOSPC, 28) and 34 (ENOMEM, 12) behind those that are named here. But for lists, a refusal has no index.
     ///
-    /// Media requests (Linux userspace API, "Request API"; limits, buffers, begins, cancellations and freeing are of this project).
-    /// Each of these asks is refused without an index, in the order given, then with ENOSPC where 1,000,000 steps are kept, and last with
-    /// ENOMEM where a growth was refused:
+    /// - `OpenFh` opens a file handle (of this project): 10 (EINVAL, 22), 11 (ENOSPC).
+    /// - `CloseFh` closes one for good (of this project): 12 (EBADF, 9).
+    /// - `Grab` grabs a control, whatever its flags, or lets it go (Linux driver API, `v4l2_ctrl_grab`): 13 (EINVAL). As long as it is grabbed it
+    ///   has GRABBED and a set of it is refused. A grab that holds already is accepted, and is a step.
     ///
-    /// - `Alloc` makes a request: idle, without settings and buffer; its id is the number of its step. ENOSPC where there are 64.
-    /// - `AddBuffer` gives a request the number of a buffer. EINVAL where there is no such request; EBUSY (16) where it isn't idle, has a
-    ///   buffer, or where another request that isn't complete holds the number.
-    /// - `Queue` has a request wait for its frame, the last. EINVAL where there is no such request; EBUSY where it isn't idle; ENOENT (2)
-    ///   where it has no buffer.
-    /// - `Begin` begins the frame of the first that waits: what the request asks for is laid over the present values, cluster by cluster; a
-    ///   cluster of which the request names a grabbed control, or that settling or its validator refuses, keeps its row, and the reply names it. Each other cluster
-    ///   with a changed member is told its new row once. EBUSY where a frame is being made; ENOENT where no request waits. It asks no
-    ///   validator, as its forecast did.
-    /// - `Complete` ends the frame that is being made. ENOENT where none is.
-    /// - `Cancel` takes a request from the queue, without its frame being made. EINVAL where there is no such request; EBUSY where its frame
-    ///   is being made; EINVAL where it doesn't wait.
+    /// Media requests (Linux userspace API, "Request API"; limits, buffers, begins, cancellations and freeing are of this project):
+    ///
+    /// - `Alloc` makes a request: 18 (ENOSPC). It is idle, without settings and buffer; its id is the number of its step.
+    /// - `AddBuffer` gives a request the number of a buffer: 19 (EINVAL), 20 to 22 (EBUSY, 16).
+    /// - `Queue` has a request wait for its frame, the last: 19 (EINVAL), 20 (EBUSY), 23 (ENOENT, 2).
+    /// - `Begin` begins the frame of the first that waits: 24 (EBUSY), 25 (ENOENT). What the request asks for is laid over the present values,
+    ///   cluster by cluster; a cluster of which the request names a grabbed control, or that settling or its validator refuses, keeps its row, and
+    ///   the reply names it. Each other cluster with a changed member is told its new row once. It asks no validator, as its forecast did.
+    /// - `Complete` ends the frame that is being made: 26 (ENOENT).
+    /// - `Cancel` takes a request from the queue, without its frame being made: 19 (EINVAL), 27 (EBUSY), 28 (EINVAL).
     /// - `StreamOff` completes the request whose frame is being made and all that wait; the present values stay.
-    /// - `Reinit` makes a request as new, `Free` lets it go for good. EINVAL where there is no such request; EBUSY where it is queued or its
-    ///   frame is being made.
+    /// - `Reinit` makes a request as new, `Free` lets it go for good: 19 (EINVAL), 29 (EBUSY).
+    /// - `StateOf` reads a request's state: 19 (EINVAL). It takes no memory.
     ///
     /// Control events (Linux userspace API, "ioctl VIDIOC_SUBSCRIBE_EVENT, VIDIOC_UNSUBSCRIBE_EVENT", "ioctl VIDIOC_DQEVENT"; the order of the
     /// events of one step, and that a member which isn't in the list is heard of, are of this project). A set, the begin of a frame and a grab
     /// raise an event of each control whose value or flags change, in the order of the controls' numbers, for each file handle that is subscribed
     /// to it; but the file handle whose set it is hears of a control of its list only where its subscription allows feedback, or the flags
     /// change. At most one event of a control waits for a file handle: a later one takes its place at the end, and has the changes of both. Each
-    /// raise takes the next number of its file handle, from 0. Closing a file handle ends its subscriptions, and drops what waits. Each of these
-    /// asks is refused without an index, in the order given, then with ENOSPC where 1,000,000 steps are kept, and last with ENOMEM where a growth
-    /// was refused:
+    /// raise takes the next number of its file handle, from 0. Closing a file handle ends its subscriptions, and drops what waits.
     ///
-    /// - `Subscribe` subscribes a file handle to the events of a control; where `flags` say so, an event with its present value and flags is
-    ///   raised for it at once. EBADF where `fh` isn't open; EINVAL where the id isn't shown to it. A subscription that is there already stays as
-    ///   it is, and the ask is accepted.
-    /// - `Unsubscribe` ends a subscription; what waits of the control is dropped. EBADF where `fh` isn't open. It is accepted whatever the id.
+    /// - `Subscribe` subscribes a file handle to the events of a control: 12 (EBADF), 15 (EINVAL). Where `flags` say so, an event with its present
+    ///   value and flags is raised for it at once. A subscription that is there already stays as it is, and the ask is accepted.
+    /// - `Unsubscribe` ends a subscription, whatever the id: 12 (EBADF). What waits of the control is dropped.
     /// - `Take` takes the first event that waits, see `take`.
     ///
-    /// `Forecast` says what the queued frame at a place will have, see `forecast`.
-    ///
-    /// `StateOf` reads a request's state. It is refused, without an index, with EINVAL where there is no such request, and takes no memory.
-    ///
-    /// For the refusals of lists, each with its index, see `get`, `set` and `try_set`; for those of `Query` and `Told` see `query` and
-    /// `told`.
+    /// `Forecast` says what the queued frame at a place will have, see `forecast`. For lists see `get`, `set` and `try_set`, for `Query` and
+    /// `Told` see `query` and `told`.
     ///
     /// `NextId` tells the least id that is shown to `fh` and greater than `id`, DISABLED controls counted (Linux userspace API,
-    /// "ioctls VIDIOC_QUERYCTRL, VIDIOC_QUERY_EXT_CTRL and VIDIOC_QUERYMENU"). It is refused, without an index, with EBADF
-    /// where `fh` isn't open and with EINVAL where there is none; it takes no memory. `MenuItem` tells the item of a menu, also
-    /// of a DISABLED one. It is refused, without an index, with EBADF where `fh` isn't open, with EINVAL where the id isn't
-    /// shown to it, where its control is no menu, or where the index lies outside its range, is skipped or was given no item,
-    /// and with ENOMEM where a growth was refused. Neither changes anything but the counts of `work`.
+    /// "ioctls VIDIOC_QUERYCTRL, VIDIOC_QUERY_EXT_CTRL and VIDIOC_QUERYMENU"): 12 (EBADF), 16 (EINVAL); it takes no memory. `MenuItem` tells
+    /// the item of a menu, also of a DISABLED one: 12 (EBADF), 15 and 17 (EINVAL), 34 (ENOMEM). Neither changes anything but the counts of
+    /// `work`.
     pub fn handle(&mut self, seat: u32, ask: &Ask) -> Result<Reply, Fault>
         ensures handles { Handles D.verdict self.old self.new seat ask.now result }
         ensures words { HaveWords D.told self.new.plan (now D.verdict self.new.plan (past self.new.steps)) self.new.words }
@@ -391,8 +376,8 @@ impl<D: Driver> Device<D> {
     /// - `fh`: the file handle; the controls that are shown to it can be queried.
     /// - `id`: the control's id.
     ///
-    /// Refused, in this order, without an index, with EBADF (9) where `fh` isn't open, and EINVAL (22) where the id isn't shown to
-    /// it. Answered or refused, nothing is changed but the counts of `work`.
+    /// Refused, without an index, by check 12 (EBADF, 9) or 15 (EINVAL, 22) of docs/RULES.md. Answered or refused, nothing is changed but
+    /// the counts of `work`.
     pub fn query(&mut self, fh: FhId, id: CtrlId) -> Result<Reply, Fault>
         ensures { (seat : ℕ) → Handles D.verdict self.old self.new seat (asks.Query fh id) result }
     {
@@ -405,8 +390,8 @@ impl<D: Driver> Device<D> {
     ///
     /// - `cluster`: the cluster's number, from 0 in the order of the plan's clusters.
     ///
-    /// Refused, without an index, with EINVAL (22) where there is no such cluster. Answered or refused, nothing is changed but the
-    /// counts of `work`.
+    /// Refused, without an index, by check 14 of docs/RULES.md (EINVAL, 22). Answered or refused, nothing is changed but the counts of
+    /// `work`.
     pub fn told(&mut self, cluster: u32) -> Result<Reply, Fault>
         ensures { (seat : ℕ) → Handles D.verdict self.old self.new seat (asks.Told cluster) result }
     {

@@ -11,7 +11,8 @@ use req_book::{MAX_REQUESTS, RequestState, Requests};
 use std::alloc::Global;
 use std::marker::Model;
 
-/// The media requests of a device, and the queue of its frames. Contracts see the requests, the queue and the request that runs.
+/// The media requests of a device, and the queue of its frames. Contracts see the requests, the queue and the request that runs. The checks
+/// that refuse a call have their numbers, and their text, in docs/RULES.md.
 #[derive(Drop)]
 pub struct Frames {
     requests: Requests,
@@ -30,8 +31,7 @@ impl Model for Frames {
 }
 
 impl Frames {
-    /// No request is there, and room for 64 in the queue. `controls` is the number of the device's controls. ENOMEM (12) where the room
-    /// was refused.
+    /// No request is there, and room for 64 in the queue. `controls` is the number of the device's controls. Refused by check 34 (ENOMEM, 12).
     pub fn new(alloc: Global, controls: u32) -> Result<Frames, Errno>
         ensures { MatchResult result (λ frames. frames ≡ record { requests = record { controls = controls; all = [] }; queue = []; running = None }) (λ errno. errno ≡ ENOMEM) }
     {
@@ -87,9 +87,8 @@ impl Frames {
         }
     }
 
-    /// Has a request wait for its frame, the last (`MEDIA_REQUEST_IOC_QUEUE`), and makes room for what its frame will have. EINVAL (22) where
-    /// there is no such request, EBUSY (16) where it isn't idle, ENOENT (2) where it has no buffer, ENOMEM (12) where a growth was refused. A
-    /// refusal changes nothing.
+    /// Has a request wait for its frame, the last (`MEDIA_REQUEST_IOC_QUEUE`), and makes room for what its frame will have. Refused by check
+    /// 19 (EINVAL, 22), 20 (EBUSY, 16), 23 (ENOENT, 2) or 34 (ENOMEM, 12), which changes nothing.
     pub fn queue(&mut self, id: RequestId) -> Result<(), Errno>
         ensures ok { OnOk result ((queue_refusal (find self.old.requests.all id.0) ≡ None) × (self.new ≡ queued_last self.old id.0)) }
         ensures err { IfErr result (λ errno. IsRefusedBy (queue_refusal (find self.old.requests.all id.0)) errno × (self.new ≡ self.old)) }
@@ -114,7 +113,7 @@ impl Frames {
     ///
     /// - `applied`: the values after the begin of the controls that the request asks for and whose cluster isn't refused.
     ///
-    /// EBUSY (16) where a frame is being made, ENOENT (2) where no request waits. It takes no memory. A refusal changes nothing.
+    /// Refused by check 24 (EBUSY, 16) or 25 (ENOENT, 2), which changes nothing. It takes no memory.
     pub fn begin(&mut self, applied: &[Pair]) -> Result<(RequestId, u32), Errno>
         ensures answer { MatchResult result (λ a. begin_answer self.old ≡ Ok (a.0.0, a.1)) (λ errno. begin_answer self.old ≡ Err errno) }
         ensures frames { self.new ≡ after_begin self.old applied.now }
@@ -167,7 +166,7 @@ impl Frames {
     ///
     /// - `values`: the present values; the caller owes one for each control, in the order of their numbers.
     ///
-    /// ENOENT (2) where none is being made. It takes no memory. A refusal changes nothing.
+    /// Refused by check 26 (ENOENT, 2), which changes nothing. It takes no memory.
     pub fn complete(&mut self, values: &[CtrlValue]) -> Result<(), Errno>
         requires { length values.now ≡ self.old.requests.controls }
         ensures answer { result ≡ answered (complete_refusal self.old) }
@@ -192,8 +191,7 @@ impl Frames {
         self.requests.mark_complete(RequestId(id), values);
     }
 
-    /// Why a request isn't taken from the queue: EINVAL (22) where there is no such request, EBUSY (16) where its frame is being made, EINVAL
-    /// (22) where it doesn't wait.
+    /// Why a request isn't taken from the queue: check 19 (EINVAL, 22), 27 (EBUSY, 16) or 28 (EINVAL, 22).
     pub fn cancel_refusal(&self, id: RequestId) -> Option<Errno>
         ensures { result ≡ cancel_refusal (find self.now.requests.all id.0) }
     {
@@ -209,8 +207,7 @@ impl Frames {
     ///
     /// - `values`: the present values; the caller owes one for each control, in the order of their numbers.
     ///
-    /// EINVAL (22) where there is no such request, EBUSY (16) where its frame is being made, EINVAL (22) where it doesn't wait. It takes no
-    /// memory. A refusal changes nothing.
+    /// Refused by check 19 (EINVAL, 22), 27 (EBUSY, 16) or 28 (EINVAL, 22), which changes nothing. It takes no memory.
     pub fn cancel(&mut self, id: RequestId, values: &[CtrlValue]) -> Result<(), Errno>
         requires { length values.now ≡ self.old.requests.controls }
         ensures answer { result ≡ answered (cancel_refusal (find self.old.requests.all id.0)) }
@@ -282,74 +279,70 @@ impl Frames {
         self.requests.count()
     }
 
-    /// A request's state; EINVAL (22) where there is no such request.
+    /// A request's state. Refused by check 19 (EINVAL, 22).
     pub fn state_of(&self, id: RequestId) -> Result<RequestState, Errno>
         ensures { result ≡ state_answer (find self.now.requests.all id.0) }
     {
         self.requests.state_of(id)
     }
 
-    /// The number of the buffer that a request holds, where it has one; EINVAL (22) where there is no such request.
+    /// The number of the buffer that a request holds, where it has one. Refused by check 19 (EINVAL, 22).
     pub fn buffer_of(&self, id: RequestId) -> Result<Option<u32>, Errno>
         ensures { result ≡ buffer_answer (find self.now.requests.all id.0) }
     {
         self.requests.buffer_of(id)
     }
 
-    /// What a request asks for: of each control the last stored pair, in order of control numbers; EINVAL (22) where there is no such request.
+    /// What a request asks for: of each control the last stored pair, in order of control numbers. Refused by check 19 (EINVAL, 22).
     pub fn asked(&self, id: RequestId) -> Result<&[Pair], Errno>
         ensures { MatchResult result (λ pairs. asked_answer (find self.now.requests.all id.0) ≡ Ok pairs.now) (λ errno. asked_answer (find self.now.requests.all id.0) ≡ Err errno) }
     {
         self.requests.asked(id)
     }
 
-    /// The value of a control that the frame of a complete request had; EINVAL (22) where there is no such request or no control of this
-    /// number, EACCES (13) where the request isn't complete.
+    /// The value of a control that the frame of a complete request had. Refused by check 19 or 13 (EINVAL, 22), or 30 (EACCES, 13).
     pub fn snapshot(&self, id: RequestId, control: u32) -> Result<CtrlValue, Errno>
         ensures { result ≡ value_answer self.now.requests.controls control (find self.now.requests.all id.0) }
     {
         self.requests.snapshot(id, control)
     }
 
-    /// The value of each control that the frame of a complete request had; EINVAL (22) where there is no such request, EACCES (13) where
-    /// it isn't complete.
+    /// The value of each control that the frame of a complete request had. Refused by check 19 (EINVAL, 22) or 30 (EACCES, 13).
     pub fn snapshot_values(&self, id: RequestId) -> Result<&[CtrlValue], Errno>
         ensures { MatchResult result (λ values. snapshot_answer (find self.now.requests.all id.0) ≡ Ok values.now) (λ errno. snapshot_answer (find self.now.requests.all id.0) ≡ Err errno) }
     {
         self.requests.snapshot_values(id)
     }
 
-    /// Why no further request is made: ENOSPC (28) where there are 64.
+    /// Why no further request is made: check 18 (ENOSPC, 28).
     pub fn alloc_refusal(&self) -> Option<Errno>
         ensures { result ≡ alloc_refusal self.now.requests.all }
     {
         self.requests.alloc_refusal()
     }
 
-    /// Why a request takes no settings: EINVAL (22) where there is no such request, EBUSY (16) where it isn't idle.
+    /// Why a request takes no settings: check 19 (EINVAL, 22) or 20 (EBUSY, 16).
     pub fn store_refusal(&self, id: RequestId) -> Option<Errno>
         ensures { result ≡ store_refusal (find self.now.requests.all id.0) }
     {
         self.requests.store_refusal(id)
     }
 
-    /// Why a request takes no buffer: EINVAL (22) where there is no such request; EBUSY (16) where it isn't idle, has one, or where another
-    /// that isn't complete holds the number.
+    /// Why a request takes no buffer: check 19 (EINVAL, 22), or one of 20 to 22 (EBUSY, 16).
     pub fn buffer_refusal(&self, id: RequestId, number: u32) -> Option<Errno>
         ensures { result ≡ buffer_refusal self.now.requests.all number (find self.now.requests.all id.0) }
     {
         self.requests.buffer_refusal(id, number)
     }
 
-    /// Why a request isn't queued: EINVAL (22) where there is no such request, EBUSY (16) where it isn't idle, ENOENT (2) where it has no
-    /// buffer.
+    /// Why a request isn't queued: check 19 (EINVAL, 22), 20 (EBUSY, 16) or 23 (ENOENT, 2).
     pub fn queue_refusal(&self, id: RequestId) -> Option<Errno>
         ensures { result ≡ queue_refusal (find self.now.requests.all id.0) }
     {
         self.requests.queue_refusal(id)
     }
 
-    /// Why a request is neither made as new nor freed: EINVAL (22) where there is no such request, EBUSY (16) where it is queued or running.
+    /// Why a request is neither made as new nor freed: check 19 (EINVAL, 22) or 29 (EBUSY, 16).
     pub fn clear_refusal(&self, id: RequestId) -> Option<Errno>
         ensures { result ≡ clear_refusal (find self.now.requests.all id.0) }
     {
@@ -357,7 +350,7 @@ impl Frames {
     }
 
     /// Makes a request: idle, without a buffer, and with nothing asked (`MEDIA_IOC_REQUEST_ALLOC`). The caller owes an `id` that no request
-    /// has. ENOSPC (28) where there are 64; ENOMEM (12) where a growth was refused. A refusal changes nothing.
+    /// has. Refused by check 18 (ENOSPC, 28) or 34 (ENOMEM, 12), which changes nothing.
     pub fn alloc(&mut self, id: RequestId) -> Result<(), Errno>
         requires { find self.old.requests.all id.0 ≡ None }
         ensures ok { OnOk result ((alloc_refusal self.old.requests.all ≡ None) × (self.new ≡ with_requests self.old (record self.old.requests { all = self.old.requests.all ++ fresh id.0 ∷ [] }))) }
@@ -371,8 +364,7 @@ impl Frames {
     ///
     /// - `pairs`: any number, a control any number of times; the caller owes numbers of controls.
     ///
-    /// EINVAL (22) where there is no such request, EBUSY (16) where it isn't idle, ENOMEM (12) where a growth was refused. A refusal changes
-    /// nothing.
+    /// Refused by check 19 (EINVAL, 22), 20 (EBUSY, 16) or 34 (ENOMEM, 12), which changes nothing.
     pub fn store(&mut self, id: RequestId, pairs: &[Pair]) -> Result<(), Errno>
         requires { All (λ p. p.control < self.old.requests.controls) pairs.now }
         ensures ok { OnOk result ((store_refusal (find self.old.requests.all id.0) ≡ None) × (self.new ≡ with_requests self.old (changed self.old.requests id.0 (with_pairs self.old.requests.controls pairs.now)))) }
@@ -382,8 +374,7 @@ impl Frames {
     }
 
     /// Gives a request the buffer with a number (`VIDIOC_QBUF` with `request_fd`; that it has one, and that no two hold a number, is of this
-    /// project). EINVAL (22) where there is no such request; EBUSY (16) where it isn't idle, has a buffer, or another that isn't complete
-    /// holds the number. It takes no memory. A refusal changes nothing.
+    /// project). Refused by check 19 (EINVAL, 22), or one of 20 to 22 (EBUSY, 16), which changes nothing. It takes no memory.
     pub fn add_buffer(&mut self, id: RequestId, number: u32) -> Result<(), Errno>
         ensures answer { result ≡ answered (buffer_refusal self.old.requests.all number (find self.old.requests.all id.0)) }
         ensures frames { self.new ≡ with_requests self.old (unless (buffer_refusal self.old.requests.all number (find self.old.requests.all id.0)) self.old.requests (changed self.old.requests id.0 (with_buffer number))) }
@@ -391,8 +382,8 @@ impl Frames {
         self.requests.add_buffer(id, number)
     }
 
-    /// Makes a request as new (`MEDIA_REQUEST_IOC_REINIT`). EINVAL (22) where there is no such request, EBUSY (16) where it is queued or
-    /// running. It takes no memory. A refusal changes nothing.
+    /// Makes a request as new (`MEDIA_REQUEST_IOC_REINIT`). Refused by check 19 (EINVAL, 22) or 29 (EBUSY, 16), which changes nothing. It
+    /// takes no memory.
     pub fn reinit(&mut self, id: RequestId) -> Result<(), Errno>
         ensures answer { result ≡ answered (clear_refusal (find self.old.requests.all id.0)) }
         ensures frames { self.new ≡ with_requests self.old (unless (clear_refusal (find self.old.requests.all id.0)) self.old.requests (changed self.old.requests id.0 cleared)) }
@@ -400,8 +391,8 @@ impl Frames {
         self.requests.reinit(id)
     }
 
-    /// Lets a request go (`close` of its descriptor; that a queued or running one is refused is of this project). EINVAL (22) where there is
-    /// no such request, EBUSY (16) where it is queued or running. It takes no memory. A refusal changes nothing.
+    /// Lets a request go (`close` of its descriptor; that a queued or running one is refused is of this project). Refused by check 19 (EINVAL,
+    /// 22) or 29 (EBUSY, 16), which changes nothing. It takes no memory.
     pub fn free(&mut self, id: RequestId) -> Result<(), Errno>
         ensures answer { result ≡ answered (clear_refusal (find self.old.requests.all id.0)) }
         ensures frames { self.new ≡ with_requests self.old (unless (clear_refusal (find self.old.requests.all id.0)) self.old.requests (record self.old.requests { all = without id.0 self.old.requests.all })) }

@@ -13,7 +13,8 @@ use std::alloc::Global;
 use std::marker::Model;
 
 /// The media requests of a device (Linux userspace API, "Request API"). Contracts see each request's state, its buffer, what it asks for,
-/// and what its frame had, in the order in which the requests were allocated.
+/// and what its frame had, in the order in which the requests were allocated. The checks that refuse a call have their numbers, and their
+/// text, in docs/RULES.md.
 #[derive(Drop)]
 pub struct Requests {
     objects: Objects,
@@ -61,7 +62,7 @@ impl Requests {
         self.objects.is_like(&other.objects)
     }
 
-    /// A request's state; EINVAL (22) where there is no such request.
+    /// A request's state. Refused by check 19 (EINVAL, 22).
     pub fn state_of(&self, id: RequestId) -> Result<RequestState, Errno>
         ensures { result ≡ state_answer (find self.now.all id.0) }
     {
@@ -71,7 +72,7 @@ impl Requests {
         }
     }
 
-    /// The number of the buffer that a request holds, where it has one; EINVAL (22) where there is no such request.
+    /// The number of the buffer that a request holds, where it has one. Refused by check 19 (EINVAL, 22).
     pub fn buffer_of(&self, id: RequestId) -> Result<Option<u32>, Errno>
         ensures { result ≡ buffer_answer (find self.now.all id.0) }
     {
@@ -88,7 +89,7 @@ impl Requests {
         self.objects.is_held(number)
     }
 
-    /// What a request asks for: of each control the last stored pair, in order of control numbers; EINVAL (22) where there is no such request.
+    /// What a request asks for: of each control the last stored pair, in order of control numbers. Refused by check 19 (EINVAL, 22).
     pub fn asked(&self, id: RequestId) -> Result<&[Pair], Errno>
         ensures { MatchResult result (λ pairs. asked_answer (find self.now.all id.0) ≡ Ok pairs.now) (λ errno. asked_answer (find self.now.all id.0) ≡ Err errno) }
     {
@@ -98,8 +99,7 @@ impl Requests {
         }
     }
 
-    /// The value of each control that the frame of a complete request had; EINVAL (22) where there is no such request, EACCES (13) where
-    /// it isn't complete.
+    /// The value of each control that the frame of a complete request had. Refused by check 19 (EINVAL, 22) or 30 (EACCES, 13).
     pub fn snapshot_values(&self, id: RequestId) -> Result<&[CtrlValue], Errno>
         ensures { MatchResult result (λ values. snapshot_answer (find self.now.all id.0) ≡ Ok values.now) (λ errno. snapshot_answer (find self.now.all id.0) ≡ Err errno) }
     {
@@ -109,7 +109,7 @@ impl Requests {
         }
     }
 
-    /// Why no further request is made: ENOSPC (28) where there are 64.
+    /// Why no further request is made: check 18 (ENOSPC, 28).
     pub fn alloc_refusal(&self) -> Option<Errno>
         ensures { result ≡ alloc_refusal self.now.all }
     {
@@ -120,7 +120,7 @@ impl Requests {
         }
     }
 
-    /// Why a request takes no settings: EINVAL (22) where there is no such request, EBUSY (16) where it isn't idle.
+    /// Why a request takes no settings: check 19 (EINVAL, 22) or 20 (EBUSY, 16).
     pub fn store_refusal(&self, id: RequestId) -> Option<Errno>
         ensures { result ≡ store_refusal (find self.now.all id.0) }
     {
@@ -130,8 +130,7 @@ impl Requests {
         }
     }
 
-    /// Why a request takes no buffer: EINVAL (22) where there is no such request; EBUSY (16) where it isn't idle, has one, or where another
-    /// that isn't complete holds the number.
+    /// Why a request takes no buffer: check 19 (EINVAL, 22), or one of 20 to 22 (EBUSY, 16).
     pub fn buffer_refusal(&self, id: RequestId, number: u32) -> Option<Errno>
         ensures { result ≡ buffer_refusal self.now.all number (find self.now.all id.0) }
     {
@@ -141,8 +140,7 @@ impl Requests {
         }
     }
 
-    /// Why a request isn't queued: EINVAL (22) where there is no such request, EBUSY (16) where it isn't idle, ENOENT (2) where it has no
-    /// buffer.
+    /// Why a request isn't queued: check 19 (EINVAL, 22), 20 (EBUSY, 16) or 23 (ENOENT, 2).
     pub fn queue_refusal(&self, id: RequestId) -> Option<Errno>
         ensures { result ≡ queue_refusal (find self.now.all id.0) }
     {
@@ -152,7 +150,7 @@ impl Requests {
         }
     }
 
-    /// Why a request is neither made as new nor freed: EINVAL (22) where there is no such request, EBUSY (16) where it is queued or running.
+    /// Why a request is neither made as new nor freed: check 19 (EINVAL, 22) or 29 (EBUSY, 16).
     pub fn clear_refusal(&self, id: RequestId) -> Option<Errno>
         ensures { result ≡ clear_refusal (find self.now.all id.0) }
     {
@@ -166,7 +164,7 @@ impl Requests {
     ///
     /// - `control`: the number of a control.
     ///
-    /// EINVAL (22) where there is no such request or no such control, EACCES (13) where the request isn't complete.
+    /// Refused by check 19 or 13 (EINVAL, 22), or 30 (EACCES, 13).
     pub fn snapshot(&self, id: RequestId, control: u32) -> Result<CtrlValue, Errno>
         ensures { result ≡ value_answer self.now.controls control (find self.now.all id.0) }
     {
@@ -177,7 +175,7 @@ impl Requests {
     }
 
     /// Makes a request: idle, without a buffer, and with nothing asked (`MEDIA_IOC_REQUEST_ALLOC`). The caller owes an `id` that no request
-    /// has. ENOSPC (28) where there are 64; ENOMEM (12) where a growth was refused. A refusal changes nothing.
+    /// has. Refused by check 18 (ENOSPC, 28) or 34 (ENOMEM, 12), which changes nothing.
     pub fn alloc(&mut self, id: RequestId) -> Result<(), Errno>
         requires { find self.old.all id.0 ≡ None }
         ensures ok { OnOk result ((alloc_refusal self.old.all ≡ None) × (self.new ≡ record self.old { all = self.old.all ++ fresh id.0 ∷ [] })) }
@@ -197,8 +195,7 @@ impl Requests {
     ///
     /// - `pairs`: any number, a control any number of times; the caller owes numbers of controls.
     ///
-    /// EINVAL (22) where there is no such request, EBUSY (16) where it isn't idle, ENOMEM (12) where a growth was refused. A refusal changes
-    /// nothing.
+    /// Refused by check 19 (EINVAL, 22), 20 (EBUSY, 16) or 34 (ENOMEM, 12), which changes nothing.
     pub fn store(&mut self, id: RequestId, pairs: &[Pair]) -> Result<(), Errno>
         requires { All (λ p. p.control < self.old.controls) pairs.now }
         ensures ok { OnOk result ((store_refusal (find self.old.all id.0) ≡ None) × (self.new ≡ changed self.old id.0 (with_pairs self.old.controls pairs.now))) }
@@ -214,8 +211,7 @@ impl Requests {
     }
 
     /// Gives a request the buffer with a number (`VIDIOC_QBUF` with `request_fd`; that it has one, and that no two hold a number, is of this
-    /// project). EINVAL (22) where there is no such request; EBUSY (16) where it isn't idle, has a buffer, or another that isn't complete
-    /// holds the number. It takes no memory. A refusal changes nothing.
+    /// project). Refused by check 19 (EINVAL, 22), or one of 20 to 22 (EBUSY, 16), which changes nothing. It takes no memory.
     pub fn add_buffer(&mut self, id: RequestId, number: u32) -> Result<(), Errno>
         ensures answer { result ≡ answered (buffer_refusal self.old.all number (find self.old.all id.0)) }
         ensures requests { self.new ≡ unless (buffer_refusal self.old.all number (find self.old.all id.0)) self.old (changed self.old id.0 (with_buffer number)) }
@@ -229,8 +225,8 @@ impl Requests {
         }
     }
 
-    /// Makes a request as new (`MEDIA_REQUEST_IOC_REINIT`). EINVAL (22) where there is no such request, EBUSY (16) where it is queued or
-    /// running. It takes no memory. A refusal changes nothing.
+    /// Makes a request as new (`MEDIA_REQUEST_IOC_REINIT`). Refused by check 19 (EINVAL, 22) or 29 (EBUSY, 16), which changes nothing. It
+    /// takes no memory.
     pub fn reinit(&mut self, id: RequestId) -> Result<(), Errno>
         ensures answer { result ≡ answered (clear_refusal (find self.old.all id.0)) }
         ensures requests { self.new ≡ unless (clear_refusal (find self.old.all id.0)) self.old (changed self.old id.0 cleared) }
@@ -244,8 +240,8 @@ impl Requests {
         }
     }
 
-    /// Lets a request go (`close` of its descriptor; that a queued or running one is refused is of this project). EINVAL (22) where there is
-    /// no such request, EBUSY (16) where it is queued or running. It takes no memory. A refusal changes nothing.
+    /// Lets a request go (`close` of its descriptor; that a queued or running one is refused is of this project). Refused by check 19 (EINVAL,
+    /// 22) or 29 (EBUSY, 16), which changes nothing. It takes no memory.
     pub fn free(&mut self, id: RequestId) -> Result<(), Errno>
         ensures answer { result ≡ answered (clear_refusal (find self.old.all id.0)) }
         ensures requests { self.new ≡ unless (clear_refusal (find self.old.all id.0)) self.old (record self.old { all = without id.0 self.old.all }) }
@@ -260,8 +256,7 @@ impl Requests {
     }
 
     /// Marks a request as one that waits for its frame (`MEDIA_REQUEST_IOC_QUEUE`), and makes room for what its frame will have. For the
-    /// queue of frames alone. EINVAL (22) where there is no such request, EBUSY (16) where it isn't idle, ENOENT (2) where it has no buffer,
-    /// ENOMEM (12) where a growth was refused. A refusal changes nothing.
+    /// queue of frames alone. Refused by check 19 (EINVAL, 22), 20 (EBUSY, 16), 23 (ENOENT, 2) or 34 (ENOMEM, 12), which changes nothing.
     pub fn mark_queued(&mut self, id: RequestId) -> Result<(), Errno>
         ensures ok { OnOk result ((queue_refusal (find self.old.all id.0) ≡ None) × (self.new ≡ changed self.old id.0 (queued self.old.controls))) }
         ensures err { IfErr result (λ errno. IsRefusedBy (queue_refusal (find self.old.all id.0)) errno × (self.new ≡ self.old)) }

@@ -59,8 +59,8 @@ impl<D: Driver> Device<D> {
     /// - `seat`: the number that the step is entered for.
     /// - `fh`: the file handle.
     ///
-    /// Refused, in this order, without an index, with EBADF (9) where `fh` isn't open; ENOENT (2) where no event waits for it; ENOSPC (28) where
-    /// 1,000,000 steps are kept; and ENOMEM (12) where a growth was refused. Nothing is changed then but the counts of `work`.
+    /// Refused, without an index, by check 12 (EBADF, 9), 32 (ENOENT, 2), 33 (ENOSPC, 28) or 34 (ENOMEM, 12) of docs/RULES.md. Nothing is changed
+    /// then but the counts of `work`.
     pub fn take(&mut self, seat: u32, fh: FhId) -> Result<Reply, Fault>
         ensures { Handles D.verdict self.old self.new seat (asks.Take fh) result }
     {

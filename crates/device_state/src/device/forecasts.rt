@@ -34,9 +34,8 @@ impl<D: Driver> Device<D> {
     ///
     /// - `place`: any number; places in the queue count from 0.
     ///
-    /// It asks no validator: what the frames will have is kept, and renewed by each call that changes it. Refused, without an index, with ENOENT
-    /// (2) where no frame is queued there, and with ENOMEM (12) where a growth was refused. Answered or refused, nothing is changed but the counts
-    /// of `work`.
+    /// It asks no validator: what the frames will have is kept, and renewed by each call that changes it. Refused, without an index, by check 31
+    /// (ENOENT, 2) or 34 (ENOMEM, 12) of docs/RULES.md. Answered or refused, nothing is changed but the counts of `work`.
     pub fn forecast(&mut self, place: u32) -> Result<Reply, Fault>
         ensures { (seat : ℕ) → Handles D.verdict self.old self.new seat (asks.Forecast place) result }
     {

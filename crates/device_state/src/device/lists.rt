@@ -40,12 +40,9 @@ impl<D: Driver> Device<D> {
     /// - `request`: the request, where `which` speaks of one; else ignored.
     /// - `list`: at most 64 controls; their values are ignored. It is lent, and never changed.
     ///
-    /// Refused, in this order, with EBADF (9) where `fh` isn't open; EINVAL (22) where `which` can't be read; where it speaks of a
-    /// request EINVAL where there is no such request, and EACCES (13) where it isn't complete; EINVAL where there are more than 64
-    /// entries; EINVAL where there are none and `which` speaks of a class of which no control is shown; EINVAL where an entry's id
-    /// isn't shown, isn't of the class, or its control is DISABLED; EACCES where a control is WRITE_ONLY, also for the defaults.
-    /// Where there are 1 to 64 entries, ENOMEM (12) may stand in place of the values, and of each refusal that this order has behind
-    /// the number of entries. The index is the number of entries.
+    /// Refused by the first of the checks 1 to 7 of a list in docs/RULES.md that doesn't hold: EBADF (9), EINVAL (22) or EACCES (13). Where
+    /// there are 1 to 64 entries, ENOMEM (12) may stand in place of the values and of the refusals from check 6 on. The index is the number
+    /// of entries.
     pub fn get(
         &mut self,
         fh: FhId,
@@ -79,16 +76,10 @@ impl<D: Driver> Device<D> {
     /// - `request`: the request, where `which` speaks of one; else ignored.
     /// - `list`: at most 64 controls with values. It is lent, and never changed.
     ///
-    /// Refused, in this order, with EBADF (9) where `fh` isn't open; EINVAL (22) where `which` can't be read, or speaks of the
-    /// defaults; where it speaks of a request EINVAL where there is no such request, and EBUSY (16) where it isn't idle; EINVAL where
-    /// there are more than 64 entries; EINVAL where there are none and `which` speaks of a class of which no control is shown; EINVAL
-    /// where an entry's id isn't shown, isn't of the class, or its control is DISABLED; for the first control that can't be set EACCES
-    /// (13) where it is READ_ONLY, EBUSY where it is grabbed, and where its value doesn't settle ERANGE (34) or EINVAL; for the first
-    /// control whose cluster is refused the errno of the first member that doesn't settle, or else the validator's where it refuses with
-    /// EACCES, EBUSY, EINVAL or ERANGE, and EINVAL where it refuses with another, or answers a row of another length or with a value that
-    /// settling would change or refuse; ENOSPC (28) where 1,000,000 steps are kept. Where there are 1 to 64 entries, ENOMEM (12) may
-    /// stand in place of success, and of each refusal that this order has behind the number of entries; where there are none, in place
-    /// of success alone. The index is the number of entries. Nothing is changed then but the counts of `work`, and no notifier is told.
+    /// Refused by the first of the checks 1 to 9 of a list in docs/RULES.md that doesn't hold: EBADF (9), EACCES (13), EBUSY (16), EINVAL
+    /// (22), ENOSPC (28) or ERANGE (34). Where there are 1 to 64 entries, ENOMEM (12) may stand in place of success and of the refusals from
+    /// check 6 on; where there are none, in place of success alone. The index is the number of entries. Nothing is changed then but the
+    /// counts of `work`, and no notifier is told.
     pub fn set(
         &mut self,
         seat: u32,
@@ -113,10 +104,9 @@ impl<D: Driver> Device<D> {
     ///
     /// - `fh`, `which`, `request`, `list`: as of `set`.
     ///
-    /// Refused as `set` is, through a request too, but never with EBUSY for a grab, never with ENOSPC, and where there are no entries
-    /// never with ENOMEM (12). The index is the place of an entry, from 0, where the refusal stands at one: the entry that names no
-    /// control; that of the first control that can't be written; and the first entry of the first cluster that is refused. Else, and
-    /// with ENOMEM, it is the number of entries.
+    /// Refused as `set` is, through a request too, but never for a grab, never by check 9, and where there are no entries never with ENOMEM
+    /// (12). The index is the place of an entry, from 0, in the checks 6, 7 and 8: the entry that is refused, and in check 8 the first one of
+    /// its cluster. Else, and with ENOMEM, it is the number of entries.
     pub fn try_set(
         &mut self,
         fh: FhId,

@@ -23,7 +23,8 @@ use step_effects::change_kept;
 
 impl<D: Driver> Device<D> {
     /// A request's state, for a driver's own use (Linux userspace API, "Request API"): that in which the last step that names it left it;
-    /// but complete where that is queued or running and the stream was stopped since. EINVAL (22) where there is no such request. It takes no memory.
+    /// but complete where that is queued or running and the stream was stopped since. Refused by check 19 of docs/RULES.md (EINVAL, 22). It takes
+    /// no memory.
     ///
     /// - `request`: any request, there or not.
     pub fn state_of(&self, request: RequestId) -> Result<RequestState, Errno>
@@ -32,8 +33,8 @@ impl<D: Driver> Device<D> {
         self.frames.state_of(request)
     }
 
-    /// The number of a request's buffer, where it was given one since it was made, or made as new, for a driver's own use. EINVAL (22)
-    /// where there is no such request. It takes no memory.
+    /// The number of a request's buffer, where it was given one since it was made, or made as new, for a driver's own use. Refused by check 19
+    /// of docs/RULES.md (EINVAL, 22). It takes no memory.
     ///
     /// - `request`: any request, there or not.
     pub fn buffer_of(&self, request: RequestId) -> Result<Option<u32>, Errno>
@@ -43,7 +44,7 @@ impl<D: Driver> Device<D> {
     }
 
     /// What a request asks for, for a driver's own use: of each control the last pair that was stored since the request was made, or made
-    /// as new, in order of control numbers. EINVAL (22) where there is no such request. It takes no memory.
+    /// as new, in order of control numbers. Refused by check 19 of docs/RULES.md (EINVAL, 22). It takes no memory.
     ///
     /// - `request`: any request, there or not.
     pub fn asked(&self, request: RequestId) -> Result<&[Pair], Errno>
@@ -54,8 +55,8 @@ impl<D: Driver> Device<D> {
 
     /// The value of a control in the snapshot of a complete request, for a driver's own use: of a control that the request asks for and
     /// whose cluster wasn't refused, its value after the begin of the frame; of any other, the value in force when the request became complete,
-    /// as its frame ended, it was cancelled, or the stream was stopped. EINVAL (22) where there is no such request or no such control, EACCES
-    /// (13) where the request isn't complete. It takes no memory.
+    /// as its frame ended, it was cancelled, or the stream was stopped. Refused by check 19 or 13 (EINVAL, 22), or 30 (EACCES, 13), of
+    /// docs/RULES.md. It takes no memory.
     ///
     /// - `request`: any request, there or not.
     /// - `control`: any number, of a control or not.
