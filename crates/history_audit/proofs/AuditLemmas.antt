@@ -1,6 +1,7 @@
 -- What each try to replay an entry says of the whole history.
 use Rattle.std.proofs.Common.{◌≡◌, ℕ, suc, zero, ◌+◌, ◌<◌, ◌≤◌, true, false, [], ◌∷◌, length, take, get_or, slice_get, Some, Result, Ok, Err, IfOk, Bool, refl, ap, sym, ◌∙◌, subst, arith}
 use Rattle.std.specs.declared.alloc.AllocError.{AllocError}
+use Rattle.std.proofs.lemmas.List.{take_all}
 use Rattle.std.proofs.lemmas.Option.{slice_get_read}
 use Rattle.history.specs.declared.entry.Entry.{Entry}
 use Rattle.history.specs.Past.{past}
@@ -11,6 +12,7 @@ use Rattle.device_history.specs.Steps.{History}
 use Rattle.device_history.specs.Legal.{IsLegal}
 use Rattle.history_audit.specs.Fault.{StopsAt}
 use Rattle.history_audit.specs.Replay.{IsNext, ReplayData, Replayed}
+use Rattle.history_audit.specs.Scratch.{ScratchData, scratch}
 use Rattle.history_audit.proofs.MadeLemmas.{replayed_next, taken_many}
 
 -- an entry stands at each place
@@ -27,9 +29,13 @@ at plan all n = record { plan = plan; steps = take n all; all = all }
 next_at : (plan : PlanData) (all : History) (n : ℕ) (e : Entry Step) → n ≤ length all → slice_get all n ≡ Some e → IsNext (at plan all n) e
 next_at plan all n e h is = subst (λ (m : ℕ). slice_get all m ≡ Some e) (sym (taken_many all n h)) is
 
+-- more stand in the history than were replayed
+pub more_stand : (all : History) (n : ℕ) → n ≤ length all → length (take n all) < length all → n < length all
+more_stand all n within more = subst (λ (m : ℕ). m < length all) (taken_many all n within) more
+
 pub next_read : (plan : PlanData) (all : History) (n : ℕ) (e : Entry Step) → n ≤ length all → length (take n all) < length all → e ≡ get_or all n e → IsNext (at plan all n) e
 next_read plan all n e within more is =
-    let less : n < length all = subst (λ (m : ℕ). m < length all) (taken_many all n within) more in
+    let less : n < length all = more_stand all n within more in
     next_at plan all n e within (slice_get_read all (length all) n e refl less is)
 
 -- it alone is
@@ -63,3 +69,20 @@ audit_stops verdicts plan all old new n is h replays legal =
       legal = subst (λ (r : ReplayData). IsLegal verdicts r.plan (past r.steps)) same legal;
       ends = λ e here. (does e (next_at plan all n e (omega (arith, h)) here)).0;
     }
+
+-- another one is to be replayed
+pub next_there : (plan : PlanData) (all : History) (replay : ReplayData) (n : ℕ) → replay ≡ at plan all n → n < length all → length replay.steps < length replay.all
+next_there plan all replay n is h =
+    subst (λ (r : ReplayData). length r.steps < length r.all) (sym is) (subst (λ (m : ℕ). m < length all) (sym (taken_many all n (omega (arith, h)))) h)
+
+-- all were replayed
+all_replayed : (plan : PlanData) (all : History) (replay : ReplayData) (n : ℕ) → replay ≡ at plan all n → length all ≤ n → ◌≡◌ {A = ReplayData} replay (record { plan = plan; steps = all; all = all })
+all_replayed plan all replay n is h = is ∙ ap (λ (steps : History). (let d : ReplayData = record { plan = plan; steps = steps; all = all } in d)) (take_all n all h)
+
+-- so the whole history is legal, and what was made is what it makes
+pub audited_legal : (verdicts : Verdicts) (plan : PlanData) (all : History) (replay : ReplayData) (n : ℕ) → replay ≡ at plan all n → length all ≤ n → IsLegal verdicts replay.plan (past replay.steps) → IsLegal verdicts plan (past all)
+audited_legal verdicts plan all replay n is h legal = subst (λ (r : ReplayData). IsLegal verdicts r.plan (past r.steps)) (all_replayed plan all replay n is h) legal
+
+pub audited_scratch : (verdicts : Verdicts) (plan : PlanData) (all : History) (replay : ReplayData) (n : ℕ) (made : ScratchData) → replay ≡ at plan all n → length all ≤ n
+    → made ≡ scratch verdicts replay.plan (past replay.steps) → made ≡ scratch verdicts plan (past all)
+audited_scratch verdicts plan all replay n made is h makes = makes ∙ ap (λ (r : ReplayData). scratch verdicts r.plan (past r.steps)) (all_replayed plan all replay n is h)
