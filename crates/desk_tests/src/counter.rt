@@ -11,7 +11,7 @@ pub enum Ask {
     Read,
 }
 
-#[derive(Clone, Copy, Debug, PartialEq, Eq)]
+#[derive(Clone, Copy, PartialEq, Eq)]
 pub enum Answer {
     Sum(u64),
     TooMuch,
