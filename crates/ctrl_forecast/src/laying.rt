@@ -2,12 +2,12 @@ ghost use Rattle.std.specs.Prelude.{◌≡◌, ◌<◌, ◌≤◌, ◌+◌, ◌&
 ghost use Rattle.std.specs.List.{list_any};
 ghost use Rattle.ctrl_handlers.specs.Plan.{members};
 ghost use Rattle.ctrl_clusters.specs.Rows.{AreControlsOf, is_grabbed};
-ghost use Rattle.ctrl_clusters.specs.Overlay.{is_among, is_touched, is_held, row_after, overlay, refused_clusters};
+ghost use Rattle.ctrl_clusters.specs.Overlay.{is_touched, is_held, row_after, overlay, refused_clusters};
 ghost use Rattle.ctrl_forecast.specs.Touched.{touched_count};
 
 use crate::lists::{ClusterList, ValueRow};
 use ctrl_calls::{ClusterRow, Driver, Work};
-use ctrl_clusters::{NewRow, becomes, present_row, write_rows};
+use ctrl_clusters::{NewRow, becomes, is_among, present_row, write_rows};
 use ctrl_handlers::Plan;
 use ctrl_settle::Ctrl;
 use ctrl_types::{CtrlValue, Errno, Pair};
@@ -109,14 +109,5 @@ fn is_held(grabs: &[bool], pairs: &[Pair], members: &[u32]) -> bool
 fn is_grabbed(grabs: &[bool], control: u32) -> bool
     ensures { result ≡ is_grabbed grabs.now control }
 {
-    match grabs.get(control as usize) {
-        Some(grabbed) => *grabbed,
-        None => false,
-    }
-}
-
-fn is_among(pairs: &[Pair], control: u32) -> bool
-    ensures { result ≡ is_among pairs.now control }
-{
-    pairs.iter().any(|pair| pair.control == control)
+    grabs.get(control as usize).copied().unwrap_or(false)
 }
