@@ -84,6 +84,12 @@ touched_next plan pairs i d within =
     ap (touched plan) (take_more pairs i d within)
     ∙ fold-append (λ ks (p : Pair). with_cluster ks (cluster_of plan p.control)) [] (take i pairs) (get_or pairs i d ∷ [])
 
+-- the clusters that were touched so far, with the next pair's
+pub each_next : (plan : PlanData) (pairs : List Pair) (i : ℕ) (d : Pair) (clusters new : List ℕ) → i < length pairs → clusters ≡ touched plan (take i pairs)
+    → new ≡ with_cluster clusters (cluster_of plan (get_or pairs i d).control) → new ≡ touched plan (take (i + 1) pairs)
+each_next plan pairs i d clusters new within each is =
+    is ∙ ap (λ (ks : List ℕ). with_cluster ks (cluster_of plan (get_or pairs i d).control)) each ∙ sym (touched_next plan pairs i d within)
+
 -- a cluster that is added is there
 with_own : (clusters : List ℕ) (k : ℕ) → list_any (nat_eq k) (with_cluster clusters (Some k)) ≡ true
 with_own clusters k = by (list_any (nat_eq k) clusters) refl
@@ -149,6 +155,4 @@ asked_more clusters new more before now after is old most = omega (arith, ap len
 pub asked_within : (plan : PlanData) (pairs : List Pair) (i : ℕ) (d : Pair) (clusters : List ℕ) (before now after : ℕ) → i < length pairs → clusters ≡ touched plan (take i pairs) → now ≤ before + length clusters
     → after + length clusters ≤ now + length (with_cluster clusters (cluster_of plan (get_or pairs i d).control)) → after ≤ before + length (touched plan pairs)
 asked_within plan pairs i d clusters before now after within each old most =
-    let next : with_cluster clusters (cluster_of plan (get_or pairs i d).control) ≡ touched plan (take (i + 1) pairs) =
-    ap (λ (ks : List ℕ). with_cluster ks (cluster_of plan (get_or pairs i d).control)) each ∙ sym (touched_next plan pairs i d within) in
-    omega (arith, ap length next, touched_more plan pairs (i + 1))
+    omega (arith, ap length (each_next plan pairs i d clusters _ within each refl), touched_more plan pairs (i + 1))

@@ -1,5 +1,5 @@
 -- The rows that clusters get, and how many validators were asked for them.
-use Rattle.std.proofs.Common.{◌≡◌, ℕ, ◌<◌, ◌≤◌, ◌+◌, ◌^◌, ◌==◌, Bool, true, false, cond, nat_eq, eq-eqb, pos, get_or, List, [], ◌∷◌, ◌++◌, length, Option, None, Some, is_some, unwrap_or, Ok, Err, Result, IsTrue, refl, ap, sym, ◌∙◌, arith}
+use Rattle.std.proofs.Common.{◌≡◌, ℕ, ◌<◌, ◌≤◌, ◌+◌, ◌==◌, Bool, true, false, cond, nat_eq, eq-eqb, pos, get_or, List, [], ◌∷◌, ◌++◌, length, Option, None, Some, is_some, unwrap_or, Ok, Err, Result, IsTrue, refl, ap, sym, ◌∙◌, arith}
 use Rattle.std.specs.List.{All, list_any}
 use Rattle.std.specs.Option.{option_and_then}
 use Rattle.std.proofs.lemmas.List.{length_push, map-append}
@@ -94,10 +94,6 @@ counted_next plan rows new r n before after is asked old =
     by : (o : Option Relation) → (calls_of plan r.cluster).validator ≡ o → after_judging o (with_calls judged n) ≡ with_calls (judged + cond (is_some o) 1 0) n
     by None e = omega arith
     by (Some relation) e = omega arith
-
--- no cluster, no call
-pub counted_none : (plan : PlanData) (n : ℕ) → n < 2 ^ 64 → n ≡ with_calls (judged_count plan []) n
-counted_none plan n fits = omega (arith, fits)
 
 -- each control of some pairs is among them, and among more of them
 each_among : (pairs ps : List Pair) → ((c : ℕ) → is_among ps c ≡ true → is_among pairs c ≡ true) → All (λ p. IsTrue (is_among pairs p.control)) ps

@@ -6,7 +6,7 @@ use ctrl_types::{Errno, Fault};
 
 /// What refuses a list of controls (Linux userspace API, "struct v4l2_ext_controls", `error_idx`). The definitions of the answers speak
 /// of it; calls answer a `Fault`.
-#[derive(Clone, Copy, Debug, PartialEq, Eq)]
+#[derive(Clone, Copy)]
 pub struct Refusal {
     /// The errno.
     pub errno: Errno,

@@ -1,10 +1,8 @@
-use Rattle.std.proofs.Common.{ℕ, pos, get_or, List, length, inl, ap, sym, ◌∙◌}
+use Rattle.std.proofs.Common.{pos, length, inl, ◌∙◌}
 use Rattle.ctrl_types.specs.declared.ids.Pair.{Pair}
-use Rattle.ctrl_handlers.specs.Plan.{cluster_of}
 use Rattle.ctrl_clusters.specs.NewRows.{clusters_of}
 use Rattle.ctrl_lists.specs.Checks.{at_first, judging_refusal}
-use Rattle.ctrl_lists.specs.Touched.{with_cluster}
-use Rattle.ctrl_lists.proofs.ListLemmas.{passes, stops, touched_next, few_more, asked_more, asked_within}
+use Rattle.ctrl_lists.proofs.ListLemmas.{passes, stops, each_next, few_more, asked_more, asked_within}
 use Rattle.ctrl_lists.proofs.rows.judge_all.Goals as goal
 
 -- the first pair whose cluster is refused
@@ -27,10 +25,9 @@ loop-place-preserved g c =
     let does = c.in_default-judge_next.ensures in
     let refused = judging_refusal g.D.Validates.verdict c.args.plan.now c.args.view.now c.args.laid.now in
     let d : Pair = record { control = 0; value = pos 0 } in
-    let next = touched_next c.args.plan.now c.args.pairs.now c.loop-place.place d c.loop-place-test.true in
     record {
-      none = passes refused (at_first refused c.args.pairs.now) c.args.pairs.now c.loop-place.place _ c.loop-place-test.true does.ok old.none;
-      each = does.each ∙ ap (λ (ks : List ℕ). with_cluster ks (cluster_of c.args.plan.now (get_or c.args.pairs.now c.loop-place.place d).control)) old.each ∙ sym next;
+      none = passes refused (at_first refused c.args.pairs.now) c.args.pairs.now c.loop-place.place d c.loop-place-test.true does.ok old.none;
+      each = each_next c.args.plan.now c.args.pairs.now c.loop-place.place d (clusters_of c.loop-place.rows.items) (clusters_of c.judge_next.new.rows.items) c.loop-place-test.true old.each does.each;
       become = does.rows;
       within = does.within;
       long = does.long;
