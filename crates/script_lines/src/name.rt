@@ -7,7 +7,7 @@ ghost use Rattle.script_lines.specs.Names.{is_name, name_of};
 pub const MAX_NAME: usize = 16;
 
 /// A name that a script gives to a file handle or a request: its bytes, and zeros behind them.
-#[derive(Clone, Copy, Debug, PartialEq, Eq, Hash)]
+#[derive(Clone, Copy, PartialEq, Eq, Hash)]
 pub struct Name {
     bytes: [u8; MAX_NAME],
     len: usize,

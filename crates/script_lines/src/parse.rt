@@ -63,7 +63,7 @@ fn words_of<'a>(alloc: Global, line: &'a [u8]) -> Result<Vec<&'a [u8]>, AllocErr
 }
 
 // The first words of commands.
-#[derive(Clone, Copy, Debug, PartialEq, Eq)]
+#[derive(Clone, Copy)]
 enum Verb {
     Open,
     Close,
@@ -88,7 +88,7 @@ enum Verb {
 }
 
 // Those of commands with a request and nothing else.
-#[derive(Clone, Copy, Debug, PartialEq, Eq)]
+#[derive(Clone, Copy)]
 enum RequestVerb {
     Alloc,
     Queue,
@@ -488,7 +488,7 @@ fn fixed_which(word: &[u8]) -> Option<u32>
 }
 
 // How the entries of a list are written.
-#[derive(Clone, Copy, Debug, PartialEq, Eq)]
+#[derive(Clone, Copy)]
 enum EntryForm {
     // `CTRL`
     Control,
