@@ -8,7 +8,7 @@ use script_lines::{Command, Name};
 use std::alloc::AllocError;
 
 /// What an accepted command binds.
-#[derive(Clone, Copy, Debug, PartialEq, Eq)]
+#[derive(Clone, Copy)]
 pub enum Binding {
     /// Nothing.
     None,

@@ -1,7 +1,7 @@
 use thiserror::Error;
 
 /// Why the input was not read.
-#[derive(Clone, Copy, Debug, PartialEq, Eq, Error)]
+#[derive(Clone, Copy, Debug, Error)]
 pub enum InputFault {
     /// It is longer than an input may be.
     #[error("input too long")]
