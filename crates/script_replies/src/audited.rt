@@ -1,5 +1,5 @@
 /// What an audit of a device by its own plan and steps came to.
-#[derive(Clone, Copy, Debug, PartialEq, Eq)]
+#[derive(Clone, Copy)]
 pub enum Audited {
     /// What the steps make of the defaults is what the device has; it has so many steps.
     Equal(usize),
