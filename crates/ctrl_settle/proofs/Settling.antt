@@ -1,5 +1,5 @@
 -- What a control of each kind takes, and what holds of it.
-use Rattle.std.proofs.Common.{◌≡◌, ◌<◌, ◌^◌, ℤ, pos, ◌≤ℤ◌, Ok, Err, if◌then◌else◌, refl, FitsSigned, w64, to_z, of_z, bit_and, unsigned_abs, ◌⊎◌, ⊎_elim, inl, inr, ap, ◌∙◌, sym, arith, int_lt, ◌||◌, ◌==◌}
+use Rattle.std.proofs.Common.{◌≡◌, ◌<◌, ◌^◌, ℤ, pos, ◌≤ℤ◌, Ok, Err, if◌then◌else◌, refl, FitsSigned, w64, to_z, of_z, bit_and, unsigned_abs, ⊎_elim, ap, ◌∙◌, sym, arith, int_lt, ◌||◌, ◌==◌}
 use Rattle.std.proofs.lemmas.Bool.{cond_both, or_parts, cases_cond}
 use Rattle.std.proofs.lemmas.Int.{ints}
 use Rattle.std.proofs.lemmas.Nat.{and_le_r, and_assoc}
@@ -7,7 +7,6 @@ use Rattle.std.proofs.Math.Nat.{mod-eq_of_lt}
 use Rattle.std.specs.Int.{bit_at}
 use Rattle.std.specs.Int.Bits.{and_self}
 use Rattle.std.specs.Ordering.{int_eq}
-use Rattle.ctrl_types.specs.declared.errno.Errno.{Errno}
 use Rattle.ctrl_types.specs.declared.errno.Errno.TheVariants.{ERANGE, EINVAL}
 use Rattle.ctrl_types.specs.declared.kind.Kind.{Kind}
 use Rattle.ctrl_types.specs.declared.kind.Kind.TheVariants.{Integer, Boolean, Menu, Button, Integer64, Bitmask, IntegerMenu}
@@ -119,27 +118,3 @@ again_as IntegerMenu c v w in_order bounds e = let i = item-ok c v w e in rw i.2
 pub settle-settled : (c : Control) (v w : ℤ) → IsWellFormed c → settle c v ≡ Ok w → IsSettled c w
 unfolding settle
 settle-settled c v w sound e = again_as c.kind c v w sound.in_order sound.fits_kind.bounds e
-
--- a menu alone refuses, and with these two
-item-err : (c : Control) (v : ℤ) (e : Errno) → item c v ≡ Err e → (e ≡ ERANGE) ⊎ (e ≡ EINVAL)
-item-err c v e =
-    cond_both (int_lt v c.minimum || int_lt c.maximum v) (Err ERANGE) (if bit_at c.skip (unsigned_abs v) == 1 then Err EINVAL else Ok v)
-    (λ r. r ≡ Err e → (e ≡ ERANGE) ⊎ (e ≡ EINVAL))
-    (λ outside h. inl (cc))
-    (λ inside. cond_both (bit_at c.skip (unsigned_abs v) == 1) (Err EINVAL) (Ok v)
-    (λ r. r ≡ Err e → (e ≡ ERANGE) ⊎ (e ≡ EINVAL))
-    (λ skipped h. inr (cc))
-    (λ there h. absurd (cc)))
-
-err_as : (kind : Kind) (c : Control) (v : ℤ) (e : Errno) → settle_as kind c v ≡ Err e → (e ≡ ERANGE) ⊎ (e ≡ EINVAL)
-err_as Integer c v e h = absurd (cc)
-err_as Integer64 c v e h = absurd (cc)
-err_as Boolean c v e h = absurd (cc)
-err_as Button c v e h = absurd (cc)
-err_as Bitmask c v e h = absurd (cc)
-err_as Menu c v e h = item-err c v e h
-err_as IntegerMenu c v e h = item-err c v e h
-
-pub settle-err : (c : Control) (v : ℤ) (e : Errno) → settle c v ≡ Err e → (e ≡ ERANGE) ⊎ (e ≡ EINVAL)
-unfolding settle
-settle-err c v e h = err_as c.kind c v e h
