@@ -6,7 +6,7 @@ use crate::sample::HFLIP;
 use bitflags::Flags as FlagSet;
 use ctrl_events::Event;
 use ctrl_types::{CtrlId, Errno, ExtControl, Fault, FhId, Kind, Pair, RequestId, SubFlags};
-use device_state::{Ask, ControlList, CtrlInfo, Device, MenuItem, Reply, Step};
+use device_state::{Ask, ControlList, CtrlInfo, Device, Forecast, MenuItem, Reply, Step};
 use frame_queue::RequestState;
 use std::alloc::{AllocError, Global};
 
@@ -369,52 +369,63 @@ fn is_reply(
     match reply {
         Reply::Fh(fh) => matches!(want, Want::Opened) && fh.0 as usize == number,
         Reply::Done => matches!(want, Want::Done | Want::Turn(_)),
-        Reply::Controls(list) => match want {
-            Want::Values(values) => match list_in(ask) {
-                Some(entries) => has_values(entries.as_slice(), list.as_slice(), values),
-                None => false,
-            },
-            _ => false,
-        },
+        Reply::Controls(list) => are_controls(ask, list, want),
         Reply::Request(request) => matches!(want, Want::Made) && request.0 as usize == number,
         Reply::State(state) => matches!(want, Want::State(wanted) if *state == wanted),
         Reply::Frame {
             request,
             buffer,
             refused,
-        } => match want {
-            Want::Frame(wanted, held, clusters) => {
-                request.0 == wanted && *buffer == held && refused.as_slice() == clusters
-            }
-            Want::Turn(sum) => {
-                let double = (request.0 as usize).wrapping_mul(2);
-                double.wrapping_add(number) == sum
-                    && *buffer == request.0
-                    && refused.as_slice().is_empty()
-            }
-            _ => false,
-        },
-        Reply::Forecast(row) => match want {
-            Want::Row(wanted, held, values, clusters) => {
-                row.request.0 == wanted
-                    && row.buffer == held
-                    && row.values.as_slice() == values
-                    && row.refused.as_slice() == clusters
-            }
-            _ => false,
-        },
+        } => is_frame(*request, *buffer, refused.as_slice(), want, number),
+        Reply::Forecast(row) => is_row(row, want),
         Reply::Event(event) => is_event(device, event, want),
         Reply::Info(info) => is_info(info, want),
         Reply::Id(id) => matches!(want, Want::Id(wanted) if id.0 == wanted),
-        Reply::Item(MenuItem::Name(name)) => match want {
-            Want::Name(wanted) => name.as_str() == wanted,
-            _ => false,
-        },
-        Reply::Item(MenuItem::Number(number)) => match want {
-            Want::Number(wanted) => *number == wanted,
-            _ => false,
-        },
+        Reply::Item(item) => is_item(item, want),
         Reply::Word(word) => matches!(want, Want::Word(wanted) if *word == wanted),
+    }
+}
+
+// Whether a list names the controls of an ask, with the values that are wanted.
+fn are_controls(ask: &Ask, list: &ControlList, want: Want) -> bool {
+    match (list_in(ask), want) {
+        (Some(entries), Want::Values(values)) => {
+            has_values(entries.as_slice(), list.as_slice(), values)
+        }
+        _ => false,
+    }
+}
+
+fn is_frame(request: RequestId, buffer: u32, refused: &[u32], want: Want, number: usize) -> bool {
+    match want {
+        Want::Frame(wanted, held, clusters) => {
+            request.0 == wanted && buffer == held && refused == clusters
+        }
+        Want::Turn(sum) => {
+            let double = (request.0 as usize).wrapping_mul(2);
+            double.wrapping_add(number) == sum && buffer == request.0 && refused.is_empty()
+        }
+        _ => false,
+    }
+}
+
+fn is_row(row: &Forecast, want: Want) -> bool {
+    match want {
+        Want::Row(wanted, held, values, clusters) => {
+            row.request.0 == wanted
+                && row.buffer == held
+                && row.values.as_slice() == values
+                && row.refused.as_slice() == clusters
+        }
+        _ => false,
+    }
+}
+
+fn is_item(item: &MenuItem, want: Want) -> bool {
+    match (item, want) {
+        (MenuItem::Name(name), Want::Name(wanted)) => name.as_str() == wanted,
+        (MenuItem::Number(number), Want::Number(wanted)) => *number == wanted,
+        _ => false,
     }
 }
 
@@ -553,56 +564,64 @@ pub fn is_step_of(
     answer: &Result<Reply, Fault>,
 ) -> bool {
     match ask {
+        Ask::Complete => is_completion(device, step),
+        Ask::Take { fh } => is_take_of(device, step, *fh, answer),
+        _ => has_kind_of(device, step, ask) && has_content_of(device, step, ask),
+    }
+}
+
+fn is_completion(device: &Device<Counting>, step: &Step) -> bool {
+    match step {
+        Step::Complete { request } => device.state_of(*request) == Ok(RequestState::Complete),
+        _ => false,
+    }
+}
+
+fn has_kind_of(device: &Device<Counting>, step: &Step, ask: &Ask) -> bool {
+    match kind_wanted(device, ask) {
+        Some(kind) => kind_of(step) == kind,
+        None => false,
+    }
+}
+
+// The pairs of a set or a store, and the flags of a subscription.
+fn has_content_of(device: &Device<Counting>, step: &Step, ask: &Ask) -> bool {
+    match ask {
+        Ask::SetCtrls { list, .. } => has_pairs(device, pairs_of(step), list.as_slice()),
+        Ask::Subscribe { flags, .. } => flags_of(step) == flags.bits(),
+        _ => true,
+    }
+}
+
+// What `kind_of` is to tell of the step of an ask that names its step; none where it adds no step.
+fn kind_wanted(device: &Device<Counting>, ask: &Ask) -> Option<(u32, u32, u32)> {
+    match ask {
         Ask::SetCtrls {
             fh,
             which,
             request,
-            list,
-        } => {
-            let named = if *which == 0x0f01_0000 {
-                *request
-            } else {
-                None
-            };
-            let place = match named {
-                Some(request) => (5, request.0, 0),
-                None => (3, fh.0, 0),
-            };
-            kind_of(step) == place && has_pairs(device, pairs_of(step), list.as_slice())
-        }
-        Ask::OpenFh { handler } => kind_of(step) == (0, *handler, 0),
-        Ask::CloseFh { fh } => kind_of(step) == (1, fh.0, 0),
-        Ask::Grab { control, on } => kind_of(step) == (2, *control, u32::from(*on)),
-        Ask::Alloc => kind_of(step) == (4, 0, 0),
-        Ask::AddBuffer { request, buffer } => kind_of(step) == (6, request.0, *buffer),
-        Ask::Queue { request } => kind_of(step) == (7, request.0, 0),
-        Ask::Begin => match device.running() {
-            Some(request) => kind_of(step) == (8, request.0, 0),
-            None => false,
+            ..
+        } => match request {
+            Some(request) if *which == 0x0f01_0000 => Some((5, request.0, 0)),
+            _ => Some((3, fh.0, 0)),
         },
-        Ask::Complete => match step {
-            Step::Complete { request } => device.state_of(*request) == Ok(RequestState::Complete),
-            _ => false,
+        Ask::OpenFh { handler } => Some((0, *handler, 0)),
+        Ask::CloseFh { fh } => Some((1, fh.0, 0)),
+        Ask::Grab { control, on } => Some((2, *control, u32::from(*on))),
+        Ask::Alloc => Some((4, 0, 0)),
+        Ask::AddBuffer { request, buffer } => Some((6, request.0, *buffer)),
+        Ask::Queue { request } => Some((7, request.0, 0)),
+        Ask::Begin => Some((8, device.running()?.0, 0)),
+        Ask::Cancel { request } => Some((10, request.0, 0)),
+        Ask::StreamOff => Some((11, 0, 0)),
+        Ask::Reinit { request } => Some((12, request.0, 0)),
+        Ask::Free { request } => Some((13, request.0, 0)),
+        Ask::Subscribe { fh, id, .. } => Some((14, fh.0, shown(device, *fh, *id)?)),
+        Ask::Unsubscribe { fh, id } => match shown(device, *fh, *id) {
+            Some(control) => Some((15, fh.0, control)),
+            None => Some((16, fh.0, 0)),
         },
-        Ask::Cancel { request } => kind_of(step) == (10, request.0, 0),
-        Ask::StreamOff => kind_of(step) == (11, 0, 0),
-        Ask::Reinit { request } => kind_of(step) == (12, request.0, 0),
-        Ask::Free { request } => kind_of(step) == (13, request.0, 0),
-        Ask::Subscribe { fh, id, flags } => match shown(device, *fh, *id) {
-            Some(control) => {
-                kind_of(step) == (14, fh.0, control) && flags_of(step) == flags.bits()
-            }
-            None => false,
-        },
-        Ask::Unsubscribe { fh, id } => {
-            let ended = match shown(device, *fh, *id) {
-                Some(control) => (15, fh.0, control),
-                None => (16, fh.0, 0),
-            };
-            kind_of(step) == ended
-        }
-        Ask::Take { fh } => is_take_of(device, step, *fh, answer),
-        _ => false,
+        _ => None,
     }
 }
 

@@ -2,7 +2,7 @@
 
 use crate::asks::{At, GET, NOW, Question, SET};
 use crate::plan::{Scene, Trouble, scene_of};
-use crate::play::make;
+use crate::play::accept;
 use crate::sample::{AUTOGAIN, BLUE, BUTTON, GAIN, RED, SAMPLE, SHOWN};
 use ctrl_calls::Work;
 use device_state::{AuditFault, Scratch, audit};
@@ -17,7 +17,9 @@ const OPEN: Question = Question::Open(1, 1);
 const OTHER: At = At(1, 0, None);
 
 // Asks that are accepted. Those with the same number in front make the same of the plan.
-const PASTS: &[(u32, &[Question])] = &[
+type Past = (u32, &'static [Question]);
+
+const PASTS: &[Past] = &[
     (0, &[]),
     // a file handle that is closed counts no more, nor a grab that is let go
     (0, &[OPEN, Question::Close(0)]),
@@ -241,15 +243,18 @@ const PASTS: &[(u32, &[Question])] = &[
 // A device after the asks of a past, which are accepted.
 fn after(alloc: Global, questions: &[Question]) -> Result<Scene, Trouble> {
     let mut scene = scene_of(alloc, &SAMPLE, &mut 0)?;
+    ask_all(alloc, &mut scene, questions)?;
+    scene.look();
+    Ok(scene)
+}
+
+fn ask_all(alloc: Global, scene: &mut Scene, questions: &[Question]) -> Result<(), Trouble> {
     for (number, question) in (0u32..).zip(questions) {
         for part in 0..question.count() {
-            make(&mut scene, &question.ask(alloc, part)?, number)?;
+            accept(scene, &question.ask(alloc, part)?, number)?;
         }
     }
-    for counter in scene.counters.iter_mut() {
-        counter.look();
-    }
-    Ok(scene)
+    Ok(())
 }
 
 // What the steps of a device make of its plan.
@@ -261,41 +266,66 @@ fn audited(alloc: Global, scene: &Scene) -> Result<Scratch, Trouble> {
     }
 }
 
-// Whether no notifier was told since the last look.
-fn is_silent(scene: &Scene) -> bool {
-    for counter in scene.counters.iter() {
-        if counter.calls().1 != 0 {
-            return false;
-        }
-    }
-    true
-}
-
 // The first two of the pasts, by their places, where an audit of the one agrees with the device of the other and shouldn't, or the other
 // way round; or where one tells somebody, or changes what the device counts.
-fn mistaken(alloc: Global) -> Result<Option<(usize, usize)>, Trouble> {
-    for (place, (number, questions)) in PASTS.iter().enumerate() {
-        let scene = after(alloc, questions)?;
-        let work = scene.device.work();
-        let scratch = audited(alloc, &scene)?;
-        for (other_place, (other_number, questions)) in PASTS.iter().enumerate() {
-            let other = after(alloc, questions)?;
-            if other.device.agrees(&scratch) != (number == other_number) || !is_silent(&other) {
-                return Ok(Some((place, other_place)));
-            }
-        }
-        if scene.device.work() != work || !is_silent(&scene) {
-            return Ok(Some((place, place)));
+fn mistaken(alloc: Global, pasts: &[Past]) -> Result<Option<(usize, usize)>, Trouble> {
+    for (place, past) in pasts.iter().enumerate() {
+        if let Some(other) = mistaken_at(alloc, pasts, place, past)? {
+            return Ok(Some((place, other)));
         }
     }
     Ok(None)
 }
 
+// The first past that an audit of the one at a place is wrong about; the place itself where the audit isn't silent.
+fn mistaken_at(
+    alloc: Global,
+    pasts: &[Past],
+    place: usize,
+    past: &Past,
+) -> Result<Option<usize>, Trouble> {
+    let scene = after(alloc, past.1)?;
+    let work = scene.device.work();
+    let scratch = audited(alloc, &scene)?;
+    let other = wrong_about(alloc, &scratch, past.0, pasts)?;
+    let has_told = scene.device.work() != work || !scene.is_silent();
+    Ok(match other {
+        None if has_told => Some(place),
+        _ => other,
+    })
+}
+
+// The first past that an audit is wrong about, which agrees with those of a number.
+fn wrong_about(
+    alloc: Global,
+    scratch: &Scratch,
+    number: u32,
+    pasts: &[Past],
+) -> Result<Option<usize>, Trouble> {
+    for (place, past) in pasts.iter().enumerate() {
+        if !is_right(alloc, scratch, number == past.0, past.1)? {
+            return Ok(Some(place));
+        }
+    }
+    Ok(None)
+}
+
+// Whether an audit agrees with the device of a past, or doesn't, as it should, and tells nobody.
+fn is_right(
+    alloc: Global,
+    scratch: &Scratch,
+    agrees: bool,
+    questions: &[Question],
+) -> Result<bool, Trouble> {
+    let other = after(alloc, questions)?;
+    Ok(other.device.agrees(scratch) == agrees && other.is_silent())
+}
+
 #[test]
 fn an_audit_agrees_with_what_is_alike(rt: HostRuntime) {
-    let mut found = mistaken(rt.alloc());
+    let mut found = mistaken(rt.alloc(), PASTS);
     if matches!(found, Err(Trouble::Memory)) {
-        found = mistaken(rt.alloc());
+        found = mistaken(rt.alloc(), PASTS);
     }
     assert!(rt; matches!(found, Ok(None)), "{found:?}");
 }

@@ -2,11 +2,11 @@
 
 use crate::asks::{At, NOW, Question, Row, SET, Want, list_of};
 use crate::plan::{Scene, Trouble, scene_of};
-use crate::play::{expect, make};
+use crate::play::{accept, expect, make};
 use crate::sample::{AUTOGAIN, BLUE, BRIGHTNESS, BUTTON, GAIN, RED, SAMPLE};
-use ctrl_types::{Errno, Fault, FhId};
-use device_state::{Ask, Reply};
-use std::alloc::Global;
+use ctrl_types::{Errno, Fault, FhId, RequestId};
+use device_state::{Ask, ControlList, Reply};
+use std::alloc::{AllocError, Global};
 
 // Through a request, at the file handle 0.
 const ONE: At = At(0, 0x0f01_0000, Some(1));
@@ -146,66 +146,107 @@ pub const MOST: u32 = 64;
 // A device whose queue has the most requests; the gain is grabbed.
 pub fn crowd(alloc: Global) -> Result<Scene, Trouble> {
     let mut scene = scene_of(alloc, &SAMPLE, &mut 0)?;
-    make(&mut scene, &Ask::OpenFh { handler: 1 }, 0)?;
+    fill(alloc, &mut scene)?;
+    Ok(scene)
+}
+
+fn fill(alloc: Global, scene: &mut Scene) -> Result<(), Trouble> {
+    accept(scene, &Ask::OpenFh { handler: 1 }, 0)?;
     for number in 0..MOST {
-        let request = match make(&mut scene, &Ask::Alloc, number)? {
-            Reply::Request(request) => request,
-            _ => return Err(Trouble::Answer(number as usize)),
-        };
-        let mut pairs = Vec::new(alloc);
-        for &(id, value) in ASKED[number as usize % ASKED.len()] {
-            if pairs
-                .push((id, value.wrapping_add(i64::from(number))))
-                .is_err()
-            {
-                return Err(Trouble::Memory);
-            }
-        }
-        let store = Ask::SetCtrls {
-            fh: FhId(0),
-            which: 0x0f01_0000,
-            request: Some(request),
-            list: list_of(alloc, pairs.as_slice())?,
-        };
-        let add_buffer = Ask::AddBuffer {
-            request,
-            buffer: number,
-        };
-        for ask in [store, add_buffer, Ask::Queue { request }].iter() {
-            make(&mut scene, ask, number)?;
-        }
+        queue_one(alloc, scene, number)?;
     }
     let grab = Ask::Grab {
         control: 1,
         on: true,
     };
-    make(&mut scene, &grab, MOST)?;
-    Ok(scene)
+    accept(scene, &grab, MOST)
+}
+
+// Makes the request with this number, and has it ask for what it asks for and wait.
+fn queue_one(alloc: Global, scene: &mut Scene, number: u32) -> Result<(), Trouble> {
+    let request = request_made(scene, number)?;
+    store(alloc, scene, request, number)?;
+    let add_buffer = Ask::AddBuffer {
+        request,
+        buffer: number,
+    };
+    accept(scene, &add_buffer, number)?;
+    accept(scene, &Ask::Queue { request }, number)
+}
+
+fn request_made(scene: &mut Scene, number: u32) -> Result<RequestId, Trouble> {
+    match make(scene, &Ask::Alloc, number)? {
+        Reply::Request(request) => Ok(request),
+        _ => Err(Trouble::Answer(number as usize)),
+    }
+}
+
+fn store(alloc: Global, scene: &mut Scene, request: RequestId, number: u32) -> Result<(), Trouble> {
+    let store = Ask::SetCtrls {
+        fh: FhId(0),
+        which: 0x0f01_0000,
+        request: Some(request),
+        list: list_stored(alloc, number)?,
+    };
+    accept(scene, &store, number)
+}
+
+// What the request with this number asks for.
+fn list_stored(alloc: Global, number: u32) -> Result<ControlList, AllocError> {
+    let mut pairs = Vec::new(alloc);
+    for &(id, value) in ASKED[number as usize % ASKED.len()] {
+        pairs.push((id, value.wrapping_add(i64::from(number))))?;
+    }
+    list_of(alloc, pairs.as_slice())
 }
 
 // Whether each frame has what was forecast of it on a device on which no frame runs; and how many of them refuse a cluster.
 fn come_true(alloc: Global) -> Result<Option<u32>, Trouble> {
-    let (mut waiting, mut running) = (crowd(alloc)?, crowd(alloc)?);
+    let mut waiting = crowd(alloc)?;
+    let mut running = crowd(alloc)?;
+    let refusing = refusing_frames(&mut waiting, &mut running)?;
+    if is_over(&mut waiting) {
+        Ok(refusing)
+    } else {
+        Ok(None)
+    }
+}
+
+fn refusing_frames(waiting: &mut Scene, running: &mut Scene) -> Result<Option<u32>, Trouble> {
     let mut refusing = 0u32;
     for place in 0..MOST {
-        let foretold = make(&mut waiting, &Ask::Forecast { place }, place)?;
-        let begun = make(&mut running, &Ask::Begin, place)?;
-        if !is_alike(&foretold, &begun, running.device.values()) {
-            return Ok(None);
+        match frame_refuses(waiting, running, place)? {
+            Some(refuses) => refusing = refusing.saturating_add(u32::from(refuses)),
+            None => return Ok(None),
         }
-        if is_refusing(&begun) {
-            refusing = refusing.saturating_add(1);
-        }
-        make(&mut running, &Ask::Complete, place)?;
     }
+    Ok(Some(refusing))
+}
+
+// Whether the next frame refuses a cluster; none where it isn't what was forecast.
+fn frame_refuses(
+    waiting: &mut Scene,
+    running: &mut Scene,
+    place: u32,
+) -> Result<Option<bool>, Trouble> {
+    let foretold = make(waiting, &Ask::Forecast { place }, place)?;
+    let begun = make(running, &Ask::Begin, place)?;
+    let refuses = if is_alike(&foretold, &begun, running.device.values()) {
+        Some(is_refusing(&begun))
+    } else {
+        None
+    };
+    accept(running, &Ask::Complete, place)?;
+    Ok(refuses)
+}
+
+// Whether there is no further frame to forecast.
+fn is_over(waiting: &mut Scene) -> bool {
     let none = Fault {
         errno: Errno::ENOENT,
         index: None,
     };
-    match waiting.device.forecast(MOST) {
-        Err(fault) if fault == none => Ok(Some(refusing)),
-        _ => Ok(None),
-    }
+    matches!(waiting.device.forecast(MOST), Err(fault) if fault == none)
 }
 
 // Whether a forecast is of the frame that was begun, and of the values that are present since.

@@ -218,26 +218,42 @@ fn play(alloc: Global, seed: u64) -> Result<u32, Trouble> {
     let mut dice = Dice { seed };
     let mut begun = 0u32;
     for turn in 0..TURNS {
-        let ask = ask_of(alloc, &scene.device, &mut dice)?;
-        let most = most(&scene.device, &ask);
-        let _before = calls(&mut scene);
-        match scene.device.handle(0, &ask) {
-            Ok(_) if matches!(ask, Ask::Begin) => begun = begun.saturating_add(1),
-            Ok(_) => {}
-            Err(fault) if fault.errno == Errno::ENOMEM => return Err(Trouble::Memory),
-            Err(_) => {}
-        }
-        let asked = scene.device.work().asked;
-        if calls(&mut scene) != asked || asked > most {
-            return Err(Trouble::Calls(turn as usize));
-        }
-        let agreed = agrees(alloc, &scene.device)?;
-        let _audit = calls(&mut scene);
-        if !agreed {
-            return Err(Trouble::Seen(turn as usize));
-        }
+        let has_begun = play_turn(alloc, &mut scene, &mut dice, turn as usize)?;
+        begun = begun.saturating_add(u32::from(has_begun));
     }
     Ok(begun)
+}
+
+// One ask; whether it began a frame.
+fn play_turn(
+    alloc: Global,
+    scene: &mut Scene,
+    dice: &mut Dice,
+    turn: usize,
+) -> Result<bool, Trouble> {
+    let ask = ask_of(alloc, &scene.device, dice)?;
+    let most = most(&scene.device, &ask);
+    let _before = calls(scene);
+    let has_begun = is_accepted(scene, &ask)? && matches!(ask, Ask::Begin);
+    let asked = scene.device.work().asked;
+    if calls(scene) != asked || asked > most {
+        return Err(Trouble::Calls(turn));
+    }
+    let agreed = agrees(alloc, &scene.device)?;
+    let _audit = calls(scene);
+    if agreed {
+        Ok(has_begun)
+    } else {
+        Err(Trouble::Seen(turn))
+    }
+}
+
+fn is_accepted(scene: &mut Scene, ask: &Ask) -> Result<bool, Trouble> {
+    match scene.device.handle(0, ask) {
+        Ok(_) => Ok(true),
+        Err(fault) if fault.errno == Errno::ENOMEM => Err(Trouble::Memory),
+        Err(_) => Ok(false),
+    }
 }
 
 #[test]

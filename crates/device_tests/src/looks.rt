@@ -46,17 +46,17 @@ fn tells(device: &Device<Counting>, look: Look) -> bool {
         Look::Buffer(request, want) => device.buffer_of(RequestId(request)) == want,
         Look::Asked(request, want) => match device.asked(RequestId(request)) {
             Ok(pairs) => matches!(want, Ok(wanted) if are_pairs(pairs, wanted)),
-            Err(errno) => want == Err(errno),
+            Err(errno) => matches!(want, Err(wanted) if wanted == errno),
         },
         Look::Snapshot(request, want) => has_snapshot(device, RequestId(request), want),
         Look::Queue(wanted) => is_queue(device, wanted),
         Look::Running(want) => match device.running() {
             Some(request) => want == Some(request.0),
-            None => want == None,
+            None => want.is_none(),
         },
         Look::Subscribed(fh, control, want) => match device.subscribed(FhId(fh), control) {
             Some(flags) => want == Some(flags.bits()),
-            None => want == None,
+            None => want.is_none(),
         },
         Look::Waiting(fh, wanted) => are_waiting(device, FhId(fh), wanted),
         Look::Next(fh, want) => device.next_sequence(FhId(fh)) == want,
@@ -81,7 +81,7 @@ fn are_waiting(device: &Device<Counting>, fh: FhId, wanted: &[(u32, u32, i64, u3
             return false;
         }
     }
-    device.waiting(fh, wanted.len()) == None
+    device.waiting(fh, wanted.len()).is_none()
 }
 
 fn are_pairs(pairs: &[Pair], wanted: &[(u32, i64)]) -> bool {
@@ -121,5 +121,5 @@ fn is_queue(device: &Device<Counting>, wanted: &[u32]) -> bool {
             return false;
         }
     }
-    device.queued(wanted.len()) == None
+    device.queued(wanted.len()).is_none()
 }

@@ -133,38 +133,69 @@ impl Drop for Scene {
     }
 }
 
+impl Scene {
+    /// Looks at each counter.
+    pub fn look(&mut self) {
+        for counter in self.counters.iter_mut() {
+            counter.look();
+        }
+    }
+
+    /// Whether no notifier was told since the last look.
+    pub fn is_silent(&self) -> bool {
+        for counter in self.counters.iter() {
+            if counter.calls().1 != 0 {
+                return false;
+            }
+        }
+        true
+    }
+}
+
 /// A device of a table. It told each notifier once, and asked nobody. Where it was refused for want of memory it told nobody, and the
 /// plan that was handed back makes it; `refused` then grows by one.
 pub fn scene_of(alloc: Global, table: &Table, refused: &mut u32) -> Result<Scene, Trouble> {
     let mut counters = Vec::new(alloc);
     let plan = plan_of(alloc, table, &mut counters)?;
-    let device = match Device::new(alloc, plan) {
-        Ok(device) => device,
-        Err((plan, errno)) => {
-            *refused = refused.saturating_add(1);
-            if errno != Errno::ENOMEM || !has_told(counters.as_slice(), table.clusters, false) {
-                return Err(Trouble::Device);
-            }
-            match Device::new(alloc, plan) {
-                Ok(device) => device,
-                Err(_) => return Err(Trouble::Device),
-            }
-        }
+    let device = device_of(alloc, plan, table.clusters, counters.as_slice(), refused)?;
+    let mut scene = Scene { device, counters };
+    if scene.device.work() == Work::new()
+        && has_told(scene.counters.as_slice(), table.clusters, true)
+    {
+        scene.look();
+        Ok(scene)
+    } else {
+        Err(Trouble::Device)
+    }
+}
+
+fn device_of(
+    alloc: Global,
+    plan: Plan<Counting>,
+    clusters: &[Cluster],
+    counters: &[Counter],
+    refused: &mut u32,
+) -> Result<Device<Counting>, Trouble> {
+    let (plan, errno) = match Device::new(alloc, plan) {
+        Ok(device) => return Ok(device),
+        Err(refusal) => refusal,
     };
-    if device.work() != Work::new() || !has_told(counters.as_slice(), table.clusters, true) {
+    *refused = refused.saturating_add(1);
+    if errno != Errno::ENOMEM || !has_told(counters, clusters, false) {
         return Err(Trouble::Device);
     }
-    for counter in counters.iter_mut() {
-        counter.look();
+    match Device::new(alloc, plan) {
+        Ok(device) => Ok(device),
+        Err(_) => Err(Trouble::Device),
     }
-    Ok(Scene { device, counters })
 }
 
 // Whether no validator was asked, and each notifier was told once, or none was.
 fn has_told(counters: &[Counter], clusters: &[Cluster], once: bool) -> bool {
     for (counter, cluster) in counters.iter().zip(clusters) {
         let told = u64::from(once && cluster.tells.is_some());
-        if counter.calls() != (0, told) {
+        let calls = counter.calls();
+        if calls.0 != 0 || calls.1 != told {
             return false;
         }
     }
@@ -178,6 +209,19 @@ fn plan_of(
     counters: &mut Vec<Counter>,
 ) -> Result<Plan<Counting>, Trouble> {
     let mut builder = PlanBuilder::new(alloc);
+    add_controls(&mut builder, table)?;
+    add_items(&mut builder, table)?;
+    for cluster in table.clusters {
+        add_cluster(alloc, &mut builder, cluster, counters)?;
+    }
+    match builder.finish() {
+        Ok(plan) => Ok(plan),
+        Err((_, fault)) => Err(Trouble::from(fault)),
+    }
+}
+
+// The handlers of a table, with the controls that they declare and the handlers that they add.
+fn add_controls(builder: &mut PlanBuilder<Counting>, table: &Table) -> Result<(), Trouble> {
     for _ in 0..table.handlers {
         builder.handler()?;
     }
@@ -187,22 +231,32 @@ fn plan_of(
     for &(to, added) in table.added {
         builder.add_handler(to, added)?;
     }
+    Ok(())
+}
+
+// The items of its menus.
+fn add_items(builder: &mut PlanBuilder<Counting>, table: &Table) -> Result<(), Trouble> {
     for &(control, index, name) in table.names {
         builder.menu_name(control, index, name)?;
     }
     for &(control, index, number) in table.numbers {
         builder.menu_number(control, index, number)?;
     }
-    for cluster in table.clusters {
-        let counter = Counter::new(alloc)?;
-        name_cluster(&mut builder, cluster, &counter)?;
-        if counters.push(counter).is_err() {
-            return Err(Trouble::Memory);
-        }
-    }
-    match builder.finish() {
-        Ok(plan) => Ok(plan),
-        Err((_, fault)) => Err(Trouble::from(fault)),
+    Ok(())
+}
+
+// A cluster, and its counter.
+fn add_cluster(
+    alloc: Global,
+    builder: &mut PlanBuilder<Counting>,
+    cluster: &Cluster,
+    counters: &mut Vec<Counter>,
+) -> Result<(), Trouble> {
+    let counter = Counter::new(alloc)?;
+    name_cluster(builder, cluster, &counter)?;
+    match counters.push(counter) {
+        Ok(()) => Ok(()),
+        Err(_) => Err(Trouble::Memory),
     }
 }
 

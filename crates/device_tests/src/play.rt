@@ -36,6 +36,17 @@ fn play(
     refused: &mut u32,
 ) -> Result<(), Trouble> {
     let mut scene = scene_of(alloc, table, refused)?;
+    play_rows(alloc, &mut scene, table, rows, by_handle, refused)
+}
+
+fn play_rows(
+    alloc: Global,
+    scene: &mut Scene,
+    table: &Table,
+    rows: &[Row],
+    by_handle: bool,
+    refused: &mut u32,
+) -> Result<(), Trouble> {
     for (number, row) in rows.iter().enumerate() {
         for part in 0..row.0.count() {
             let place = Place {
@@ -45,7 +56,7 @@ fn play(
                 part,
                 by_handle,
             };
-            play_ask(alloc, &mut scene, row, place, refused)?;
+            play_ask(alloc, scene, row, place, refused)?;
         }
         if !all_tell(&scene.device, row.0.looks()) {
             return Err(Trouble::Seen(number));
@@ -54,7 +65,7 @@ fn play(
     Ok(())
 }
 
-// Makes the ask at a place, and compares what comes of it. Where it is refused for want of memory, it is made again.
+// Makes the ask at a place, and compares what comes of it.
 fn play_ask(
     alloc: Global,
     scene: &mut Scene,
@@ -64,23 +75,47 @@ fn play_ask(
 ) -> Result<(), Trouble> {
     let ask = row.0.ask(alloc, place.part)?;
     let before = scene.device.steps().len();
+    let answer = answer_to(alloc, scene, &ask, place, refused)?;
+    compare(scene, row, place.number, &ask, &answer, before)
+}
+
+// Where an ask is refused for want of memory, it is made again.
+fn answer_to(
+    alloc: Global,
+    scene: &mut Scene,
+    ask: &Ask,
+    place: Place<'_>,
+    refused: &mut u32,
+) -> Result<Result<Reply, Fault>, Trouble> {
     let seat = seat_of(place.number);
-    let mut answer = asked(&mut scene.device, seat, &ask, place.by_handle);
-    if is_refused_growth(&ask, &answer) {
-        *refused = refused.saturating_add(1);
-        if !is_unchanged(alloc, scene, place)? {
-            return Err(Trouble::Changed(place.number));
-        }
-        answer = asked(&mut scene.device, seat, &ask, place.by_handle);
+    let answer = asked(&mut scene.device, seat, ask, place.by_handle);
+    if !is_refused_growth(ask, &answer) {
+        return Ok(answer);
     }
-    if !is_wanted(&scene.device, &ask, &answer, row.1, before) {
-        return Err(Trouble::Answer(place.number));
+    *refused = refused.saturating_add(1);
+    if !is_unchanged(alloc, scene, place)? {
+        return Err(Trouble::Changed(place.number));
+    }
+    Ok(asked(&mut scene.device, seat, ask, place.by_handle))
+}
+
+// Compares the answer, the calls and the step of an ask with those that its row wants; so many steps came before.
+fn compare(
+    scene: &mut Scene,
+    row: &Row,
+    number: usize,
+    ask: &Ask,
+    answer: &Result<Reply, Fault>,
+    before: usize,
+) -> Result<(), Trouble> {
+    if !is_wanted(&scene.device, ask, answer, row.1, before) {
+        return Err(Trouble::Answer(number));
     }
     if !are_calls(scene, row.2) {
-        return Err(Trouble::Calls(place.number));
+        return Err(Trouble::Calls(number));
     }
-    if !is_entered(scene, &ask, &answer, seat, before) {
-        return Err(Trouble::Step(place.number));
+    if !is_entered(scene, ask, answer, seat_of(number), before) {
+        return Err(Trouble::Step(number));
     }
     Ok(())
 }
@@ -92,6 +127,12 @@ pub fn make(scene: &mut Scene, ask: &Ask, number: u32) -> Result<Reply, Trouble>
         Err(fault) if fault.errno == Errno::ENOMEM => Err(Trouble::Memory),
         Err(_) => Err(Trouble::Answer(number as usize)),
     }
+}
+
+/// Makes an ask that is to be accepted, whatever it is answered.
+pub fn accept(scene: &mut Scene, ask: &Ask, number: u32) -> Result<(), Trouble> {
+    make(scene, ask, number)?;
+    Ok(())
 }
 
 // The seat of a row's asks is the row's number.
@@ -112,15 +153,10 @@ struct Place<'a> {
 // Whether an ask that was refused for want of memory told nobody, and left the device as it is in one that had the earlier asks
 // alone.
 fn is_unchanged(alloc: Global, scene: &mut Scene, place: Place<'_>) -> Result<bool, Trouble> {
-    for counter in scene.counters.iter_mut() {
-        if counter.calls().1 != 0 {
-            return Ok(false);
-        }
-        counter.look();
-    }
-    if scene.device.work().told != 0 {
+    if !scene.is_silent() || scene.device.work().told != 0 {
         return Ok(false);
     }
+    scene.look();
     let mut twin = twin_of(alloc, place)?;
     are_alike(alloc, place.table, &mut scene.device, &mut twin.device)
 }
@@ -128,34 +164,66 @@ fn is_unchanged(alloc: Global, scene: &mut Scene, place: Place<'_>) -> Result<bo
 // A device that had the asks before a place alone.
 fn twin_of(alloc: Global, place: Place<'_>) -> Result<Scene, Trouble> {
     let mut twin = scene_of(alloc, place.table, &mut 0)?;
+    replay_before(alloc, &mut twin, place)?;
+    Ok(twin)
+}
+
+fn replay_before(alloc: Global, twin: &mut Scene, place: Place<'_>) -> Result<(), Trouble> {
     for (number, row) in place.rows.iter().enumerate() {
         for part in 0..row.0.count() {
             if number < place.number || (number == place.number && part < place.part) {
-                let ask = row.0.ask(alloc, part)?;
-                let _answer = asked(&mut twin.device, seat_of(number), &ask, place.by_handle);
+                replay(alloc, twin, row, number, part, place.by_handle)?;
             }
         }
     }
-    Ok(twin)
+    Ok(())
+}
+
+// Makes an ask of a row, whatever it is answered.
+fn replay(
+    alloc: Global,
+    twin: &mut Scene,
+    row: &Row,
+    number: usize,
+    part: usize,
+    by_handle: bool,
+) -> Result<(), Trouble> {
+    let ask = row.0.ask(alloc, part)?;
+    let _answer = asked(&mut twin.device, seat_of(number), &ask, by_handle);
+    Ok(())
 }
 
 // Whether these closures were called since the last look, no others were, and the device counts as they do.
 fn are_calls(scene: &mut Scene, wanted: &[(u32, u64, u64)]) -> bool {
-    let mut work = Work::new();
+    let counters = scene.counters.as_slice();
+    let are_as_wanted = are_called(counters, wanted) && scene.device.work() == work_of(counters);
+    scene.look();
+    are_as_wanted
+}
+
+fn are_called(counters: &[Counter], wanted: &[(u32, u64, u64)]) -> bool {
     let mut found = 0usize;
-    for (cluster, counter) in (0..).zip(scene.counters.iter_mut()) {
+    for (cluster, counter) in (0..).zip(counters) {
         let (asked, told) = counter.calls();
-        if (asked, told) != (0, 0) {
+        if asked != 0 || told != 0 {
             if !wanted.contains(&(cluster, asked, told)) {
                 return false;
             }
             found = found.saturating_add(1);
         }
+    }
+    found == wanted.len()
+}
+
+// How often validators were asked and notifiers told since the last look.
+fn work_of(counters: &[Counter]) -> Work {
+    let mut work = Work::new();
+    for counter in counters {
+        let (asked, told) = counter.calls();
         work.asked = work.asked.saturating_add(asked);
         work.told = work.told.saturating_add(told);
-        counter.look();
     }
-    found == wanted.len() && scene.device.work() == work
+    work
 }
 
 // Whether the ask added its step, where it was accepted and has one, and else none.

@@ -4,7 +4,7 @@ use crate::asks::{flags_of, kind_of, list_of, pairs_of};
 use crate::closures::Counting;
 use crate::plan::{Table, Trouble};
 use ctrl_types::{CtrlId, Fault, FhId, RequestId};
-use device_state::{Device, Entry, Reply, Step};
+use device_state::{ControlList, Device, Entry, Reply, Step};
 use std::alloc::Global;
 
 /// Whether two devices of a table are alike: in their steps, their requests and frames, in the words told, and, through each file handle that the steps could
@@ -19,20 +19,46 @@ pub fn are_alike(
     if !have_like_steps(one.steps(), other.steps()) || !have_like_requests(one, other) {
         return Ok(false);
     }
-    for cluster in 0..one.plan().cluster_count() {
-        if !are_like_answers(&one.told(cluster), &other.told(cluster)) {
-            return Ok(false);
-        }
+    if !have_like_words(one, other) {
+        return Ok(false);
     }
     let handles = u32::try_from(one.steps().len()).unwrap_or(0);
     for fh in 0..=handles {
-        if !have_like_events(one, other, FhId(fh)) {
+        if !are_alike_through(alloc, table, one, other, FhId(fh))? {
             return Ok(false);
         }
-        for control in table.controls {
-            if !show_alike(alloc, one, other, FhId(fh), control.id)? {
-                return Ok(false);
-            }
+    }
+    Ok(true)
+}
+
+fn have_like_words(one: &mut Device<Counting>, other: &mut Device<Counting>) -> bool {
+    for cluster in 0..one.plan().cluster_count() {
+        if !have_like_word(one, other, cluster) {
+            return false;
+        }
+    }
+    true
+}
+
+fn have_like_word(one: &mut Device<Counting>, other: &mut Device<Counting>, cluster: u32) -> bool {
+    let word = one.told(cluster);
+    are_like_answers(&word, &other.told(cluster))
+}
+
+// Whether two devices are alike through a file handle.
+fn are_alike_through(
+    alloc: Global,
+    table: &Table,
+    one: &mut Device<Counting>,
+    other: &mut Device<Counting>,
+    fh: FhId,
+) -> Result<bool, Trouble> {
+    if !have_like_events(one, other, fh) {
+        return Ok(false);
+    }
+    for control in table.controls {
+        if !show_alike(alloc, one, other, fh, control.id)? {
+            return Ok(false);
         }
     }
     Ok(true)
@@ -47,9 +73,27 @@ fn show_alike(
     id: u32,
 ) -> Result<bool, Trouble> {
     let list = list_of(alloc, &[(id, 0)])?;
-    let values = are_like_answers(&one.get(fh, 0, None, &list), &other.get(fh, 0, None, &list));
-    let id = CtrlId(id);
-    Ok(values && are_like_answers(&one.query(fh, id), &other.query(fh, id)))
+    Ok(have_like_values(one, other, fh, &list) && have_like_infos(one, other, fh, CtrlId(id)))
+}
+
+fn have_like_values(
+    one: &mut Device<Counting>,
+    other: &mut Device<Counting>,
+    fh: FhId,
+    list: &ControlList,
+) -> bool {
+    let values = one.get(fh, 0, None, list);
+    are_like_answers(&values, &other.get(fh, 0, None, list))
+}
+
+fn have_like_infos(
+    one: &mut Device<Counting>,
+    other: &mut Device<Counting>,
+    fh: FhId,
+    id: CtrlId,
+) -> bool {
+    let info = one.query(fh, id);
+    are_like_answers(&info, &other.query(fh, id))
 }
 
 fn have_like_steps(one: &[Entry<Step>], other: &[Entry<Step>]) -> bool {
@@ -95,17 +139,23 @@ fn have_like_requests(one: &Device<Counting>, other: &Device<Counting>) -> bool 
     }
     for number in 0..=one.steps().len() {
         let request = RequestId(u32::try_from(number).unwrap_or(0));
-        if one.queued(number) != other.queued(number)
-            || one.state_of(request) != other.state_of(request)
-            || one.buffer_of(request) != other.buffer_of(request)
-            || one.asked(request) != other.asked(request)
-        {
+        if one.queued(number) != other.queued(number) || !is_like_request(one, other, request) {
             return false;
         }
-        for control in 0..=one.plan().control_count() {
-            if one.snapshot(request, control) != other.snapshot(request, control) {
-                return false;
-            }
+    }
+    true
+}
+
+fn is_like_request(one: &Device<Counting>, other: &Device<Counting>, request: RequestId) -> bool {
+    if one.state_of(request) != other.state_of(request)
+        || one.buffer_of(request) != other.buffer_of(request)
+        || one.asked(request) != other.asked(request)
+    {
+        return false;
+    }
+    for control in 0..=one.plan().control_count() {
+        if one.snapshot(request, control) != other.snapshot(request, control) {
+            return false;
         }
     }
     true
