@@ -7,7 +7,7 @@ use frame_queue::{Frames, RequestState};
 pub(crate) const CONTROLS: u32 = 3;
 
 /// A call. A frame ends at a value that each control then has.
-#[derive(Clone, Copy, Debug)]
+#[derive(Clone, Copy)]
 pub(crate) enum Call {
     Alloc(u32),
     Store(u32, &'static [Pair]),
@@ -22,7 +22,7 @@ pub(crate) enum Call {
 }
 
 /// A look.
-#[derive(Clone, Copy, Debug)]
+#[derive(Clone, Copy)]
 pub(crate) enum Look {
     State(u32, RequestState),
     Gone(u32),
@@ -48,17 +48,9 @@ pub(crate) fn answer(frames: &mut Frames, call: Call) -> Result<u32, Errno> {
             Ok((_, number)) => Ok(number),
             Err(errno) => Err(errno),
         },
-        Call::Complete(value) if frames.controls() == CONTROLS => {
-            done(frames.complete([value; 3].as_slice()))
-        }
-        Call::Cancel(id, value) if frames.controls() == CONTROLS => {
-            done(frames.cancel(RequestId(id), [value; 3].as_slice()))
-        }
-        Call::Off(value) if frames.controls() == CONTROLS => {
-            frames.stream_off([value; 3].as_slice());
-            Ok(0)
-        }
-        Call::Complete(_) | Call::Cancel(_, _) | Call::Off(_) => Err(Errno::ERANGE),
+        Call::Complete(value) => complete(frames, value),
+        Call::Cancel(id, value) => cancel(frames, RequestId(id), value),
+        Call::Off(value) => stream_off(frames, value),
         Call::Reinit(id) => done(frames.reinit(RequestId(id))),
         Call::Free(id) => done(frames.free(RequestId(id))),
     }
@@ -68,6 +60,31 @@ fn done(answer: Result<(), Errno>) -> Result<u32, Errno> {
     match answer {
         Ok(()) => Ok(0),
         Err(errno) => Err(errno),
+    }
+}
+
+fn complete(frames: &mut Frames, value: CtrlValue) -> Result<u32, Errno> {
+    if frames.controls() == CONTROLS {
+        done(frames.complete([value; 3].as_slice()))
+    } else {
+        Err(Errno::ERANGE)
+    }
+}
+
+fn cancel(frames: &mut Frames, id: RequestId, value: CtrlValue) -> Result<u32, Errno> {
+    if frames.controls() == CONTROLS {
+        done(frames.cancel(id, [value; 3].as_slice()))
+    } else {
+        Err(Errno::ERANGE)
+    }
+}
+
+fn stream_off(frames: &mut Frames, value: CtrlValue) -> Result<u32, Errno> {
+    if frames.controls() == CONTROLS {
+        frames.stream_off([value; 3].as_slice());
+        Ok(0)
+    } else {
+        Err(Errno::ERANGE)
     }
 }
 

@@ -21,7 +21,9 @@ const SECOND: &[Pair] = &[Pair {
 }];
 
 // How many controls there are, and calls that are accepted. Those with the same number in front make the same requests and queue.
-const PASTS: &[(u32, u32, &[Call])] = &[
+type Past = (u32, u32, &'static [Call]);
+
+const PASTS: &[Past] = &[
     (0, CONTROLS, &[]),
     (0, CONTROLS, &[Call::Alloc(0), Call::Free(0)]),
     (1, 4, &[]),
@@ -162,26 +164,54 @@ const PASTS: &[(u32, u32, &[Call])] = &[
 ];
 
 // The frames after accepted calls; the errno of the first that is refused.
-fn after(alloc: Global, controls: u32, calls: &[Call]) -> Result<Frames, Errno> {
+fn after(alloc: Global, past: &Past) -> Result<Frames, Errno> {
+    let (_, controls, calls) = *past;
     let mut frames = Frames::new(alloc, controls)?;
-    for call in calls {
-        answer(&mut frames, *call)?;
-    }
+    make_all(&mut frames, calls)?;
     Ok(frames)
+}
+
+fn make_all(frames: &mut Frames, calls: &[Call]) -> Result<(), Errno> {
+    for call in calls {
+        answer(frames, *call)?;
+    }
+    Ok(())
 }
 
 // The first two of the pasts, by their places, that are taken for alike where they aren't, or the other way round.
 fn mistaken(alloc: Global) -> Result<Option<(usize, usize)>, Errno> {
-    for (place, (number, controls, calls)) in PASTS.iter().enumerate() {
-        let one = after(alloc, *controls, calls)?;
-        for (other_place, (other_number, controls, calls)) in PASTS.iter().enumerate() {
-            let other = after(alloc, *controls, calls)?;
-            if one.is_like(&other) != (number == other_number) {
-                return Ok(Some((place, other_place)));
-            }
+    mistaken_among(alloc, PASTS)
+}
+
+fn mistaken_among(alloc: Global, pasts: &[Past]) -> Result<Option<(usize, usize)>, Errno> {
+    for (place, past) in pasts.iter().enumerate() {
+        let one = after(alloc, past)?;
+        if let Some(other) = mistaken_for(alloc, &one, past.0, pasts)? {
+            return Ok(Some((place, other)));
         }
     }
     Ok(None)
+}
+
+// The first past that the frames of a number are mistaken for.
+fn mistaken_for(
+    alloc: Global,
+    one: &Frames,
+    number: u32,
+    pasts: &[Past],
+) -> Result<Option<usize>, Errno> {
+    for (place, past) in pasts.iter().enumerate() {
+        if is_after(alloc, one, past)? != (number == past.0) {
+            return Ok(Some(place));
+        }
+    }
+    Ok(None)
+}
+
+// Whether frames are taken for those of a past.
+fn is_after(alloc: Global, one: &Frames, past: &Past) -> Result<bool, Errno> {
+    let other = after(alloc, past)?;
+    Ok(one.is_like(&other))
 }
 
 #[test]

@@ -347,17 +347,25 @@ fn empty(alloc: Global) -> Result<Frames, Errno> {
 
 fn plays(alloc: Global, run: &Run) -> Result<bool, Errno> {
     let mut frames = empty(alloc)?;
-    for (call, want) in run.0 {
-        if !is_answered(&mut frames, *call, *want) {
-            return Ok(false);
+    Ok(are_answered(&mut frames, run.0) && all_show(&frames, run.1))
+}
+
+fn are_answered(frames: &mut Frames, calls: &[(Call, Result<u32, Errno>)]) -> bool {
+    for (call, want) in calls {
+        if !is_answered(frames, *call, *want) {
+            return false;
         }
     }
-    for look in run.1 {
-        if !shows(&frames, *look) {
-            return Ok(false);
+    true
+}
+
+fn all_show(frames: &Frames, looks: &[Look]) -> bool {
+    for look in looks {
+        if !shows(frames, *look) {
+            return false;
         }
     }
-    Ok(true)
+    true
 }
 
 #[test]
@@ -370,32 +378,52 @@ fn runs(rt: HostRuntime) {
 // As many requests as there can be wait and run in the order of queueing, the last allocated first.
 fn fills(alloc: Global) -> Result<bool, Errno> {
     let mut frames = empty(alloc)?;
-    let most = MAX_REQUESTS as u32;
-    for id in 0..most {
-        if !is_answered(&mut frames, Call::Alloc(id), Ok(0)) {
-            return Ok(false);
-        }
-    }
-    if !is_answered(&mut frames, Call::Alloc(most), Err(Errno::ENOSPC)) {
-        return Ok(false);
-    }
-    for id in (0..most).rev() {
-        let is_buffered = is_answered(&mut frames, Call::Buffer(id, id.saturating_add(100)), Ok(0));
-        if !is_buffered || !is_answered(&mut frames, Call::Queue(id), Ok(0)) {
-            return Ok(false);
-        }
-    }
-    for id in (0..most).rev() {
-        let has_begun = is_answered(&mut frames, Call::Begin(&[]), Ok(id.saturating_add(100)));
-        if !has_begun || !is_answered(&mut frames, Call::Complete(1), Ok(0)) {
-            return Ok(false);
-        }
-    }
     Ok(
-        is_answered(&mut frames, Call::Free(0), Ok(0))
-            && is_answered(&mut frames, Call::Alloc(most), Ok(0))
-            && shows(&frames, Look::Count(MAX_REQUESTS)),
+        allocates_all(&mut frames)
+            && queues_all(&mut frames)
+            && runs_all(&mut frames)
+            && makes_room(&mut frames),
     )
+}
+
+const MOST: u32 = MAX_REQUESTS as u32;
+
+fn allocates_all(frames: &mut Frames) -> bool {
+    for id in 0..MOST {
+        if !is_answered(frames, Call::Alloc(id), Ok(0)) {
+            return false;
+        }
+    }
+    is_answered(frames, Call::Alloc(MOST), Err(Errno::ENOSPC))
+}
+
+fn queues_all(frames: &mut Frames) -> bool {
+    for id in (0..MOST).rev() {
+        let buffer = Call::Buffer(id, id.saturating_add(100));
+        if !is_answered(frames, buffer, Ok(0)) || !is_answered(frames, Call::Queue(id), Ok(0)) {
+            return false;
+        }
+    }
+    true
+}
+
+fn runs_all(frames: &mut Frames) -> bool {
+    for id in (0..MOST).rev() {
+        let buffer = Ok(id.saturating_add(100));
+        if !is_answered(frames, Call::Begin(&[]), buffer)
+            || !is_answered(frames, Call::Complete(1), Ok(0))
+        {
+            return false;
+        }
+    }
+    true
+}
+
+// One that is freed makes room for another.
+fn makes_room(frames: &mut Frames) -> bool {
+    is_answered(frames, Call::Free(0), Ok(0))
+        && is_answered(frames, Call::Alloc(MOST), Ok(0))
+        && shows(frames, Look::Count(MAX_REQUESTS))
 }
 
 #[test]
