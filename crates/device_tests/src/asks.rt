@@ -491,13 +491,13 @@ fn is_fault(ask: &Ask, fault: Fault, want: Want) -> bool {
     fault == Fault { errno, index }
 }
 
-/// Whether an answer is want of memory, with the index that it has there, to an ask that takes memory at all: no other has that answer.
-pub fn is_refused_growth(ask: &Ask, answer: &Result<Reply, Fault>) -> bool {
-    let fault = Fault {
+/// Whether a refusal is want of memory, with the index that it has there, of an ask that takes memory at all: no other has that answer.
+pub fn is_refused_growth(ask: &Ask, fault: Fault) -> bool {
+    let growth = Fault {
         errno: Errno::ENOMEM,
         index: count_in(ask),
     };
-    matches!(answer, Err(given) if *given == fault) && takes_memory(ask)
+    fault == growth && takes_memory(ask)
 }
 
 fn takes_memory(ask: &Ask) -> bool {

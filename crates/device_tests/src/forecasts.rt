@@ -219,25 +219,32 @@ fn refusing_frames(waiting: &mut Scene, running: &mut Scene) -> Result<Option<u3
             Some(refuses) => refusing = refusing.saturating_add(u32::from(refuses)),
             None => return Ok(None),
         }
+        accept(running, &Ask::Complete, place)?;
     }
     Ok(Some(refusing))
 }
 
-// Whether the next frame refuses a cluster; none where it isn't what was forecast.
+// Begins the next frame. Whether it refuses a cluster; none where it isn't what was forecast.
 fn frame_refuses(
     waiting: &mut Scene,
     running: &mut Scene,
     place: u32,
 ) -> Result<Option<bool>, Trouble> {
     let foretold = make(waiting, &Ask::Forecast { place }, place)?;
+    begun_refuses(running, &foretold, place)
+}
+
+fn begun_refuses(
+    running: &mut Scene,
+    foretold: &Reply,
+    place: u32,
+) -> Result<Option<bool>, Trouble> {
     let begun = make(running, &Ask::Begin, place)?;
-    let refuses = if is_alike(&foretold, &begun, running.device.values()) {
-        Some(is_refusing(&begun))
+    if is_alike(foretold, &begun, running.device.values()) {
+        Ok(Some(is_refusing(&begun)))
     } else {
-        None
-    };
-    accept(running, &Ask::Complete, place)?;
-    Ok(refuses)
+        Ok(None)
+    }
 }
 
 // Whether there is no further frame to forecast.

@@ -87,16 +87,36 @@ fn answer_to(
     place: Place<'_>,
     refused: &mut u32,
 ) -> Result<Result<Reply, Fault>, Trouble> {
-    let seat = seat_of(place.number);
-    let answer = asked(&mut scene.device, seat, ask, place.by_handle);
-    if !is_refused_growth(ask, &answer) {
-        return Ok(answer);
+    match asked(
+        &mut scene.device,
+        seat_of(place.number),
+        ask,
+        place.by_handle,
+    ) {
+        Err(fault) if is_refused_growth(ask, fault) => {
+            *refused = refused.saturating_add(1);
+            asked_again(alloc, scene, ask, place)
+        }
+        answer => Ok(answer),
     }
-    *refused = refused.saturating_add(1);
-    if !is_unchanged(alloc, scene, place)? {
-        return Err(Trouble::Changed(place.number));
+}
+
+fn asked_again(
+    alloc: Global,
+    scene: &mut Scene,
+    ask: &Ask,
+    place: Place<'_>,
+) -> Result<Result<Reply, Fault>, Trouble> {
+    if is_unchanged(alloc, scene, place)? {
+        Ok(asked(
+            &mut scene.device,
+            seat_of(place.number),
+            ask,
+            place.by_handle,
+        ))
+    } else {
+        Err(Trouble::Changed(place.number))
     }
-    Ok(asked(&mut scene.device, seat, ask, place.by_handle))
 }
 
 // Compares the answer, the calls and the step of an ask with those that its row wants; so many steps came before.
