@@ -185,12 +185,16 @@ fn mistaken(alloc: Global) -> Result<Option<(usize, usize)>, Errno> {
 
 fn mistaken_among(alloc: Global, pasts: &[Past]) -> Result<Option<(usize, usize)>, Errno> {
     for (place, past) in pasts.iter().enumerate() {
-        let one = after(alloc, past)?;
-        if let Some(other) = mistaken_for(alloc, &one, past.0, pasts)? {
+        if let Some(other) = mistaken_at(alloc, past, pasts)? {
             return Ok(Some((place, other)));
         }
     }
     Ok(None)
+}
+
+fn mistaken_at(alloc: Global, past: &Past, pasts: &[Past]) -> Result<Option<usize>, Errno> {
+    let one = after(alloc, past)?;
+    mistaken_for(alloc, &one, past.0, pasts)
 }
 
 // The first past that the frames of a number are mistaken for.
