@@ -146,6 +146,9 @@ pub const CASES: &[Case] = &[
         &[Move::Open(0), Move::Alloc, Move::Store(0, &[(0, 7)])],
         Err(2),
     ),
+];
+
+pub const REQUESTS: &[Case] = &[
     // a begin and an end that name another than the first that is queued, and the one that runs
     (
         &[
@@ -398,6 +401,9 @@ pub const EVENTS: &[Case] = &[
         ],
         Err(4),
     ),
+];
+
+pub const TAKES: &[Case] = &[
     // a take where nothing waits: no subscription, one that tells nothing at once, or what is told already
     (&[Move::Open(0), Move::Take(0, 0)], Err(1)),
     (&[Move::Open(0), Move::Take(0, 4_294_967_295)], Err(1)),

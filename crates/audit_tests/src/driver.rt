@@ -86,31 +86,45 @@ const CONTROLS: [(u32, u32, CtrlValue, u32, bool); 6] = [
 /// These controls; the validator of control 0 takes each value, and that of control 1 none. There is no plan where a growth was refused.
 pub fn plan(alloc: Global) -> Option<Plan<Picky>> {
     let mut builder = PlanBuilder::new(alloc);
+    add_controls(&mut builder)?;
+    add_cluster(&mut builder, 0, 0)?;
+    add_cluster(&mut builder, 1, 1)?;
+    match builder.finish() {
+        Ok(plan) => Some(plan),
+        Err(_) => None,
+    }
+}
+
+fn add_controls(builder: &mut PlanBuilder<Picky>) -> Option<()> {
     builder.handler().ok()?;
     builder.handler().ok()?;
     for &(handler, id, default, bits, is_private) in &CONTROLS {
-        let flags = Flags::from_bits_retain(bits);
-        let ctrl = Ctrl::new(
-            CtrlId(id),
-            Kind::Integer,
-            0,
-            9,
-            1,
-            default,
-            0,
-            flags,
-            is_private,
-        );
-        builder.control(handler, ctrl.ok()?).ok()?;
+        let ctrl = ctrl(id, default, bits, is_private)?;
+        builder.control(handler, ctrl).ok()?;
     }
-    builder.add_handler(1, 0).ok()?;
-    for (control, number) in [(0, 0), (1, 1)] {
-        if builder.cluster(&[control], validated(number)).is_err() {
-            return None;
-        }
-    }
-    match builder.finish() {
-        Ok(plan) => Some(plan),
+    builder.add_handler(1, 0).ok()
+}
+
+fn ctrl(id: u32, default: CtrlValue, bits: u32, is_private: bool) -> Option<Ctrl> {
+    let flags = Flags::from_bits_retain(bits);
+    let ctrl = Ctrl::new(
+        CtrlId(id),
+        Kind::Integer,
+        0,
+        9,
+        1,
+        default,
+        0,
+        flags,
+        is_private,
+    );
+    ctrl.ok()
+}
+
+// The cluster of one control, with a validator of this number.
+fn add_cluster(builder: &mut PlanBuilder<Picky>, control: u32, number: u32) -> Option<()> {
+    match builder.cluster(&[control], validated(number)) {
+        Ok(_) => Some(()),
         Err(_) => None,
     }
 }

@@ -1,6 +1,6 @@
 //! Histories, and what an audit makes of them.
 
-use crate::cases::{CASES, Case, EVENTS, Move, Pairs, Told, WAITING};
+use crate::cases::{CASES, Case, EVENTS, Move, Pairs, REQUESTS, TAKES, Told, WAITING};
 use crate::driver::{Picky, plan};
 use bitflags::Flags as FlagSet;
 use ctrl_handlers::Plan;
@@ -72,21 +72,29 @@ fn step(alloc: Global, made: Move) -> Result<Step, AllocError> {
     })
 }
 
-// What an audit makes of a history. The steps are of any seats.
+// The steps of a history, of any seats.
+fn steps(alloc: Global, moves: &[Move]) -> Result<Vec<Entry<Step>>, AllocError> {
+    let mut steps = Vec::new(alloc);
+    let mut seat = u32::MAX;
+    for &made in moves {
+        steps.push(entry(alloc, seat, made)?)?;
+        seat = seat.wrapping_add(1);
+    }
+    Ok(steps)
+}
+
+fn entry(alloc: Global, seat: u32, made: Move) -> Result<Entry<Step>, AllocError> {
+    let step = step(alloc, made)?;
+    Ok(Entry { seat, step })
+}
+
+// What an audit makes of a history.
 fn audited(
     alloc: Global,
     plan: &Plan<Picky>,
     moves: &[Move],
 ) -> Result<Result<Scratch, usize>, AllocError> {
-    let mut steps = Vec::new(alloc);
-    let mut seat = u32::MAX;
-    for &made in moves {
-        steps.push(Entry {
-            seat,
-            step: step(alloc, made)?,
-        })?;
-        seat = seat.wrapping_add(1);
-    }
+    let steps = steps(alloc, moves)?;
     match audit(alloc, plan, steps.as_slice()) {
         Ok(scratch) => Ok(Ok(scratch)),
         Err(AuditFault::NotLegal { index }) => Ok(Err(index)),
@@ -113,33 +121,49 @@ fn tells(
     told: &[Told],
     next: u32,
 ) -> Result<bool, AllocError> {
-    let Ok(scratch) = audited(alloc, plan, moves)? else {
-        return Ok(false);
-    };
-    for (place, &(control, changes, value, sequence)) in told.iter().enumerate() {
-        match scratch.waiting(fh, place) {
-            Some((number, event)) => {
-                if number != control
-                    || event.changes.bits() != changes
-                    || event.value != value
-                    || event.sequence != sequence
-                {
-                    return Ok(false);
-                }
-            }
-            None => return Ok(false),
+    Ok(match audited(alloc, plan, moves)? {
+        Ok(scratch) => are_waiting(&scratch, fh, told) && scratch.next_sequence(fh) == next,
+        Err(_) => false,
+    })
+}
+
+fn are_waiting(scratch: &Scratch, fh: FhId, told: &[Told]) -> bool {
+    for (place, event) in told.iter().enumerate() {
+        if !is_waiting(scratch, fh, place, *event) {
+            return false;
         }
     }
-    Ok(scratch.waiting(fh, told.len()).is_none() && scratch.next_sequence(fh) == next)
+    scratch.waiting(fh, told.len()).is_none()
+}
+
+fn is_waiting(scratch: &Scratch, fh: FhId, place: usize, told: Told) -> bool {
+    let (control, changes, value, sequence) = told;
+    match scratch.waiting(fh, place) {
+        Some((number, event)) => {
+            number == control
+                && event.changes.bits() == changes
+                && event.value == value
+                && event.sequence == sequence
+        }
+        None => false,
+    }
 }
 
 // The place of the first case of which an audit makes something else.
 fn wrong_case(alloc: Global, cases: &[Case]) -> Result<Option<usize>, AllocError> {
-    let Some(plan) = plan(alloc) else {
-        return Err(AllocError);
-    };
+    match plan(alloc) {
+        Some(plan) => wrong_case_of(alloc, &plan, cases),
+        None => Err(AllocError),
+    }
+}
+
+fn wrong_case_of(
+    alloc: Global,
+    plan: &Plan<Picky>,
+    cases: &[Case],
+) -> Result<Option<usize>, AllocError> {
     for (number, case) in cases.iter().enumerate() {
-        if !is_audited(alloc, &plan, case)? {
+        if !is_audited(alloc, plan, case)? {
             return Ok(Some(number));
         }
     }
@@ -148,11 +172,15 @@ fn wrong_case(alloc: Global, cases: &[Case]) -> Result<Option<usize>, AllocError
 
 // The place of the first history behind which something else waits.
 fn wrong_wait(alloc: Global) -> Result<Option<usize>, AllocError> {
-    let Some(plan) = plan(alloc) else {
-        return Err(AllocError);
-    };
+    match plan(alloc) {
+        Some(plan) => wrong_wait_of(alloc, &plan),
+        None => Err(AllocError),
+    }
+}
+
+fn wrong_wait_of(alloc: Global, plan: &Plan<Picky>) -> Result<Option<usize>, AllocError> {
     for (number, &(moves, fh, told, next)) in WAITING.iter().enumerate() {
-        if !tells(alloc, &plan, moves, FhId(fh), told, next)? {
+        if !tells(alloc, plan, moves, FhId(fh), told, next)? {
             return Ok(Some(number));
         }
     }
@@ -161,16 +189,39 @@ fn wrong_wait(alloc: Global) -> Result<Option<usize>, AllocError> {
 
 // Each test is made again where a growth was refused.
 
+fn first_wrong_case(alloc: Global, cases: &[Case]) -> Result<Option<usize>, AllocError> {
+    match wrong_case(alloc, cases) {
+        Ok(wrong) => Ok(wrong),
+        Err(_) => wrong_case(alloc, cases),
+    }
+}
+
+fn wrong_step(alloc: Global) -> Result<Option<usize>, AllocError> {
+    first_wrong_case(alloc, CASES)
+}
+
+fn wrong_request(alloc: Global) -> Result<Option<usize>, AllocError> {
+    first_wrong_case(alloc, REQUESTS)
+}
+
+fn wrong_subscription(alloc: Global) -> Result<Option<usize>, AllocError> {
+    first_wrong_case(alloc, EVENTS)
+}
+
+fn wrong_take(alloc: Global) -> Result<Option<usize>, AllocError> {
+    first_wrong_case(alloc, TAKES)
+}
+
 #[test]
 fn histories(rt: HostRuntime) -> Result<(), Fail> {
-    for cases in [CASES, EVENTS] {
-        let mut wrong = wrong_case(rt.alloc(), cases);
-        if wrong.is_err() {
-            wrong = wrong_case(rt.alloc(), cases);
-        }
-        let wrong = wrong?;
-        assert!(rt; wrong.is_none(), "{wrong:?}");
-    }
+    let alloc = rt.alloc();
+    let (step, request) = (wrong_step(alloc)?, wrong_request(alloc)?);
+    assert!(rt; step.is_none() && request.is_none(), "{step:?} {request:?}");
+    let (subscription, take) = (wrong_subscription(alloc)?, wrong_take(alloc)?);
+    assert!(rt;
+        subscription.is_none() && take.is_none(),
+        "{subscription:?} {take:?}"
+    );
     Ok(())
 }
 
