@@ -4,7 +4,7 @@ use crate::cases::{CASES, Case, EVENTS, Move, Pairs, REQUESTS, TAKES, Told, WAIT
 use crate::driver::{Picky, plan};
 use bitflags::Flags as FlagSet;
 use ctrl_handlers::Plan;
-use ctrl_types::{FhId, Pair, RequestId, SubFlags};
+use ctrl_types::{CtrlValue, FhId, Pair, RequestId, SubFlags};
 use device_history::{PairList, Step};
 use history::Entry;
 use history_audit::{AuditFault, Scratch, audit};
@@ -104,12 +104,18 @@ fn audited(
 
 // Whether it is what the case says.
 fn is_audited(alloc: Global, plan: &Plan<Picky>, case: &Case) -> Result<bool, AllocError> {
-    let (moves, wanted) = case;
-    Ok(match (audited(alloc, plan, moves)?, *wanted) {
-        (Ok(scratch), Ok(values)) => scratch.values() == values,
-        (Err(index), Err(place)) => index == place,
-        _ => false,
-    })
+    let audited = audited(alloc, plan, case.0)?;
+    Ok(is_wanted(&audited, case.1))
+}
+
+fn is_wanted(
+    audited: &Result<Scratch, usize>,
+    wanted: Result<&'static [CtrlValue], usize>,
+) -> bool {
+    match audited {
+        Ok(scratch) => matches!(wanted, Ok(values) if scratch.values() == values),
+        Err(index) => matches!(wanted, Err(place) if *index == place),
+    }
 }
 
 // Whether just these events wait for a file handle behind a history, and the next has this number.
