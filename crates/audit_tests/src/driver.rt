@@ -83,7 +83,8 @@ const CONTROLS: [(u32, u32, CtrlValue, u32, bool); 6] = [
     (0, FIRST + 4, 0, 0x4, false),
 ];
 
-/// These controls; the validator of control 0 takes each value, and that of control 1 none. There is no plan where a growth was refused.
+/// These controls; the validator of control 0 takes each value, and that of control 1 none. There is no plan where a growth or another
+/// call of the builder was refused.
 pub fn plan(alloc: Global) -> Option<Plan<Picky>> {
     let mut builder = PlanBuilder::new(alloc);
     add_controls(&mut builder)?;

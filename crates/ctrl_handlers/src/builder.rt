@@ -61,8 +61,8 @@ impl<D: Driver> PlanBuilder<D> {
         }
     }
 
-    /// Adds a handler and answers its number, from 0. `Limit` (6) where there are 16; `Memory` (7) where a growth was
-    /// refused. A refusal leaves the plan as it was.
+    /// Adds a handler and answers its number, from 0. Refused by the checks 39, `Limit` (6), and 49, `Memory` (7), of docs/RULES.md; a refusal
+    /// leaves the plan as it was.
     pub fn handler(&mut self) -> Result<u32, PlanFault>
         ensures ok { IfOk result (λ n. (handler_refusal self.old ≡ None) × (n ≡ length self.old.handlers) × (self.new ≡ with_handler self.old)) }
         ensures err { IfErr result (λ fault. IsRefusedBy (handler_refusal self.old) fault × (self.new ≡ self.old)) }
@@ -81,9 +81,8 @@ impl<D: Driver> PlanBuilder<D> {
     /// - `handler`: the number of a handler, 0 to 15.
     /// - `ctrl`: the control, of an id that the handler's own don't have yet.
     ///
-    /// Refused, in this order: `UnknownNumber` (5) where there is no such handler; `Limit` (6) where there are 256 controls;
-    /// `DuplicateId` (1) where the handler has a control of this id; `Memory` (7) where a growth was refused. A refusal leaves
-    /// the plan as it was.
+    /// Refused by the checks 40, `UnknownNumber` (5), 41, `Limit` (6), 42, `DuplicateId` (1), and 49, `Memory` (7), of docs/RULES.md, in this
+    /// order; a refusal leaves the plan as it was.
     pub fn control(&mut self, handler: u32, ctrl: Ctrl) -> Result<u32, PlanFault>
         ensures ok { IfOk result (λ n. (control_refusal self.old handler ctrl ≡ None) × (n ≡ length self.old.controls) × (self.new ≡ with_control self.old handler ctrl)) }
         ensures err { IfErr result (λ fault. IsRefusedBy (control_refusal self.old handler ctrl) fault × (self.new ≡ self.old)) }
@@ -100,8 +99,9 @@ impl<D: Driver> PlanBuilder<D> {
     /// Has handler `to` show what handler `added` shows, too, after all of its own controls and after the handlers that it added before
     /// (Linux driver API, "V4L2 Controls", "Inheriting Controls"). Controls that either is given later have their places likewise. Adding
     /// again does nothing.
-    /// `UnknownNumber` (5) where one of the two isn't there; `LaterHandler` (4) where `added` isn't a smaller number than `to`;
-    /// `Memory` (7) where a growth was refused. A refusal leaves the plan as it was.
+    ///
+    /// Refused by the checks 40, `UnknownNumber` (5), 43, `LaterHandler` (4), and 49, `Memory` (7), of docs/RULES.md, in this order; a refusal
+    /// leaves the plan as it was.
     pub fn add_handler(&mut self, to: u32, added: u32) -> Result<(), PlanFault>
         ensures ok { IfOk result (λ _. (adding_refusal self.old to added ≡ None) × (self.new ≡ with_added self.old to added)) }
         ensures err { IfErr result (λ fault. IsRefusedBy (adding_refusal self.old to added) fault × (self.new ≡ self.old)) }
@@ -122,9 +122,8 @@ impl<D: Driver> PlanBuilder<D> {
     /// - `index`: the place of an item, from the control's minimum to its maximum, and not skipped.
     /// - `name`: 0 to 32 bytes; it is copied.
     ///
-    /// Refused, in this order: `UnknownNumber` (5) where there is no such control, it isn't a `Menu`, or the index lies outside
-    /// its range or is skipped; `Limit` (6) where the name has more than 32 bytes; `Memory` (7) where a growth was refused. A
-    /// refusal leaves the plan as it was.
+    /// Refused by the checks 44, `UnknownNumber` (5), 45, `Limit` (6), and 49, `Memory` (7), of docs/RULES.md, in this order; a refusal leaves the
+    /// plan as it was.
     pub fn menu_name(&mut self, control: u32, index: u32, name: &str) -> Result<(), PlanFault>
         ensures ok { IfOk result (λ _. (name_refusal self.old control index name.now ≡ None) × (self.new ≡ with_item self.old control index (items.Name name.now))) }
         ensures err { IfErr result (λ fault. IsRefusedBy (name_refusal self.old control index name.now) fault × (self.new ≡ self.old)) }
@@ -144,8 +143,7 @@ impl<D: Driver> PlanBuilder<D> {
     /// - `control`, `index`: as of `menu_name`.
     /// - `number`: any number.
     ///
-    /// Refused, in this order: `UnknownNumber` (5) where there is no such control, it isn't an `IntegerMenu`, or the index lies
-    /// outside its range or is skipped; `Memory` (7) where a growth was refused. A refusal leaves the plan as it was.
+    /// Refused by the checks 44, `UnknownNumber` (5), and 49, `Memory` (7), of docs/RULES.md, in this order; a refusal leaves the plan as it was.
     pub fn menu_number(&mut self, control: u32, index: u32, number: i64) -> Result<(), PlanFault>
         ensures ok { IfOk result (λ _. (number_refusal self.old control index ≡ None) × (self.new ≡ with_item self.old control index (items.Number number))) }
         ensures err { IfErr result (λ fault. IsRefusedBy (number_refusal self.old control index) fault × (self.new ≡ self.old)) }
@@ -174,9 +172,8 @@ impl<D: Driver> PlanBuilder<D> {
     /// - `members`: the numbers of 1 to 8 controls, each 0 to 255; the first is the master.
     /// - `calls`: the driver's closures for the cluster, each where it has one.
     ///
-    /// Refused, in this order: `ClusterSize` (3) where `members` is empty or has more than 8; `UnknownNumber` (5) where one isn't
-    /// there; `InCluster` (2) where one is in a cluster already or is named twice; `Memory` (7) where a growth was refused. A
-    /// refusal hands the closures back and leaves the plan as it was.
+    /// Refused by the checks 46, `ClusterSize` (3), 47, `UnknownNumber` (5), 48, `InCluster` (2), and 49, `Memory` (7), of docs/RULES.md, in this
+    /// order; a refusal hands the closures back and leaves the plan as it was.
     pub fn cluster(
         &mut self,
         members: &[u32],
@@ -251,7 +248,7 @@ impl<D: Driver> PlanBuilder<D> {
 
     /// The plan that was built. What each handler shows is made here, so it is shown whatever the order of the calls, and each
     /// control that no cluster call named becomes a cluster of its own; these are numbered after the others, in the order of the
-    /// controls. `Memory` (7), with the builder as it was, where a growth was refused.
+    /// controls. Refused by the check 49 of docs/RULES.md alone, `Memory` (7), with the builder as it was.
     pub fn finish(self) -> Result<Plan<D>, (PlanBuilder<D>, PlanFault)>
         ensures ok { IfOk result (λ plan. plan ≡ finished self) }
         ensures finished { IfOk result (λ plan. IsFinished plan) }

@@ -41,14 +41,8 @@ impl Ctrl {
     /// - `flags`: what holds of it, kept as given; a `Button` has WRITE_ONLY and EXECUTE_ON_WRITE besides.
     /// - `is_private`: handlers that add this control's handler don't show it.
     ///
-    /// The first of these faults is answered (of this project), and nothing is made:
-    ///
-    /// - 1 `BadRange`: the minimum lies above the maximum.
-    /// - 2 `ZeroStep`: the step of an `Integer` or an `Integer64` is 0.
-    /// - 4 `KindBounds`: bounds and step aren't of the kind (`Integer`: 32-bit numbers; `Boolean`: 0, 1, step 1;
-    ///   `Button`: 0, 0, step 0; `Menu` and `IntegerMenu`: within 0 and 63, step 1; `Bitmask`: 0, a mask of 32 bits that
-    ///   isn't 0, step 0), or `skip` isn't 0 where the kind is no menu, or GRABBED or INACTIVE is among the flags.
-    /// - 3 `BadDefault`: the default doesn't settle to itself.
+    /// Refused by the checks 35, `BadRange` (1), 36, `ZeroStep` (2), 37, `KindBounds` (4), and 38, `BadDefault` (3), of docs/RULES.md, in this order
+    /// (of this project); nothing is made then. What is of each kind stands there, too.
     pub fn new(
         id: CtrlId,
         kind: Kind,

@@ -236,18 +236,21 @@ impl<D: Driver> Device<D> {
     /// - `OpenFh` opens a file handle (of this project): 10 (EINVAL, 22), 11 (ENOSPC).
     /// - `CloseFh` closes one for good (of this project): 12 (EBADF, 9).
     /// - `Grab` grabs a control, whatever its flags, or lets it go (Linux driver API, `v4l2_ctrl_grab`): 13 (EINVAL). As long as it is grabbed it
-    ///   has GRABBED and a set of it is refused. A grab that holds already is accepted, and is a step.
+    ///   has GRABBED and a set of it is refused. A grab that holds already is accepted, and is a step. It asks at most one validator for each
+    ///   frame that is queued, whose forecast follows.
     ///
     /// Media requests (Linux userspace API, "Request API"; limits, buffers, begins, cancellations and freeing are of this project):
     ///
     /// - `Alloc` makes a request: 18 (ENOSPC). It is idle, without settings and buffer; its id is the number of its step.
     /// - `AddBuffer` gives a request the number of a buffer: 19 (EINVAL), 20 to 22 (EBUSY, 16).
-    /// - `Queue` has a request wait for its frame, the last: 19 (EINVAL), 20 (EBUSY), 23 (ENOENT, 2).
+    /// - `Queue` has a request wait for its frame, the last: 19 (EINVAL), 20 (EBUSY), 23 (ENOENT, 2). For the forecast it asks at most one
+    ///   validator for each cluster that the request names.
     /// - `Begin` begins the frame of the first that waits: 24 (EBUSY), 25 (ENOENT). What the request asks for is laid over the present values,
     ///   cluster by cluster; a cluster of which the request names a grabbed control, or that settling or its validator refuses, keeps its row, and
     ///   the reply names it. Each other cluster with a changed member is told its new row once. It asks no validator, as its forecast did.
     /// - `Complete` ends the frame that is being made: 26 (ENOENT).
-    /// - `Cancel` takes a request from the queue, without its frame being made: 19 (EINVAL), 27 (EBUSY), 28 (EINVAL).
+    /// - `Cancel` takes a request from the queue, without its frame being made: 19 (EINVAL), 27 (EBUSY), 28 (EINVAL). For
+    ///   each frame behind it at most one validator is asked for each cluster that it names.
     /// - `StreamOff` completes the request whose frame is being made and all that wait; the present values stay.
     /// - `Reinit` makes a request as new, `Free` lets it go for good: 19 (EINVAL), 29 (EBUSY).
     /// - `StateOf` reads a request's state: 19 (EINVAL). It takes no memory.

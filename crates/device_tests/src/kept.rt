@@ -1,5 +1,5 @@
-//! The forecasts that a device keeps while its queue is full: after each ask they are those that an audit works out anew, and no ask asked more
-//! validators than it may.
+//! The forecasts that a device keeps while many requests wait: after each ask they are those that an audit works out anew, and no ask asked
+//! more validators than it may.
 
 use crate::asks::list_of;
 use crate::closures::Counting;
@@ -13,6 +13,9 @@ use std::alloc::Global;
 
 // How many asks are made.
 const TURNS: u32 = 300;
+
+// So many requests are a crowd.
+const MANY: usize = 32;
 
 // What sets and stores ask for, one or two of these at a time.
 const ASKED: &[(u32, i64)] = &[
@@ -44,6 +47,55 @@ impl Dice {
     }
 }
 
+// How many asks of each kind were accepted while a crowd waited.
+#[derive(Clone, Copy, Debug)]
+struct Crowded {
+    sets: u32,
+    grabs: u32,
+    queueings: u32,
+    // those with requests behind what they cancel
+    cancels: u32,
+    begins: u32,
+    ends: u32,
+}
+
+impl Crowded {
+    fn none() -> Crowded {
+        Crowded {
+            sets: 0,
+            grabs: 0,
+            queueings: 0,
+            cancels: 0,
+            begins: 0,
+            ends: 0,
+        }
+    }
+
+    // Counts an accepted ask.
+    fn count(&mut self, ask: &Ask, behind: u64) {
+        let count = match ask {
+            Ask::SetCtrls { request: None, .. } => &mut self.sets,
+            Ask::Grab { .. } => &mut self.grabs,
+            Ask::Queue { .. } => &mut self.queueings,
+            Ask::Cancel { .. } if behind > 0 => &mut self.cancels,
+            Ask::Begin => &mut self.begins,
+            Ask::StreamOff => &mut self.ends,
+            _ => return,
+        };
+        *count = count.saturating_add(1);
+    }
+
+    // Whether there were so many of each kind that a forecast which isn't kept would show.
+    fn is_enough(&self) -> bool {
+        self.sets > 80
+            && self.grabs > 20
+            && self.queueings > 3
+            && self.cancels > 12
+            && self.begins > 12
+            && self.ends > 0
+    }
+}
+
 // One of the settings.
 fn setting(dice: &mut Dice) -> (u32, i64) {
     match ASKED.get(dice.throw(ASKED.len())) {
@@ -72,7 +124,7 @@ fn settings(alloc: Global, dice: &mut Dice, request: Option<RequestId>) -> Resul
     })
 }
 
-// What brings a request nearer to the queue, or takes it out again.
+// What brings a request nearer to the queue, or, one time in four, takes it out again; else a direct set.
 fn further(
     alloc: Global,
     device: &Device<Counting>,
@@ -81,13 +133,14 @@ fn further(
 ) -> Result<Ask, Trouble> {
     match device.state_of(request) {
         Ok(RequestState::Complete) => Ok(Ask::Reinit { request }),
-        Ok(RequestState::Queued) => Ok(Ask::Cancel { request }),
+        Ok(RequestState::Queued) if dice.throw(4) == 0 => Ok(Ask::Cancel { request }),
+        Ok(RequestState::Queued) => settings(alloc, dice, None),
         Ok(RequestState::Running) => Ok(Ask::Complete),
         _ => match device.buffer_of(request) {
             Ok(Some(_)) => Ok(Ask::Queue { request }),
             _ if dice.throw(2) == 0 => Ok(Ask::AddBuffer {
                 request,
-                buffer: request.0,
+                buffer: request.0 >> 2,
             }),
             _ => settings(alloc, dice, Some(request)),
         },
@@ -105,14 +158,14 @@ fn request_at(number: usize) -> RequestId {
 }
 
 fn ask_of(alloc: Global, device: &Device<Counting>, dice: &mut Dice) -> Result<Ask, Trouble> {
-    match dice.throw(40) {
+    match dice.throw(160) {
         0 => Ok(Ask::StreamOff),
-        1..10 => settings(alloc, dice, None),
-        10..14 => Ok(Ask::Grab {
+        1..40 => settings(alloc, dice, None),
+        40..56 => Ok(Ask::Grab {
             control: u32::try_from(dice.throw(10)).unwrap_or(0),
-            on: dice.throw(2) == 0,
+            on: dice.throw(4) == 0,
         }),
-        14..18 => Ok(match device.running() {
+        56..72 => Ok(match device.running() {
             Some(_) => Ask::Complete,
             None => Ask::Begin,
         }),
@@ -212,40 +265,53 @@ fn agrees(alloc: Global, device: &Device<Counting>) -> Result<bool, Trouble> {
     }
 }
 
-// Asks at random; how many frames were begun.
-fn play(alloc: Global, seed: u64) -> Result<u32, Trouble> {
+// Asks at random; what was asked while a crowd waited.
+fn play(alloc: Global, seed: u64) -> Result<Crowded, Trouble> {
     let mut scene = crowd(alloc)?;
     let mut dice = Dice { seed };
-    let mut begun = 0u32;
+    let mut crowded = Crowded::none();
     for turn in 0..TURNS {
-        let has_begun = play_turn(alloc, &mut scene, &mut dice, turn as usize)?;
-        begun = begun.saturating_add(u32::from(has_begun));
+        play_turn(alloc, &mut scene, &mut dice, turn as usize, &mut crowded)?;
     }
-    Ok(begun)
+    Ok(crowded)
 }
 
-// One ask; whether it began a frame.
+// One ask, which is counted where it is accepted while a crowd waits.
 fn play_turn(
     alloc: Global,
     scene: &mut Scene,
     dice: &mut Dice,
     turn: usize,
-) -> Result<bool, Trouble> {
+    crowded: &mut Crowded,
+) -> Result<(), Trouble> {
     let ask = ask_of(alloc, &scene.device, dice)?;
-    let most = most(&scene.device, &ask);
-    let _before = calls(scene);
-    let has_begun = is_accepted(scene, &ask)? && matches!(ask, Ask::Begin);
-    let asked = scene.device.work().asked;
-    if calls(scene) != asked || asked > most {
-        return Err(Trouble::Calls(turn));
+    let is_crowd = scene.device.queued_count() >= MANY;
+    let behind = match ask {
+        Ask::Cancel { request } => behind(&scene.device, request),
+        _ => 0,
+    };
+    if keeps_within(scene, &ask, turn)? && is_crowd {
+        crowded.count(&ask, behind);
     }
     let agreed = agrees(alloc, &scene.device)?;
     let _audit = calls(scene);
     if agreed {
-        Ok(has_begun)
+        Ok(())
     } else {
         Err(Trouble::Seen(turn))
     }
+}
+
+// Whether an ask is accepted; it may not ask more validators than it may, nor other than the device counts.
+fn keeps_within(scene: &mut Scene, ask: &Ask, turn: usize) -> Result<bool, Trouble> {
+    let most = most(&scene.device, ask);
+    let _before = calls(scene);
+    let accepted = is_accepted(scene, ask)?;
+    let asked = scene.device.work().asked;
+    if calls(scene) != asked || asked > most {
+        return Err(Trouble::Calls(turn));
+    }
+    Ok(accepted)
 }
 
 fn is_accepted(scene: &mut Scene, ask: &Ask) -> Result<bool, Trouble> {
@@ -258,9 +324,12 @@ fn is_accepted(scene: &mut Scene, ask: &Ask) -> Result<bool, Trouble> {
 
 #[test]
 fn rows_are_kept_as_they_would_be_computed(rt: HostRuntime) {
-    let mut played = play(rt.alloc(), 17);
+    let mut played = play(rt.alloc(), 399);
     if matches!(played, Err(Trouble::Memory)) {
-        played = play(rt.alloc(), 17);
+        played = play(rt.alloc(), 399);
     }
-    assert!(rt; matches!(played, Ok(begun) if begun > 8), "{played:?}");
+    assert!(rt;
+        matches!(played, Ok(crowded) if crowded.is_enough()),
+        "{played:?}"
+    );
 }

@@ -4,12 +4,10 @@ ghost use Rattle.std.specs.Prelude.{◌≡◌, []};
 ghost use Rattle.ctrl_calls.specs.Meanings.{JudgesBy, TellsBy};
 ghost use Rattle.turn_desk.specs.Views.{IsSeatOf};
 
+use crate::closures::boxes;
 use crate::sample::sample_of;
-use ctl_script::{
-    BALANCE_LIMIT, BRIGHTNESS_WORDS, BUTTON_WORDS, GAIN_LIMIT, PAIR_WORDS, Sample, balance_verdict,
-    brightness_word, button_word, gain_verdict, pair_word,
-};
-use ctrl_calls::{ClusterRow, Driver, Verdict};
+use ctl_script::{BALANCE_LIMIT, BRIGHTNESS_WORDS, BUTTON_WORDS, GAIN_LIMIT, PAIR_WORDS, Sample};
+use ctrl_calls::Driver;
 use ctrl_types::{CtrlId, ExtControl, FhId};
 use device_state::{Ask, ControlList, Device, Reply};
 use std::alloc::{AllocError, Global};
@@ -18,23 +16,6 @@ use std::test::Fail;
 use turn_desk::{Desk, DeskFault, DeskSeat, SeatList};
 
 const BRIGHTNESS: CtrlId = CtrlId(0x0098_0900);
-
-type Judge = Box<dyn Fn(ClusterRow) -> Verdict + Send>;
-
-type Teller = Box<dyn Fn(ClusterRow) -> u64 + Send>;
-
-// The closures of the sample's clusters, which a function of this repository may not hand out.
-macro_rules! boxes {
-    ($alloc:expr) => {{
-        let limit: Judge = Box::new($alloc, |row: ClusterRow| gain_verdict(&row))?;
-        let sum: Judge = Box::new($alloc, |row: ClusterRow| balance_verdict(&row))?;
-        let gain: Teller = Box::new($alloc, |row: ClusterRow| pair_word(&row))?;
-        let balance: Teller = Box::new($alloc, |row: ClusterRow| pair_word(&row))?;
-        let button: Teller = Box::new($alloc, |row: ClusterRow| button_word(&row))?;
-        let brightness: Teller = Box::new($alloc, |row: ClusterRow| brightness_word(&row))?;
-        ((limit, sum), (gain, balance, button, brightness))
-    }};
-}
 
 // What is done with a device.
 #[derive(Clone, Copy)]

@@ -3,6 +3,8 @@
 #![tactic(auto)]
 
 #[cfg(test)]
+mod closures;
+#[cfg(test)]
 mod desk;
 #[cfg(test)]
 mod gate;

@@ -77,7 +77,7 @@ pub fn fresh(alloc: Global) -> Result<Device<Silent>, AllocError>
     device_of(alloc, sample_plan(alloc, none(), none(), none(), none()))
 }
 
-/// A fresh device of a plan, if there is one.
+/// A fresh device of a plan, if there is one. The error stands for any fault of the plan, too; whoever meets one fails.
 pub fn device_of<D: Driver>(
     alloc: Global,
     plan: Result<Plan<D>, PlanFault>,

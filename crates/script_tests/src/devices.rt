@@ -62,7 +62,7 @@ pub enum Kept {
     Menus,
 }
 
-/// A fresh device. All that it can lack is memory.
+/// A fresh device. The error is want of memory, and it stands for any fault of the plan, too: a test that meets it fails.
 pub fn device_of(alloc: Global, kept: Kept) -> Result<Device<Silent>, AllocError> {
     let plan = match kept {
         Kept::Sample => sample_plan(alloc, none(), none(), none(), none()),

@@ -64,7 +64,8 @@ impl<D: Driver> Device<D> {
     /// has the entries with the values that their controls took; the step keeps them as they were given. Where a member
     /// changed, that is where its value differs, or it acts on each write and was asked for, the cluster's notifier is told the
     /// new row, once, and its word is kept; the clusters are told in rising number. What changes is raised for the file handles that are
-    /// subscribed to it, as `handle` says. A list without entries is a step, too.
+    /// subscribed to it, as `handle` says. A list without entries is a step, too. Where frames are queued their forecasts follow, for which
+    /// each touched cluster is judged once more for each of them, at most.
     ///
     /// Where `which` speaks of a request the values are stored in it, as they were given, for its frame (Linux userspace API, "Request
     /// API"); nothing else is changed, and nobody is told. Rows are judged all the same, over the present values with the earlier pairs
@@ -99,8 +100,8 @@ impl<D: Driver> Device<D> {
 
     /// Tries what controls would be set to, as `handle` on `Ask::TryCtrls` of these fields at any seat does (Linux userspace
     /// API, "ioctl VIDIOC_G_EXT_CTRLS, VIDIOC_S_EXT_CTRLS, VIDIOC_TRY_EXT_CTRLS"; the order of the refusals and the index are of
-    /// this project). The answer is what `set` would answer, and validators are asked as by `set`; but it changes nothing but
-    /// the counts of `work`, and no notifier is told. A grabbed control may be tried.
+    /// this project). The answer is what `set` would answer; the validator of each touched cluster is asked at most once. It changes nothing
+    /// but the counts of `work`, and no notifier is told. A grabbed control may be tried.
     ///
     /// - `fh`, `which`, `request`, `list`: as of `set`.
     ///
