@@ -2,9 +2,9 @@
 use Rattle.std.proofs.Common.{◌≡◌, ℕ, ℤ, suc, eq-eqb, ◌+◌, ◌<◌, ◌≤◌, ◌||◌, Bool, true, false, not, cond, if◌then◌else◌, ltb, nat_eq, nat_lt, List, [], ◌∷◌, ◌++◌, length, map, Option, None, Some, is_some, position, slice_index, refl, sym, ap, subst, ◌∙◌, arith, get_or, inl, inr, ◌⊎◌}
 use Rattle.std.specs.List.{All, list_any, list_all, position_or_len, IsDistinct}
 use Rattle.std.proofs.lemmas.Bool.{cases_lt}
-use Rattle.std.proofs.lemmas.List.{length-map, get_or-map, get_or_append_left, get_or_at, get_or_past, length_push}
+use Rattle.std.proofs.lemmas.List.{length-map, get_or-map, get_or_append_left, get_or_at, get_or_past, length_push, get_or_default}
 use Rattle.std.proofs.lemmas.List.Elements.{All-nil}
-use Rattle.std.proofs.lemmas.List.Folds.{list_any_at, list_all_at}
+use Rattle.std.proofs.lemmas.List.Folds.{list_any_at, list_all_at, list_any_none}
 use Rattle.std.proofs.lemmas.List.Sums.{position_or_len_is}
 use Rattle.std.proofs.lemmas.List.Quantifiers.{position-Some}
 use Rattle.std.proofs.lemmas.Bool.Decides.{nat_tests}
@@ -16,7 +16,7 @@ use Rattle.ctrl_handlers.specs.declared.limits.TheConstants.{MAX_CONTROLS}
 use Rattle.ctrl_handlers.specs.declared.fault.PlanFault.{PlanFault}
 use Rattle.ctrl_handlers.specs.declared.fault.PlanFault.TheVariants.{InCluster, ClusterSize, UnknownNumber}
 use Rattle.ctrl_calls.specs.declared.row.TheConstants.{MAX_MEMBERS}
-use Rattle.ctrl_handlers.specs.Plan.{PlanData, IsPlan, with_cluster, names_twice, has_member, cluster_of, cluster_at, members, master_of, no_cluster}
+use Rattle.ctrl_handlers.specs.Plan.{PlanData, IsPlan, with_cluster, names_twice, has_member, cluster_of, cluster_at, members, master_of, no_cluster, leads}
 use Rattle.ctrl_handlers.specs.Builder.{cluster_refusal, some_clustered, misfits}
 
 -- one more in front of a search
@@ -87,6 +87,32 @@ first_among (c ∷ cs) some = rw (eq-eqb c c refl) refl
 pub master_in : (plan : PlanData) (k : ℕ) → IsPlan plan → k < length plan.clusters → cluster_of plan (master_of (cluster_at plan k)) ≡ Some k
 master_in plan k is within =
     is.members_apart k (master_of (cluster_at plan k)) within (first_among (members plan k) (is.some_members k within))
+
+-- a cluster that a control is the master of is its own
+led_own : (plan : PlanData) (c k j : ℕ) → IsPlan plan → cluster_of plan c ≡ Some k → j < length plan.clusters → leads c (cluster_at plan j) ≡ true → j ≡ k
+led_own plan c k j is own within it_leads =
+    let same : master_of (cluster_at plan j) ≡ c = grind (arith, nat_tests, it_leads) in
+    let there : Some j ≡ Some k = sym (master_in plan j is within) ∙ ap (cluster_of plan) same ∙ own in
+    cc
+
+-- whether a control is the master of an auto cluster is seen at its own
+pub leads_own : (plan : PlanData) (c k : ℕ) → IsPlan plan → cluster_of plan c ≡ Some k → list_any (leads c) plan.clusters ≡ leads c (cluster_at plan k)
+leads_own plan c k is own = by (leads c (cluster_at plan k)) refl
+  where
+    within : k < length plan.clusters
+    within = cluster_of_within plan c k own
+
+    fails : (j : ℕ) (d : ClusterData) → j < length plan.clusters → leads c (cluster_at plan k) ≡ false → (t : Bool) → leads c (get_or plan.clusters j d) ≡ t → t ≡ false
+    fails j d at none false e = refl
+    fails j d at none true e =
+        let read : leads c (cluster_at plan j) ≡ true = ap (leads c) (get_or_default plan.clusters j no_cluster d at) ∙ e in
+        let same : j ≡ k = led_own plan c k j is own at read in
+        let other : leads c (cluster_at plan k) ≡ true = ap (λ i. leads c (cluster_at plan i)) (sym same) ∙ read in
+        cc
+
+    by : (b : Bool) → leads c (cluster_at plan k) ≡ b → list_any (leads c) plan.clusters ≡ leads c (cluster_at plan k)
+    by true e = list_any_at (leads c) plan.clusters k no_cluster within e ∙ sym e
+    by false e = list_any_none (leads c) plan.clusters (λ j d at. fails j d at e (leads c (get_or plan.clusters j d)) refl) ∙ sym e
 
 masters : PlanData → List ℕ
 masters plan = map master_of plan.clusters

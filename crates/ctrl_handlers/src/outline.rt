@@ -1,5 +1,5 @@
 ghost use Rattle.std.specs.Prelude.{◌≡◌, ◌==◌, ◌<◌, ◌≤◌, ◌+◌, ℕ, true, false, if◌then◌else◌, [], ◌∷◌, ◌++◌, map, length, vec_capacity, None, Some, is_some, nat_lt, OnOk, OnErr, MatchOption, position, IfOk, IfSome, IsTrue, ◌↔◌};
-ghost use Rattle.ctrl_handlers.specs.Plan.{IsPlan, IsFinished, no_plan, with_handler, with_control, with_added, with_item, with_cluster, finished, in_none, alone, control as control_of, own, added, menu_item, cluster_of, cluster_at, members, has_member, leads, plan_flags, names_twice, HasPlaces};
+ghost use Rattle.ctrl_handlers.specs.Plan.{IsPlan, IsFinished, no_plan, with_handler, with_control, with_added, with_item, with_cluster, finished, in_none, alone, control as control_of, own, added, menu_item, cluster_of, cluster_at, members, has_member, plan_flags, names_twice, HasPlaces};
 ghost use Rattle.ctrl_handlers.specs.Builder.{control_refusal, adding_refusal, name_refusal, number_refusal, cluster_refusal};
 ghost use Rattle.ctrl_settle.specs.Faults.{IsWellFormed};
 ghost use Rattle.menu_items.specs.Places.{takes};
@@ -263,24 +263,19 @@ impl Outline {
         self.clusters.len() as u32
     }
 
-    /// The flags of a control, with those of its cluster.
-    pub(crate) fn flags(&self, number: u32) -> Flags
-        requires { number < length self.now.controls }
+    /// The flags of a control, with those of its cluster, by the number of each.
+    #[tactic(auto, using(crate::proofs::ClusterLemmas::leads_own, crate::proofs::ClusterLemmas::cluster_of_within))]
+    pub(crate) fn flags(&self, number: u32, cluster: u32) -> Flags
+        requires known { number < length self.now.controls }
+        requires own { cluster_of self.now number ≡ Some cluster }
         ensures { result ≡ plan_flags self.now number }
     {
         let flags = self.control(number).flags();
-        if self.leads(number) {
+        if self.clusters[cluster as usize].leads(number) {
             flags.union(Flags::UPDATE)
         } else {
             flags
         }
-    }
-
-    // Whether a control is the master of an auto cluster.
-    fn leads(&self, number: u32) -> bool
-        ensures { result ≡ list_any (leads number) self.now.clusters }
-    {
-        self.clusters.iter().any(|cluster| cluster.leads(number))
     }
 
     // A handler's own controls.

@@ -241,7 +241,7 @@ impl<D: Driver> Plan<D> {
         requires { number < length self.now.controls }
         ensures { result ≡ plan_flags self.now number }
     {
-        self.outline.flags(number)
+        self.outline.flags(number, self.cluster_of(number))
     }
 
     /// The validator of a cluster, where it has one. There is none where there is no such cluster.
