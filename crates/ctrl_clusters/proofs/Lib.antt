@@ -2,3 +2,4 @@ pub mod RowLemmas
 pub mod NewRowLemmas
 pub mod OverlayLemmas
 pub mod NotifyLemmas
+mod PlaceLemmas

@@ -109,7 +109,7 @@ pub given_long : (plan : PlanData) (rows : List NewRow) (k : ℕ) (row : List Ct
 given_long plan rows k row long found = row_met (λ (j : ℕ) (x : List CtrlValue). length x ≡ length (members plan j)) rows k row long found
 
 -- one more row
-row_among_push : (rows : List NewRow) (r : NewRow) (k : ℕ) → row_among (rows ++ r ∷ []) k ≡ option_or (row_among rows k) (cond (r.cluster == k) (Some r.row) None)
+pub row_among_push : (rows : List NewRow) (r : NewRow) (k : ℕ) → row_among (rows ++ r ∷ []) k ≡ option_or (row_among rows k) (cond (r.cluster == k) (Some r.row) None)
 row_among_push [] r k = refl
 row_among_push (x ∷ rows) r k = by (x.cluster == k) (row_among_push rows r k)
   where

@@ -1,6 +1,6 @@
 //! What clusters make of values that are asked of their members: a row is overwritten, settles in member order, and is judged by the driver's
 //! validator; how pairs are laid over values, rows written, and changed clusters notified; and which flags a control has under values and grabs.
-//! Only `first_words`, `default_values` and `no_grabs` take memory.
+//! Only `first_words`, `default_values`, `no_grabs` and `NewRows::with_capacity` take memory.
 #![tactic(auto)]
 
 mod auto_clusters;
@@ -8,6 +8,7 @@ mod changes;
 mod judging;
 pub mod laws;
 mod new_row;
+mod new_rows;
 mod notifying;
 mod present_flags;
 mod rows;
@@ -18,6 +19,7 @@ pub use auto_clusters::inactive;
 pub use changes::{is_among, is_changed};
 pub use judging::{becomes, judge};
 pub use new_row::NewRow;
+pub use new_rows::NewRows;
 pub use notifying::{first_words, notify_between, notify_changed};
 pub use present_flags::flags_under;
 pub use rows::value_in;

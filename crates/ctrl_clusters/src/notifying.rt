@@ -8,7 +8,7 @@ ghost use Rattle.ctrl_clusters.specs.Changes.{row_changes, cluster_changes, memb
 ghost use Rattle.ctrl_clusters.specs.Notified.{MaySay, HaveWords, AreRenewed, IsRenewed, notified_count, after_notifying, after_change};
 
 use crate::changes::row_changes;
-use crate::new_row::NewRow;
+use crate::new_rows::NewRows;
 use crate::writing::present_row;
 use ctrl_calls::{ClusterRow, Driver, Work};
 use ctrl_handlers::Plan;
@@ -30,16 +30,16 @@ pub fn notify_changed<D: Driver>(
     plan: &Plan<D>,
     values: &[CtrlValue],
     pairs: &[Pair],
-    rows: &[NewRow],
+    rows: &NewRows,
     words: &mut Vec<u64>,
     work: &mut Work,
 )
     requires values { length values.now ≡ length plan.now.controls }
     requires words { length words.old.items ≡ length plan.now.clusters }
-    requires rows { AreNewRows plan.now rows.now }
+    requires rows { AreNewRows plan.now rows.now.rows }
     requires fresh { work.old.told ≡ 0 }
-    ensures words { AreRenewed D.told plan.now (cluster_changes plan.now values.now pairs.now rows.now) (row_given rows.now) words.old.items words.new.items }
-    ensures work { work.new ≡ record work.old { told = notified_count plan.now (cluster_changes plan.now values.now pairs.now rows.now) } }
+    ensures words { AreRenewed D.told plan.now (cluster_changes plan.now values.now pairs.now rows.now.rows) (row_given rows.now.rows) words.old.items words.new.items }
+    ensures work { work.new ≡ record work.old { told = notified_count plan.now (cluster_changes plan.now values.now pairs.now rows.now.rows) } }
 {
     for cluster in 0..plan.cluster_count() {
         notify_touched(plan, values, pairs, rows, cluster, words, work);
@@ -51,7 +51,7 @@ fn notify_touched<D: Driver>(
     plan: &Plan<D>,
     values: &[CtrlValue],
     pairs: &[Pair],
-    rows: &[NewRow],
+    rows: &NewRows,
     cluster: u32,
     words: &mut Vec<u64>,
     work: &mut Work,
@@ -59,11 +59,11 @@ fn notify_touched<D: Driver>(
     requires known { cluster < length plan.now.clusters }
     requires values { length values.now ≡ length plan.now.controls }
     requires words { length words.old.items ≡ length plan.now.clusters }
-    requires rows { AreNewRows plan.now rows.now }
-    ensures words { IsRenewed D.told plan.now cluster (cluster_changes plan.now values.now pairs.now rows.now cluster) (row_given rows.now cluster) words.old.items words.new.items }
-    ensures work { work.new ≡ record work.old { told = after_change plan.now cluster (cluster_changes plan.now values.now pairs.now rows.now cluster) work.old.told } }
+    requires rows { AreNewRows plan.now rows.now.rows }
+    ensures words { IsRenewed D.told plan.now cluster (cluster_changes plan.now values.now pairs.now rows.now.rows cluster) (row_given rows.now.rows cluster) words.old.items words.new.items }
+    ensures work { work.new ≡ record work.old { told = after_change plan.now cluster (cluster_changes plan.now values.now pairs.now rows.now.rows cluster) work.old.told } }
 {
-    if let Some(row) = NewRow::among(rows, cluster) {
+    if let Some(row) = rows.among(cluster) {
         notify_of(plan, values, pairs, &row, cluster, words, work);
     }
 }

@@ -144,8 +144,8 @@ entry_same verdicts plan view laid pairs rows i d judged within among =
     entry_with plan c v = record { id = (control plan c).id; value = v }
 
 -- whether a cluster is among the rows, as it was looked up
-pub looked_up : (rows slice : List NewRow) (k : ℕ) (found : Option (List CtrlValue)) (is b : Bool) → slice ≡ rows → found ≡ row_among slice k → is ≡ is_some found → is ≡ b → is_some (row_among rows k) ≡ b
-looked_up rows slice k found is b same given tells at = sym (ap (λ (rs : List NewRow). is_some (row_among rs k)) same) ∙ sym (ap is_some given) ∙ sym tells ∙ at
+pub looked_up : (rows : List NewRow) (k : ℕ) (found : Option (List CtrlValue)) (is b : Bool) → found ≡ row_among rows k → is ≡ is_some found → is ≡ b → is_some (row_among rows k) ≡ b
+looked_up rows k found is b given tells at = sym (ap is_some given) ∙ sym tells ∙ at
 
 -- what a row becomes by the parts of a view
 pub becomes_by : (verdicts : Verdicts) (plan : PlanData) (parts view : ViewData) (laid : List Pair) (k : ℕ) (outcome : Result (List CtrlValue) Errno) → outcome ≡ becomes verdicts plan parts.controls parts.values laid k → parts ≡ view

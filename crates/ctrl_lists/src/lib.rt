@@ -13,7 +13,7 @@ mod touched;
 mod view;
 
 pub use control_list::ControlList;
-pub use ctrl_clusters::NewRow;
+pub use ctrl_clusters::{NewRow, NewRows};
 pub use limits::MAX_ENTRIES;
 pub use lists::{plan_set, read_list, try_list};
 pub use refusal::Refusal;

@@ -17,7 +17,7 @@ use crate::rows::{entries_judged, judge_all};
 use crate::touched::Touched;
 use crate::view::View;
 use ctrl_calls::{Driver, Work};
-use ctrl_clusters::NewRow;
+use ctrl_clusters::NewRows;
 use ctrl_handlers::Plan;
 use ctrl_settle::Ctrl;
 use ctrl_types::{CtrlValue, ExtControl, Fault, Pair, Which};
@@ -274,13 +274,13 @@ fn judge_joined<D: Driver>(
     view: &View<'_>,
     pairs: &[Pair],
     work: &mut Work,
-) -> Result<(Vec<NewRow>, ControlList), Refusal>
+) -> Result<(NewRows, ControlList), Refusal>
     requires few { length pairs.now ≤ MAX_ENTRIES }
     requires controls { AreControlsOf plan.now view.now.controls }
     requires values { length view.now.values ≡ length plan.now.controls }
     requires known { All (λ p. p.control < length plan.now.controls) pairs.now }
     ensures ok { IfOk result (λ judged. at_first (judging_refusal D.verdict plan.now view.now (view.now.asked ++ pairs.now)) pairs.now ≡ None) }
-    ensures rows { IfOk result (λ judged. AreJudged D.verdict plan.now view.now.controls view.now.values (view.now.asked ++ pairs.now) pairs.now judged.0.items) }
+    ensures rows { IfOk result (λ judged. AreJudged D.verdict plan.now view.now.controls view.now.values (view.now.asked ++ pairs.now) pairs.now judged.0.rows) }
     ensures answers { IfOk result (λ judged. judged.1 ≡ map (entry_judged D.verdict plan.now view.now (view.now.asked ++ pairs.now)) pairs.now) }
     ensures err { IfErr result (λ refusal. (at_first (judging_refusal D.verdict plan.now view.now (view.now.asked ++ pairs.now)) pairs.now ≡ Some refusal) ⊎ (refusal ≡ memory_refusal)) }
     ensures at_most { work.new.asked ≤ work.old.asked + length (touched plan.now pairs.now) }
@@ -304,14 +304,14 @@ fn judge_under<D: Driver>(
     laid: &[Pair],
     pairs: &[Pair],
     work: &mut Work,
-) -> Result<(Vec<NewRow>, ControlList), Refusal>
+) -> Result<(NewRows, ControlList), Refusal>
     requires few { length pairs.now ≤ MAX_ENTRIES }
     requires controls { AreControlsOf plan.now view.now.controls }
     requires values { length view.now.values ≡ length plan.now.controls }
     requires known { All (λ p. p.control < length plan.now.controls) pairs.now }
     requires among { All (λ p. IsTrue (is_among laid.now p.control)) pairs.now }
     ensures ok { IfOk result (λ judged. at_first (judging_refusal D.verdict plan.now view.now laid.now) pairs.now ≡ None) }
-    ensures rows { IfOk result (λ judged. AreJudged D.verdict plan.now view.now.controls view.now.values laid.now pairs.now judged.0.items) }
+    ensures rows { IfOk result (λ judged. AreJudged D.verdict plan.now view.now.controls view.now.values laid.now pairs.now judged.0.rows) }
     ensures answers { IfOk result (λ judged. judged.1 ≡ map (entry_judged D.verdict plan.now view.now laid.now) pairs.now) }
     ensures err { IfErr result (λ refusal. (at_first (judging_refusal D.verdict plan.now view.now laid.now) pairs.now ≡ Some refusal) ⊎ (refusal ≡ memory_refusal)) }
     ensures at_most { work.new.asked ≤ work.old.asked + length (touched plan.now pairs.now) }
@@ -319,7 +319,7 @@ fn judge_under<D: Driver>(
     ensures told { work.new.told ≡ work.old.told }
 {
     let rows = judge_all(alloc, plan, view, laid, pairs, work)?;
-    match entries_judged(alloc, plan, view, laid, pairs, rows.as_slice()) {
+    match entries_judged(alloc, plan, view, laid, pairs, &rows) {
         Ok(answers) => Ok((rows, answers)),
         Err(_) => Err(Refusal::of_memory()),
     }

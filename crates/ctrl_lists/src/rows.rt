@@ -1,6 +1,6 @@
 //! The rows that the clusters of a list get.
 
-ghost use Rattle.std.specs.Prelude.{◌≡◌, ◌<◌, ◌≤◌, ◌+◌, ◌⊎◌, None, Some, length, map, vec_len, vec_capacity, IfOk, IfErr, OnOk, IsTrue, ℕ};
+ghost use Rattle.std.specs.Prelude.{◌≡◌, ◌<◌, ◌≤◌, ◌+◌, ◌⊎◌, None, Some, length, map, IfOk, IfErr, OnOk, IsTrue, ℕ};
 ghost use Rattle.std.specs.List.{All};
 ghost use Rattle.ctrl_handlers.specs.Plan.{cluster_of, members};
 ghost use Rattle.ctrl_clusters.specs.Rows.{AreControlsOf};
@@ -15,7 +15,7 @@ use crate::control_list::ControlList;
 use crate::refusal::Refusal;
 use crate::view::View;
 use ctrl_calls::{Driver, Work};
-use ctrl_clusters::{NewRow, becomes, value_in};
+use ctrl_clusters::{NewRow, NewRows, becomes, value_in};
 use ctrl_handlers::Plan;
 use ctrl_types::{CtrlValue, Errno, ExtControl, Pair};
 use std::alloc::{AllocError, Global};
@@ -29,20 +29,20 @@ pub(crate) fn judge_all<D: Driver>(
     laid: &[Pair],
     pairs: &[Pair],
     work: &mut Work,
-) -> Result<Vec<NewRow>, Refusal>
+) -> Result<NewRows, Refusal>
     requires few { length pairs.now ≤ MAX_ENTRIES }
     requires controls { AreControlsOf plan.now view.now.controls }
     requires values { length view.now.values ≡ length plan.now.controls }
     requires known { All (λ p. p.control < length plan.now.controls) pairs.now }
     requires among { All (λ p. IsTrue (is_among laid.now p.control)) pairs.now }
     ensures ok { IfOk result (λ rows. at_first (judging_refusal D.verdict plan.now view.now laid.now) pairs.now ≡ None) }
-    ensures rows { IfOk result (λ rows. AreJudged D.verdict plan.now view.now.controls view.now.values laid.now pairs.now rows.items) }
+    ensures rows { IfOk result (λ rows. AreJudged D.verdict plan.now view.now.controls view.now.values laid.now pairs.now rows.rows) }
     ensures err { IfErr result (λ refusal. (at_first (judging_refusal D.verdict plan.now view.now laid.now) pairs.now ≡ Some refusal) ⊎ (refusal ≡ memory_refusal)) }
     ensures at_most { work.new.asked ≤ work.old.asked + length (touched plan.now pairs.now) }
     ensures asked { OnOk result (work.new.asked ≡ with_calls (judged_count plan.now (touched plan.now pairs.now)) work.old.asked) }
     ensures told { work.new.told ≡ work.old.told }
 {
-    let Ok(mut rows) = Vec::with_capacity(alloc, pairs.len()) else {
+    let Ok(mut rows) = NewRows::with_capacity(alloc, plan.cluster_count(), pairs.len()) else {
         return Err(Refusal::of_memory());
     };
     // a count fits its type once it is read
@@ -61,31 +61,33 @@ fn judge_next<D: Driver>(
     view: &View<'_>,
     laid: &[Pair],
     control: u32,
-    rows: &mut Vec<NewRow>,
+    rows: &mut NewRows,
     work: &mut Work,
 ) -> Result<(), Errno>
     requires controls { AreControlsOf plan.now view.now.controls }
     requires values { length view.now.values ≡ length plan.now.controls }
     requires known { control < length plan.now.controls }
     requires among { IsTrue (is_among laid.now control) }
-    requires room { length rows.old.items < vec_capacity rows.old }
-    requires rows { AreRows D.verdict plan.now view.now.controls view.now.values laid.now rows.old.items }
-    requires within { All (λ r. r.cluster < length plan.now.clusters) rows.old.items }
-    requires long { All (λ r. length r.row ≡ length (members plan.now r.cluster)) rows.old.items }
+    requires room { length rows.old.rows < rows.old.room }
+    requires all { rows.old.clusters ≡ length plan.now.clusters }
+    requires rows { AreRows D.verdict plan.now view.now.controls view.now.values laid.now rows.old.rows }
+    requires within { All (λ r. r.cluster < length plan.now.clusters) rows.old.rows }
+    requires long { All (λ r. length r.row ≡ length (members plan.now r.cluster)) rows.old.rows }
     ensures ok { OnOk result (errno_of (row_laid D.verdict plan.now view.now laid.now (cluster_of plan.now control)) ≡ None) }
     ensures err { IfErr result (λ errno. errno_of (row_laid D.verdict plan.now view.now laid.now (cluster_of plan.now control)) ≡ Some errno) }
-    ensures each { OnOk result (clusters_of rows.new.items ≡ with_cluster (clusters_of rows.old.items) (cluster_of plan.now control)) }
-    ensures rows { OnOk result (AreRows D.verdict plan.now view.now.controls view.now.values laid.now rows.new.items) }
-    ensures within { OnOk result (All (λ r. r.cluster < length plan.now.clusters) rows.new.items) }
-    ensures long { OnOk result (All (λ r. length r.row ≡ length (members plan.now r.cluster)) rows.new.items) }
-    ensures more { length rows.new.items ≤ length rows.old.items + 1 }
-    ensures capacity { vec_capacity rows.new ≡ vec_capacity rows.old }
-    ensures at_most { work.new.asked + length (clusters_of rows.old.items) ≤ work.old.asked + length (with_cluster (clusters_of rows.old.items) (cluster_of plan.now control)) }
-    ensures asked { OnOk result ((n : ℕ) → work.old.asked ≡ with_calls (judged_count plan.now (clusters_of rows.old.items)) n → work.new.asked ≡ with_calls (judged_count plan.now (clusters_of rows.new.items)) n) }
+    ensures each { OnOk result (clusters_of rows.new.rows ≡ with_cluster (clusters_of rows.old.rows) (cluster_of plan.now control)) }
+    ensures rows { OnOk result (AreRows D.verdict plan.now view.now.controls view.now.values laid.now rows.new.rows) }
+    ensures within { OnOk result (All (λ r. r.cluster < length plan.now.clusters) rows.new.rows) }
+    ensures long { OnOk result (All (λ r. length r.row ≡ length (members plan.now r.cluster)) rows.new.rows) }
+    ensures more { length rows.new.rows ≤ length rows.old.rows + 1 }
+    ensures clusters { rows.new.clusters ≡ rows.old.clusters }
+    ensures capacity { rows.new.room ≡ rows.old.room }
+    ensures at_most { work.new.asked + length (clusters_of rows.old.rows) ≤ work.old.asked + length (with_cluster (clusters_of rows.old.rows) (cluster_of plan.now control)) }
+    ensures asked { OnOk result ((n : ℕ) → work.old.asked ≡ with_calls (judged_count plan.now (clusters_of rows.old.rows)) n → work.new.asked ≡ with_calls (judged_count plan.now (clusters_of rows.new.rows)) n) }
     ensures told { work.new.told ≡ work.old.told }
 {
     let cluster = plan.cluster_of(control);
-    if NewRow::among(rows.as_slice(), cluster).is_some() {
+    if rows.among(cluster).is_some() {
         return Ok(());
     }
     match becomes(plan, view.controls, cluster, view.values, laid, work) {
@@ -104,14 +106,14 @@ pub(crate) fn entries_judged<D: Driver>(
     view: &View<'_>,
     laid: &[Pair],
     pairs: &[Pair],
-    rows: &[NewRow],
+    rows: &NewRows,
 ) -> Result<ControlList, AllocError>
     requires few { length pairs.now ≤ MAX_ENTRIES }
     requires controls { AreControlsOf plan.now view.now.controls }
     requires values { length view.now.values ≡ length plan.now.controls }
     requires known { All (λ p. p.control < length plan.now.controls) pairs.now }
     requires among { All (λ p. IsTrue (is_among laid.now p.control)) pairs.now }
-    requires rows { AreJudged D.verdict plan.now view.now.controls view.now.values laid.now pairs.now rows.now }
+    requires rows { AreJudged D.verdict plan.now view.now.controls view.now.values laid.now pairs.now rows.now.rows }
     ensures { IfOk result (λ answers. answers ≡ map (entry_judged D.verdict plan.now view.now laid.now) pairs.now) }
 {
     let mut answers = Vec::with_capacity(alloc, pairs.len())?;
@@ -125,19 +127,19 @@ pub(crate) fn entries_judged<D: Driver>(
 fn entry_judged<D: Driver>(
     plan: &Plan<D>,
     values: &[CtrlValue],
-    rows: &[NewRow],
+    rows: &NewRows,
     control: u32,
 ) -> ExtControl
     requires values { length values.now ≡ length plan.now.controls }
     requires known { control < length plan.now.controls }
-    requires within { All (λ r. r.cluster < length plan.now.clusters) rows.now }
-    requires long { All (λ r. length r.row ≡ length (members plan.now r.cluster)) rows.now }
-    ensures { result ≡ entry_in plan.now values.now rows.now control }
+    requires within { All (λ r. r.cluster < length plan.now.clusters) rows.now.rows }
+    requires long { All (λ r. length r.row ≡ length (members plan.now r.cluster)) rows.now.rows }
+    ensures { result ≡ entry_in plan.now values.now rows.now.rows control }
 {
     let id = plan.control(control).id();
     let cluster = plan.cluster_of(control);
     let before = values[control as usize];
-    let value = match NewRow::among(rows, cluster) {
+    let value = match rows.among(cluster) {
         Some(row) => value_in(plan.members(cluster), &row, control).unwrap_or(before),
         None => before,
     };

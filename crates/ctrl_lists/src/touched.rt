@@ -3,7 +3,7 @@ ghost use Rattle.ctrl_clusters.specs.NewRows.{row_among};
 
 use crate::control_list::ControlList;
 use ctrl_calls::ClusterRow;
-use ctrl_clusters::NewRow;
+use ctrl_clusters::{NewRow, NewRows};
 use ctrl_types::{ExtControl, Pair};
 use std::alloc::Global;
 use std::marker::Model;
@@ -12,7 +12,7 @@ use std::marker::Model;
 /// see it as these three parts.
 #[derive(Drop)]
 pub struct Touched {
-    pub(crate) rows: Vec<NewRow>,
+    pub(crate) rows: NewRows,
     pub(crate) answers: ControlList,
     pub(crate) pairs: Vec<Pair>,
 }
@@ -22,7 +22,7 @@ impl Model for Touched {
 
     ghost Value = { TouchedData };
 
-    ghost view = { λ t. record { rows = t.rows.items; answers = t.answers; pairs = t.pairs.items } };
+    ghost view = { λ t. record { rows = t.rows.rows; answers = t.answers; pairs = t.pairs.items } };
 }
 
 impl Touched {
@@ -31,7 +31,7 @@ impl Touched {
         ensures { result ≡ record { rows = []; answers = []; pairs = [] } }
     {
         Touched {
-            rows: Vec::new(alloc),
+            rows: NewRows::new(alloc),
             answers: ControlList::from_vec(Vec::new(alloc)),
             pairs: Vec::new(alloc),
         }
@@ -42,6 +42,13 @@ impl Touched {
         ensures { result.now ≡ self.now.rows }
     {
         self.rows.as_slice()
+    }
+
+    /// The same rows, each looked up under its cluster.
+    pub fn new_rows(&self) -> &NewRows
+        ensures { result.now.rows ≡ self.now.rows }
+    {
+        &self.rows
     }
 
     /// What each entry is answered: its control's id, and the value that the control has in its cluster's row.
@@ -64,7 +71,7 @@ impl Touched {
     pub fn row_of(&self, cluster: u32) -> Option<ClusterRow>
         ensures { result ≡ row_among self.now.rows cluster }
     {
-        NewRow::among(self.rows.as_slice(), cluster)
+        self.rows.among(cluster)
     }
 
     /// What the entries are answered, and the pairs, with the memory that they lie in; the rows are dropped.

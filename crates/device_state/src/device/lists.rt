@@ -385,7 +385,7 @@ impl<D: Driver> Device<D> {
             &self.plan,
             self.values.as_slice(),
             touch.pairs(),
-            touch.rows(),
+            touch.new_rows(),
             &mut self.words,
             &mut self.work,
         );

@@ -7,6 +7,6 @@ use Rattle.ctrl_clusters.proofs.notifying.notify_changed.Given as goal
 -- the clusters so far were notified
 abbrev pub invariant-loop-cluster : goal.invariant-loop-cluster
 invariant-loop-cluster g l = record {
-  words : AreRenewedBelow g.D.Notifies.told l.plan (cluster_changes l.plan l.values l.pairs l.rows) (row_given l.rows) l.cluster l.initial.words.items l.words.items;
-  work : l.work ≡ record l.initial.work { told = notified_below l.plan (cluster_changes l.plan l.values l.pairs l.rows) l.cluster };
+  words : AreRenewedBelow g.D.Notifies.told l.plan (cluster_changes l.plan l.values l.pairs l.rows.rows) (row_given l.rows.rows) l.cluster l.initial.words.items l.words.items;
+  work : l.work ≡ record l.initial.work { told = notified_below l.plan (cluster_changes l.plan l.values l.pairs l.rows.rows) l.cluster };
 }

@@ -18,8 +18,8 @@ loop-pair-preserved g c =
     let i = c.loop-pair.pair-index in
     let is : c.entry_judged.result ≡ entry_judged g.D.Validates.verdict c.args.plan.now c.args.view.now c.args.laid.now (get_or pairs i d) =
     c.entry_judged.ensures
-    ∙ ap (λ (v : ViewData). entry_in c.args.plan.now v.values c.args.rows.now (get_or pairs i d).control) c.view.view_is
-    ∙ entry_same g.D.Validates.verdict c.args.plan.now c.args.view.now c.args.laid.now pairs c.args.rows.now i d c.requires.rows c.loop-pair-test.true (All-get_or (λ (p : Pair). IsTrue (is_among c.args.laid.now p.control)) pairs i d c.loop-pair-test.true c.requires.among) in
+    ∙ ap (λ (v : ViewData). entry_in c.args.plan.now v.values c.args.rows.now.rows (get_or pairs i d).control) c.view.view_is
+    ∙ entry_same g.D.Validates.verdict c.args.plan.now c.args.view.now c.args.laid.now pairs c.args.rows.now.rows i d c.requires.rows c.loop-pair-test.true (All-get_or (λ (p : Pair). IsTrue (is_among c.args.laid.now p.control)) pairs i d c.loop-pair-test.true c.requires.among) in
     record {
       so_far = map_pushed (entry_judged g.D.Validates.verdict c.args.plan.now c.args.view.now c.args.laid.now) pairs i d c.loop-pair.answers.items c.push_reserved.new.self.items c.entry_judged.result
           c.loop-pair-test.true old.so_far c.push_reserved.ensures.items is;

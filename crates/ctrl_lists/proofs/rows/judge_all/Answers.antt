@@ -15,7 +15,7 @@ pub returns-in-Err-clause-at_most : goal.returns-in-Err-clause-at_most
 returns-in-Err-clause-at_most g c =
     let old = c.loop-place.invariant in
     let d : Pair = record { control = 0; value = pos 0 } in
-    asked_within c.args.plan.now c.args.pairs.now c.loop-place.place d (clusters_of c.loop-place.rows.items) c.args.work.now.asked c.loop-place.work.asked c.judge_next.new.work.asked
+    asked_within c.args.plan.now c.args.pairs.now c.loop-place.place d (clusters_of c.loop-place.rows.rows) c.args.work.now.asked c.loop-place.work.asked c.judge_next.new.work.asked
     c.loop-place-test.true old.each old.asked c.judge_next.ensures.at_most
 
 -- one more pair, whose cluster has its row
@@ -27,13 +27,14 @@ loop-place-preserved g c =
     let d : Pair = record { control = 0; value = pos 0 } in
     record {
       none = passes refused (at_first refused c.args.pairs.now) c.args.pairs.now c.loop-place.place d c.loop-place-test.true does.ok old.none;
-      each = each_next c.args.plan.now c.args.pairs.now c.loop-place.place d (clusters_of c.loop-place.rows.items) (clusters_of c.judge_next.new.rows.items) c.loop-place-test.true old.each does.each;
+      each = each_next c.args.plan.now c.args.pairs.now c.loop-place.place d (clusters_of c.loop-place.rows.rows) (clusters_of c.judge_next.new.rows.rows) c.loop-place-test.true old.each does.each;
       become = does.rows;
       within = does.within;
       long = does.long;
-      few = few_more (length c.loop-place.rows.items) (length c.judge_next.new.rows.items) c.loop-place.place old.few c.judge_next.ensures.more;
+      few = few_more (length c.loop-place.rows.rows) (length c.judge_next.new.rows.rows) c.loop-place.place old.few c.judge_next.ensures.more;
       room = rw c.judge_next.ensures.capacity old.room;
-      asked = asked_more (clusters_of c.loop-place.rows.items) (clusters_of c.judge_next.new.rows.items) _ c.args.work.now.asked c.loop-place.work.asked c.judge_next.new.work.asked does.each old.asked c.judge_next.ensures.at_most;
+      clusters = c.judge_next.ensures.clusters ∙ old.clusters;
+      asked = asked_more (clusters_of c.loop-place.rows.rows) (clusters_of c.judge_next.new.rows.rows) _ c.args.work.now.asked c.loop-place.work.asked c.judge_next.new.work.asked does.each old.asked c.judge_next.ensures.at_most;
       counted = does.asked c.args.work.now.asked old.counted;
       told = c.judge_next.ensures.told ∙ old.told;
     }

@@ -1,4 +1,4 @@
-use Rattle.std.proofs.Common.{◌≡◌, ◌≤◌, ◌<◌, ◌+◌, take, drop, length, vec_capacity}
+use Rattle.std.proofs.Common.{◌≡◌, ◌≤◌, ◌<◌, ◌+◌, take, drop, length}
 use Rattle.std.specs.List.{All}
 use Rattle.ctrl_handlers.specs.Plan.{members}
 use Rattle.ctrl_lists.specs.Checks.{first_from, at_first, judging_refusal}
@@ -10,13 +10,14 @@ use Rattle.ctrl_lists.proofs.rows.judge_all.Given as goal
 abbrev pub invariant-loop-place : goal.invariant-loop-place
 invariant-loop-place g l = record {
   none : first_from (judging_refusal g.D.Validates.verdict l.plan l.view l.laid) l.place (drop l.place l.pairs) ≡ at_first (judging_refusal g.D.Validates.verdict l.plan l.view l.laid) l.pairs;
-  each : clusters_of l.rows.items ≡ touched l.plan (take l.place l.pairs);
-  become : AreRows g.D.Validates.verdict l.plan l.view.controls l.view.values l.laid l.rows.items;
-  within : All (λ r. r.cluster < length l.plan.clusters) l.rows.items;
-  long : All (λ r. length r.row ≡ length (members l.plan r.cluster)) l.rows.items;
-  few : length l.rows.items ≤ l.place;
-  room : length l.pairs ≤ vec_capacity l.rows;
-  asked : l.work.asked ≤ l.initial.work.asked + length (clusters_of l.rows.items);
-  counted : l.work.asked ≡ with_calls (judged_count l.plan (clusters_of l.rows.items)) l.initial.work.asked;
+  each : clusters_of l.rows.rows ≡ touched l.plan (take l.place l.pairs);
+  become : AreRows g.D.Validates.verdict l.plan l.view.controls l.view.values l.laid l.rows.rows;
+  within : All (λ r. r.cluster < length l.plan.clusters) l.rows.rows;
+  long : All (λ r. length r.row ≡ length (members l.plan r.cluster)) l.rows.rows;
+  few : length l.rows.rows ≤ l.place;
+  room : length l.pairs ≤ l.rows.room;
+  clusters : l.rows.clusters ≡ length l.plan.clusters;
+  asked : l.work.asked ≤ l.initial.work.asked + length (clusters_of l.rows.rows);
+  counted : l.work.asked ≡ with_calls (judged_count l.plan (clusters_of l.rows.rows)) l.initial.work.asked;
   told : l.work.told ≡ l.initial.work.told;
 }

@@ -38,13 +38,13 @@ pub notify_changed-requires-clause-rows : goal.notify_changed-requires-clause-ro
 notify_changed-requires-clause-rows g c =
     let device = c.self.inside in
     let sets = rw (← c.self.view_is) at c.requires.settable in
-    rw c.rows-2.ensures (new_rows g.D.Validates.verdict device.plan device.plan.controls _ _ c.args.touch.pairs c.args.touch.rows sets.judged)
+    rw c.new_rows.ensures (new_rows g.D.Validates.verdict device.plan device.plan.controls _ _ c.args.touch.pairs c.args.touch.rows sets.judged)
 
 pub write_rows-requires-clause-rows : goal.write_rows-requires-clause-rows
 write_rows-requires-clause-rows g c =
     let device = c.self.inside in
     let sets = rw (← c.self.view_is) at c.requires.settable in
-    rw c.rows-3.ensures (new_rows g.D.Validates.verdict device.plan device.plan.controls _ _ c.args.touch.pairs c.args.touch.rows sets.judged)
+    rw c.rows-2.ensures (new_rows g.D.Validates.verdict device.plan device.plan.controls _ _ c.args.touch.pairs c.args.touch.rows sets.judged)
 
 -- there is a value and a grab for each control, before and afterwards
 pub raise_step-requires-clause-values_before : goal.raise_step-requires-clause-values_before
@@ -63,7 +63,7 @@ raise_step-requires-clause-values g c =
     let entry : Entry Step = record { seat = c.args.seat; step = Set c.args.fh c.args.touch.pairs } in
     let lays =
     set_lays g.D.Validates.verdict g.D.Notifies.told device.plan device.steps.items _ c.write_rows.new.values.items c.args.fh c.args.which c.args.request c.args.list.now c.args.touch c.self.invariant (rw (← c.self.view_is) at c.requires.settable) c.requires.present
-    (rw (c.in-Ok.ensures, c.as_slice.ensures.value, c.rows-3.ensures) at c.write_rows.ensures) in
+    (rw (c.in-Ok.ensures, c.as_slice.ensures.value, c.rows-2.ensures) at c.write_rows.ensures) in
     ap (λ (m : MomentData). length m.values) c.new-2.ensures ∙ ap length (c.as_slice-8.ensures.value ∙ lays)
     ∙ ap length (sym (now_next g.D.Validates.verdict device.plan entry (past device.steps.items))) ∙ length_now g.D.Validates.verdict device.plan (entry ∷ past device.steps.items)
 
@@ -82,13 +82,13 @@ invariant_of-self-2 g c =
     let device = c.self.inside in
     let with : List Pair → Entry Step = λ pairs. record { seat = c.args.seat; step = Set c.args.fh pairs } in
     let settable = rw (← c.self.view_is) at c.requires.settable in
-    let written = rw (c.in-Ok.ensures, c.as_slice.ensures.value, c.rows-3.ensures) at c.write_rows.ensures in
+    let written = rw (c.in-Ok.ensures, c.as_slice.ensures.value, c.rows-2.ensures) at c.write_rows.ensures in
     let lays = set_lays g.D.Validates.verdict g.D.Notifies.told device.plan device.steps.items _ c.write_rows.new.values.items c.args.fh c.args.which c.args.request c.args.list.now c.args.touch c.self.invariant settable c.requires.present written in
     kept_set g.D.Validates.verdict g.D.Notifies.told device.plan device.steps.items _ _ _ _ _ _ c.args.seat c.args.fh c.args.which c.args.request c.args.list.now c.args.touch c.self.invariant settable c.requires.present
     (c.push_reserved.ensures.items
     ∙ ap (λ (s : List (Entry Step)). s ++ with c.from_vec.result ∷ []) c.reserve.ensures.items
     ∙ ap (λ (pairs : List Pair). device.steps.items ++ with pairs ∷ []) (c.from_vec.ensures ∙ c.into_parts-controls.ensures.pairs))
-    written (rw (c.as_slice-2.ensures.value, c.pairs.ensures, c.rows-2.ensures) at c.notify_changed.ensures.words)
+    written (rw (c.as_slice-2.ensures.value, c.pairs.ensures, c.new_rows.ensures) at c.notify_changed.ensures.words)
     (c.raise_step.ensures g.D.Validates.verdict (with c.args.touch.pairs) (past device.steps.items)
     (around g.D.Validates.verdict g.D.Notifies.told device.plan device.steps.items _ (with c.args.touch.pairs) c.new.result c.new-2.result c.self.invariant (c.new.ensures ∙ moment c.as_slice-6.ensures.value c.as_slice-7.ensures.value)
     (ap (λ (m : MomentData). m.values) c.new-2.ensures ∙ c.as_slice-8.ensures.value ∙ lays)
@@ -103,7 +103,7 @@ renew-requires-clause-values g c =
     let entry : Entry Step = record { seat = c.args.seat; step = Set c.args.fh c.args.touch.pairs } in
     let lays =
     set_lays g.D.Validates.verdict g.D.Notifies.told device.plan device.steps.items _ c.write_rows.new.values.items c.args.fh c.args.which c.args.request c.args.list.now c.args.touch c.self.invariant (rw (← c.self.view_is) at c.requires.settable) c.requires.present
-    (rw (c.in-Ok.ensures, c.as_slice.ensures.value, c.rows-3.ensures) at c.write_rows.ensures) in
+    (rw (c.in-Ok.ensures, c.as_slice.ensures.value, c.rows-2.ensures) at c.write_rows.ensures) in
     ap length (c.as_slice-3.ensures.value ∙ lays) ∙ ap length (sym (now_next g.D.Validates.verdict device.plan entry (past device.steps.items))) ∙ length_now g.D.Validates.verdict device.plan (entry ∷ past device.steps.items)
 
 -- the clusters of the rows are there
@@ -122,7 +122,7 @@ renew-requires-clause-kept g c =
     let rows : List NewRow = c.args.touch.rows in
     let own : c.as_slice-5.result.now ≡ clusters_of rows = c.as_slice-5.ensures.value ∙ c.in-Ok-clusters_of.ensures ∙ ap clusters_of c.rows.ensures in
     let after : c.as_slice-3.result.now ≡ written device.plan device.values.items rows =
-    c.as_slice-3.ensures.value ∙ c.write_rows.ensures ∙ ap (λ (v : Values). written device.plan v c.rows-3.result.now) (c.in-Ok.ensures ∙ c.as_slice.ensures.value) ∙ ap (written device.plan device.values.items) c.rows-3.ensures in (
+    c.as_slice-3.ensures.value ∙ c.write_rows.ensures ∙ ap (λ (v : Values). written device.plan v c.rows-2.result.now) (c.in-Ok.ensures ∙ c.as_slice.ensures.value) ∙ ap (written device.plan device.values.items) c.rows-2.ensures in (
       c.as_slice-2.result.now,
       c.as_slice-4.result.now,
       board_kept g.D.Validates.verdict device.plan c.controls.result.now (grabbed device.plan P) c.as_slice-4.result.now (now g.D.Validates.verdict device.plan P) c.as_slice-2.result.now (queued_frames device.plan P) device.board
