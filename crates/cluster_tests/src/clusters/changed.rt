@@ -1,13 +1,13 @@
 // Rows that are written, and notifiers that hear of them.
 use super::planning::{BYTE, Made, Named, plan_of};
-use super::rows::{Two, are_rows, is_work, rows_of};
+use super::rows::{Two, are_rows, is_work, kept_rows, rows_of};
 use crate::common::pairs_of;
 use crate::driver::Strict;
 use ctrl_calls::Work;
 use ctrl_clusters::{first_words, notify_changed, write_rows};
 use ctrl_handlers::Plan;
 use ctrl_types::{CtrlValue, Pair};
-use std::alloc::Global;
+use std::alloc::{AllocError, Global};
 use std::process::Abort;
 use std::sync::Arc;
 use std::sync::atomic::{AtomicU64, Ordering};
@@ -116,19 +116,25 @@ const CHANGES: &[Change] = &[
     },
 ];
 
-fn are_told(plan: &Plan<Strict>, pairs: &[Pair], words: &mut Vec<u64>, change: &Change) -> bool {
-    let Some(rows) = rows_of(change.rows) else {
-        return false;
+fn are_told(
+    alloc: Global,
+    plan: &Plan<Strict>,
+    pairs: &[Pair],
+    words: &mut Vec<u64>,
+    change: &Change,
+) -> Result<bool, AllocError> {
+    let Some(rows) = kept_rows(alloc, plan.cluster_count(), change.rows)? else {
+        return Ok(false);
     };
     if plan.controls().len() != VALUES.len() || plan.cluster_count() as usize != words.len() {
-        return false;
+        return Ok(false);
     }
     let mut work = Work::new();
-    if !are_rows(plan, &rows) {
-        return false;
+    if !are_rows(plan, rows.as_slice()) {
+        return Ok(false);
     }
     notify_changed(plan, VALUES, pairs, &rows, words, &mut work);
-    words.as_slice() == change.words.as_slice() && is_work(&work, 0, change.told)
+    Ok(words.as_slice() == change.words.as_slice() && is_work(&work, 0, change.told))
 }
 
 fn are_counts(heard: &[Arc<AtomicU64>], counts: &[u64]) -> bool {
@@ -147,7 +153,7 @@ fn notifies(rt: &impl Abort, alloc: Global, change: &Change) -> Result<(), Fail>
     let pairs = pairs_of(alloc, change.pairs)?;
     let mut words = Vec::new(alloc);
     words.extend_from_slice(&WORDS)?;
-    let is_told = are_told(&plan, pairs.as_slice(), &mut words, change);
+    let is_told = are_told(alloc, &plan, pairs.as_slice(), &mut words, change)?;
     assert!(rt;
         is_told && are_counts(heard.as_slice(), &change.counts),
         "{change:?}"

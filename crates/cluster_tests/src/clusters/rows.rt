@@ -5,9 +5,11 @@ ghost use Rattle.ctrl_clusters.specs.NewRows.{AreNewRows};
 
 use crate::driver::Strict;
 use ctrl_calls::{ClusterRow, Work};
-use ctrl_clusters::{NewRow, value_in};
+use ctrl_clusters::{NewRow, NewRows, value_in};
 use ctrl_handlers::Plan;
 use ctrl_types::CtrlValue;
+use std::alloc::{AllocError, Global};
+use std::test::Fail;
 
 pub fn is_row(row: ClusterRow, want: &[CtrlValue]) -> bool {
     ClusterRow::from_slice(want) == Some(row)
@@ -33,6 +35,23 @@ pub fn rows_of(two: Two) -> Option<[NewRow; 2]> {
         row: ClusterRow::from_slice(second)?,
     };
     Some([first, second])
+}
+
+/// The rows, each to be looked up under its cluster, which is one of so many.
+pub fn kept_rows(alloc: Global, clusters: u32, two: Two) -> Result<Option<NewRows>, AllocError> {
+    let Some([first, second]) = rows_of(two) else {
+        return Ok(None);
+    };
+    let mut rows = NewRows::with_capacity(alloc, clusters, 2)?;
+    if first.cluster >= clusters || second.cluster >= clusters {
+        return Ok(None);
+    }
+    rows.push_reserved(first);
+    if rows.among(second.cluster).is_some() {
+        return Ok(None);
+    }
+    rows.push_reserved(second);
+    Ok(Some(rows))
 }
 
 /// Whether the rows are of two clusters of the plan, with a value for each member.
@@ -72,28 +91,35 @@ fn values_of_a_row(rt: HostRuntime) {
     }
 }
 
-// Rows, a cluster, and the row that it gets among them.
+// Rows of clusters below 8, a cluster, and the row that it gets among them.
 const AMONG: &[(Two, u32, Option<&[CtrlValue]>)] = &[
     (&[(7, &[1, 2]), (3, &[5])], 7, Some(&[1, 2])),
     (&[(7, &[1, 2]), (3, &[5])], 3, Some(&[5])),
     (&[(7, &[1, 2]), (3, &[5])], 0, None),
-    (&[(7, &[1, 2]), (7, &[5])], 7, Some(&[1, 2])),
+    (&[(7, &[1, 2]), (3, &[5])], 8, None),
+    (&[(7, &[1, 2]), (3, &[5])], u32::MAX, None),
 ];
 
-fn is_among(two: Two, cluster: u32, want: Option<&[CtrlValue]>) -> bool {
-    let Some(rows) = rows_of(two) else {
-        return false;
+fn is_among(
+    alloc: Global,
+    two: Two,
+    cluster: u32,
+    want: Option<&[CtrlValue]>,
+) -> Result<bool, AllocError> {
+    let Some(rows) = kept_rows(alloc, 8, two)? else {
+        return Ok(false);
     };
-    match (NewRow::among(&rows, cluster), want) {
+    Ok(match (rows.among(cluster), want) {
         (Some(row), Some(values)) => is_row(row, values),
         (None, None) => true,
         _ => false,
-    }
+    })
 }
 
 #[test]
-fn rows_among_others(rt: HostRuntime) {
+fn rows_among_others(rt: HostRuntime) -> Result<(), Fail> {
     for &(two, cluster, want) in AMONG {
-        assert!(rt; is_among(two, cluster, want), "{cluster}");
+        assert!(rt; is_among(rt.alloc(), two, cluster, want)?, "{cluster}");
     }
+    Ok(())
 }
