@@ -39,9 +39,10 @@ pub fn rows_of(two: Two) -> Option<[NewRow; 2]> {
 
 /// The rows, each to be looked up under its cluster, which is one of so many.
 pub fn kept_rows(alloc: Global, clusters: u32, two: Two) -> Result<Option<NewRows>, AllocError> {
-    let Some([first, second]) = rows_of(two) else {
+    let Some(two) = rows_of(two) else {
         return Ok(None);
     };
+    let [first, second] = two;
     let mut rows = NewRows::with_capacity(alloc, clusters, 2)?;
     if first.cluster >= clusters || second.cluster >= clusters {
         return Ok(None);
