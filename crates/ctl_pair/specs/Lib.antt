@@ -1,1 +1,3 @@
 pub mod Pair
+pub mod Scripts
+pub mod Client

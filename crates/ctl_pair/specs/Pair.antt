@@ -13,6 +13,8 @@ use Rattle.device_history.specs.Values.{now}
 use Rattle.device_history.specs.Answers.{MayAnswer, taken}
 use Rattle.device_history.specs.Legal.{IsLegal}
 use Rattle.turn_desk.specs.Runs.{HasServed}
+use Rattle.script_lines.specs.declared.command.Command.{Command}
+use Rattle.ctl_script.specs.Asks.{IsTranscript}
 use Rattle.script_replies.specs.Replies.{numbered_line, answer_line, accepted_line, audit_line}
 use Rattle.script_replies.specs.declared.audited.Audited.{Audited}
 use Rattle.script_replies.specs.declared.audited.Audited.TheVariants.{Equal, Memory}
@@ -31,11 +33,14 @@ pair_lines first second steps audited = flat_map (said_line 0) first ++ (flat_ma
 abbrev pub may_answer : Verdicts → Words → PlanData → History → Ask → Answer → Type 0
 may_answer verdicts tells plan steps ask answer = (words : List ℕ) × HaveWords tells plan (now verdicts plan (past steps)) words × MayAnswer verdicts plan (past steps) words ask answer
 
--- Two scripts have run on a device without steps, each at its own seat, and this was printed.
-pub record HasPaired (verdicts : Verdicts) (tells : Words) (plan : PlanData) (steps : History) (before after : Option (List ℕ)) : Type 0 where
+-- These two scripts have run on a device without steps, each at its own seat, and this was printed.
+pub record HasPaired (verdicts : Verdicts) (tells : Words) (plan : PlanData) (scripts : List Command × List Command) (steps : History) (before after : Option (List ℕ)) : Type 0 where
   -- what each script asked, in order, and was answered
   pub first : List (Ask × Option Answer)
   pub second : List (Ask × Option Answer)
+  -- each command once
+  pub asks_of_first : IsTranscript scripts.0 first
+  pub asks_of_second : IsTranscript scripts.1 second
   -- the steps of each seat are those of its script's accepted asks, in order
   pub at_first : HasServed (λ p s. IsLegal verdicts p (past s)) (may_answer verdicts tells) (λ p s. taken verdicts p (past s)) plan 0 [] first steps
   pub at_second : HasServed (λ p s. IsLegal verdicts p (past s)) (may_answer verdicts tells) (λ p s. taken verdicts p (past s)) plan 1 [] second steps

@@ -1,5 +1,8 @@
 //! How an input is divided into two scripts, which are read whole before anything runs.
-ghost use Rattle.std.specs.Prelude.{◌≡◌, ◌≢◌, ◌≤◌, [], length, IfOk, IfErr};
+ghost use Rattle.std.specs.Prelude.{◌≡◌, ℕ, ◌+◌, ◌≤◌, false, List, [], ◌∷◌, All, length, IfOk, IfErr, OnOk, Ok, Err, None};
+ghost use Rattle.script_replies.specs.declared.outcome.Outcome.TheVariants.{BadLine};
+ghost use Rattle.ctl_script.specs.Lines.{lines_in};
+ghost use Rattle.ctl_pair.specs.Scripts.{HasAdded, HasRead, IsAsk, IsRefused, IsUndivided, added_by, behind, scripts_in};
 
 use crate::client::ScriptClient;
 use ctl_script::{InputFault, first_line, read_input};
@@ -14,7 +17,8 @@ pub fn read_scripts<I: Read>(
     reader: &mut I,
 ) -> Result<(ScriptClient, ScriptClient), Outcome>
     ensures new { IfOk result (λ r. (r.0.said.items ≡ []) × (r.1.said.items ≡ [])) }
-    ensures fault { IfErr result (λ outcome. outcome ≢ Outcome.Finished) }
+    ensures scripts { IfOk result (λ r. HasRead (I.remaining reader.old) (I.remaining reader.new) (Ok (r.0.script.value.items, r.1.script.value.items))) }
+    ensures fault { IfErr result (IsRefused (I.remaining reader.old) (I.remaining reader.new)) }
 {
     let text = match read_input(alloc, reader) {
         Ok(text) => text,
@@ -38,45 +42,81 @@ pub fn read_scripts<I: Read>(
 // The commands before the first line that divides a text, and those behind it.
 fn divided(alloc: Global, text: &[u8]) -> Result<(Vec<Command>, Vec<Command>), Outcome>
     requires { length text.now ≤ 1048576 }
-    ensures fault { IfErr result (λ outcome. outcome ≢ Outcome.Finished) }
+    ensures scripts { IfOk result (λ r. scripts_in false 1 (lines_in text.now) ≡ Ok (r.0.items, r.1.items)) }
+    ensures first { IfOk result (λ r. All IsAsk r.0.items) }
+    ensures second { IfOk result (λ r. All IsAsk r.1.items) }
+    ensures fault { IfErr result (IsUndivided (lines_in text.now)) }
 {
-    let mut first = Vec::new(alloc);
-    let mut second = Vec::new(alloc);
-    let mut is_second = false;
+    let mut scripts = Scripts::new(alloc);
     let mut number = 0;
     let mut rest = Some(text);
     while let Some(text) = rest {
         let (line, more) = first_line(text);
         number += 1;
         rest = more;
-        let read = if is_second {
-            add_command(alloc, &mut second, line)
-        } else {
-            match divides(alloc, line) {
-                Ok(true) => {
-                    is_second = true;
-                    Ok(())
-                }
-                Ok(false) => add_command(alloc, &mut first, line),
-                Err(_) => Err(LineFault::Memory),
-            }
-        };
-        match read {
+        match scripts.add_line(alloc, line) {
             Ok(()) => {}
             Err(LineFault::NotACommand) => return Err(Outcome::BadLine(number)),
             Err(LineFault::Memory) => return Err(Outcome::Memory),
         }
     }
-    if is_second {
-        Ok((first, second))
+    if scripts.is_second {
+        Ok((scripts.first, scripts.second))
     } else {
         Err(Outcome::NoSecond)
+    }
+}
+
+// Two scripts, as far as an input was read.
+#[derive(Drop)]
+struct Scripts {
+    first: Vec<Command>,
+    second: Vec<Command>,
+    // the line that divides them has come
+    is_second: bool,
+    ghost of_first: { All IsAsk first.items },
+    ghost of_second: { All IsAsk second.items },
+}
+
+impl Scripts {
+    fn new(alloc: Global) -> Scripts
+        ensures first { result.first.items ≡ [] }
+        ensures second { result.second.items ≡ [] }
+        ensures is_second { result.is_second ≡ false }
+    {
+        Scripts {
+            first: Vec::new(alloc),
+            second: Vec::new(alloc),
+            is_second: false,
+        }
+    }
+
+    // Adds what a line says.
+    fn add_line(&mut self, alloc: Global, line: &[u8]) -> Result<(), LineFault>
+        requires { length line.now ≤ 1048576 }
+        ensures added { OnOk result ((number : ℕ) (lines : List (List ℕ)) → behind self.old.first.items self.old.second.items (scripts_in self.old.is_second number (line.now ∷ lines)) ≡ behind self.new.first.items self.new.second.items (scripts_in self.new.is_second (number + 1) lines)) }
+        ensures fault { result ≡ Err LineFault.NotACommand → (number : ℕ) (lines : List (List ℕ)) → scripts_in self.old.is_second number (line.now ∷ lines) ≡ Err (BadLine number) }
+    {
+        if self.is_second {
+            return add_command(alloc, &mut self.second, line);
+        }
+        match divides(alloc, line) {
+            Ok(true) => {
+                self.is_second = true;
+                Ok(())
+            }
+            Ok(false) => add_command(alloc, &mut self.first, line),
+            Err(_) => Err(LineFault::Memory),
+        }
     }
 }
 
 // Adds the command of a line to a script, if it has one. An audit is none here.
 fn add_command(alloc: Global, script: &mut Vec<Command>, line: &[u8]) -> Result<(), LineFault>
     requires { length line.now ≤ 1048576 }
+    ensures added { OnOk result (HasAdded line.now script.old.items script.new.items) }
+    ensures fault { result ≡ Err LineFault.NotACommand → added_by line.now ≡ None }
+    ensures asks { All IsAsk script.old.items → All IsAsk script.new.items }
 {
     match read_line(alloc, line) {
         Ok(None) => Ok(()),

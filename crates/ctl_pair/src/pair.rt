@@ -1,9 +1,11 @@
 //! Two scripts on one device.
-ghost use Rattle.std.specs.Prelude.{◌≡◌, ◌≢◌, [], Ok, IfOk, IfErr};
+ghost use Rattle.std.specs.Prelude.{◌≡◌, ◌≢◌, List, [], Ok, IfOk, IfErr};
 ghost use Rattle.std.specs.Io.KnownBytes.{Appends};
 ghost use Rattle.script_replies.specs.Replies.{outcome_line};
 ghost use Rattle.device_state.specs.Device.{DeviceData};
+ghost use Rattle.script_lines.specs.declared.command.Command.{Command};
 ghost use Rattle.ctl_pair.specs.Pair.{HasPaired};
+ghost use Rattle.ctl_pair.specs.Scripts.{HasRead, IsRefused};
 
 use crate::client::ScriptClient;
 use crate::divide::read_scripts;
@@ -52,7 +54,8 @@ where
     requires { device.steps ≡ [] }
     ensures device { IfOk result.0 (λ back. back.plan ≡ device.plan) }
     ensures desk { IfErr result.0 (λ back. back.0.plan ≡ device.plan) }
-    ensures finished { result.1 ≡ Outcome.Finished → (back : DeviceData) × (result.0 ≡ Ok back) × HasPaired D.verdict D.told device.plan back.steps (W.contents writer.old) (W.contents writer.new) }
+    ensures finished { result.1 ≡ Outcome.Finished → (back : DeviceData) × (result.0 ≡ Ok back) × (scripts : List Command × List Command) × HasRead (I.remaining reader.old) (I.remaining reader.new) (Ok scripts) × HasPaired D.verdict D.told device.plan scripts back.steps (W.contents writer.old) (W.contents writer.new) }
+    ensures refused { result.1 ≢ Outcome.Finished → result.1 ≢ Outcome.WriteFault → IsRefused (I.remaining reader.old) (I.remaining reader.new) result.1 }
     ensures fault { result.1 ≢ Outcome.Finished → result.1 ≢ Outcome.WriteFault → Appends (W.contents writer.old) (W.contents writer.new) (outcome_line result.1) }
 {
     let Ok(mut line) = ReplyLine::new(alloc) else {
@@ -85,7 +88,8 @@ where
     requires second { second.said.items ≡ [] }
     ensures device { IfOk result.0 (λ back. back.plan ≡ device.plan) }
     ensures desk { IfErr result.0 (λ back. back.0.plan ≡ device.plan) }
-    ensures finished { result.1 ≡ Outcome.Finished → (back : DeviceData) × (result.0 ≡ Ok back) × HasPaired D.verdict D.told device.plan back.steps (W.contents writer.old) (W.contents writer.new) }
+    ensures finished { result.1 ≡ Outcome.Finished → (back : DeviceData) × (result.0 ≡ Ok back) × HasPaired D.verdict D.told device.plan (first.script.value.items, second.script.value.items) back.steps (W.contents writer.old) (W.contents writer.new) }
+    ensures memory { result.1 ≢ Outcome.Finished → result.1 ≢ Outcome.WriteFault → result.1 ≡ Outcome.Memory }
     ensures fault { result.1 ≢ Outcome.Finished → result.1 ≢ Outcome.WriteFault → Appends (W.contents writer.old) (W.contents writer.new) (outcome_line result.1) }
 {
     match serve_both(rt, alloc, device, gate, first, second) {

@@ -1,3 +1,8 @@
+ghost use Rattle.std.specs.Prelude.{◌≡◌};
+ghost use Rattle.device_history.specs.declared.ask.Ask.TheVariants as asks;
+ghost use Rattle.ctl_script.specs.Asks.{asked_by, list_ask, which_of};
+ghost use Rattle.ctl_script.specs.Bindings.{bound_in};
+
 use crate::names::Bindings;
 use ctrl_types::RequestId;
 use device_state::{Ask, ControlList};
@@ -7,7 +12,9 @@ use script_lines::{Command, EntryList, Name, WhichWord};
 const REQUEST_VALUES: u32 = 0x0f01_0000;
 
 /// What a command asks, with the ids that its names stand for; none where it is an audit.
-pub fn ask_of(command: Command, names: &Bindings) -> Option<Ask> {
+pub fn ask_of(command: Command, names: &Bindings) -> Option<Ask>
+    ensures { result ≡ asked_by (bound_in names.now) command }
+{
     let ask = match command {
         Command::Open { fh: _, handler } => Ask::OpenFh { handler },
         Command::Close { fh } => Ask::CloseFh { fh: names.fh(fh) },
@@ -68,7 +75,9 @@ pub fn ask_of(command: Command, names: &Bindings) -> Option<Ask> {
     Some(ask)
 }
 
-fn get_of(names: &Bindings, fh: Name, which: WhichWord, list: EntryList) -> Ask {
+fn get_of(names: &Bindings, fh: Name, which: WhichWord, list: EntryList) -> Ask
+    ensures { result ≡ list_ask asks.GetCtrls (bound_in names.now) fh which list }
+{
     let (which, request) = which_of(which, names);
     Ask::GetCtrls {
         fh: names.fh(fh),
@@ -78,7 +87,9 @@ fn get_of(names: &Bindings, fh: Name, which: WhichWord, list: EntryList) -> Ask 
     }
 }
 
-fn set_of(names: &Bindings, fh: Name, which: WhichWord, list: EntryList) -> Ask {
+fn set_of(names: &Bindings, fh: Name, which: WhichWord, list: EntryList) -> Ask
+    ensures { result ≡ list_ask asks.SetCtrls (bound_in names.now) fh which list }
+{
     let (which, request) = which_of(which, names);
     Ask::SetCtrls {
         fh: names.fh(fh),
@@ -88,7 +99,9 @@ fn set_of(names: &Bindings, fh: Name, which: WhichWord, list: EntryList) -> Ask 
     }
 }
 
-fn try_of(names: &Bindings, fh: Name, which: WhichWord, list: EntryList) -> Ask {
+fn try_of(names: &Bindings, fh: Name, which: WhichWord, list: EntryList) -> Ask
+    ensures { result ≡ list_ask asks.TryCtrls (bound_in names.now) fh which list }
+{
     let (which, request) = which_of(which, names);
     Ask::TryCtrls {
         fh: names.fh(fh),
@@ -99,13 +112,17 @@ fn try_of(names: &Bindings, fh: Name, which: WhichWord, list: EntryList) -> Ask 
 }
 
 // The number of the values that a list speaks of, and the request where it speaks of one.
-fn which_of(which: WhichWord, names: &Bindings) -> (u32, Option<RequestId>) {
+fn which_of(which: WhichWord, names: &Bindings) -> (u32, Option<RequestId>)
+    ensures { result ≡ which_of (bound_in names.now) which }
+{
     match which {
         WhichWord::Number(number) => (number, None),
         WhichWord::Request(name) => (REQUEST_VALUES, Some(names.request(name))),
     }
 }
 
-fn controls(list: EntryList) -> ControlList {
+fn controls(list: EntryList) -> ControlList
+    ensures { result ≡ list }
+{
     ControlList::from_vec(list.into_vec())
 }

@@ -1,5 +1,6 @@
-ghost use Rattle.std.specs.Prelude.{◌≡◌};
-ghost use Rattle.ctl_script.specs.Bindings.{binding_of};
+ghost use Rattle.std.specs.Prelude.{◌≡◌, true, OnOk};
+ghost use Rattle.ctl_script.specs.Bindings.{binding_of, bound_by, bound_in, is_entered};
+ghost use Rattle.ctl_script.specs.declared.binding.Binding.{Binding};
 
 use crate::names::Bindings;
 use ctrl_types::Fault;
@@ -31,7 +32,11 @@ impl Binding {
     }
 
     /// Makes room for the binding, so that `bind` takes no memory.
-    pub fn enter(self, names: &mut Bindings) -> Result<(), AllocError> {
+    pub fn enter(self, names: &mut Bindings) -> Result<(), AllocError>
+        ensures bound { bound_in names.new ≡ bound_in names.old }
+        ensures kept { (other : Binding) → is_entered names.old other ≡ true → is_entered names.new other ≡ true }
+        ensures entered { OnOk result (is_entered names.new self ≡ true) }
+    {
         match self {
             Binding::None => Ok(()),
             Binding::FileHandle(name) => names.file_handles.enter(name),
@@ -39,8 +44,12 @@ impl Binding {
         }
     }
 
-    /// Binds what the answer gives. A refused command binds nothing, and an earlier binding stays.
-    pub fn bind(self, names: &mut Bindings, answer: &Result<Reply, Fault>) {
+    /// Binds what the answer gives, where room was made for it. A refused command binds nothing, and an earlier binding stays.
+    pub fn bind(self, names: &mut Bindings, answer: &Result<Reply, Fault>)
+        requires { is_entered names.old self ≡ true }
+        ensures bound { bound_in names.new ≡ bound_by self answer.now (bound_in names.old) }
+        ensures kept { (other : Binding) → is_entered names.old other ≡ true → is_entered names.new other ≡ true }
+    {
         match (self, answer) {
             (Binding::FileHandle(name), Ok(Reply::Fh(fh))) => names.file_handles.bind(name, fh.0),
             (Binding::Request(name), Ok(Reply::Request(request))) => {

@@ -1,3 +1,8 @@
+ghost use Rattle.std.specs.Prelude.{◌≡◌, true, OnOk};
+ghost use Rattle.ctl_script.specs.Bindings.{Bound, unbound, with_id, has_name, ids_in, bound_in};
+ghost use Rattle.ctl_script.specs.Asks.{fh_of, request_of};
+ghost use Rattle.script_lines.specs.declared.name.Name.{Name};
+
 use ctrl_types::{FhId, RequestId};
 use indexmap::IndexMap;
 use script_lines::Name;
@@ -14,19 +19,27 @@ pub struct Names {
 
 impl Names {
     /// No name is bound.
-    pub fn new(alloc: Global) -> Names {
+    pub fn new(alloc: Global) -> Names
+        ensures { (name : Name) → ids_in result name ≡ UNBOUND }
+    {
         Names {
             ids: IndexMap::new(alloc),
         }
     }
 
     /// The id that a name stands for.
-    pub fn id_of(&self, name: Name) -> u32 {
+    pub fn id_of(&self, name: Name) -> u32
+        ensures { result ≡ ids_in self.now name }
+    {
         self.ids.get(&name).copied().unwrap_or(UNBOUND)
     }
 
     /// Makes room for a binding of the name, and changes what no name stands for.
-    pub fn enter(&mut self, name: Name) -> Result<(), AllocError> {
+    pub fn enter(&mut self, name: Name) -> Result<(), AllocError>
+        ensures ids { (other : Name) → ids_in self.new other ≡ ids_in self.old other }
+        ensures kept { (other : Name) → has_name self.old other ≡ true → has_name self.new other ≡ true }
+        ensures entered { OnOk result (has_name self.new name ≡ true) }
+    {
         if !self.ids.contains_key(&name) {
             self.ids.insert(name, UNBOUND)?;
         }
@@ -34,10 +47,13 @@ impl Names {
     }
 
     /// Binds a name that was entered to an id. It takes no memory.
-    pub fn bind(&mut self, name: Name, id: u32) {
-        if let Some(bound) = self.ids.get_mut(&name) {
-            *bound = id;
-        }
+    pub fn bind(&mut self, name: Name, id: u32)
+        requires { has_name self.old name ≡ true }
+        ensures ids { (other : Name) → ids_in self.new other ≡ with_id name id (ids_in self.old) other }
+        ensures kept { (other : Name) → has_name self.old other ≡ true → has_name self.new other ≡ true }
+    {
+        // its key is there, so it takes no room
+        let _ = self.ids.insert(name, id);
     }
 }
 
@@ -52,7 +68,9 @@ pub struct Bindings {
 
 impl Bindings {
     /// No name is bound.
-    pub fn new(alloc: Global) -> Bindings {
+    pub fn new(alloc: Global) -> Bindings
+        ensures { bound_in result ≡ unbound }
+    {
         Bindings {
             file_handles: Names::new(alloc),
             requests: Names::new(alloc),
@@ -60,12 +78,16 @@ impl Bindings {
     }
 
     /// The file handle that a name stands for.
-    pub fn fh(&self, name: Name) -> FhId {
+    pub fn fh(&self, name: Name) -> FhId
+        ensures { result ≡ fh_of (bound_in self.now) name }
+    {
         FhId(self.file_handles.id_of(name))
     }
 
     /// The request that a name stands for.
-    pub fn request(&self, name: Name) -> RequestId {
+    pub fn request(&self, name: Name) -> RequestId
+        ensures { result ≡ request_of (bound_in self.now) name }
+    {
         RequestId(self.requests.id_of(name))
     }
 }

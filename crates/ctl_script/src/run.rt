@@ -1,7 +1,8 @@
-ghost use Rattle.std.specs.Prelude.{◌≡◌, ◌≢◌, ◌≤◌, ◌∷◌, ◌++◌, length, MatchOption};
+ghost use Rattle.std.specs.Prelude.{◌≡◌, ◌≢◌, ◌==◌, ◌<◌, ◌≤◌, ◌∷◌, ◌++◌, length, position, MatchOption, IfSome};
 ghost use Rattle.std.specs.Io.KnownBytes.{Appends};
 ghost use Rattle.script_replies.specs.Replies.{outcome_line};
 ghost use Rattle.ctl_script.specs.Run.{GoesOn};
+ghost use Rattle.ctl_script.specs.Lines.{lines_in, lines_behind};
 
 use crate::ask::ask_of;
 use crate::auditing::audit_of;
@@ -124,12 +125,21 @@ fn answer_script<D: Driver, W: Write>(
 
 /// The first line of a text, and what stands behind its line feed, if it has one.
 pub fn first_line(text: &[u8]) -> (&[u8], Option<&[u8]>)
-    ensures { MatchOption result.1 (result.0.now ≡ text.now) (λ more. text.now ≡ result.0.now ++ 10 ∷ more.now) }
+    ensures lines { lines_in text.now ≡ result.0.now ∷ lines_behind result.1 }
+    ensures parts { MatchOption result.1 (result.0.now ≡ text.now) (λ more. text.now ≡ result.0.now ++ 10 ∷ more.now) }
 {
-    match text.iter().position(|byte| *byte == b'\n') {
+    match line_feed(text) {
         Some(at) => (&text[..at], Some(&text[at + 1..])),
         None => (text, None),
     }
+}
+
+// Where the first line feed of a text is.
+fn line_feed(text: &[u8]) -> Option<usize>
+    ensures at { result ≡ position (λ b. b == 10) text.now }
+    ensures within { IfSome result (λ at. at < length text.now) }
+{
+    text.iter().position(|byte| *byte == b'\n')
 }
 
 // Why a line ends the run.

@@ -21,6 +21,12 @@ pub trait Client<T: Served> {
     ghost use Rattle.std.specs.Prelude.{◌≡◌, List, Option, IsTrue, IsFalse};
     ghost use Rattle.turn_desk.specs.Runs.{HasAsked, Awaits, IsAwaited, IsAnswered};
 
+    /// What a client may have come to do.
+    ghost Task: { Type 0 };
+
+    /// What it has come to do, which stays the same.
+    ghost task: { Self → Task };
+
     /// It has no further ask.
     ghost is_done: { Self → Type 0 };
 
@@ -30,6 +36,7 @@ pub trait Client<T: Served> {
     /// Whether it has a further ask, which it then makes.
     fn next(&mut self) -> bool
         ensures asked { IsTrue result → HasAsked (transcript self.old) (transcript self.new) }
+        ensures task { task self.new ≡ task self.old }
         ensures done { IsFalse result → is_done self.new }
         ensures same { IsFalse result → transcript self.new ≡ transcript self.old };
 
@@ -41,7 +48,8 @@ pub trait Client<T: Served> {
     /// Hears the answer of the last ask, which has none yet: it is called once after each ask.
     fn hear(&mut self, answer: T::Answer)
         requires { Awaits (transcript self.old) }
-        ensures { IsAnswered answer (transcript self.old) (transcript self.new) };
+        ensures task { task self.new ≡ task self.old }
+        ensures heard { IsAnswered answer (transcript self.old) (transcript self.new) };
 }
 
 /// A client and its seat.
@@ -68,7 +76,7 @@ impl<'a, T: Served, C: Client<T>, G: Gate, R: Wait> Worker for Session<'a, T, C,
 
     ghost may = { λ s. IsSeatOf s.desk.now s.party.seat };
 
-    ghost finishes = { λ s rest. HasRun T.is_legal T.answers T.taken s.desk.now.plan s.party.seat (C.transcript s.party.client) rest.seat (C.transcript rest.client) × C.is_done rest.client };
+    ghost finishes = { λ s rest. HasRun T.is_legal T.answers T.taken s.desk.now.plan s.party.seat (C.transcript s.party.client) rest.seat (C.transcript rest.client) × C.is_done rest.client × (C.task rest.client ≡ C.task s.party.client) };
 
     ghost gives_up = { λ s rest. rest ≡ s.party };
 
@@ -99,6 +107,7 @@ pub fn run_client<T: Served, C: Client<T>, G: Gate, R: Wait>(
     ensures seat { StaysAt party.seat result.seat }
     ensures run { HasRun T.is_legal T.answers T.taken desk.now.plan party.seat (C.transcript party.client) result.seat (C.transcript result.client) }
     ensures done { C.is_done result.client }
+    ensures task { C.task result.client ≡ C.task party.client }
 {
     let Party {
         mut seat,
@@ -141,6 +150,7 @@ pub fn run_clients<
     ensures first_run { IsOk result.2 → HasRun T.is_legal T.answers T.taken desk.now.plan first.seat (C.transcript first.client) result.0.seat (C.transcript result.0.client) }
     ensures second_run { IsOk result.2 → HasRun T.is_legal T.answers T.taken desk.now.plan second.seat (C.transcript second.client) result.1.seat (C.transcript result.1.client) }
     ensures done { IsOk result.2 → C.is_done result.0.client × C.is_done result.1.client }
+    ensures tasks { IsOk result.2 → (C.task result.0.client ≡ C.task first.client) × (C.task result.1.client ≡ C.task second.client) }
     ensures kept { IfErr result.2 (λ _. (result.0 ≡ first) × (result.1 ≡ second)) }
     ensures fault { IfErr result.2 (λ fault. fault ≡ DeskFault.Memory) }
 {

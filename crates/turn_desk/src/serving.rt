@@ -35,6 +35,7 @@ pub fn serve_both<
     ensures second { IfOk result (λ r. HasServed T.is_legal T.answers T.taken (T.plan object) 1 (C.transcript second) (C.transcript r.2) (T.steps r.0)) }
     ensures only { IfOk result (λ r. All (λ e. e.seat < 2) (T.steps r.0)) }
     ensures done { IfOk result (λ r. C.is_done r.1 × C.is_done r.2) }
+    ensures tasks { IfOk result (λ r. (C.task r.1 ≡ C.task first) × (C.task r.2 ≡ C.task second)) }
     ensures object { IfErr result (λ left. IfOk left (λ back. T.plan back ≡ T.plan object)) }
     ensures desk { IfErr result (λ left. IfErr left (λ back. back.0.plan ≡ T.plan object)) }
 {

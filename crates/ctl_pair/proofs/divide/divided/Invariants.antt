@@ -1,4 +1,6 @@
-use Rattle.std.proofs.Common.{ℕ, ◌+◌, ◌≤◌, length, List, Option, None, Some, Bor}
+use Rattle.std.proofs.Common.{◌≡◌, ℕ, ◌+◌, ◌≤◌, false, length, List, Option, None, Some, Bor}
+use Rattle.ctl_script.specs.Lines.{lines_in, lines_behind}
+use Rattle.ctl_pair.specs.Scripts.{scripts_in, behind}
 use Rattle.ctl_pair.proofs.divide.divided.Given as goal
 
 -- how many lines are left at most
@@ -7,7 +9,8 @@ lines_left None = 0
 lines_left (Some text) = length text.now + 1
 
 abbrev pub invariant-loop-rest : goal.invariant-loop-rest
-invariant-loop-rest l = l.number + lines_left l.rest ≤ 1048577
+invariant-loop-rest l = (l.number + lines_left l.rest ≤ 1048577)
+    × (scripts_in false 1 (lines_in l.fn.text) ≡ behind l.scripts.first.items l.scripts.second.items (scripts_in l.scripts.is_second (l.number + 1) (lines_behind l.rest)))
 
 abbrev pub decreases-loop-rest : goal.decreases-loop-rest
 decreases-loop-rest l = lines_left l.rest

@@ -1,11 +1,11 @@
-use Rattle.std.proofs.Common.{[], ◌∷◌, ◌++◌, None, sym, ap, ◌∙◌}
+use Rattle.std.proofs.Common.{[], ◌∷◌, ◌++◌, None, refl, sym, ap, ◌∙◌}
 use Rattle.turn_desk.proofs.Runs.{seat_of_same, run_none, run_more}
 use Rattle.turn_desk.proofs.clients.run_client.Goals as goal
 
 pub loop-init : goal.loop-init
 loop-init g c =
     let t = g.T.Served in
-    record { seat = c.requires; run = run_none t.is_legal t.answers t.taken c.args.desk.now.plan c.args.party.seat (g.C.Client.transcript c.args.party.client) }
+    record { seat = c.requires; run = run_none t.is_legal t.answers t.taken c.args.desk.now.plan c.args.party.seat (g.C.Client.transcript c.args.party.client); task = refl }
 
 pub loop-preserved : goal.loop-preserved
 loop-preserved g c =
@@ -19,5 +19,6 @@ loop-preserved g c =
     record {
       seat = seat_of_same c.args.desk.now c.loop.seat back c.loop.invariant.seat call.seat;
       run = run_more t.is_legal t.answers t.taken c.args.desk.now.plan c.args.party.seat c.loop.seat back (said c.args.party.client) so_far (said c.next-in-loop.new.self) (said c.hear.new.self)
-          c.ask.result.now c.call-back.result.1 c.loop.invariant.run call.seat call.call asks c.hear.ensures;
+          c.ask.result.now c.call-back.result.1 c.loop.invariant.run call.seat call.call asks c.hear.ensures.heard;
+      task = c.hear.ensures.task ∙ c.next-in-loop.ensures.task ∙ c.loop.invariant.task;
     }

@@ -1,6 +1,8 @@
-use Rattle.std.proofs.Common.{◌∷◌, [], ◌++◌, None, ap, ◌∙◌}
+use Rattle.ctl_pair.proofs.Coming.{come_next}
 use Rattle.ctl_pair.proofs.client.ScriptClientClientDevice.next.Goals as goal
 
-pub returns-in-Some-ask_of-clause-asked : goal.returns-in-Some-ask_of-clause-asked
-returns-in-Some-ask_of-clause-asked g c =
-    λ _. record { ask = c.in-Some-ask_of.ask; last = c.push_reserved.ensures.items ∙ ap (λ v. v.items ++ (c.in-Some-ask_of.ask, None) ∷ []) c.loop-command.invariant }
+pub invariant_of-self-2-clause-come : goal.invariant_of-self-2-clause-come
+invariant_of-self-2-clause-come g c =
+    let client = c.args.self.now in
+    come_next client.script.value.items client.commands.items c.pop.new.self.items client.names client.binding c.of-binding.result client.said.items c.push_reserved.new.self.items c.in-Some.command c.ask_of.result c.in-Some-ask_of.ask
+    c.in-Some.ensures.items client.come c.ask_of.ensures c.in-Some-ask_of.is c.of-binding.ensures c.push_reserved.ensures.items

@@ -1,0 +1,3 @@
+mod Coming
+mod Outcomes
+mod Sending
