@@ -21,11 +21,11 @@ abbrev pub added_by : List ℕ → Option (List Command)
 added_by line = read_as (line_of (words line))
 
 -- what a line adds stands before what those behind it add to the same script; one that is no command is told by its number
-abbrev pub with_line : Bool → ℕ → Option (List Command) → Result (List Command × List Command) Outcome → Result (List Command × List Command) Outcome
-with_line is_second number None scripts = Err (BadLine number)
-with_line is_second number (Some commands) (Err outcome) = Err outcome
-with_line false number (Some commands) (Ok (first, second)) = Ok (commands ++ first, second)
-with_line true number (Some commands) (Ok (first, second)) = Ok (first, commands ++ second)
+abbrev pub with_added : Bool → ℕ → Option (List Command) → Result (List Command × List Command) Outcome → Result (List Command × List Command) Outcome
+with_added is_second number None scripts = Err (BadLine number)
+with_added is_second number (Some commands) (Err outcome) = Err outcome
+with_added false number (Some commands) (Ok (first, second)) = Ok (commands ++ first, second)
+with_added true number (Some commands) (Ok (first, second)) = Ok (first, commands ++ second)
 
 -- The two scripts of lines that are numbered from this number on: the first line that divides stands between them. It has come where `is_second`.
 abbrev pub scripts_in : Bool → ℕ → List (List ℕ) → Result (List Command × List Command) Outcome
@@ -33,7 +33,7 @@ scripts_in false number [] = Err NoSecond
 scripts_in true number [] = Ok ([], [])
 scripts_in is_second number (line ∷ lines) =
     if not is_second && divides (words line) then scripts_in true (number + 1) lines
-    else with_line is_second number (added_by line) (scripts_in is_second (number + 1) lines)
+    else with_added is_second number (added_by line) (scripts_in is_second (number + 1) lines)
 
 -- what was read of both scripts stands before the rest
 abbrev pub behind : List Command → List Command → Result (List Command × List Command) Outcome → Result (List Command × List Command) Outcome

@@ -29,7 +29,8 @@ use turn_desk::{Gate, Remains, serve_both};
 /// - `writer`: is given each line whole, and what is left of it after a short write, once both scripts have ended and the desk is
 ///   closed. It isn't flushed.
 ///
-/// The outcome is `Finished` where both ran, refused commands included. It prints the first script's reply lines, each behind
+/// The outcome is `Finished` where both ran, refused commands included: each command of each script was asked once, in order, with the
+/// ids that the names of its script stood for then. It prints the first script's reply lines, each behind
 /// `0 `, the second's, each behind `1 `, then `accepted A B`, how many steps of each the device has, and the line of its audit,
 /// which for want of memory is `error 12`.
 ///
