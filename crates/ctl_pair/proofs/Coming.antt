@@ -117,11 +117,11 @@ module _ (script : List Command) where
       let front = cut.0 in
       let command = cut.1 in
       let each : length (heard before) ≡ length front =
-          let more = length-append front (command ∷ []) in let same = ap length cut.2 in let all = length_heard before in omega arith in
+      let more = length-append front (command ∷ []) in let same = ap length cut.2 in let all = length_heard before in omega arith in
       let done_heard : (a : Option Answer) → asked_in unbound done (heard (before ++ (ask, a) ∷ [])) ≡ asked_in unbound front (heard before) ++ asked_by (bound_of unbound front (heard before)) command ∷ [] =
-          λ a. ap₂ (asked_in unbound) cut.2 (heard_more before ask a) ∙ asked_more unbound front (heard before) command a each in
+      λ a. ap₂ (asked_in unbound) cut.2 (heard_more before ask a) ∙ asked_more unbound front (heard before) command a each in
       let bound_heard : (a : Option Answer) → bound_of unbound done (heard (before ++ (ask, a) ∷ [])) ≡ bound_behind command a (bound_of unbound front (heard before)) =
-          λ a. ap₂ (bound_of unbound) cut.2 (heard_more before ask a) ∙ bound_more unbound front (heard before) command a each in
+      λ a. ap₂ (bound_of unbound) cut.2 (heard_more before ask a) ∙ bound_more unbound front (heard before) command a each in
       own_fact done left after binding (before ++ (ask, Some answer) ∷ []) (record {
         split = h.split;
         each = length-append before ((ask, Some answer) ∷ []) ∙ sym long;

@@ -18,12 +18,11 @@ loop-command-preserved c =
     let item = c.command-item.result in
     let same = c.deref-command-items.ensures.value in
     let within : i < length xs = subst (λ l. i < length l) same c.loop-command-test.true in
-    let entered : is_entered after (binding_of item) ≡ true = subst (λ b. is_entered after b ≡ true) c.of.ensures c.in_ok-enter.ensures.entered in
-    (
+    let entered : is_entered after (binding_of item) ≡ true = subst (λ b. is_entered after b ≡ true) c.of.ensures c.in_ok-enter.ensures.entered in (
       c.enter.ensures.bound ∙ c.loop-command.invariant.0,
       All-more (IsReady after) xs i item within
-      (All-weaker (IsReady before) (IsReady after) (λ x r. (r.0, c.enter.ensures.kept (binding_of x) r.1)) (take i xs) c.loop-command.invariant.1)
-      (All-get_or IsAsk xs i item within c.requires, subst (λ x. is_entered after (binding_of x) ≡ true) (c.command-item.is ∙ ap (λ l. get_or l i item) same) entered),
+          (All-weaker (IsReady before) (IsReady after) (λ x r. (r.0, c.enter.ensures.kept (binding_of x) r.1)) (take i xs) c.loop-command.invariant.1)
+          (All-get_or IsAsk xs i item within c.requires, subst (λ x. is_entered after (binding_of x) ≡ true) (c.command-item.is ∙ ap (λ l. get_or l i item) same) entered),
     )
 
 pub invariant_of-result-clause-come : goal.invariant_of-result-clause-come
