@@ -19,9 +19,8 @@ use ctrl_types::{CtrlValue, Errno, Pair};
 /// - `row`: a value for each of its members; the caller owes exactly as many.
 /// - `work`: its count `asked` grows by one where the validator is asked.
 ///
-/// Refused with the validator's errno where it refuses with EACCES (13), EBUSY (16), EINVAL (22) or ERANGE (34); with EINVAL
-/// where it refuses with another, and where it accepts a row of another length or with a value that its member wouldn't take
-/// as it is (of this project). It takes no memory.
+/// Refused by the checks 53, with EACCES (13), EBUSY (16), EINVAL (22) or ERANGE (34), and 54 (EINVAL, 22) of docs/RULES.md. It takes no
+/// memory.
 #[tactic(auto, unfolding(crate::specs::Judging::judge))]
 pub fn judge<D: Driver>(
     plan: &Plan<D>,
@@ -56,8 +55,8 @@ pub fn judge<D: Driver>(
 /// - `pairs`: what is asked for; pairs of other clusters' controls count for nothing.
 /// - `work`: its count `asked` grows by one where the validator is asked.
 ///
-/// Refused with the errno of `ctrl_settle::settle` of the first member that doesn't settle, and then as `judge` refuses. It takes
-/// no memory.
+/// Refused by the checks 51 (ERANGE, 34) and 52 (EINVAL, 22) of docs/RULES.md for the first member that doesn't settle, and then as `judge`
+/// refuses. It takes no memory.
 #[tactic(auto, unfolding(crate::specs::Judging::becomes))]
 pub fn becomes<D: Driver>(
     plan: &Plan<D>,

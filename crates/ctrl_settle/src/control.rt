@@ -153,7 +153,7 @@ impl Ctrl {
 /// equally near the larger. A `Boolean` takes 1 for every number but 0, a `Bitmask` the bits of the number that are in
 /// its mask (two's complement), a `Button` 0, and a `Menu` and an `IntegerMenu` an index as it is.
 ///
-/// Refused with ERANGE (34) where the index lies outside a menu's bounds, and with EINVAL (22) where the menu skips it.
+/// Refused, of a menu alone, by the checks 51 (ERANGE, 34) and 52 (EINVAL, 22) of docs/RULES.md, in this order.
 pub fn settle(control: &Ctrl, value: CtrlValue) -> Result<CtrlValue, Errno>
     ensures settled { result ≡ settle control.now value }
     ensures well_formed { IsWellFormed control.now }

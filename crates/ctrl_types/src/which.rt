@@ -20,7 +20,7 @@ impl Which {
     ghost use Rattle.ctrl_types.specs.Classes.{which_of};
 
     /// Reads the field `which`: 0 the present values, 0x0f000000 the defaults, 0x0f010000 those of a request, and any
-    /// other number that is its own class that class. EINVAL for every other number; no bit is masked off.
+    /// other number that is its own class that class. Refused by check 50 of docs/RULES.md (EINVAL, 22).
     pub fn read(number: u32) -> Result<Which, Errno>
         ensures { result ≡ which_of number }
     {

@@ -1,6 +1,5 @@
 -- The last line of a transcript, which gets its answer.
-use Rattle.std.proofs.Common.{◌≡◌, ℕ, ◌+◌, ◌-◌, ◌<◌, List, [], ◌∷◌, ◌++◌, length, get_or, set, Option, Some, None, refl, ap, ◌∙◌, arith, length-append}
-use Rattle.turn_desk.specs.Runs.{Awaits, IsAwaited}
+use Rattle.std.proofs.Common.{◌≡◌, ℕ, ◌+◌, ◌-◌, List, [], ◌∷◌, ◌++◌, length, get_or, set, Option, Some, None, refl, ap, ◌∙◌, arith, length-append}
 
 module _ {X : Type 0} where
   set_last : (before : List X) (x y : X) → set (before ++ x ∷ []) (length before) y ≡ before ++ y ∷ []
@@ -22,12 +21,3 @@ module _ {Ask Answer : Type 0} where
       let at = last_index before xs (ask, None) n counted is in
       let same : line ≡ (ask, None) = read ∙ (λ i. get_or (is i) (at i) line) ∙ get_last before (ask, None) line in
       (λ i. set (is i) (at i) ((same i).0, Some answer)) ∙ set_last before (ask, None) (ask, Some answer)
-
-  -- there is a line, and the one at the end has the ask that awaits its answer
-  pub last_place : (xs : List (Ask × Option Answer)) (n : ℕ) → n ≡ length xs → Awaits xs → 0 < n
-  last_place xs n counted a = let longer : length xs ≡ length a.before + 1 = ap length a.last ∙ length-append a.before ((a.ask, None) ∷ []) in omega arith
-
-  pub last_asked : (xs : List (Ask × Option Answer)) (n : ℕ) (line : Ask × Option Answer) → n ≡ length xs → line ≡ get_or xs (n - 1) line → IsAwaited line.0 xs
-  last_asked xs n line counted read before ask is =
-      let at = last_index before xs (ask, None) n counted is in
-      ap (λ l. l.0) (read ∙ (λ i. get_or (is i) (at i) line) ∙ get_last before (ask, None) line)
