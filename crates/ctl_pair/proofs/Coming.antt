@@ -9,22 +9,16 @@ use Rattle.ctl_script.specs.Asks.{asked_by, asked_in, bound_behind, bound_of, Is
 use Rattle.ctl_script.specs.Bindings.{Bound, binding_of, bound_by, bound_in, is_entered, unbound}
 use Rattle.ctl_script.specs.declared.binding.Binding.{Binding}
 use Rattle.ctl_script.specs.declared.names.Bindings.{Bindings}
+use Rattle.ctl_script.proofs.Saying.{bound_more}
 use Rattle.ctl_pair.specs.Client.{last_binding, IsReady, HasCome}
 
--- what one more command asks, and what names stand for behind it
+-- what one more command asks
 asked_more : (bound : Bound) (done : List Command) (answers : List (Option Answer)) (command : Command) (answer : Option Answer) → length answers ≡ length done
     → asked_in bound (done ++ command ∷ []) (answers ++ answer ∷ []) ≡ asked_in bound done answers ++ asked_by (bound_of bound done answers) command ∷ []
 asked_more bound [] [] command answer each = refl
 asked_more bound [] (a ∷ others) command answer each = absurd (omega arith)
 asked_more bound (c ∷ cs) [] command answer each = absurd (omega arith)
 asked_more bound (c ∷ cs) (a ∷ others) command answer each = ap (λ l. asked_by bound c ∷ l) (asked_more (bound_behind c a bound) cs others command answer (omega arith))
-
-bound_more : (bound : Bound) (done : List Command) (answers : List (Option Answer)) (command : Command) (answer : Option Answer) → length answers ≡ length done
-    → bound_of bound (done ++ command ∷ []) (answers ++ answer ∷ []) ≡ bound_behind command answer (bound_of bound done answers)
-bound_more bound [] [] command answer each = refl
-bound_more bound [] (a ∷ others) command answer each = absurd (omega arith)
-bound_more bound (c ∷ cs) [] command answer each = absurd (omega arith)
-bound_more bound (c ∷ cs) (a ∷ others) command answer each = bound_more (bound_behind c a bound) cs others command answer (omega arith)
 
 last_more : (done : List Command) (command : Command) → last_binding (done ++ command ∷ []) ≡ binding_of command
 last_more [] command = refl

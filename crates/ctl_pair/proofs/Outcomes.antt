@@ -1,5 +1,5 @@
 -- What the outcome that comes back says of the one that was to be told.
-use Rattle.std.proofs.Common.{◌≡◌, ◌≢◌, ℕ, List, Option, sym, subst, ◌∙◌}
+use Rattle.std.proofs.Common.{◌≡◌, ◌≢◌, ℕ, List, Option, Result, Ok, Err, IfOk, sym, subst, ◌∙◌}
 use Rattle.script_replies.specs.declared.outcome.Outcome.{Outcome}
 use Rattle.script_replies.specs.declared.outcome.Outcome.TheVariants.{Finished, WriteFault, Memory}
 use Rattle.ctl_pair.specs.Scripts.{IsRefused}
@@ -20,3 +20,13 @@ module _ (result outcome : Outcome) (same : result ≢ WriteFault → result ≡
 
   pub short_not_finished : outcome ≡ Memory → result ≢ Finished
   short_not_finished memory f = memory_not_finished (sym memory ∙ was_finished f)
+
+-- of two facts about what is given, if it is, each
+module _ {X E : Type 0} (P Q : X → Type 0) where
+  pub given_first : (r : Result X E) → IfOk r (λ x. P x × Q x) → IfOk r P
+  given_first (Ok x) h = h.0
+  given_first (Err e) h = tt
+
+  pub given_second : (r : Result X E) → IfOk r (λ x. P x × Q x) → IfOk r Q
+  given_second (Ok x) h = h.1
+  given_second (Err e) h = tt

@@ -1,4 +1,4 @@
--- How far a script has come at its seat.
+-- How far a script's client has come at its seat: what its fields are to each other, of the code and no rule.
 use Rattle.std.specs.Prelude.{◌≡◌, true, List, [], ◌∷◌, ◌++◌, map, reverse, length, All, Option, Some}
 use Rattle.device_history.specs.declared.ask.Ask.{Ask}
 use Rattle.device_history.specs.Refusals.{Answer}

@@ -1,5 +1,5 @@
 -- How an input holds two scripts (of this project).
-use Rattle.std.specs.Prelude.{◌≡◌, ◌≢◌, ℕ, ◌+◌, ◌<◌, ◌&&◌, not, Bool, true, false, if◌then◌else◌, List, [], ◌∷◌, ◌++◌, length, Option, None, Some, Result, Ok, Err, IfSome, ⊤}
+use Rattle.std.specs.Prelude.{◌≡◌, ◌≢◌, ℕ, ◌+◌, ◌<◌, ◌≤◌, ◌&&◌, not, Bool, true, false, if◌then◌else◌, List, [], ◌∷◌, ◌++◌, length, Option, None, Some, Result, Ok, Err, IfSome, ⊤}
 use Rattle.std.specs.Io.KnownBytes.{Consumes, IsAtEnd}
 use Rattle.script_lines.specs.Commands.{words, line_of}
 use Rattle.script_lines.specs.Dividing.{divides}
@@ -8,7 +8,6 @@ use Rattle.script_lines.specs.declared.command.Command.TheVariants.{Audit}
 use Rattle.script_replies.specs.declared.outcome.Outcome.{Outcome}
 use Rattle.script_replies.specs.declared.outcome.Outcome.TheVariants.{BadLine, NoSecond, TooLong, ReadFault, Memory}
 use Rattle.ctl_script.specs.Lines.{lines_in}
-use Rattle.ctl_script.specs.declared.input.TheConstants.{MAX_INPUT}
 
 -- what a line that was read adds to a script: a command, or nothing where it is skipped; an audit is no command here
 abbrev pub read_as : Option (Option Command) → Option (List Command)
@@ -60,15 +59,16 @@ IsUndivided lines _ = ⊥
 -- an input that was read whole, and the scripts that it holds, or why it holds none
 pub record HasRead (unread left : Option (List ℕ)) (scripts : Result (List Command × List Command) Outcome) : Type 0 where
   pub input : List ℕ
+  pub within : length input ≤ 1048576
   pub consumed : Consumes unread left input
   pub ended : IsAtEnd left
   pub read : scripts_in false 1 (lines_in input) ≡ scripts
 
--- Where an input has no scripts to run, this is why.
+-- Why two scripts didn't run: the input is too long, or holds none; or the reader failed, or memory was wanting, of which no more is said.
 abbrev pub IsRefused : Option (List ℕ) → Option (List ℕ) → Outcome → Type 0
 IsRefused unread left (BadLine number) = HasRead unread left (Err (BadLine number))
 IsRefused unread left NoSecond = HasRead unread left (Err NoSecond)
-IsRefused unread left TooLong = IfSome unread (λ bytes. MAX_INPUT < length bytes)
+IsRefused unread left TooLong = IfSome unread (λ bytes. 1048576 < length bytes)
 IsRefused unread left ReadFault = ⊤
 IsRefused unread left Memory = ⊤
 IsRefused unread left _ = ⊥

@@ -1,9 +1,10 @@
 //! Two scripts on one device.
-ghost use Rattle.std.specs.Prelude.{◌≡◌, ◌≢◌, List, [], Ok, IfOk, IfErr};
+ghost use Rattle.std.specs.Prelude.{◌≡◌, ◌≢◌, List, [], All, Ok, IfOk, IfErr};
 ghost use Rattle.std.specs.Io.KnownBytes.{Appends};
 ghost use Rattle.script_replies.specs.Replies.{outcome_line};
 ghost use Rattle.device_state.specs.Device.{DeviceData};
 ghost use Rattle.script_lines.specs.declared.command.Command.{Command};
+ghost use Rattle.turn_desk.specs.Views.{IsSeatOf};
 ghost use Rattle.ctl_pair.specs.Pair.{HasPaired};
 ghost use Rattle.ctl_pair.specs.Scripts.{HasRead, IsRefused};
 
@@ -35,12 +36,15 @@ use turn_desk::{Gate, Remains, serve_both};
 /// which for want of memory is `error 12`.
 ///
 /// Any other outcome but `WriteFault` prints its line alone. `BadLine` names the first line that is no command, numbered over the
-/// whole input; `audit` and a second `==` are none here. `NoSecond` is an input without a line that divides it, all of whose lines
-/// are commands. `TooLong` and `ReadFault` are those of `run_script`. `Memory` is want of the tool's own memory, a thread
+/// whole input; `audit` and a second `==` are none here. `NoSecond` is an input without a line that divides it, each of whose lines
+/// is a command or skipped. `TooLong` and `ReadFault` are those of `run_script`. `Memory` is want of the tool's own memory, a thread
 /// that could not be made included. `WriteFault` is a write that failed, was interrupted or took no byte; nothing is printed after it.
 ///
 /// The device comes back, or the desk with its seats where it could not be closed, which is `Memory` too. The plan is the one
-/// that was handed in.
+/// that was handed in. Where no script ran, which is at each outcome but `Finished` and, where its replies could not be written, `WriteFault`, the
+/// device has no step; where the input has no two scripts, or can't be read, it is as it was.
+///
+/// It waits for both threads, and so returns only if the gate lets each of them pass.
 pub fn run_pair<D: Driver + Send, G: Gate + Sync, R: Threads + Wait + Sync, I: Read, W: Write>(
     rt: &R,
     alloc: Global,
@@ -54,7 +58,9 @@ where
     D::Teller: Send,
     requires { device.steps ≡ [] }
     ensures device { IfOk result.0 (λ back. back.plan ≡ device.plan) }
-    ensures desk { IfErr result.0 (λ back. back.0.plan ≡ device.plan) }
+    ensures desk { IfErr result.0 (λ back. (back.0.plan ≡ device.plan) × All (IsSeatOf back.0) back.1) }
+    ensures unasked { result.1 ≢ Outcome.Finished → result.1 ≢ Outcome.WriteFault → IfOk result.0 (λ back. back.steps ≡ []) }
+    ensures same { result.1 ≢ Outcome.Finished → result.1 ≢ Outcome.WriteFault → result.1 ≢ Outcome.Memory → result.0 ≡ Ok device }
     ensures finished { result.1 ≡ Outcome.Finished → (back : DeviceData) × (result.0 ≡ Ok back) × (scripts : List Command × List Command) × HasRead (I.remaining reader.old) (I.remaining reader.new) (Ok scripts) × HasPaired D.verdict D.told device.plan scripts back.steps (W.contents writer.old) (W.contents writer.new) }
     ensures refused { result.1 ≢ Outcome.Finished → result.1 ≢ Outcome.WriteFault → IsRefused (I.remaining reader.old) (I.remaining reader.new) result.1 }
     ensures fault { result.1 ≢ Outcome.Finished → result.1 ≢ Outcome.WriteFault → Appends (W.contents writer.old) (W.contents writer.new) (outcome_line result.1) }
@@ -88,7 +94,8 @@ where
     requires first { first.said.items ≡ [] }
     requires second { second.said.items ≡ [] }
     ensures device { IfOk result.0 (λ back. back.plan ≡ device.plan) }
-    ensures desk { IfErr result.0 (λ back. back.0.plan ≡ device.plan) }
+    ensures desk { IfErr result.0 (λ back. (back.0.plan ≡ device.plan) × All (IsSeatOf back.0) back.1) }
+    ensures unasked { result.1 ≢ Outcome.Finished → result.1 ≢ Outcome.WriteFault → IfOk result.0 (λ back. back.steps ≡ []) }
     ensures finished { result.1 ≡ Outcome.Finished → (back : DeviceData) × (result.0 ≡ Ok back) × HasPaired D.verdict D.told device.plan (first.script.value.items, second.script.value.items) back.steps (W.contents writer.old) (W.contents writer.new) }
     ensures memory { result.1 ≢ Outcome.Finished → result.1 ≢ Outcome.WriteFault → result.1 ≡ Outcome.Memory }
     ensures fault { result.1 ≢ Outcome.Finished → result.1 ≢ Outcome.WriteFault → Appends (W.contents writer.old) (W.contents writer.new) (outcome_line result.1) }

@@ -1,2 +1,4 @@
 mod Runs
 mod Lines
+pub mod Saying
+mod Boards

@@ -12,7 +12,6 @@ use Rattle.script_lines.specs.declared.command.WhichWord.{WhichWord}
 use Rattle.script_lines.specs.declared.command.WhichWord.TheVariants.{Number, Request}
 use Rattle.script_lines.specs.declared.name.Name.{Name}
 use Rattle.ctl_script.specs.Bindings.{Bound, binding_of, bound_by, unbound}
-use Rattle.ctl_script.specs.declared.ask.TheConstants.{REQUEST_VALUES}
 
 -- the file handle and the request that a name stands for
 abbrev pub fh_of : Bound → Name → FhId
@@ -21,10 +20,10 @@ fh_of bound name = record { 0 = bound.file_handles name }
 abbrev pub request_of : Bound → Name → RequestId
 request_of bound name = record { 0 = bound.requests name }
 
--- the number of the values that a list speaks of, and the request where it speaks of one
+-- the number by which a list says which values it is about, and the request where it is about one's
 abbrev pub which_of : Bound → WhichWord → ℕ × Option RequestId
 which_of bound (Number number) = (number, None)
-which_of bound (Request name) = (REQUEST_VALUES, Some (request_of bound name))
+which_of bound (Request name) = (0x0f010000, Some (request_of bound name))
 
 -- an ask about a list of controls
 abbrev pub list_ask : (FhId → ℕ → Option RequestId → List ExtControl → Ask) → Bound → Name → WhichWord → List ExtControl → Ask
@@ -75,7 +74,7 @@ bound_of bound (command ∷ commands) (answer ∷ answers) = bound_of (bound_beh
 bound_of bound [] answers = bound
 bound_of bound (command ∷ commands) [] = bound
 
--- A transcript is that of a script which has run: each command was asked once, in order, with the ids that its names stood for then.
+-- A transcript has each command of a script once, in order, asked with the ids that its names stood for then, by the answers that it has.
 pub record IsTranscript (script : List Command) (said : List (Ask × Option Answer)) : Type 0 where
   pub each : length said ≡ length script
   pub asked : map (λ line. Some line.0) said ≡ asked_in unbound script (map (λ line. line.1) said)

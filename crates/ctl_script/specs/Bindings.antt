@@ -11,7 +11,6 @@ use Rattle.ctl_script.specs.declared.binding.Binding.{Binding}
 use Rattle.ctl_script.specs.declared.binding.Binding.TheVariants.{None, FileHandle, Request}
 use Rattle.ctl_script.specs.declared.names.Bindings.{Bindings}
 use Rattle.ctl_script.specs.declared.names.Names.{Names}
-use Rattle.ctl_script.specs.declared.names.TheConstants.{UNBOUND}
 
 -- what a command binds where it is accepted
 abbrev pub binding_of : Command → Binding
@@ -26,7 +25,7 @@ pub record Bound : Type 0 where
 
 -- no name is bound: each stands for an id that no file handle and no request has
 abbrev pub unbound : Bound
-unbound = record { file_handles = λ name. UNBOUND; requests = λ name. UNBOUND }
+unbound = record { file_handles = λ name. 4294967295; requests = λ name. 4294967295 }
 
 abbrev pub is_same : Name → Name → Bool
 is_same = (name_eq.ghosts).eq
@@ -46,7 +45,7 @@ abbrev pub has_name : Names → Name → Bool
 has_name names name = is_some (get is_same names.ids name)
 
 abbrev pub ids_in : Names → Name → ℕ
-ids_in names name = unwrap_or (get is_same names.ids name) UNBOUND
+ids_in names name = unwrap_or (get is_same names.ids name) 4294967295
 
 -- the same of both tables: there is room for the binding, and what all names stand for
 abbrev pub is_entered : Bindings → Binding → Bool

@@ -3,3 +3,4 @@ pub mod Bindings
 pub mod Asks
 pub mod Lines
 pub mod Run
+pub mod Board

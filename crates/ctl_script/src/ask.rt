@@ -8,7 +8,7 @@ use ctrl_types::RequestId;
 use device_state::{Ask, ControlList};
 use script_lines::{Command, EntryList, Name, WhichWord};
 
-// the number by which a list speaks of a request's values
+// the number by which a list says that it is about a request's values
 const REQUEST_VALUES: u32 = 0x0f01_0000;
 
 /// What a command asks, with the ids that its names stand for; none where it is an audit.
@@ -111,7 +111,7 @@ fn try_of(names: &Bindings, fh: Name, which: WhichWord, list: EntryList) -> Ask
     }
 }
 
-// The number of the values that a list speaks of, and the request where it speaks of one.
+// The number by which a list says which values it is about, and the request where it is about one's.
 fn which_of(which: WhichWord, names: &Bindings) -> (u32, Option<RequestId>)
     ensures { result ≡ which_of (bound_in names.now) which }
 {

@@ -1,4 +1,8 @@
-ghost use Rattle.std.specs.Prelude.{◌≡◌, ◌≢◌, IfErr};
+ghost use Rattle.std.specs.Prelude.{◌≡◌, ◌≢◌, [], IfErr, OnOk};
+ghost use Rattle.std.specs.Io.KnownBytes.{Appends};
+ghost use Rattle.history.specs.Past.{past};
+ghost use Rattle.script_replies.specs.Replies.{outcome_line};
+ghost use Rattle.ctl_script.specs.Board.{HasBoard, HasNoBoard, IsLate, IsSame, board_lines, frame_line};
 ghost use Rattle.ctl_script.specs.Run.{GoesOn};
 
 use crate::run::{SEAT, read_and_answer, with_line, without_line};
@@ -24,6 +28,8 @@ pub fn run_board<D: Driver, R: Read, W: Write>(
     reader: &mut R,
     writer: &mut W,
 ) -> (Device<D>, Outcome)
+    ensures board { result.1 ≡ Outcome.Finished → HasBoard D.verdict D.told (R.remaining reader.old) (R.remaining reader.new) device result.0 (W.contents writer.old) (W.contents writer.new) }
+    ensures no_board { result.1 ≢ Outcome.Finished → HasNoBoard D.verdict D.told (R.remaining reader.old) (R.remaining reader.new) device result.0 result.1 (outcome_line result.1) (W.contents writer.old) (W.contents writer.new) }
     ensures device { GoesOn device result.0 }
     ensures one_script { result.1 ≢ Outcome.NoSecond }
 {
@@ -35,7 +41,6 @@ pub fn run_board<D: Driver, R: Read, W: Write>(
 }
 
 // Asks the commands of a script, and prints the frames that are queued then.
-#[tactic(auto, using(crate::proofs::Runs::onward))]
 fn read_and_print<D: Driver, R: Read, W: Write>(
     alloc: Global,
     device: &mut Device<D>,
@@ -43,6 +48,8 @@ fn read_and_print<D: Driver, R: Read, W: Write>(
     writer: &mut W,
     line: &mut ReplyLine,
 ) -> Outcome
+    ensures board { result ≡ Outcome.Finished → HasBoard D.verdict D.told (R.remaining reader.old) (R.remaining reader.new) device.old device.new (W.contents writer.old) (W.contents writer.new) }
+    ensures no_board { result ≢ Outcome.Finished → HasNoBoard D.verdict D.told (R.remaining reader.old) (R.remaining reader.new) device.old device.new result [] (W.contents writer.old) (W.contents writer.new) }
     ensures device { GoesOn device.old device.new }
     ensures one_script { result ≢ Outcome.NoSecond }
 {
@@ -53,22 +60,25 @@ fn read_and_print<D: Driver, R: Read, W: Write>(
 }
 
 // Prints what each queued frame will have.
-#[tactic(auto, using(crate::proofs::Runs::still, crate::proofs::Runs::onward))]
 fn print_frames<D: Driver, W: Write>(
     device: &mut Device<D>,
     writer: &mut W,
     line: &mut ReplyLine,
 ) -> Outcome
-    ensures device { GoesOn device.old device.new }
-    ensures one_script { result ≢ Outcome.NoSecond }
+    ensures device { IsSame device.old device.new }
+    ensures printed { result ≡ Outcome.Finished → Appends (W.contents writer.old) (W.contents writer.new) (board_lines D.verdict device.old.plan (past device.old.steps)) }
+    ensures fault { result ≢ Outcome.Finished → IsLate result }
 {
-    if device.queued_count() == 0 {
+    let count = device.queued_count();
+    if count == 0 {
         return match write_no_frames(writer) {
             Ok(()) => Outcome::Finished,
             Err(_) => Outcome::WriteFault,
         };
     }
-    for place in 0..u32::try_from(device.queued_count()).unwrap_or(u32::MAX) {
+    // no more are queued than steps were taken, so that each place is a u32, as the contract of `steps` says
+    let _taken = device.steps();
+    for place in 0..count as u32 {
         match print_frame(device, place, writer, line) {
             Ok(()) => {}
             Err(outcome) => return outcome,
@@ -78,15 +88,15 @@ fn print_frames<D: Driver, W: Write>(
 }
 
 // Prints what the queued frame at a place will have. The error is the outcome.
-#[tactic(auto, using(crate::proofs::Runs::handled))]
 fn print_frame<D: Driver, W: Write>(
     device: &mut Device<D>,
     place: u32,
     writer: &mut W,
     line: &mut ReplyLine,
 ) -> Result<(), Outcome>
-    ensures device { GoesOn device.old device.new }
-    ensures one_script { IfErr result (λ outcome. outcome ≢ Outcome.NoSecond) }
+    ensures device { IsSame device.old device.new }
+    ensures printed { OnOk result (Appends (W.contents writer.old) (W.contents writer.new) (frame_line D.verdict device.old.plan (past device.old.steps) place)) }
+    ensures fault { IfErr result IsLate }
 {
     let ask = Ask::Forecast { place };
     let answer = device.handle(SEAT, &ask);

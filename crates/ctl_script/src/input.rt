@@ -17,8 +17,8 @@ const CHUNK: usize = 4096;
 pub fn read_input<R: Read>(alloc: Global, reader: &mut R) -> Result<Vec<u8>, InputFault>
     ensures whole { IfOk result (λ text. Consumes (R.remaining reader.old) (R.remaining reader.new) text.items) }
     ensures end { OnOk result (IsAtEnd (R.remaining reader.new)) }
-    ensures within { IfOk result (λ text. vec_len text ≤ MAX_INPUT) }
-    ensures too_long { result ≡ Err InputFault.TooLong → IfSome (R.remaining reader.old) (λ bytes. MAX_INPUT < length bytes) }
+    ensures within { IfOk result (λ text. vec_len text ≤ 1048576) }
+    ensures too_long { result ≡ Err InputFault.TooLong → IfSome (R.remaining reader.old) (λ bytes. 1048576 < length bytes) }
 {
     let mut text = Vec::new(alloc);
     let mut chunk = [0u8; CHUNK];

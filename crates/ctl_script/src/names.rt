@@ -20,7 +20,7 @@ pub struct Names {
 impl Names {
     /// No name is bound.
     pub fn new(alloc: Global) -> Names
-        ensures { (name : Name) → ids_in result name ≡ UNBOUND }
+        ensures { (name : Name) → ids_in result name ≡ 4294967295 }
     {
         Names {
             ids: IndexMap::new(alloc),
@@ -34,7 +34,7 @@ impl Names {
         self.ids.get(&name).copied().unwrap_or(UNBOUND)
     }
 
-    /// Makes room for a binding of the name, and changes what no name stands for.
+    /// Makes room for a binding of the name, and leaves what each name stands for.
     pub fn enter(&mut self, name: Name) -> Result<(), AllocError>
         ensures ids { (other : Name) → ids_in self.new other ≡ ids_in self.old other }
         ensures kept { (other : Name) → has_name self.old other ≡ true → has_name self.new other ≡ true }

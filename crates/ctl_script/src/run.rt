@@ -1,8 +1,10 @@
-ghost use Rattle.std.specs.Prelude.{◌≡◌, ◌≢◌, ◌==◌, ◌<◌, ◌≤◌, ◌∷◌, ◌++◌, length, position, MatchOption, IfSome};
+ghost use Rattle.std.specs.Prelude.{◌≡◌, ◌≢◌, ◌==◌, ◌<◌, ◌≤◌, [], ◌∷◌, ◌++◌, length, position, MatchOption, IfSome, IfErr, OnOk};
 ghost use Rattle.std.specs.Io.KnownBytes.{Appends};
+ghost use Rattle.script_lines.specs.Commands.{words, line_of};
 ghost use Rattle.script_replies.specs.Replies.{outcome_line};
-ghost use Rattle.ctl_script.specs.Run.{GoesOn};
+ghost use Rattle.ctl_script.specs.Bindings.{bound_in};
 ghost use Rattle.ctl_script.specs.Lines.{lines_in, lines_behind};
+ghost use Rattle.ctl_script.specs.Run.{GoesOn, HasPrinted, HasSaid, IsLastLine, IsLine, script_in};
 
 use crate::ask::ask_of;
 use crate::auditing::audit_of;
@@ -42,6 +44,7 @@ pub fn run_script<D: Driver, R: Read, W: Write>(
     reader: &mut R,
     writer: &mut W,
 ) -> (Device<D>, Outcome)
+    ensures ran { HasPrinted D.verdict D.told (R.remaining reader.old) (R.remaining reader.new) device result.0 result.1 (outcome_line result.1) (W.contents writer.old) (W.contents writer.new) }
     ensures device { GoesOn device result.0 }
     ensures one_script { result.1 ≢ Outcome.NoSecond }
 {
@@ -76,7 +79,6 @@ pub fn with_line<W: Write>(writer: &mut W, reply: &mut ReplyLine, outcome: Outco
 }
 
 // Reads a script whole, and then answers it.
-#[tactic(auto, using(crate::proofs::Runs::still))]
 pub(crate) fn read_and_answer<D: Driver, R: Read, W: Write>(
     alloc: Global,
     device: &mut Device<D>,
@@ -84,8 +86,7 @@ pub(crate) fn read_and_answer<D: Driver, R: Read, W: Write>(
     writer: &mut W,
     reply: &mut ReplyLine,
 ) -> Outcome
-    ensures device { GoesOn device.old device.new }
-    ensures one_script { result ≢ Outcome.NoSecond }
+    ensures { HasPrinted D.verdict D.told (R.remaining reader.old) (R.remaining reader.new) device.old device.new result [] (W.contents writer.old) (W.contents writer.new) }
 {
     match read_input(alloc, reader) {
         Ok(text) => answer_script(alloc, device, text.as_slice(), writer, reply),
@@ -104,8 +105,7 @@ fn answer_script<D: Driver, W: Write>(
     reply: &mut ReplyLine,
 ) -> Outcome
     requires { length text.now ≤ 1048576 }
-    ensures device { GoesOn device.old device.new }
-    ensures one_script { result ≢ Outcome.NoSecond }
+    ensures { HasSaid D.verdict D.told (script_in 1 (lines_in text.now)) device.old device.new result (W.contents writer.old) (W.contents writer.new) }
 {
     let mut names = Bindings::new(alloc);
     let mut number = 0;
@@ -151,7 +151,6 @@ enum LineEnd {
 }
 
 // Answers one line. All that it needs of memory is taken before the device is asked, so that no step is without its reply line.
-#[tactic(auto, using(crate::proofs::Runs::still, crate::proofs::Runs::handled))]
 fn answer_line<D: Driver, W: Write>(
     alloc: Global,
     device: &mut Device<D>,
@@ -161,7 +160,8 @@ fn answer_line<D: Driver, W: Write>(
     reply: &mut ReplyLine,
 ) -> Result<(), LineEnd>
     requires { length line.now ≤ 1048576 }
-    ensures { GoesOn device.old device.new }
+    ensures line { OnOk result (IsLine D.verdict D.told (line_of (words line.now)) (bound_in names.old) (bound_in names.new) device.old device.new (W.contents writer.old) (W.contents writer.new)) }
+    ensures end { IfErr result (IsLastLine D.verdict D.told (line_of (words line.now)) (bound_in names.old) device.old device.new (W.contents writer.old) (W.contents writer.new)) }
 {
     let command = match read_line(alloc, line) {
         Ok(Some(command)) => command,

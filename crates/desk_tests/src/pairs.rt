@@ -22,24 +22,41 @@ impl Gate for NoGate {
 // At its second call each seat waits here until the other is here too.
 #[derive(Drop)]
 struct Meeting {
-    here: [AtomicU64; 2],
+    // the numbers with which each has come, one digit for each
+    came: [AtomicU64; 2],
     alone: AtomicU64,
+}
+
+impl Meeting {
+    fn new() -> Meeting {
+        Meeting {
+            came: [AtomicU64::new(0), AtomicU64::new(0)],
+            alone: AtomicU64::new(0),
+        }
+    }
+
+    // Whether each has come three times, and none waited for nothing.
+    fn was_held(&self) -> bool {
+        let [first, second] = &self.came;
+        first.load(SeqCst) == 123 && second.load(SeqCst) == 123 && self.alone.load(SeqCst) == 0
+    }
 }
 
 impl Gate for Meeting {
     fn pass(&self, seat: u32, k: u32) {
-        if k != 2 {
-            return;
-        }
-        let [first, second] = &self.here;
+        let [first, second] = &self.came;
         let (mine, theirs) = if seat == 0 {
             (first, second)
         } else {
             (second, first)
         };
-        mine.store(1, SeqCst);
+        let before = mine.load(SeqCst).saturating_mul(10);
+        mine.store(before.saturating_add(u64::from(k)), SeqCst);
+        if k != 2 {
+            return;
+        }
         for _ in 0..MOST_TURNS {
-            if theirs.load(SeqCst) == 1 {
+            if theirs.load(SeqCst) >= 12 {
                 return;
             }
             thread::yield_now();
@@ -125,10 +142,7 @@ fn two_threads_call(rt: HostRuntime) -> Result<(), Fail> {
 fn two_threads_meet_at_the_gate(rt: HostRuntime) -> Result<(), Fail> {
     let (desk, first) = open(&rt, rt.alloc());
     let (first, second) = desk.another(&rt, first);
-    let gate = Meeting {
-        here: [AtomicU64::new(0), AtomicU64::new(0)],
-        alone: AtomicU64::new(0),
-    };
+    let gate = Meeting::new();
     let one = Party {
         seat: first,
         client: Adder::new(rt.alloc(), 3),
@@ -139,10 +153,6 @@ fn two_threads_meet_at_the_gate(rt: HostRuntime) -> Result<(), Fail> {
     };
     let (one, two, outcome) = run_clients(&rt, &desk, &gate, one, two);
     outcome?;
-    let alone = gate.alone.load(SeqCst);
-    assert!(rt;
-        alone == 0 && one.client.sums() == 3 && two.client.sums() == 3,
-        "alone: {alone}"
-    );
+    assert!(rt; gate.was_held() && one.client.sums() == 3 && two.client.sums() == 3);
     Ok(())
 }

@@ -11,3 +11,4 @@ pub mod Endings
 pub mod Runs
 pub mod Lines
 pub mod Served
+pub mod Unused

@@ -38,7 +38,7 @@ module _ {Ask Answer S : Type 0} where
   abbrev pub said_in : List (Made Ask Answer S) → List (Ask × Option Answer)
   said_in made = map (λ m. (m.ask, Some m.answer)) made
 
-  -- the entries of these calls under the seat's number: one for each that was accepted, in order
+  -- the entries of these calls under the seat's number: one for each that took a step, in order
   abbrev pub accepted : ℕ → List (Made Ask Answer S) → List (Entry S)
   accepted number [] = []
   accepted number (m ∷ ms) = entered number m.step ++ accepted number ms
@@ -62,7 +62,7 @@ module _ {P S Ask Answer : Type 0} (is_legal : P → List (Entry S) → Type 0) 
     pub transcript : said_after ≡ said ++ said_in made
     -- which the seat made one after another
     pub calls : AreMade before.number before.seen made after.seen
-    -- the seat's own entries are those that it had, and those of the accepted calls
+    -- the seat's own entries are those that it had, and those of the calls that took a step
     pub own : own before.number after.seen ≡ own before.number before.seen ++ accepted before.number made
 
   -- what a run has left in the steps of a closed desk
@@ -73,7 +73,7 @@ module _ {P S Ask Answer : Type 0} (is_legal : P → List (Entry S) → Type 0) 
     pub seen : List (Entry S)
     pub calls : AreMade before.number before.seen made seen
     pub later : IsPrefix seen steps
-    -- of the steps, the seat's own are those that it had, and those of the accepted calls
+    -- of the steps, the seat's own are those that it had, and those of the calls that took one
     pub own : own before.number steps ≡ own before.number before.seen ++ accepted before.number made
 
   -- what a client's run at a new seat with this number has left in the steps of a closed desk
@@ -84,5 +84,5 @@ module _ {P S Ask Answer : Type 0} (is_legal : P → List (Entry S) → Type 0) 
     pub seen : List (Entry S)
     pub calls : AreMade number [] made seen
     pub later : IsPrefix seen steps
-    -- of the steps, those with the number are the accepted calls', in order
+    -- of the steps, those with the number are those that the calls took, in order
     pub own : own number steps ≡ accepted number made

@@ -19,10 +19,10 @@ pub type Remains<T> = Result<T, (Desk<T>, SeatList<T>)>;
 /// closes the desk.
 ///
 /// The object and both clients come back. The object's steps are then those of the two seats; with the number of each seat it has
-/// just the accepted calls of that seat's client, in order.
+/// just the steps that the calls of that seat's client took, in order.
 ///
 /// The error is want of memory: the desk, a seat or a thread could not be made, or the desk not be closed. What is left comes back, and
-/// neither client does. Where the desk, a seat or a thread could not be made, no call was made.
+/// neither client does: the object, without a step, since no call was made; or the desk with its seats.
 pub fn serve_both<
     T: Served + Send,
     C: Client<T> + Drop + Send,
@@ -36,8 +36,8 @@ pub fn serve_both<
     ensures only { IfOk result (λ r. All (λ e. e.seat < 2) (T.steps r.0)) }
     ensures done { IfOk result (λ r. C.is_done r.1 × C.is_done r.2) }
     ensures tasks { IfOk result (λ r. (C.task r.1 ≡ C.task first) × (C.task r.2 ≡ C.task second)) }
-    ensures object { IfErr result (λ left. IfOk left (λ back. T.plan back ≡ T.plan object)) }
-    ensures desk { IfErr result (λ left. IfErr left (λ back. back.0.plan ≡ T.plan object)) }
+    ensures object { IfErr result (λ left. IfOk left (λ back. (T.plan back ≡ T.plan object) × (T.steps back ≡ []))) }
+    ensures desk { IfErr result (λ left. IfErr left (λ back. (back.0.plan ≡ T.plan object) × All (IsSeatOf back.0) back.1)) }
 {
     let Ok(mut seats) = Vec::with_capacity(alloc, 2) else {
         return Err(Ok(object));
@@ -78,7 +78,7 @@ fn shut<T: Served>(desk: Desk<T>, seats: Vec<DeskSeat<T>>) -> Remains<T>
     requires seats { All (IsSeatOf desk) seats.items }
     ensures plan { IfOk result (λ object. T.plan object ≡ desk.plan) }
     ensures whole { IfOk result (λ object. IsWhole T.is_legal desk.plan seats.items (T.steps object)) }
-    ensures desk { IfErr result (λ back. back.0.plan ≡ desk.plan) }
+    ensures desk { IfErr result (λ back. (back.0.plan ≡ desk.plan) × All (IsSeatOf back.0) back.1) }
 {
     match desk.close(SeatList::from_vec(seats)) {
         Ok(object) => Ok(object),

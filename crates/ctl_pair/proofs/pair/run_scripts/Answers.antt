@@ -12,7 +12,7 @@ use Rattle.script_lines.specs.declared.command.Command.{Command}
 use Rattle.ctl_script.specs.Asks.{IsTranscript}
 use Rattle.ctl_pair.specs.declared.client.ScriptClient.{ScriptClient}
 use Rattle.ctl_pair.proofs.Coming.{come_done}
-use Rattle.ctl_pair.proofs.Outcomes.{short_not_finished}
+use Rattle.ctl_pair.proofs.Outcomes.{given_first, given_second, short_not_finished}
 use Rattle.ctl_pair.proofs.pair.run_scripts.Goals as goal
 
 -- a client that is done has asked all of its script
@@ -48,6 +48,13 @@ returns-in-Ok-print_pair-clause-finished g c =
 -- want of memory isn't told as `Finished`
 pub returns-clause-finished : goal.returns-clause-finished
 returns-clause-finished g c = λ f. absurd (short_not_finished c.with_line.result _ c.with_line.ensures.same refl f)
+
+-- and leaves the plan, and no step
+pub returns-clause-device : goal.returns-clause-device
+returns-clause-device g c = given_first (λ back. back.plan ≡ c.args.device.plan) (λ back. back.steps ≡ []) c.in-Err.left c.in-Err.ensures.object
+
+pub returns-clause-unasked : goal.returns-clause-unasked
+returns-clause-unasked g c = λ other written. given_second (λ back. back.plan ≡ c.args.device.plan) (λ back. back.steps ≡ []) c.in-Err.left c.in-Err.ensures.object
 
 pub serve_both-requires-send-C : goal.serve_both-requires-send-C
 serve_both-requires-send-C g κs = λ κ lives. search (client_send, sendable, crosses) depth 20
