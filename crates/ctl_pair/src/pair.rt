@@ -41,8 +41,8 @@ use turn_desk::{Gate, Remains, serve_both};
 /// that could not be made included. `WriteFault` is a write that failed, was interrupted or took no byte; nothing is printed after it.
 ///
 /// The device comes back, or the desk with its seats where it could not be closed, which is `Memory` too. The plan is the one
-/// that was handed in. Where no script ran, which is at each outcome but `Finished` and, where its replies could not be written, `WriteFault`, the
-/// device has no step; where the input has no two scripts, or can't be read, it is as it was.
+/// that was handed in. A device that comes back with another outcome than `Finished` and `WriteFault` has no step; where the input has no two scripts, or can't
+/// be read, it is as it was.
 ///
 /// It waits for both threads, and so returns only if the gate lets each of them pass.
 pub fn run_pair<D: Driver + Send, G: Gate + Sync, R: Threads + Wait + Sync, I: Read, W: Write>(

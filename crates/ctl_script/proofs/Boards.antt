@@ -1,53 +1,24 @@
--- What forecasts leave as it is, and how many frames are queued.
-use Rattle.std.proofs.Common.{◌≡◌, ◌≢◌, ℕ, ◌+◌, ◌≤◌, ◌⊎◌, Bool, true, false, not, cond, nat_eq, is_err, inl, inr, List, [], ◌∷◌, ◌++◌, length, filter, Option, None, Some, Ok, Err, refl, sym, ap, ◌∙◌, subst, arith, append-nil}
+-- How many frames are queued, and what a board does.
+use Rattle.std.proofs.Common.{◌≡◌, ◌≢◌, ℕ, ◌+◌, ◌≤◌, ◌⊎◌, Bool, true, false, not, cond, nat_eq, inl, inr, List, [], ◌∷◌, ◌++◌, length, filter, Option, None, Some, refl, sym, ◌∙◌, subst, arith, append-nil}
 use Rattle.std.specs.Io.KnownBytes.{Appends}
-use Rattle.std.proofs.KnownBytes.{Appends-trans}
+use Rattle.std.proofs.KnownBytes.{Appends-nil, Appends-trans}
 use Rattle.std.proofs.lemmas.List.{length-append}
-use Rattle.history.specs.Past.{past, entered}
+use Rattle.history.specs.Past.{past}
 use Rattle.ctrl_calls.specs.Meanings.{Verdicts, Words}
 use Rattle.ctrl_handlers.specs.Plan.{PlanData}
-use Rattle.device_history.specs.declared.ask.Ask.TheVariants as asks
-use Rattle.device_history.specs.Answers.{MayAnswer, taken}
-use Rattle.device_history.specs.Forecasts.{forecast_answer}
 use Rattle.device_history.specs.Frames.{all_but, ever_queued, queue, queued_by, with_last}
-use Rattle.device_history.specs.Refusals.{Answer}
 use Rattle.device_history.specs.Steps.{Past}
-use Rattle.device_state.specs.Device.{DeviceData, Handles}
+use Rattle.device_state.specs.Device.{DeviceData}
 use Rattle.script_replies.specs.Replies.{outcome_line}
 use Rattle.script_replies.specs.declared.outcome.Outcome.{Outcome}
-use Rattle.script_replies.specs.declared.outcome.Outcome.TheVariants.{Finished, WriteFault, Memory}
-use Rattle.ctl_script.specs.Board.{HasBoard, HasNoBoard, IsLate, IsSame, frame_lines, lines_of, board_lines}
-use Rattle.ctl_script.specs.Run.{GoesOn, HasEnded}
-use Rattle.ctl_script.proofs.Saying.{is_write}
-
--- a forecast adds no step
-no_step : (verdicts : Verdicts) (plan : PlanData) (older : Past) (place : ℕ) (answer : Answer) → taken verdicts plan older (asks.Forecast place) answer ≡ None
-no_step verdicts plan older place (Ok reply) = refl
-no_step verdicts plan older place (Err fault) = refl
-
-pub same_here : (d : DeviceData) → IsSame d d
-same_here d = record { plan = refl; steps = refl }
-
-pub same_both : (a b c : DeviceData) → IsSame a b → IsSame b c → IsSame a c
-same_both a b c first second = record { plan = second.plan ∙ first.plan; steps = second.steps ∙ first.steps }
+use Rattle.script_replies.specs.declared.outcome.Outcome.TheVariants.{Finished, BadLine, TooLong, ReadFault, WriteFault, NoSecond, Memory}
+use Rattle.ctl_script.specs.Board.{HasBoard, IsSame, IsShown, queued_lines, board_lines}
+use Rattle.ctl_script.specs.Run.{GoesOn, HasEnded, Said}
+use Rattle.ctl_script.proofs.Runs.{onward}
+use Rattle.ctl_script.proofs.Saying.{ended_as, goes_ended, is_write, one_script}
 
 pub same_on : (old new : DeviceData) → IsSame old new → GoesOn old new
 same_on old new same = record { plan = same.plan; steps = ([], same.steps ∙ sym (append-nil old.steps)) }
-
-pub same_forecast : (verdicts : Verdicts) (old new : DeviceData) (seat place : ℕ) (answer : Answer) → Handles verdicts old new seat (asks.Forecast place) answer → IsSame old new
-same_forecast verdicts old new seat place answer h = record {
-  plan = h.plan;
-  steps = h.steps ∙ ap (λ t. old.steps ++ entered seat t) (no_step verdicts old.plan (past old.steps) place answer) ∙ append-nil old.steps;
-}
-
--- where it is accepted it answers the forecast
-pub forecast_is : (verdicts : Verdicts) (old new : DeviceData) (seat place : ℕ) (answer : Answer) → Handles verdicts old new seat (asks.Forecast place) answer → is_err answer ≡ false
-    → answer ≡ forecast_answer verdicts old.plan (past old.steps) place
-forecast_is verdicts old new seat place answer h accepted = by h.answers
-  where
-    by : MayAnswer verdicts old.plan (past old.steps) old.words (asks.Forecast place) answer → answer ≡ forecast_answer verdicts old.plan (past old.steps) place
-    by (inl is) = is
-    by (inr lacks) = let never : true ≡ false = sym (ap is_err lacks.1) ∙ accepted in cc
 
 -- a list without some of its elements is no longer
 filter_short : {X : Type 0} (p : X → Bool) (xs : List X) → length (filter p xs) ≤ length xs
@@ -71,54 +42,68 @@ ever_short (e ∷ older) = let one = last_short (queued_by e.step) (ever_queued 
 pub queue_short : (older : Past) → length (queue older) ≤ length older
 queue_short older = let few = ever_short older in let fewer : length (queue older) ≤ length (ever_queued older) = filter_short _ (ever_queued older) in omega arith
 
-module _ (verdicts : Verdicts) (plan : PlanData) (older : Past) where
-  pub none_lines : (ids : List ℕ) → length ids ≡ 0 → lines_of verdicts plan older ids ≡ lines_of verdicts plan older []
-  none_lines [] e = refl
-  none_lines (r ∷ ids) e = absurd (omega (arith, e))
-
-  pub some_lines : (ids : List ℕ) → length ids ≢ 0 → lines_of verdicts plan older ids ≡ frame_lines verdicts plan older (length ids)
-  some_lines [] e = absurd (e refl)
-  some_lines (r ∷ ids) e = refl
-
 finished_not_write : Finished ≡ WriteFault → ⊥
 finished_not_write e = cc
 
--- where no room for a line could be made
-pub late_of : (result : Outcome) → (result ≢ WriteFault → result ≡ Memory) → IsLate result
-late_of result same = by (is_write result)
-  where
-    by : (result ≡ WriteFault) ⊎ (result ≢ WriteFault) → IsLate result
-    by (inl e) = subst IsLate (sym e) tt
-    by (inr other) = subst IsLate (sym (same other)) tt
+pub memory_not_finished : Memory ≡ Finished → ⊥
+memory_not_finished e = cc
 
--- the line of the outcome is written at the end
-module _ (verdicts : Verdicts) (tells : Words) (unread left : Option (List ℕ)) (old new : DeviceData) (outcome result : Outcome) (before between after : Option (List ℕ))
-    (same : result ≢ WriteFault → result ≡ outcome) (line : result ≢ WriteFault → Appends between after (outcome_line outcome)) where
-  pub board_told : (outcome ≡ Finished → HasBoard verdicts tells unread left old new before between) → result ≡ Finished → HasBoard verdicts tells unread left old new before after
-  board_told boards e =
-      let other : result ≢ WriteFault = λ w. finished_not_write (sym e ∙ w) in
-      let is : outcome ≡ Finished = sym (same other) ∙ e in
-      let b = boards is in
-      let lines = board_lines verdicts b.ran.plan (past b.ran.steps) in
-      record {
-        ran = b.ran;
-        said = b.said;
-        ended = b.ended;
-        same = b.same;
-        printed = subst (Appends before after) (append-nil lines) (Appends-trans before between after lines [] b.printed (subst (λ o. Appends between after (outcome_line o)) is (line other)));
-      }
+module _ (verdicts : Verdicts) (plan : PlanData) (older : Past) (before between after : Option (List ℕ)) where
+  -- the line of the outcome is written at the end
+  shown_line : (outcome : Outcome) → IsShown verdicts plan older outcome [] before between → Appends between after (outcome_line outcome) → IsShown verdicts plan older outcome (outcome_line outcome) before after
+  shown_line Finished h line = subst (Appends before after) (append-nil (board_lines verdicts plan older ++ [])) (Appends-trans before between after (board_lines verdicts plan older ++ []) [] h line)
+  shown_line Memory h line =
+      let lines = queued_lines verdicts plan older h.0 in
+      (h.0, h.1, Appends-trans before between after lines (outcome_line Memory) (subst (Appends before between) (append-nil lines) h.2) line)
+  shown_line WriteFault h line = tt
+  shown_line (BadLine number) h line = absurd h
+  shown_line TooLong h line = absurd h
+  shown_line ReadFault h line = absurd h
+  shown_line NoSecond h line = absurd h
 
-  pub no_board_told : (outcome ≢ Finished → HasNoBoard verdicts tells unread left old new outcome [] before between) → result ≢ Finished → HasNoBoard verdicts tells unread left old new result (outcome_line result) before after
-  no_board_told none unfinished = by (is_write result)
+  pub shown_told : (outcome result : Outcome) → (result ≢ WriteFault → result ≡ outcome) → (result ≢ WriteFault → Appends between after (outcome_line outcome))
+      → IsShown verdicts plan older outcome [] before between → IsShown verdicts plan older result (outcome_line result) before after
+  shown_told outcome result same line h = by (is_write result)
     where
-      told : (other : result ≢ WriteFault) → HasNoBoard verdicts tells unread left old new outcome [] before between → HasNoBoard verdicts tells unread left old new result (outcome_line result) before after
-      told other (inl late) = inl (subst IsLate (sym (same other)) late)
-      told other (inr kept) = inr (
-        kept.0,
-        subst (HasEnded verdicts tells unread left old new kept.0) (sym (same other)) kept.1,
-        subst (λ o. Appends before after (outcome_line o)) (sym (same other)) (Appends-trans before between after [] (outcome_line outcome) kept.2 (line other)),
-      )
+      by : (result ≡ WriteFault) ⊎ (result ≢ WriteFault) → IsShown verdicts plan older result (outcome_line result) before after
+      by (inl e) = subst (λ o. IsShown verdicts plan older o (outcome_line o) before after) (sym e) tt
+      by (inr other) = subst (λ o. IsShown verdicts plan older o (outcome_line o) before after) (sym (same other)) (shown_line outcome h (line other))
 
-      by : (result ≡ WriteFault) ⊎ (result ≢ WriteFault) → HasNoBoard verdicts tells unread left old new result (outcome_line result) before after
-      by (inl e) = inl (subst IsLate (sym e) tt)
-      by (inr other) = told other (none (λ e. unfinished (same other ∙ e)))
+module _ (verdicts : Verdicts) (tells : Words) (unread left : Option (List ℕ)) (old new : DeviceData) where
+  -- a script that has run whole, and the frames
+  pub board_shown : (ran : DeviceData) (said : List Said) (outcome : Outcome) (before after : Option (List ℕ)) → HasEnded verdicts tells unread left old ran said Finished → IsSame ran new
+      → IsShown verdicts ran.plan (past ran.steps) outcome [] before after → HasBoard verdicts tells unread left old new outcome [] before after
+  board_shown ran said outcome before after ended same shown = (said, inr (ran, ended, same, shown))
+
+  -- one that ended otherwise
+  pub board_ended : (said : List Said) (outcome : Outcome) (written : Option (List ℕ)) → outcome ≢ Finished → HasEnded verdicts tells unread left old new said outcome
+      → HasBoard verdicts tells unread left old new outcome [] written written
+  board_ended said outcome written other ended = (said, inl (other, ended, λ _. Appends-nil written))
+
+  -- and the line of the outcome
+  pub board_told : (outcome result : Outcome) (before between after : Option (List ℕ)) → (result ≢ WriteFault → result ≡ outcome) → (result ≢ WriteFault → Appends between after (outcome_line outcome))
+      → HasBoard verdicts tells unread left old new outcome [] before between → HasBoard verdicts tells unread left old new result (outcome_line result) before after
+  board_told outcome result before between after same line (said, inl kept) = (
+    said,
+    inl (
+      (λ e. kept.0 (sym (same (λ w. finished_not_write (sym e ∙ w))) ∙ e)),
+      ended_as verdicts tells unread left old new said outcome result same kept.1,
+      (λ other. subst (λ o. Appends before after (outcome_line o)) (sym (same other))
+          (Appends-trans before between after [] (outcome_line outcome) (kept.2 (λ w. other (same other ∙ w))) (line other))),
+    ),
+  )
+  board_told outcome result before between after same line (said, inr shown) =
+      (said, inr (shown.0, shown.1, shown.2, shown_told verdicts shown.0.plan (past shown.0.steps) before between after outcome result same line shown.3))
+
+  -- the device goes on, and there is no second script
+  pub goes_board : (outcome : Outcome) (line : List ℕ) (before after : Option (List ℕ)) → HasBoard verdicts tells unread left old new outcome line before after → GoesOn old new
+  goes_board outcome line before after (said, inl kept) = goes_ended verdicts tells unread left old new said outcome kept.1
+  goes_board outcome line before after (said, inr shown) =
+      onward old shown.0 new (goes_ended verdicts tells unread left old shown.0 said Finished shown.1) (same_on shown.0 new shown.2)
+
+  one_board : (line : List ℕ) (before after : Option (List ℕ)) → HasBoard verdicts tells unread left old new NoSecond line before after → ⊥
+  one_board line before after (said, inl kept) = one_script verdicts tells unread left old new said NoSecond kept.1 refl
+  one_board line before after (said, inr shown) = shown.3
+
+  pub single_board : (outcome : Outcome) (line : List ℕ) (before after : Option (List ℕ)) → HasBoard verdicts tells unread left old new outcome line before after → outcome ≢ NoSecond
+  single_board outcome line before after h e = one_board line before after (subst (λ o. HasBoard verdicts tells unread left old new o line before after) e h)

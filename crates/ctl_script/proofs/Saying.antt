@@ -192,7 +192,7 @@ module _ (verdicts : Verdicts) (tells : Words) where
         inl (ran.0, ran.1, record { asked = ran.2.asked; unasked = ran.2.unasked; split = ran.2.split; each = ran.2.each; end = tt })
     ended_broken said outcome (inr none) = inr (none.0, none.1, tt)
 
-    ended_as : (said : List Said) (outcome result : Outcome) → (result ≢ WriteFault → result ≡ outcome) → Ended said outcome → Ended said result
+    pub ended_as : (said : List Said) (outcome result : Outcome) → (result ≢ WriteFault → result ≡ outcome) → Ended said outcome → Ended said result
     ended_as said outcome result same h = by (is_write result)
       where
         by : (result ≡ WriteFault) ⊎ (result ≢ WriteFault) → Ended said result

@@ -57,7 +57,7 @@ asked_by bound (commands.Unsubscribe fh id) = Some (asks.Unsubscribe (fh_of boun
 asked_by bound (commands.Take fh) = Some (asks.Take (fh_of bound fh))
 asked_by bound commands.Audit = None
 
--- what names stand for behind a command; one that is still to be answered binds nothing
+-- what names stand for behind a command; one that has no answer binds nothing
 abbrev pub bound_behind : Command → Option Answer → Bound → Bound
 bound_behind command (Some answer) bound = bound_by (binding_of command) answer bound
 bound_behind command None bound = bound

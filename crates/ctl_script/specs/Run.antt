@@ -80,7 +80,7 @@ IsEnd bad_line unasked Memory = ⊤
 IsEnd bad_line unasked WriteFault = ⊤
 IsEnd bad_line unasked _ = ⊥
 
--- Why an input isn't run at all.
+-- Why an input isn't run at all: it is too long; or the reader or the writer failed, or memory was wanting, of which no more is said.
 abbrev pub IsUnread : Option (List ℕ) → Outcome → Type 0
 IsUnread unread TooLong = IfSome unread (λ bytes. 1048576 < length bytes)
 IsUnread unread ReadFault = ⊤
@@ -89,8 +89,8 @@ IsUnread unread WriteFault = ⊤
 IsUnread unread _ = ⊥
 
 module _ (verdicts : Verdicts) (tells : Words) where
-  -- A command, while names stand for this: what it asks is answered by the device; an audit leaves the device as it is, and agrees, where it
-  -- finds memory.
+  -- A command, while names stand for this: what it asks is answered by the device, whose words are such as may have been told; an audit leaves the device as it is,
+  -- and agrees, where it finds memory.
   abbrev pub IsSaid : Bound → Command → Said → DeviceData → DeviceData → Type 0
   IsSaid bound command (inl said) old new = (asked_by bound command ≡ Some said.0) × Handles verdicts old new 0 said.0 said.1
       × HaveWords tells new.plan (now verdicts new.plan (past new.steps)) new.words
@@ -104,34 +104,34 @@ module _ (verdicts : Verdicts) (tells : Words) where
   AreSaid bound [] (one ∷ said) old new = ⊥
   AreSaid bound (command ∷ commands) [] old new = ⊥
 
-  -- What a line does where it doesn't end the run: its command comes to something, which is printed; a line that is skipped does nothing.
+  -- Of the code: what a line does where it doesn't end the run. Its command comes to something, which is printed; a line that is skipped does nothing.
   abbrev pub IsLine : Option (Option Command) → Bound → Bound → DeviceData → DeviceData → Option (List ℕ) → Option (List ℕ) → Type 0
   IsLine None bound bound_after old new before after = ⊥
   IsLine (Some None) bound bound_after old new before after = (bound_after ≡ bound) × (new ≡ old) × (after ≡ before)
   IsLine (Some (Some command)) bound bound_after old new before after =
       (one : Said) × IsSaid bound command one old new × (bound_after ≡ bound_behind command (answer_in one) bound) × Appends before after (reply_line one)
 
-  -- What it does where it ends the run; where its reply couldn't be written its command has come to something all the same.
+  -- Of the code: what it does where it ends the run. Where its reply couldn't be written its command has come to something all the same.
   abbrev pub IsLastLine : Option (Option Command) → Bound → DeviceData → DeviceData → Option (List ℕ) → Option (List ℕ) → LineEnd → Type 0
   IsLastLine read bound old new before after NotACommand = (read ≡ None) × (new ≡ old) × (after ≡ before)
   IsLastLine read bound old new before after ends.Memory = (new ≡ old) × (after ≡ before)
   IsLastLine read bound old new before after ends.WriteFault = (command : Command) × (one : Said) × (read ≡ Some (Some command)) × IsSaid bound command one old new
 
   -- The first commands of a script have come to this, and led a device from old to new.
-  pub record HasRun (script : Script) (old new : DeviceData) (said : List Said) (outcome : Outcome) : Type 0 where
+  pub record WasRun (script : Script) (old new : DeviceData) (said : List Said) (outcome : Outcome) : Type 0 where
     pub asked : List Command
     pub unasked : List Command
     pub split : script.0 ≡ asked ++ unasked
     pub each : AreSaid unbound asked said old new
     pub end : IsEnd script.1 unasked outcome
 
-  -- The same, and its reply lines were printed, unless the writer failed.
+  -- Of the code: the same, and its reply lines were printed, unless the writer failed.
   abbrev pub HasSaid : Script → DeviceData → DeviceData → Outcome → Option (List ℕ) → Option (List ℕ) → Type 0
-  HasSaid script old new outcome before after = (said : List Said) × HasRun script old new said outcome × (outcome ≢ WriteFault → Appends before after (reply_lines said))
+  HasSaid script old new outcome before after = (said : List Said) × WasRun script old new said outcome × (outcome ≢ WriteFault → Appends before after (reply_lines said))
 
   -- An input was read whole and its script has run, or it wasn't and nothing has.
   abbrev pub HasEnded : Option (List ℕ) → Option (List ℕ) → DeviceData → DeviceData → List Said → Outcome → Type 0
-  HasEnded unread left old new said outcome = ((script : Script) × HasScript unread left script × HasRun script old new said outcome)
+  HasEnded unread left old new said outcome = ((script : Script) × HasScript unread left script × WasRun script old new said outcome)
       ⊎ ((said ≡ []) × (new ≡ old) × IsUnread unread outcome)
 
   -- The same, and its reply lines were printed, and then such more, unless the writer failed.

@@ -2,7 +2,7 @@ ghost use Rattle.std.specs.Prelude.{◌≡◌, ◌≢◌, [], IfErr, OnOk};
 ghost use Rattle.std.specs.Io.KnownBytes.{Appends};
 ghost use Rattle.history.specs.Past.{past};
 ghost use Rattle.script_replies.specs.Replies.{outcome_line};
-ghost use Rattle.ctl_script.specs.Board.{HasBoard, HasNoBoard, IsLate, IsSame, board_lines, frame_line};
+ghost use Rattle.ctl_script.specs.Board.{HasBoard, IsSame, IsShown, IsUnshown, queued_line};
 ghost use Rattle.ctl_script.specs.Run.{GoesOn};
 
 use crate::run::{SEAT, read_and_answer, with_line, without_line};
@@ -20,7 +20,7 @@ use std::io::{Read, Write};
 /// - `reader`: gives the script, as it gives that of `run_script`.
 /// - `writer`: is given each line whole, and what is left of it after a short write. It isn't flushed.
 ///
-/// The outcome and its line are those of `run_script`; where a line is no command, this is all that is printed. Where a forecast
+/// The outcome and its line are those of `run_script`; where the script doesn't run whole, this line is all that is printed. Where a forecast
 /// at the end finds no memory, the outcome is `Memory`, and its line follows those of the frames before. The device has the plan that was handed in, and its steps begin with those that it had.
 pub fn run_board<D: Driver, R: Read, W: Write>(
     alloc: Global,
@@ -28,8 +28,7 @@ pub fn run_board<D: Driver, R: Read, W: Write>(
     reader: &mut R,
     writer: &mut W,
 ) -> (Device<D>, Outcome)
-    ensures board { result.1 ≡ Outcome.Finished → HasBoard D.verdict D.told (R.remaining reader.old) (R.remaining reader.new) device result.0 (W.contents writer.old) (W.contents writer.new) }
-    ensures no_board { result.1 ≢ Outcome.Finished → HasNoBoard D.verdict D.told (R.remaining reader.old) (R.remaining reader.new) device result.0 result.1 (outcome_line result.1) (W.contents writer.old) (W.contents writer.new) }
+    ensures board { HasBoard D.verdict D.told (R.remaining reader.old) (R.remaining reader.new) device result.0 result.1 (outcome_line result.1) (W.contents writer.old) (W.contents writer.new) }
     ensures device { GoesOn device result.0 }
     ensures one_script { result.1 ≢ Outcome.NoSecond }
 {
@@ -48,10 +47,7 @@ fn read_and_print<D: Driver, R: Read, W: Write>(
     writer: &mut W,
     line: &mut ReplyLine,
 ) -> Outcome
-    ensures board { result ≡ Outcome.Finished → HasBoard D.verdict D.told (R.remaining reader.old) (R.remaining reader.new) device.old device.new (W.contents writer.old) (W.contents writer.new) }
-    ensures no_board { result ≢ Outcome.Finished → HasNoBoard D.verdict D.told (R.remaining reader.old) (R.remaining reader.new) device.old device.new result [] (W.contents writer.old) (W.contents writer.new) }
-    ensures device { GoesOn device.old device.new }
-    ensures one_script { result ≢ Outcome.NoSecond }
+    ensures { HasBoard D.verdict D.told (R.remaining reader.old) (R.remaining reader.new) device.old device.new result [] (W.contents writer.old) (W.contents writer.new) }
 {
     match read_and_answer(alloc, device, reader, &mut Unheard, line) {
         Outcome::Finished => print_frames(device, writer, line),
@@ -66,8 +62,7 @@ fn print_frames<D: Driver, W: Write>(
     line: &mut ReplyLine,
 ) -> Outcome
     ensures device { IsSame device.old device.new }
-    ensures printed { result ≡ Outcome.Finished → Appends (W.contents writer.old) (W.contents writer.new) (board_lines D.verdict device.old.plan (past device.old.steps)) }
-    ensures fault { result ≢ Outcome.Finished → IsLate result }
+    ensures shown { IsShown D.verdict device.old.plan (past device.old.steps) result [] (W.contents writer.old) (W.contents writer.new) }
 {
     let count = device.queued_count();
     if count == 0 {
@@ -95,8 +90,8 @@ fn print_frame<D: Driver, W: Write>(
     line: &mut ReplyLine,
 ) -> Result<(), Outcome>
     ensures device { IsSame device.old device.new }
-    ensures printed { OnOk result (Appends (W.contents writer.old) (W.contents writer.new) (frame_line D.verdict device.old.plan (past device.old.steps) place)) }
-    ensures fault { IfErr result IsLate }
+    ensures printed { OnOk result (Appends (W.contents writer.old) (W.contents writer.new) (queued_line D.verdict device.old.plan (past device.old.steps) place)) }
+    ensures fault { IfErr result (λ outcome. IsUnshown outcome (W.contents writer.old) (W.contents writer.new)) }
 {
     let ask = Ask::Forecast { place };
     let answer = device.handle(SEAT, &ask);
