@@ -29,13 +29,7 @@ IsExposure (manual ∷ rest) (mode ∷ time ∷ gain ∷ []) word =
     × (mode ≡ manual → Fits (pos 65536) time → Fits (pos 256) gain → pos word ≡ pos 256 *ℤ time +ℤ gain)
 IsExposure _ _ word = ⊤
 
--- relation 3: of one value, the value and the first bound, where this fits a byte
-abbrev pub IsLevel : List ℤ → List ℤ → ℕ → Type 0
-IsLevel (offset ∷ rest) (value ∷ []) word = Fits (pos 256) (value +ℤ offset) → pos word ≡ value +ℤ offset
-IsLevel _ _ word = ⊤
-
 -- what the camera's notifiers may say; under another relation they may say anything
 abbrev pub camera_told : Words
 camera_told relation row word =
-    MatchBool (relation.number == 2) (IsExposure relation.bounds row word)
-    (MatchBool (relation.number == 3) (IsLevel relation.bounds row word) ⊤)
+    MatchBool (relation.number == 2) (IsExposure relation.bounds row word) ⊤

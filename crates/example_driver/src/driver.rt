@@ -32,12 +32,6 @@ pub const EXPOSURE_WORDS: Relation = Relation {
     bounds: [1, 0, 0, 0],
 };
 
-/// What the notifier of brightness answers by: the register counts from 128.
-pub const BRIGHTNESS_WORDS: Relation = Relation {
-    number: 3,
-    bounds: [128, 0, 0, 0],
-};
-
 /// What the validator of red and blue makes of a row, the values of the two: it is accepted with the lesser of blue and red and 64 in
 /// the place of blue. A row of another length is accepted as it is.
 pub fn blue_verdict(row: &ClusterRow) -> Verdict
@@ -72,24 +66,4 @@ fn joined(time: i64, gain: i64) -> u64
         return 0;
     }
     256 * time as u64 + gain as u64
-}
-
-/// What the notifier of brightness says of a row, its value: the word for the brightness register, the value and 128, or 0 where
-/// this doesn't fit a byte. Of a row of another length it says 0.
-pub fn brightness_word(row: &ClusterRow) -> u64
-    ensures { camera_told BRIGHTNESS_WORDS row.now result }
-{
-    if row.len() != 1 {
-        return 0;
-    }
-    byte(i128::from(row.value(0)) + i128::from(BRIGHTNESS_WORDS.bounds[0]))
-}
-
-fn byte(level: i128) -> u64
-    ensures { Fits (pos 256) level → pos result ≡ level }
-{
-    if level < 0 || level > 255 {
-        return 0;
-    }
-    level as u64
 }

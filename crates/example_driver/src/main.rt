@@ -7,11 +7,8 @@ mod driver;
 ghost use Rattle.std.specs.Prelude.{◌<◌, ◌^◌, length};
 ghost use Rattle.ctrl_calls.specs.Meanings.{JudgesBy, TellsBy};
 
-use crate::device::{BLUE, BRIGHTNESS, GAIN, HFLIP, MODE, POWER_LINE, RED, TIME, camera_plan};
-use crate::driver::{
-    BLUE_LIMIT, BRIGHTNESS_WORDS, Camera, EXPOSURE_WORDS, blue_verdict, brightness_word,
-    exposure_word,
-};
+use crate::device::{BLUE, GAIN, HFLIP, MODE, RED, TIME, camera_plan};
+use crate::driver::{BLUE_LIMIT, Camera, EXPOSURE_WORDS, blue_verdict, exposure_word};
 use anyhow::{Result, bail};
 use ctrl_calls::{Calls, ClusterRow, Driver, Notifier, Validator, Verdict};
 use ctrl_types::{CtrlId, ExtControl, Fault, FhId, RequestId};
@@ -25,8 +22,7 @@ type Teller = Box<dyn Fn(ClusterRow) -> u64 + Send>;
 fn main(rt: HostRuntime) -> Result<()> {
     let limit: Judge = Box::new(rt.alloc(), |row: ClusterRow| blue_verdict(&row))?;
     let exposure: Teller = Box::new(rt.alloc(), |row: ClusterRow| exposure_word(&row))?;
-    let brightness: Teller = Box::new(rt.alloc(), |row: ClusterRow| brightness_word(&row))?;
-    run::<Camera, HostRuntime>(&rt, limit, exposure, brightness)
+    run::<Camera, HostRuntime>(&rt, limit, exposure)
 }
 
 // Makes the device, whose clusters have these closures, and plays with it. It is generic, since the type of a stored box can't be
@@ -35,14 +31,11 @@ fn run<D: Driver, R: AllocGlobal + Print>(
     rt: &R,
     limit: D::Judge,
     exposure: D::Teller,
-    brightness: D::Teller,
 ) -> Result<()>
     requires limit { D.Judge.callable limit }
     requires limit_judges { JudgesBy (D.Judge.answers limit) (D.verdict BLUE_LIMIT) }
     requires exposure { D.Teller.callable exposure }
     requires exposure_tells { TellsBy (D.Teller.answers exposure) (D.told EXPOSURE_WORDS) }
-    requires brightness { D.Teller.callable brightness }
-    requires brightness_tells { TellsBy (D.Teller.answers brightness) (D.told BRIGHTNESS_WORDS) }
 {
     let of_exposure: Calls<D> = Calls {
         validator: None,
@@ -52,11 +45,7 @@ fn run<D: Driver, R: AllocGlobal + Print>(
         validator: Some(Validator::new(BLUE_LIMIT, limit)),
         notifier: None,
     };
-    let of_brightness: Calls<D> = Calls {
-        validator: None,
-        notifier: Some(Notifier::new(BRIGHTNESS_WORDS, brightness)),
-    };
-    let plan = camera_plan(rt.alloc(), of_exposure, of_balance, of_brightness)?;
+    let plan = camera_plan(rt.alloc(), of_exposure, of_balance)?;
     let Ok(mut device) = Device::new(rt.alloc(), plan) else {
         bail!("no memory for the device");
     };
@@ -69,8 +58,8 @@ fn play<D: Driver, R: AllocGlobal + Print>(rt: &R, device: &mut Device<D>) -> Re
         bail!("the video node can't be opened");
     };
     set_values(rt, device, fh)?;
-    queue_frame(rt, device, fh, &[entry(RED, 30), entry(BRIGHTNESS, 20)], 7)?;
-    queue_frame(rt, device, fh, &[entry(BLUE, 200), entry(HFLIP, 1)], 8)?;
+    queue_frame(rt, device, fh, &[entry(RED, 30), entry(HFLIP, 1)], 7)?;
+    queue_frame(rt, device, fh, &[entry(BLUE, 200), entry(GAIN, 64)], 8)?;
     for place in 0..2 {
         ask(rt, device, "will have", &Ask::Forecast { place })?;
     }
@@ -88,14 +77,12 @@ fn set_values<D: Driver, R: AllocGlobal + Print>(
     device: &mut Device<D>,
     fh: FhId,
 ) -> Result<()> {
-    set(rt, device, fh, None, &[entry(BRIGHTNESS, 10)])?;
-    ask(rt, device, "register", &Ask::Told { cluster: 2 })?;
     let exposure = [entry(MODE, 1), entry(TIME, 500), entry(GAIN, 32)];
     set(rt, device, fh, None, &exposure)?;
     ask(rt, device, "register", &Ask::Told { cluster: 0 })?;
     set(rt, device, fh, None, &[entry(RED, 50), entry(BLUE, 255)])?;
-    set(rt, device, fh, None, &[entry(POWER_LINE, 3)])?;
-    let (id, index) = (POWER_LINE, 1);
+    set(rt, device, fh, None, &[entry(MODE, 2)])?;
+    let (id, index) = (MODE, 1);
     ask(rt, device, "item 1", &Ask::MenuItem { fh, id, index })
 }
 
@@ -172,13 +159,7 @@ fn show<R: Print>(rt: &R, what: &str, answer: &Result<Reply, Fault>) -> io::Resu
             frame.values.as_slice(),
             frame.refused.as_slice()
         ),
-        Ok(
-            Reply::Frame {
-                buffer,
-                refused,
-                ..
-            },
-        ) => println!(rt; "{what}: buffer {buffer}, refused {:?}", refused.as_slice()),
+        Ok(Reply::Frame { buffer, .. }) => println!(rt; "{what}: buffer {buffer}"),
         Ok(_) => println!(rt; "{what}: ok"),
         Err(fault) => println!(rt; "{what}: error {}", fault.errno.number()),
     }
