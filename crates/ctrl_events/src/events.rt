@@ -1,4 +1,4 @@
-ghost use Rattle.std.specs.Prelude.{◌≡◌, ◌↔◌, ◌<◌, ℕ, IsTrue, length, IfSome, IfErr, OnOk, slice_get, nat_eq};
+ghost use Rattle.std.specs.Prelude.{◌≡◌, ◌↔◌, ◌<◌, ℕ, [], IsTrue, length, IfSome, IfErr, OnOk, slice_get, nat_eq};
 ghost use Rattle.std.specs.Option.{option_map};
 ghost use Rattle.std.specs.List.{IsDistinct};
 ghost use Rattle.std.specs.Map.{keys_of};
@@ -38,6 +38,13 @@ impl Events {
             files: IndexMap::new(alloc),
             alloc,
         }
+    }
+
+    /// Whether nothing is kept of any file handle: none that is open has ever had a subscription. It takes no memory.
+    pub fn is_empty(&self) -> bool
+        ensures { IsTrue result ↔ (self.now.files ≡ []) }
+    {
+        self.files.is_empty()
     }
 
     /// The flags with which a file handle is subscribed to the events of a control, where it is.

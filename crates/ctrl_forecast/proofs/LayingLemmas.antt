@@ -13,11 +13,12 @@ use Rattle.ctrl_types.specs.declared.ids.Pair.{Pair}
 use Rattle.ctrl_calls.specs.Meanings.{Verdicts}
 use Rattle.ctrl_settle.specs.Control.{Control}
 use Rattle.ctrl_handlers.proofs.ClusterLemmas.{cluster_of_within}
-use Rattle.ctrl_clusters.specs.Rows.{Values, Grabs, value_at, value_in}
+use Rattle.ctrl_clusters.specs.Rows.{Values, Grabs, value_at, value_in, row_of}
 use Rattle.ctrl_clusters.specs.Overlay.{given_by, given_in, row_after, value_after, overlay}
 use Rattle.ctrl_clusters.specs.NewRows.{value_among, written}
 use Rattle.ctrl_clusters.specs.declared.new_row.NewRow.{NewRow}
 use Rattle.ctrl_clusters.proofs.NewRowLemmas.{same_values, written_at, length_written}
+use Rattle.ctrl_clusters.proofs.OverlayLemmas.{value_own}
 
 -- whether a cluster is the one with this number
 abbrev pub is_cluster : Option ℕ → ℕ → Bool
@@ -124,6 +125,24 @@ below_err plan outcome values k errno is =
         at (inl own) = not_below plan outcome k j i (omega (arith, own.1)) ∙ sym (rw own.0 (ap (λ (o : Result (List CtrlValue) Errno). given_by (members plan k) o i) is))
         at (inr off) = sym (rw off.0 refl)
 
+-- one that gets the row that it has gives nothing new
+pub below_own : (plan : PlanData) (outcome : ℕ → Result (List CtrlValue) Errno) (values : Values) (k : ℕ) → outcome k ≡ Ok (row_of values (members plan k)) → values_below plan outcome values k ≡ values_below plan outcome values (suc k)
+unfolding given_below
+below_own plan outcome values k is =
+    same_values (values_below plan outcome values k) (values_below plan outcome values (suc k)) (length_below plan outcome values k ∙ sym (length_below plan outcome values (suc k)))
+    (λ i lt. let less : i < length values = omega (arith, lt, length_below plan outcome values k) in
+    below_at plan outcome values k i less ∙ by i (cluster_of plan i) ∙ sym (below_at plan outcome values (suc k) i less))
+  where
+    by : (i : ℕ) (o : Option ℕ) → unwrap_or (given_below plan outcome k o i) (value_at values i) ≡ unwrap_or (given_below plan outcome (suc k) o i) (value_at values i)
+    by i None = refl
+    by i (Some j) = at (eqb_tells j k)
+      where
+        at : ((j == k) ≡ true × (j ≡ k)) ⊎ ((j == k) ≡ false × (j ≢ k)) → unwrap_or (given_below plan outcome k (Some j) i) (value_at values i) ≡ unwrap_or (given_below plan outcome (suc k) (Some j) i) (value_at values i)
+        at (inl own) =
+            let given : given_by (members plan k) (outcome k) i ≡ value_in (members plan k) (row_of values (members plan k)) i = ap (λ (o : Result (List CtrlValue) Errno). given_by (members plan k) o i) is in
+            rw (own.0, not_below plan outcome k j i (omega (arith, own.1)), given) (sym (value_own values (members plan k) i))
+        at (inr off) = rw off.0 refl
+
 -- once all clusters have their rows, the pairs are laid
 pub below_end : (verdicts : Verdicts) (plan : PlanData) (controls : List Control) (values : Values) (grabs : Grabs) (pairs : List Pair)
     → values_below plan (row_after verdicts plan controls values grabs pairs) values (length plan.clusters) ≡ overlay verdicts plan controls values grabs pairs
@@ -158,17 +177,6 @@ count_next p n = ap (count_by p) (range_more n) ∙ sum_by-append one (range_wit
   where
     one : ℕ → ℕ
     one k = cond (p k) 1 0
-
--- fewer clusters count for no more
-pub count_below : (p : ℕ → Bool) (m n : ℕ) → m ≤ n → count_by p (range_with_len 0 m) ≤ count_by p (range_with_len 0 n)
-count_below p m zero le = let none : m ≡ 0 = omega (arith, le) in omega (arith, ap (λ k. count_by p (range_with_len 0 k)) none)
-count_below p m (suc n) le = by (eqb_tells m (suc n)) (λ further. count_below p m n further)
-  where
-    by : ((m == suc n) ≡ true × (m ≡ suc n)) ⊎ ((m == suc n) ≡ false × (m ≢ suc n)) → (m ≤ n → count_by p (range_with_len 0 m) ≤ count_by p (range_with_len 0 n)) → count_by p (range_with_len 0 m) ≤ count_by p (range_with_len 0 (suc n))
-    by (inl same) rest = omega (arith, ap (λ k. count_by p (range_with_len 0 k)) same.1)
-    by (inr other) rest =
-        let next : count_by p (range_with_len 0 (suc n)) ≡ count_by p (range_with_len 0 n) + cond (p n) 1 0 = ap (λ k. count_by p (range_with_len 0 k)) (sym (add-one n)) ∙ count_next p n in
-        omega (arith, rest (omega (arith, le, other.1)), next)
 
 pub refused_next : (p : ℕ → Bool) (k : ℕ) (b : Bool) (old new : List ℕ) → p k ≡ b → old ≡ filter p (range_with_len 0 k) → new ≡ old ++ cond b (k ∷ []) [] → new ≡ filter p (range_with_len 0 (k + 1))
 refused_next p k b old new is so_far more = more ∙ ap (λ ks. ks ++ cond b (k ∷ []) []) so_far ∙ sym (filter_next p k b is)

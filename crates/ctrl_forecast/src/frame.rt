@@ -1,15 +1,15 @@
 //! A queued frame that is kept, with what it will have.
 
-ghost use Rattle.std.specs.Prelude.{◌≡◌, ◌<◌, ◌≤◌, ◌+◌, length, count_by, nat_lt, IfOk, vec_capacity};
+ghost use Rattle.std.specs.Prelude.{◌≡◌, ◌<◌, ◌≤◌, ◌+◌, length, IfOk};
 ghost use Rattle.ctrl_handlers.specs.Plan.{members};
 ghost use Rattle.ctrl_clusters.specs.Rows.{AreControlsOf};
-ghost use Rattle.ctrl_forecast.specs.Boards.{named_clusters};
-ghost use Rattle.ctrl_forecast.specs.Frames.{forecast_of, frame_over, marked, others, with_outcome};
+ghost use Rattle.ctrl_forecast.specs.Frames.{forecast_of, frame_over, marked, with_outcome};
 ghost use Rattle.ctrl_forecast.specs.Touched.{touched_count};
 
 use crate::board::Forecast;
-use crate::laying::{Overlaid, is_touched, overlay};
+use crate::laying::{Overlaid, overlay_named};
 use crate::lists::{ClusterList, ValueRow};
+use crate::rising::{mark, named_clusters};
 use ctrl_calls::{ClusterRow, Driver, Work};
 use ctrl_clusters::{NewRow, write_rows};
 use ctrl_handlers::Plan;
@@ -94,7 +94,16 @@ impl Frame {
     {
         let asked = Vec::from_slice(alloc, queued.asked)?;
         let named = named_clusters(alloc, plan, queued.asked)?;
-        let overlaid = overlay(alloc, plan, controls, values, grabs, queued.asked, work)?;
+        let overlaid = overlay_named(
+            alloc,
+            plan,
+            controls,
+            values,
+            grabs,
+            queued.asked,
+            named.as_slice(),
+            work,
+        )?;
         let Overlaid { values, refused } = overlaid;
         let mut refused = refused.into_vec();
         refused.reserve(named.len())?;
@@ -181,50 +190,4 @@ impl Frame {
         write_rows(plan, &mut self.values, &[NewRow { cluster, row }]);
         mark(&mut self.refused, cluster, is_refused);
     }
-}
-
-// The clusters with a member among pairs, rising.
-fn named_clusters<D: Driver>(
-    alloc: Global,
-    plan: &Plan<D>,
-    pairs: &[Pair],
-) -> Result<Vec<u32>, AllocError>
-    ensures { IfOk result (λ named. named.items ≡ named_clusters plan.now pairs.now) }
-{
-    let mut named = Vec::new(alloc);
-    for cluster in 0..plan.cluster_count() {
-        if is_touched(pairs, plan.members(cluster)) {
-            named.push(cluster)?;
-        }
-    }
-    Ok(named)
-}
-
-// Puts a cluster among rising ones, in its place, or takes it out. There is room for it.
-fn mark(refused: &mut Vec<u32>, cluster: u32, is_refused: bool)
-    requires room { length (marked cluster is_refused refused.old.items) ≤ vec_capacity refused.old }
-    ensures clusters { refused.new.items ≡ marked cluster is_refused refused.old.items }
-    ensures room { vec_capacity refused.old ≤ vec_capacity refused.new }
-{
-    leave_out(refused, cluster);
-    if is_refused {
-        let place = count_below(refused.as_slice(), cluster);
-        let _ = refused.insert(place, cluster);
-    }
-}
-
-// Takes a number out.
-fn leave_out(numbers: &mut Vec<u32>, number: u32)
-    ensures others { numbers.new.items ≡ others number numbers.old.items }
-    ensures room { vec_capacity numbers.new ≡ vec_capacity numbers.old }
-{
-    numbers.retain(|other| number != *other);
-}
-
-// How many numbers are below another.
-fn count_below(numbers: &[u32], number: u32) -> usize
-    ensures count { result ≡ count_by (λ j. nat_lt j number) numbers.now }
-    ensures within { result ≤ length numbers.now }
-{
-    numbers.iter().filter(|other| **other < number).count()
 }

@@ -1,11 +1,13 @@
-ghost use Rattle.std.specs.Prelude.{◌≡◌, ◌<◌, ◌≤◌, ◌+◌, ◌&&◌, length, IfOk, if◌then◌else◌};
+ghost use Rattle.std.specs.Prelude.{◌≡◌, ◌<◌, ◌≤◌, ◌+◌, ◌&&◌, true, length, IfOk, if◌then◌else◌};
 ghost use Rattle.std.specs.List.{list_any};
 ghost use Rattle.ctrl_handlers.specs.Plan.{members};
 ghost use Rattle.ctrl_clusters.specs.Rows.{AreControlsOf, is_grabbed};
 ghost use Rattle.ctrl_clusters.specs.Overlay.{is_touched, is_held, row_after, overlay, refused_clusters};
+ghost use Rattle.ctrl_forecast.specs.Boards.{named_clusters};
 ghost use Rattle.ctrl_forecast.specs.Touched.{touched_count};
 
 use crate::lists::{ClusterList, ValueRow};
+use crate::rising::named_clusters;
 use ctrl_calls::{ClusterRow, Driver, Work};
 use ctrl_clusters::{NewRow, becomes, is_among, present_row, write_rows};
 use ctrl_handlers::Plan;
@@ -50,10 +52,43 @@ pub fn overlay<D: Driver>(
     ensures asked { work.new.asked ≤ work.old.asked + touched_count plan.now pairs.now }
     ensures told { work.new.told ≡ work.old.told }
 {
+    let named = named_clusters(alloc, plan, pairs)?;
+    overlay_named(
+        alloc,
+        plan,
+        controls,
+        values,
+        grabs,
+        pairs,
+        named.as_slice(),
+        work,
+    )
+}
+
+// The same, where the clusters with a member among the pairs are handed in. The others stay as they are.
+pub(crate) fn overlay_named<D: Driver>(
+    alloc: Global,
+    plan: &Plan<D>,
+    controls: &[Ctrl],
+    values: &[CtrlValue],
+    grabs: &[bool],
+    pairs: &[Pair],
+    named: &[u32],
+    work: &mut Work,
+) -> Result<Overlaid, AllocError>
+    requires controls { AreControlsOf plan.now controls.now }
+    requires values { length values.now ≡ length plan.now.controls }
+    requires named { named.now ≡ named_clusters plan.now pairs.now }
+    ensures values { IfOk result (λ o. o.values ≡ overlay D.verdict plan.now controls.now values.now grabs.now pairs.now) }
+    ensures refused { IfOk result (λ o. o.refused ≡ refused_clusters D.verdict plan.now controls.now values.now grabs.now pairs.now) }
+    ensures long { IfOk result (λ o. length o.values ≡ length values.now) }
+    ensures asked { work.new.asked ≤ work.old.asked + touched_count plan.now pairs.now }
+    ensures told { work.new.told ≡ work.old.told }
+{
     let mut after = Vec::from_slice(alloc, values)?;
     let mut refused = Vec::new(alloc);
-    for cluster in 0..plan.cluster_count() {
-        match row_after(plan, controls, values, grabs, pairs, cluster, work) {
+    for &cluster in named {
+        match touched_row(plan, controls, values, grabs, pairs, cluster, work) {
             Ok(row) => write_rows(plan, &mut after, &[NewRow { cluster, row }]),
             Err(_) => refused.push(cluster)?,
         }
@@ -86,14 +121,36 @@ pub(crate) fn row_after<D: Driver>(
     if !is_touched(pairs, members) {
         return Ok(present_row(values, members));
     }
-    if is_held(grabs, pairs, members) {
+    touched_row(plan, controls, values, grabs, pairs, cluster, work)
+}
+
+// The same, of a cluster with a member among the pairs.
+fn touched_row<D: Driver>(
+    plan: &Plan<D>,
+    controls: &[Ctrl],
+    values: &[CtrlValue],
+    grabs: &[bool],
+    pairs: &[Pair],
+    cluster: u32,
+    work: &mut Work,
+) -> Result<ClusterRow, Errno>
+    requires controls { AreControlsOf plan.now controls.now }
+    requires values { length values.now ≡ length plan.now.controls }
+    requires cluster { cluster < length plan.now.clusters }
+    requires touched { is_touched pairs.now (members plan.now cluster) ≡ true }
+    ensures row { result ≡ row_after D.verdict plan.now controls.now values.now grabs.now pairs.now cluster }
+    ensures long { IfOk result (λ row. length row ≡ length (members plan.now cluster)) }
+    ensures asked { work.new.asked ≤ work.old.asked + 1 }
+    ensures told { work.new.told ≡ work.old.told }
+{
+    if is_held(grabs, pairs, plan.members(cluster)) {
         return Err(Errno::EBUSY);
     }
     becomes(plan, controls, cluster, values, pairs, work)
 }
 
 // Whether some member is among the pairs.
-pub(crate) fn is_touched(pairs: &[Pair], members: &[u32]) -> bool
+fn is_touched(pairs: &[Pair], members: &[u32]) -> bool
     ensures { result ≡ is_touched pairs.now members.now }
 {
     members.iter().any(|member| is_among(pairs, *member))

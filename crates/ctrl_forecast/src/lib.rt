@@ -9,6 +9,7 @@ pub mod laws;
 mod laying;
 mod lists;
 mod renewing;
+mod rising;
 
 pub use applying::applied;
 pub use board::{Board, Forecast, Row};

@@ -1,10 +1,11 @@
 -- Raises of one control after another.
-use Rattle.std.proofs.Common.{arith, ◌≡◌, ◌∙◌, ◌<◌, ◌≤◌, ◌+◌, ℕ, zero, suc, Bool, true, false, cond, List, [], ◌∷◌, ◌++◌, length, Option, refl, ap}
+use Rattle.std.proofs.Common.{arith, ◌≡◌, ◌∙◌, ◌<◌, ◌≤◌, ◌+◌, ℕ, zero, suc, Bool, true, false, cond, List, [], ◌∷◌, ◌++◌, length, Option, unwrap_or, nat_eq, refl, ap}
 use Rattle.std.specs.List.{range_with_len}
+use Rattle.std.specs.Map.{lookup}
 use Rattle.ctrl_types.specs.Events.{is_nothing}
 use Rattle.ctrl_types.specs.declared.changes.Changes.{Changes}
 use Rattle.ctrl_events.specs.declared.event.Payload.{Payload}
-use Rattle.ctrl_events.specs.Events.{FileEvents, after_raise}
+use Rattle.ctrl_events.specs.Events.{FileEvents, EventsData, after_raise, events_of, no_events}
 use Rattle.ctrl_events.proofs.KeptLemmas.{counted_raise}
 use Rattle.ctrl_raises.specs.Raises.{raised_all, raised_one}
 
@@ -80,3 +81,23 @@ still_numbered change told from fh c n most old seen is within numbers =
     let count = raises_counted change told from fh c old in
     let same = ap (λ (f : FileEvents). f.next) is in
     omega (arith, count, same, within, numbers)
+
+-- nothing is raised for a file handle of which nothing is kept
+nothing_raised : (change : ℕ → Changes) (told : ℕ → Payload) (from : ℕ → Option ℕ) (fh : ℕ) (cs : List ℕ) → raised_all change told from fh cs no_events ≡ no_events
+unfolding raised_all
+nothing_raised change told from fh [] = refl
+nothing_raised change told from fh (c ∷ cs) = ap (raised_all change told from fh cs) (by (is_nothing (change c))) ∙ nothing_raised change told from fh cs
+  where
+    by : (b : Bool) → cond b no_events (after_raise c (change c) (told c) (from c) fh no_events) ≡ no_events
+    by true = refl
+    by false = refl
+
+-- so nothing is where nothing is kept of any
+pub raised_nowhere : (change : ℕ → Changes) (told : ℕ → Payload) (from : ℕ → Option ℕ) (fh n : ℕ) (events : EventsData) → events.files ≡ [] → events_of events fh ≡ raised_all change told from fh (range_with_len 0 n) (events_of events fh)
+unfolding events_of
+raised_nowhere change told from fh n events none =
+    let kept : events_of events fh ≡ no_events = ap (λ (files : List (ℕ × FileEvents)). unwrap_or (lookup (nat_eq fh) files) no_events) none in
+    rw kept (back (nothing_raised change told from fh (range_with_len 0 n)))
+  where
+    back : {x : FileEvents} → x ≡ no_events → no_events ≡ x
+    back e = cc

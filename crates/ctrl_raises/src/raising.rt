@@ -46,6 +46,9 @@ pub fn raise_between<D: Driver>(
     ensures { (j : ℕ) → events_of events.new j ≡ raised_all (changed_between plan.now before.now after.now pairs.now) (payload_at plan.now after.now)
         (λ c. needing_feedback (option_map (λ fh. fh.0) from) pairs.now (changed_between plan.now before.now after.now pairs.now c) c) j (range_with_len 0 (length plan.now.controls)) (events_of events.old j) }
 {
+    if events.is_empty() {
+        return;
+    }
     for control in 0..plan.control_count() {
         raise_one(plan, before, after, pairs, from, control, events);
     }

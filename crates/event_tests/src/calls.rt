@@ -39,6 +39,8 @@ pub(crate) enum Look {
     Next(u32, u32),
     /// The flags with which it is subscribed to a control.
     Subscribed(u32, u32, Option<u32>),
+    /// Whether nothing is kept of any file handle.
+    Empty(bool),
 }
 
 /// What is told of a control that has a value.
@@ -94,6 +96,7 @@ pub(crate) fn shows(scene: &Scene, look: Look) -> bool {
             (None, None) => true,
             _ => false,
         },
+        Look::Empty(is_empty) => scene.is_empty() == is_empty,
     }
 }
 

@@ -26,6 +26,7 @@ const RUNS: &[Run] = &[
             Look::Waits(0, &[]),
             Look::Next(0, 0),
             Look::Subscribed(0, 1, None),
+            Look::Empty(true),
         ],
     ),
     // merging: what changed is joined, the value and the number are the last, and the event moves to the end
@@ -104,7 +105,17 @@ const RUNS: &[Run] = &[
             Look::Waits(0, &[]),
             Look::Next(0, 3),
             Look::Subscribed(0, 1, Some(0)),
+            Look::Empty(false),
         ],
+    ),
+    // the last file handle goes, and with it all that was kept
+    (
+        &[
+            (Call::Subscribe(0, 1, 1, 7), Ok(None)),
+            (Call::Unsubscribe(0, 1), Ok(None)),
+            (Call::Drop(0), Ok(None)),
+        ],
+        &[Look::Waits(0, &[]), Look::Empty(true)],
     ),
     // a take answers how many still wait
     (

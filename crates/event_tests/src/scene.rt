@@ -127,6 +127,11 @@ impl Scene {
         self.events.pending_len(FhId(fh))
     }
 
+    /// Whether nothing is kept of any file handle.
+    pub(crate) fn is_empty(&self) -> bool {
+        self.events.is_empty()
+    }
+
     /// Whether a file handle's events are the same in another.
     pub(crate) fn is_like(&self, other: &Scene, fh: u32) -> bool {
         self.events.is_like(&other.events, FhId(fh))

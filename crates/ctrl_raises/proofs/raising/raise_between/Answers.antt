@@ -1,7 +1,11 @@
-use Rattle.std.proofs.Common.{length, rules}
+use Rattle.std.proofs.Common.{length, refl, rules}
 use Rattle.ctrl_events.specs.Events.{events_of}
-use Rattle.ctrl_raises.proofs.RaiseLemmas.{raised_first, raised_next, still_numbered}
+use Rattle.ctrl_raises.proofs.RaiseLemmas.{raised_first, raised_next, raised_nowhere, still_numbered}
 use Rattle.ctrl_raises.proofs.raising.raise_between.Goals as goal
+
+-- nobody hears
+pub returns-then-is_empty : goal.returns-then-is_empty
+returns-then-is_empty g c = λ j. raised_nowhere _ _ _ j (length c.args.plan.now.controls) c.args.events.now (c.if-is_empty.ensures.0 refl)
 
 pub loop-control-init : goal.loop-control-init
 loop-control-init g c = λ j. raised_first _ _ _ j (events_of c.args.events.now j)

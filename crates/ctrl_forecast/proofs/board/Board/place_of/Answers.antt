@@ -1,4 +1,4 @@
-use Rattle.std.proofs.Common.{◌≡◌, List, nat_eq, ap, sym, ◌∙◌}
+use Rattle.std.proofs.Common.{nat_eq, ap, ◌∙◌}
 use Rattle.std.specs.List.{position}
 use Rattle.ctrl_forecast.specs.Boards.{BoardData}
 use Rattle.ctrl_forecast.specs.Forecasts.{QueuedData}
