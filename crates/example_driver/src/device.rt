@@ -4,7 +4,7 @@ use anyhow::Result;
 use bitflags::Flags as FlagSet;
 use ctrl_calls::{Calls, Driver};
 use ctrl_config::CtrlConfig;
-use ctrl_handlers::{Plan, PlanBuilder};
+use ctrl_handlers::{Plan, PlanBuilder, PlanFault};
 use ctrl_types::{CtrlId, Flags, Kind};
 use std::alloc::Global;
 
@@ -36,62 +36,50 @@ pub fn camera_plan<D: Driver>(
     let sensor = builder.handler()?;
     let video = builder.handler()?;
     builder.add_handler(video, sensor)?;
-    let exposure = add_sensor(&mut builder, sensor)?;
-    let balance = add_video(&mut builder, video)?;
-    name_cluster(&mut builder, &exposure, Some(1), of_exposure)?;
-    name_cluster(&mut builder, &balance, None, of_balance)?;
-    match builder.finish() {
-        Ok(plan) => Ok(plan),
-        Err((_, fault)) => Err(fault.into()),
-    }
+    add_sensor(&mut builder, sensor, of_exposure)?;
+    add_video(&mut builder, video, of_balance)?;
+    or_fault(builder.finish())
 }
 
-// The sensor's controls; the numbers of mode, time and gain.
-fn add_sensor<D: Driver>(builder: &mut PlanBuilder<D>, sensor: u32) -> Result<[u32; 3]> {
-    let mode = add(builder, sensor, mode())?;
-    let time = add(builder, sensor, integer(TIME, 1, 65535, 312))?;
-    let gain = add(builder, sensor, integer(GAIN, 0, 255, 16))?;
-    add(builder, sensor, hflip())?;
-    add(builder, sensor, lamps())?;
-    builder.menu_name(mode, 0, "Auto")?;
-    builder.menu_name(mode, 1, "Manual")?;
-    Ok([mode, time, gain])
+// The sensor's controls, of which mode, time and gain are an auto cluster: it is manual where the mode is 1.
+fn add_sensor<D: Driver>(to: &mut PlanBuilder<D>, sensor: u32, calls: Calls<D>) -> Result<()> {
+    let mode = add(to, sensor, config(Kind::Menu, MODE, 0, 1, 0))?;
+    let time = add(to, sensor, config(Kind::Integer, TIME, 1, 65535, 312))?;
+    let gain = add(to, sensor, config(Kind::Integer, GAIN, 0, 255, 16))?;
+    add(to, sensor, config(Kind::Boolean, HFLIP, 0, 1, 0))?;
+    add(to, sensor, lamps())?;
+    to.menu_name(mode, 0, "Auto")?;
+    to.menu_name(mode, 1, "Manual")?;
+    or_fault(to.auto_cluster(&[mode, time, gain], 1, calls))?;
+    Ok(())
 }
 
-// The video node's controls; the numbers of red and blue.
-fn add_video<D: Driver>(builder: &mut PlanBuilder<D>, video: u32) -> Result<[u32; 2]> {
-    let red = add(builder, video, integer(RED, 0, 255, 128))?;
-    let blue = add(builder, video, integer(BLUE, 0, 255, 128))?;
-    Ok([red, blue])
+// The video node's controls, red and blue, which are a cluster.
+fn add_video<D: Driver>(to: &mut PlanBuilder<D>, video: u32, calls: Calls<D>) -> Result<()> {
+    let red = add(to, video, config(Kind::Integer, RED, 0, 255, 128))?;
+    let blue = add(to, video, config(Kind::Integer, BLUE, 0, 255, 128))?;
+    or_fault(to.cluster(&[red, blue], calls))?;
+    Ok(())
 }
 
 // Adds a control to a handler; its number.
-fn add<D: Driver>(builder: &mut PlanBuilder<D>, handler: u32, config: CtrlConfig) -> Result<u32> {
+fn add<D: Driver>(to: &mut PlanBuilder<D>, handler: u32, config: CtrlConfig) -> Result<u32> {
     let ctrl = config.build()?;
-    Ok(builder.control(handler, ctrl)?)
+    Ok(to.control(handler, ctrl)?)
 }
 
-// Names a cluster, which is an auto cluster where it has a manual value. A refusal hands the calls back, which are let go here.
-fn name_cluster<D: Driver>(
-    builder: &mut PlanBuilder<D>,
-    members: &[u32],
-    manual: Option<i64>,
-    calls: Calls<D>,
-) -> Result<()> {
-    let named = match manual {
-        Some(manual) => builder.auto_cluster(members, manual, calls),
-        None => builder.cluster(members, calls),
-    };
-    match named {
-        Ok(_) => Ok(()),
+// What a call answered; a refusal hands back what the call took, which is let go here.
+fn or_fault<T, B: Drop>(answer: Result<T, (B, PlanFault)>) -> Result<T> {
+    match answer {
+        Ok(it) => Ok(it),
         Err((_, fault)) => Err(fault.into()),
     }
 }
 
-fn integer(id: CtrlId, minimum: i64, maximum: i64, default_value: i64) -> CtrlConfig {
+fn config(kind: Kind, id: CtrlId, minimum: i64, maximum: i64, default_value: i64) -> CtrlConfig {
     CtrlConfig {
         id,
-        kind: Kind::Integer,
+        kind,
         minimum,
         maximum,
         step: 1,
@@ -102,26 +90,11 @@ fn integer(id: CtrlId, minimum: i64, maximum: i64, default_value: i64) -> CtrlCo
     }
 }
 
-fn mode() -> CtrlConfig {
-    CtrlConfig {
-        kind: Kind::Menu,
-        ..integer(MODE, 0, 1, 0)
-    }
-}
-
-fn hflip() -> CtrlConfig {
-    CtrlConfig {
-        kind: Kind::Boolean,
-        ..integer(HFLIP, 0, 1, 0)
-    }
-}
-
 // Two lamps, bits 0 and 2. The video node doesn't show them.
 fn lamps() -> CtrlConfig {
     CtrlConfig {
-        kind: Kind::Bitmask,
         step: 0,
         is_private: true,
-        ..integer(LAMPS, 0, 0x5, 0)
+        ..config(Kind::Bitmask, LAMPS, 0, 0x5, 0)
     }
 }

@@ -22,16 +22,12 @@ type Teller = Box<dyn Fn(ClusterRow) -> u64 + Send>;
 fn main(rt: HostRuntime) -> Result<()> {
     let limit: Judge = Box::new(rt.alloc(), |row: ClusterRow| blue_verdict(&row))?;
     let exposure: Teller = Box::new(rt.alloc(), |row: ClusterRow| exposure_word(&row))?;
-    run::<Camera, HostRuntime>(&rt, limit, exposure)
+    run::<Camera>(&rt, limit, exposure)
 }
 
 // Makes the device, whose clusters have these closures, and plays with it. It is generic, since the type of a stored box can't be
 // named here.
-fn run<D: Driver, R: AllocGlobal + Print>(
-    rt: &R,
-    limit: D::Judge,
-    exposure: D::Teller,
-) -> Result<()>
+fn run<D: Driver>(rt: &HostRuntime, limit: D::Judge, exposure: D::Teller) -> Result<()>
     requires limit { D.Judge.callable limit }
     requires limit_judges { JudgesBy (D.Judge.answers limit) (D.verdict BLUE_LIMIT) }
     requires exposure { D.Teller.callable exposure }
@@ -53,7 +49,7 @@ fn run<D: Driver, R: AllocGlobal + Print>(
 }
 
 // What an application asks.
-fn play<D: Driver, R: AllocGlobal + Print>(rt: &R, device: &mut Device<D>) -> Result<()> {
+fn play<D: Driver>(rt: &HostRuntime, device: &mut Device<D>) -> Result<()> {
     let Ok(Reply::Fh(fh)) = device.handle(0, &Ask::OpenFh { handler: 1 }) else {
         bail!("the video node can't be opened");
     };
@@ -72,11 +68,7 @@ fn play<D: Driver, R: AllocGlobal + Print>(rt: &R, device: &mut Device<D>) -> Re
 }
 
 // Sets controls, and reads what was told of them.
-fn set_values<D: Driver, R: AllocGlobal + Print>(
-    rt: &R,
-    device: &mut Device<D>,
-    fh: FhId,
-) -> Result<()> {
+fn set_values<D: Driver>(rt: &HostRuntime, device: &mut Device<D>, fh: FhId) -> Result<()> {
     let exposure = [entry(MODE, 1), entry(TIME, 500), entry(GAIN, 32)];
     set(rt, device, fh, None, &exposure)?;
     ask(rt, device, "register", &Ask::Told { cluster: 0 })?;
@@ -87,8 +79,8 @@ fn set_values<D: Driver, R: AllocGlobal + Print>(
 }
 
 // Makes a request of these controls, with this buffer, and queues it.
-fn queue_frame<D: Driver, R: AllocGlobal + Print>(
-    rt: &R,
+fn queue_frame<D: Driver>(
+    rt: &HostRuntime,
     device: &mut Device<D>,
     fh: FhId,
     entries: &[ExtControl],
@@ -109,8 +101,8 @@ fn entry(id: CtrlId, value: i64) -> ExtControl {
 }
 
 // Sets controls, now or through a request.
-fn set<D: Driver, R: AllocGlobal + Print>(
-    rt: &R,
+fn set<D: Driver>(
+    rt: &HostRuntime,
     device: &mut Device<D>,
     fh: FhId,
     request: Option<RequestId>,
@@ -133,17 +125,12 @@ fn set<D: Driver, R: AllocGlobal + Print>(
 }
 
 // Asks, and prints what is answered.
-fn ask<D: Driver, R: AllocGlobal + Print>(
-    rt: &R,
-    device: &mut Device<D>,
-    what: &str,
-    ask: &Ask,
-) -> Result<()> {
+fn ask<D: Driver>(rt: &HostRuntime, device: &mut Device<D>, what: &str, ask: &Ask) -> Result<()> {
     show(rt, what, &device.handle(0, ask))?;
     Ok(())
 }
 
-fn show<R: Print>(rt: &R, what: &str, answer: &Result<Reply, Fault>) -> io::Result<()> {
+fn show(rt: &HostRuntime, what: &str, answer: &Result<Reply, Fault>) -> io::Result<()> {
     match answer {
         Ok(Reply::Controls(list)) => {
             print!(rt; "{what}:")?;
