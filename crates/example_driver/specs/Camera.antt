@@ -21,12 +21,15 @@ camera_verdict relation row = if relation.number == 1 then limited relation.boun
 abbrev pub Fits : ℤ → ℤ → Type 0
 Fits count value = (pos 0 ≤ℤ value) × (value <ℤ count)
 
--- relation 2: of mode, time and gain, 0 where the mode isn't the first bound; else the time in the upper bytes and the gain in the
--- lowest one, where they fit
+-- a word has the time in the upper bytes and the gain in the lowest one, where they fit
+abbrev pub AreJoined : ℤ → ℤ → ℕ → Type 0
+AreJoined time gain word = Fits (pos 65536) time → Fits (pos 256) gain → pos word ≡ pos 256 *ℤ time +ℤ gain
+
+-- relation 2: of mode, time and gain, 0 where the mode isn't the first bound; else the time and the gain
 abbrev pub IsExposure : List ℤ → List ℤ → ℕ → Type 0
 IsExposure (manual ∷ rest) (mode ∷ time ∷ gain ∷ []) word =
     (mode ≢ manual → word ≡ 0)
-    × (mode ≡ manual → Fits (pos 65536) time → Fits (pos 256) gain → pos word ≡ pos 256 *ℤ time +ℤ gain)
+    × (mode ≡ manual → AreJoined time gain word)
 IsExposure _ _ word = ⊤
 
 -- what the camera's notifiers may say; under another relation they may say anything

@@ -23,7 +23,8 @@ pub const RED: CtrlId = CtrlId(0x0098_090e);
 /// The share of blue.
 pub const BLUE: CtrlId = CtrlId(0x0098_090f);
 
-/// The plan of the camera. Handler 0 is the sensor's, handler 1 the video node's, which shows the sensor's controls too.
+/// The plan of the camera. Handler 0 is the sensor's, handler 1 the video node's, which shows the sensor's controls too, but for the
+/// lamps.
 ///
 /// - `of_exposure`: the calls of cluster 0, the auto cluster of mode, time and gain.
 /// - `of_balance`: those of cluster 1, red and blue.
@@ -36,39 +37,44 @@ pub fn camera_plan<D: Driver>(
     let sensor = builder.handler()?;
     let video = builder.handler()?;
     builder.add_handler(video, sensor)?;
+    // in this order: clusters have their numbers by it
     add_sensor(&mut builder, sensor, of_exposure)?;
     add_video(&mut builder, video, of_balance)?;
     or_fault(builder.finish())
 }
 
-// The sensor's controls, of which mode, time and gain are an auto cluster: it is manual where the mode is 1.
-fn add_sensor<D: Driver>(to: &mut PlanBuilder<D>, sensor: u32, calls: Calls<D>) -> Result<()> {
-    let mode = add(to, sensor, config(Kind::Menu, MODE, 0, 1, 0))?;
-    let time = add(to, sensor, config(Kind::Integer, TIME, 1, 65535, 312))?;
-    let gain = add(to, sensor, config(Kind::Integer, GAIN, 0, 255, 16))?;
-    add(to, sensor, config(Kind::Boolean, HFLIP, 0, 1, 0))?;
-    add(to, sensor, lamps())?;
-    to.menu_name(mode, 0, "Auto")?;
-    to.menu_name(mode, 1, "Manual")?;
-    or_fault(to.auto_cluster(&[mode, time, gain], 1, calls))?;
+// Adds the sensor's controls, and makes mode, time and gain an auto cluster, which is manual where the mode is 1.
+fn add_sensor<D: Driver>(builder: &mut PlanBuilder<D>, sensor: u32, calls: Calls<D>) -> Result<()> {
+    let mode = add(builder, sensor, config(MODE, Kind::Menu, 0, 1, 0))?;
+    let time = add(builder, sensor, config(TIME, Kind::Integer, 1, 65535, 312))?;
+    let gain = add(builder, sensor, config(GAIN, Kind::Integer, 0, 255, 16))?;
+    add(builder, sensor, config(HFLIP, Kind::Boolean, 0, 1, 0))?;
+    add(builder, sensor, lamps())?;
+    builder.menu_name(mode, 0, "Auto")?;
+    builder.menu_name(mode, 1, "Manual")?;
+    or_fault(builder.auto_cluster(&[mode, time, gain], 1, calls))?;
     Ok(())
 }
 
-// The video node's controls, red and blue, which are a cluster.
-fn add_video<D: Driver>(to: &mut PlanBuilder<D>, video: u32, calls: Calls<D>) -> Result<()> {
-    let red = add(to, video, config(Kind::Integer, RED, 0, 255, 128))?;
-    let blue = add(to, video, config(Kind::Integer, BLUE, 0, 255, 128))?;
-    or_fault(to.cluster(&[red, blue], calls))?;
+// Adds the video node's controls, red and blue, and makes them a cluster.
+fn add_video<D: Driver>(builder: &mut PlanBuilder<D>, video: u32, calls: Calls<D>) -> Result<()> {
+    let red = add(builder, video, config(RED, Kind::Integer, 0, 255, 128))?;
+    let blue = add(builder, video, config(BLUE, Kind::Integer, 0, 255, 128))?;
+    or_fault(builder.cluster(&[red, blue], calls))?;
     Ok(())
 }
 
-// Adds a control to a handler; its number.
-fn add<D: Driver>(to: &mut PlanBuilder<D>, handler: u32, config: CtrlConfig) -> Result<u32> {
-    let ctrl = config.build()?;
-    Ok(to.control(handler, ctrl)?)
+// Makes a control as it is described, and adds it to a handler; its number.
+fn add<D: Driver>(
+    builder: &mut PlanBuilder<D>,
+    handler: u32,
+    described: CtrlConfig,
+) -> Result<u32> {
+    let ctrl = described.build()?;
+    Ok(builder.control(handler, ctrl)?)
 }
 
-// What a call answered; a refusal hands back what the call took, which is let go here.
+// What a call answered. A refusal hands back what the call took, a value that can be let go (`Drop`), and here it is.
 fn or_fault<T, B: Drop>(answer: Result<T, (B, PlanFault)>) -> Result<T> {
     match answer {
         Ok(it) => Ok(it),
@@ -76,7 +82,8 @@ fn or_fault<T, B: Drop>(answer: Result<T, (B, PlanFault)>) -> Result<T> {
     }
 }
 
-fn config(kind: Kind, id: CtrlId, minimum: i64, maximum: i64, default_value: i64) -> CtrlConfig {
+// A control whose values lie in steps of 1, without flags, and shown by handlers that add its own.
+fn config(id: CtrlId, kind: Kind, minimum: i64, maximum: i64, default_value: i64) -> CtrlConfig {
     CtrlConfig {
         id,
         kind,
@@ -95,6 +102,6 @@ fn lamps() -> CtrlConfig {
     CtrlConfig {
         step: 0,
         is_private: true,
-        ..config(Kind::Bitmask, LAMPS, 0, 0x5, 0)
+        ..config(LAMPS, Kind::Bitmask, 0, 0x5, 0)
     }
 }

@@ -1,7 +1,7 @@
 //! What the camera's closures answer, and the relations that say so.
 
-ghost use Rattle.std.specs.Prelude.{◌≡◌, ◌≢◌, ◌↔◌, IsTrue, pos, ◌+ℤ◌, ◌*ℤ◌};
-ghost use Rattle.example_driver.specs.Camera.{Fits, camera_told, camera_verdict};
+ghost use Rattle.std.specs.Prelude.{◌≡◌};
+ghost use Rattle.example_driver.specs.Camera.{AreJoined, camera_told, camera_verdict};
 
 use ctrl_calls::{ClusterRow, Notifies, Relation, Validates, Verdict};
 
@@ -26,7 +26,7 @@ pub const BLUE_LIMIT: Relation = Relation {
     bounds: [64, 0, 0, 0],
 };
 
-/// What the notifier of mode, time and gain answers by: nothing is written unless the mode is 1, manual.
+/// What the notifier of mode, time and gain answers by: 0 unless the mode is 1, manual, else the time and the gain.
 pub const EXPOSURE_WORDS: Relation = Relation {
     number: 2,
     bounds: [1, 0, 0, 0],
@@ -60,7 +60,7 @@ pub fn exposure_word(row: &ClusterRow) -> u64
 }
 
 fn joined(time: i64, gain: i64) -> u64
-    ensures { Fits (pos 65536) time → Fits (pos 256) gain → pos result ≡ pos 256 *ℤ time +ℤ gain }
+    ensures { AreJoined time gain result }
 {
     if time < 0 || time > 65535 || gain < 0 || gain > 255 {
         return 0;

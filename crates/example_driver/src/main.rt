@@ -25,9 +25,13 @@ fn main(rt: HostRuntime) -> Result<()> {
     run::<Camera>(&rt, limit, exposure)
 }
 
-// Makes the device, whose clusters have these closures, and plays with it. It is generic, since the type of a stored box can't be
-// named here.
-fn run<D: Driver>(rt: &HostRuntime, limit: D::Judge, exposure: D::Teller) -> Result<()>
+// Makes the device, whose clusters have these closures, and plays with it. It is generic over the driver, since a type such as
+// `Validator<Camera>` can't be named.
+fn run<D: Driver>(
+    rt: &(impl AllocGlobal + Print),
+    limit: D::Judge,
+    exposure: D::Teller,
+) -> Result<()>
     requires limit { D.Judge.callable limit }
     requires limit_judges { JudgesBy (D.Judge.answers limit) (D.verdict BLUE_LIMIT) }
     requires exposure { D.Teller.callable exposure }
@@ -49,7 +53,7 @@ fn run<D: Driver>(rt: &HostRuntime, limit: D::Judge, exposure: D::Teller) -> Res
 }
 
 // What an application asks.
-fn play<D: Driver>(rt: &HostRuntime, device: &mut Device<D>) -> Result<()> {
+fn play<D: Driver>(rt: &(impl AllocGlobal + Print), device: &mut Device<D>) -> Result<()> {
     let Ok(Reply::Fh(fh)) = device.handle(0, &Ask::OpenFh { handler: 1 }) else {
         bail!("the video node can't be opened");
     };
@@ -67,8 +71,12 @@ fn play<D: Driver>(rt: &HostRuntime, device: &mut Device<D>) -> Result<()> {
     Ok(())
 }
 
-// Sets controls, and reads what was told of them.
-fn set_values<D: Driver>(rt: &HostRuntime, device: &mut Device<D>, fh: FhId) -> Result<()> {
+// Sets controls, and reads what was told of them and the name of an item.
+fn set_values<D: Driver>(
+    rt: &(impl AllocGlobal + Print),
+    device: &mut Device<D>,
+    fh: FhId,
+) -> Result<()> {
     let exposure = [entry(MODE, 1), entry(TIME, 500), entry(GAIN, 32)];
     set(rt, device, fh, None, &exposure)?;
     ask(rt, device, "register", &Ask::Told { cluster: 0 })?;
@@ -80,7 +88,7 @@ fn set_values<D: Driver>(rt: &HostRuntime, device: &mut Device<D>, fh: FhId) -> 
 
 // Makes a request of these controls, with this buffer, and queues it.
 fn queue_frame<D: Driver>(
-    rt: &HostRuntime,
+    rt: &(impl AllocGlobal + Print),
     device: &mut Device<D>,
     fh: FhId,
     entries: &[ExtControl],
@@ -102,7 +110,7 @@ fn entry(id: CtrlId, value: i64) -> ExtControl {
 
 // Sets controls, now or through a request.
 fn set<D: Driver>(
-    rt: &HostRuntime,
+    rt: &(impl AllocGlobal + Print),
     device: &mut Device<D>,
     fh: FhId,
     request: Option<RequestId>,
@@ -125,12 +133,12 @@ fn set<D: Driver>(
 }
 
 // Asks, and prints what is answered.
-fn ask<D: Driver>(rt: &HostRuntime, device: &mut Device<D>, what: &str, ask: &Ask) -> Result<()> {
+fn ask<D: Driver>(rt: &impl Print, device: &mut Device<D>, what: &str, ask: &Ask) -> Result<()> {
     show(rt, what, &device.handle(0, ask))?;
     Ok(())
 }
 
-fn show(rt: &HostRuntime, what: &str, answer: &Result<Reply, Fault>) -> io::Result<()> {
+fn show(rt: &impl Print, what: &str, answer: &Result<Reply, Fault>) -> io::Result<()> {
     match answer {
         Ok(Reply::Controls(list)) => {
             print!(rt; "{what}:")?;
