@@ -13,6 +13,8 @@ mod devices;
 #[cfg(test)]
 mod lines;
 #[cfg(test)]
+mod pair;
+#[cfg(test)]
 mod reasons;
 #[cfg(test)]
 mod scripts;

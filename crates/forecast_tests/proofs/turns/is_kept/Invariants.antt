@@ -1,6 +1,0 @@
-use Rattle.forecast_tests.specs.Kept.{IsKept}
-use Rattle.forecast_tests.proofs.turns.is_kept.Given as goal
-
--- the board is kept
-abbrev pub invariant-loop : goal.invariant-loop
-invariant-loop l = IsKept l.plan l.scene.values.items l.scene.grabs.items l.scene.board

@@ -1,0 +1,185 @@
+// Rows that are written, and notifiers that hear of them.
+use super::planning::{BYTE, Made, Named, plan_of};
+use super::rows::{Two, are_rows, is_work, kept_rows, rows_of};
+use crate::cluster::common::pairs_of;
+use crate::cluster::driver::Strict;
+use ctrl_calls::Work;
+use ctrl_clusters::{first_words, notify_changed, write_rows};
+use ctrl_handlers::Plan;
+use ctrl_types::{CtrlValue, Pair};
+use std::alloc::{AllocError, Global};
+use std::process::Abort;
+use std::sync::Arc;
+use std::sync::atomic::{AtomicU64, Ordering};
+use std::test::Fail;
+
+// A plan whose clusters but the last have notifiers, and what its values are.
+const NOTIFIED: &[Made] = &[BYTE, BYTE, Made::Button, Made::Acting, BYTE];
+
+const HEARD: &[Named] = &[
+    Named::Heard(&[1, 0]),
+    Named::Heard(&[2]),
+    Named::Heard(&[3]),
+    Named::Plain(&[4]),
+];
+
+const VALUES: &[CtrlValue] = &[10, 11, 0, 13, 14];
+
+// Rows that are written, and the values then.
+const WRITTEN: &[(Two, &[CtrlValue])] = &[
+    (&[(0, &[21, 20]), (2, &[23])], &[20, 21, 0, 23, 14]),
+    (&[(2, &[23]), (0, &[21, 20])], &[20, 21, 0, 23, 14]),
+    (&[(3, &[24]), (1, &[0])], &[10, 11, 0, 13, 24]),
+    (&[(0, &[21, 10]), (3, &[14])], &[10, 21, 0, 13, 14]),
+];
+
+fn is_written(
+    plan: &Plan<Strict>,
+    values: &mut Vec<CtrlValue>,
+    two: Two,
+    want: &[CtrlValue],
+) -> bool {
+    let Some(rows) = rows_of(two) else {
+        return false;
+    };
+    if values.len() != plan.controls().len() || !are_rows(plan, &rows) {
+        return false;
+    }
+    write_rows(plan, values, &rows);
+    values.as_slice() == want
+}
+
+#[test]
+fn rows_are_written(rt: HostRuntime) -> Result<(), Fail> {
+    let alloc = rt.alloc();
+    let plan = plan_of(alloc, NOTIFIED, HEARD, &mut Vec::new(alloc))?;
+    for &(two, want) in WRITTEN {
+        let mut values = Vec::new(alloc);
+        values.extend_from_slice(VALUES)?;
+        assert!(rt; is_written(&plan, &mut values, two, want), "{two:?}");
+    }
+    Ok(())
+}
+
+// What is laid over the values, and the rows that two clusters get; the words then, and how often each of the notifiers was called.
+#[derive(Clone, Copy, Debug)]
+struct Change {
+    pairs: &'static [(u32, CtrlValue)],
+    rows: Two,
+    words: [u64; 4],
+    counts: [u64; 3],
+    told: u64,
+}
+
+// The words before.
+const WORDS: [u64; 4] = [90, 91, 92, 93];
+
+const CHANGES: &[Change] = &[
+    // in rising number of the clusters, whatever the order of the rows
+    Change {
+        pairs: &[(3, 23), (0, 20)],
+        rows: &[(2, &[23]), (0, &[21, 20])],
+        words: [21_020, 91, 1_023, 93],
+        counts: [1, 0, 1],
+        told: 2,
+    },
+    // a button that is asked counts as changed, and a row that is as before doesn't
+    Change {
+        pairs: &[(2, 1), (0, 10)],
+        rows: &[(0, &[11, 10]), (1, &[0])],
+        words: [90, 0, 92, 93],
+        counts: [0, 1, 0],
+        told: 1,
+    },
+    // so does another control that acts on each write; a button that isn't asked doesn't
+    Change {
+        pairs: &[(3, 13)],
+        rows: &[(1, &[0]), (2, &[13])],
+        words: [90, 91, 13, 93],
+        counts: [0, 0, 1],
+        told: 1,
+    },
+    Change {
+        pairs: &[(0, 10), (4, 14)],
+        rows: &[(1, &[0]), (2, &[13])],
+        words: WORDS,
+        counts: [0, 0, 0],
+        told: 0,
+    },
+    // nobody hears of a cluster without a notifier, whose word is 0; one member that differs is enough
+    Change {
+        pairs: &[(4, 24)],
+        rows: &[(3, &[24]), (0, &[11, 20])],
+        words: [11_020, 91, 92, 0],
+        counts: [1, 0, 0],
+        told: 1,
+    },
+];
+
+fn are_told(
+    alloc: Global,
+    plan: &Plan<Strict>,
+    pairs: &[Pair],
+    words: &mut Vec<u64>,
+    change: &Change,
+) -> Result<bool, AllocError> {
+    let Some(rows) = kept_rows(alloc, plan.cluster_count(), change.rows)? else {
+        return Ok(false);
+    };
+    if plan.controls().len() != VALUES.len() || plan.cluster_count() as usize != words.len() {
+        return Ok(false);
+    }
+    let mut work = Work::new();
+    if !are_rows(plan, rows.as_slice()) {
+        return Ok(false);
+    }
+    notify_changed(plan, VALUES, pairs, &rows, words, &mut work);
+    Ok(words.as_slice() == change.words.as_slice() && is_work(&work, 0, change.told))
+}
+
+fn are_counts(heard: &[Arc<AtomicU64>], counts: &[u64]) -> bool {
+    for (count, own) in counts.iter().zip(heard) {
+        if own.load(Ordering::SeqCst) != *count {
+            return false;
+        }
+    }
+    heard.len() == counts.len()
+}
+
+// The change notifies those that it should, on a plan of its own.
+fn notifies(rt: &impl Abort, alloc: Global, change: &Change) -> Result<(), Fail> {
+    let mut heard = Vec::new(alloc);
+    let plan = plan_of(alloc, NOTIFIED, HEARD, &mut heard)?;
+    let pairs = pairs_of(alloc, change.pairs)?;
+    let mut words = Vec::new(alloc);
+    words.extend_from_slice(&WORDS)?;
+    let is_told = are_told(alloc, &plan, pairs.as_slice(), &mut words, change)?;
+    assert!(rt;
+        is_told && are_counts(heard.as_slice(), &change.counts),
+        "{change:?}"
+    );
+    Ok(())
+}
+
+#[test]
+fn changed_clusters_are_notified(rt: HostRuntime) -> Result<(), Fail> {
+    for change in CHANGES {
+        notifies(&rt, rt.alloc(), change)?;
+    }
+    Ok(())
+}
+
+// Each notifier is called once, in rising number of the clusters.
+#[test]
+fn first_words_of_notifiers(rt: HostRuntime) -> Result<(), Fail> {
+    let alloc = rt.alloc();
+    let mut heard = Vec::new(alloc);
+    let plan = plan_of(alloc, NOTIFIED, HEARD, &mut heard)?;
+    if plan.controls().len() != VALUES.len() {
+        return Err(Fail::new("five controls"));
+    }
+    let words = first_words(alloc, &plan, VALUES)?;
+    let are_words = words.as_slice() == [11_010, 1_000, 2_013, 0].as_slice();
+    assert!(rt; are_words && are_counts(heard.as_slice(), &[1, 1, 1]));
+    Ok(())
+}

@@ -1,0 +1,186 @@
+// What a plan is asked at values, as data.
+ghost use Rattle.std.specs.Prelude.{◌≡◌, length};
+ghost use Rattle.ctrl_clusters.specs.Rows.{AreControlsOf};
+
+use super::planning::{Made, Named, plan_of};
+use super::rows::{is_row, is_work};
+use crate::cluster::common::pairs_of;
+use crate::cluster::driver::Strict;
+use bitflags::Flags as FlagSet;
+use ctrl_calls::{ClusterRow, Work};
+use ctrl_clusters::{becomes, flags_under, inactive, judge, present_row};
+use ctrl_forecast::overlay;
+use ctrl_handlers::Plan;
+use ctrl_settle::Ctrl;
+use ctrl_types::{CtrlValue, Errno, Pair};
+use std::alloc::{AllocError, Global};
+use std::process::Abort;
+use std::test::Fail;
+
+/// What a plan is asked, and what it answers.
+#[derive(Clone, Copy, Debug)]
+pub enum Look {
+    // what the row of a cluster becomes under pairs, and how many validators are asked
+    Becomes(u32, &'static [(u32, CtrlValue)], Answer, u64),
+    // what a cluster makes of a row, and how many validators are asked
+    Judges(u32, &'static [CtrlValue], Answer, u64),
+    // the row of some controls
+    Row(&'static [u32], &'static [CtrlValue]),
+    // the control is inactive
+    Inactive(u32, bool),
+    // the flags of a control under grabs
+    Flags(u32, &'static [bool], u32),
+    // under grabs pairs are laid over the values: the values then, the clusters that are refused, and how many validators are asked
+    Lays(&'static [bool], &'static [(u32, CtrlValue)], &'static [CtrlValue], &'static [u32], u64),
+}
+
+pub type Answer = Result<&'static [CtrlValue], Errno>;
+
+fn is_answer(answer: Result<ClusterRow, Errno>, want: Answer) -> bool {
+    match (answer, want) {
+        (Ok(row), Ok(values)) => is_row(row, values),
+        (Err(errno), Err(wanted)) => errno == wanted,
+        _ => false,
+    }
+}
+
+fn is_becoming(
+    plan: &Plan<Strict>,
+    controls: &[Ctrl],
+    values: &[CtrlValue],
+    cluster: u32,
+    pairs: &[Pair],
+    want: Answer,
+    asked: u64,
+) -> bool
+    requires controls { AreControlsOf plan.now controls.now }
+    requires values { length values.now ≡ length plan.now.controls }
+{
+    if cluster >= plan.cluster_count() {
+        return false;
+    }
+    let mut work = Work::new();
+    let row = becomes(plan, controls, cluster, values, pairs, &mut work);
+    is_answer(row, want) && is_work(&work, asked, 0)
+}
+
+fn is_judged(
+    plan: &Plan<Strict>,
+    controls: &[Ctrl],
+    cluster: u32,
+    row: &[CtrlValue],
+    want: Answer,
+    asked: u64,
+) -> bool
+    requires controls { AreControlsOf plan.now controls.now }
+{
+    if cluster >= plan.cluster_count() || row.len() != plan.members(cluster).len() {
+        return false;
+    }
+    let Some(row) = ClusterRow::from_slice(row) else {
+        return false;
+    };
+    let mut work = Work::new();
+    let row = judge(plan, controls, cluster, &row, &mut work);
+    is_answer(row, want) && is_work(&work, asked, 0)
+}
+
+fn has_row(values: &[CtrlValue], members: &[u32], want: &[CtrlValue]) -> bool {
+    let count = values.len();
+    if members.len() > 8 || !members.iter().all(|member| (*member as usize) < count) {
+        return false;
+    }
+    is_row(present_row(values, members), want)
+}
+
+fn has_flags(
+    plan: &Plan<Strict>,
+    values: &[CtrlValue],
+    grabs: &[bool],
+    control: u32,
+    want: u32,
+) -> bool
+    requires values { length values.now ≡ length plan.now.controls }
+{
+    let count = plan.control_count();
+    control < count
+        && grabs.len() == count as usize
+        && flags_under(plan, values, grabs, control).bits() == want
+}
+
+fn lays(
+    alloc: Global,
+    plan: &Plan<Strict>,
+    controls: &[Ctrl],
+    values: &[CtrlValue],
+    grabs: &[bool],
+    pairs: &[Pair],
+    want: (&[CtrlValue], &[u32], u64),
+) -> Result<bool, AllocError>
+    requires controls { AreControlsOf plan.now controls.now }
+    requires values { length values.now ≡ length plan.now.controls }
+{
+    let mut work = Work::new();
+    let laid = overlay(alloc, plan, controls, values, grabs, pairs, &mut work)?;
+    let is_laid = laid.values.as_slice() == want.0 && laid.refused.as_slice() == want.1;
+    Ok(is_laid && is_work(&work, want.2, 0))
+}
+
+pub fn shows(
+    alloc: Global,
+    plan: &Plan<Strict>,
+    controls: &[Ctrl],
+    values: &[CtrlValue],
+    look: Look,
+) -> Result<bool, Fail>
+    requires controls { AreControlsOf plan.now controls.now }
+    requires values { length values.now ≡ length plan.now.controls }
+{
+    Ok(match look {
+        Look::Becomes(cluster, asked, want, count) => {
+            let pairs = pairs_of(alloc, asked)?;
+            is_becoming(
+                plan,
+                controls,
+                values,
+                cluster,
+                pairs.as_slice(),
+                want,
+                count,
+            )
+        }
+        Look::Judges(cluster, row, want, asked) => {
+            is_judged(plan, controls, cluster, row, want, asked)
+        }
+        Look::Row(members, want) => has_row(values, members, want),
+        Look::Inactive(control, want) => {
+            control < plan.control_count() && inactive(plan, values, control) == want
+        }
+        Look::Flags(control, grabs, want) => has_flags(plan, values, grabs, control, want),
+        Look::Lays(grabs, asked, want, refused, count) => {
+            let pairs = pairs_of(alloc, asked)?;
+            let want = (want, refused, count);
+            lays(alloc, plan, controls, values, grabs, pairs.as_slice(), want)?
+        }
+    })
+}
+
+/// A plan of these controls and clusters shows this at these values.
+pub fn holds(
+    rt: &impl Abort,
+    alloc: Global,
+    made: &[Made],
+    named: &[Named],
+    values: &[CtrlValue],
+    looks: &[Look],
+) -> Result<(), Fail> {
+    let plan = plan_of(alloc, made, named, &mut Vec::new(alloc))?;
+    if values.len() != plan.controls().len() {
+        return Err(Fail::new("a value for each control"));
+    }
+    for &look in looks {
+        let is_shown = shows(alloc, &plan, plan.controls(), values, look)?;
+        assert!(rt; is_shown, "{look:?}");
+    }
+    Ok(())
+}

@@ -1,0 +1,117 @@
+// Plans of one handler, as data.
+use crate::cluster::driver::{Judge, Says, Strict, relation};
+use bitflags::Flags as FlagSet;
+use ctrl_calls::{Calls, Notifier, Validator};
+use ctrl_handlers::{Plan, PlanBuilder};
+use ctrl_settle::Ctrl;
+use ctrl_types::{CtrlId, Flags, Kind};
+use std::alloc::Global;
+use std::sync::Arc;
+use std::sync::atomic::AtomicU64;
+use std::test::Fail;
+
+/// Controls that a plan has.
+#[derive(Clone, Copy, Debug)]
+pub enum Made {
+    // a number from 0 to a maximum, in steps
+    Number(i64, u64),
+    // a menu of 0 to 3 that skips 2
+    Menu,
+    Button,
+    // a number of 0 to 255 that acts on each write
+    Acting,
+}
+
+/// Clusters that it has.
+#[derive(Clone, Copy, Debug)]
+pub enum Named {
+    Plain(&'static [u32]),
+    // with a validator of this relation
+    Judged(&'static [u32], u32),
+    Auto(&'static [u32], i64),
+    // with a notifier
+    Heard(&'static [u32]),
+}
+
+fn control(id: u32, made: Made) -> Result<Ctrl, Fail> {
+    let none = Flags::empty();
+    let (kind, maximum, step, skip, flags) = match made {
+        Made::Number(maximum, step) => (Kind::Integer, maximum, step, 0, none),
+        Made::Menu => (Kind::Menu, 3, 1, 4, none),
+        Made::Button => (Kind::Button, 0, 0, 0, none),
+        Made::Acting => (Kind::Integer, 255, 1, 0, Flags::EXECUTE_ON_WRITE),
+    };
+    match Ctrl::new(CtrlId(id), kind, 0, maximum, step, 0, skip, flags, false) {
+        Ok(ctrl) => Ok(ctrl),
+        Err(_) => Err(Fail::new("a control")),
+    }
+}
+
+fn name(
+    builder: &mut PlanBuilder<Strict>,
+    named: Named,
+    notifier: Option<Notifier<Strict>>,
+) -> Result<(), Fail> {
+    let mut calls = Calls {
+        validator: None,
+        notifier,
+    };
+    let answer = match named {
+        Named::Plain(members) | Named::Heard(members) => builder.cluster(members, calls),
+        Named::Auto(members, manual) => builder.auto_cluster(members, manual, calls),
+        Named::Judged(members, number) => {
+            let relation = relation(number);
+            calls.validator = Some(Validator::new(relation, Judge { number }));
+            builder.cluster(members, calls)
+        }
+    };
+    match answer {
+        Ok(_) => Ok(()),
+        Err(_) => Err(Fail::new("a cluster")),
+    }
+}
+
+// A notifier of its own for a cluster that has one; its calls are counted by the last of `heard`.
+fn notifier(
+    alloc: Global,
+    named: Named,
+    all: &Arc<AtomicU64>,
+    heard: &mut Vec<Arc<AtomicU64>>,
+) -> Result<Option<Notifier<Strict>>, Fail> {
+    match named {
+        Named::Heard(_) => {
+            let own = Arc::new(alloc, AtomicU64::new(0))?;
+            heard.push(own.clone()?)?;
+            let all = all.clone()?;
+            Ok(Some(Notifier::new(relation(0), Says { own, all })))
+        }
+        Named::Plain(_) | Named::Judged(_, _) | Named::Auto(_, _) => Ok(None),
+    }
+}
+
+/// A plan of one handler with these controls and clusters.
+pub fn plan_of(
+    alloc: Global,
+    made: &[Made],
+    named: &[Named],
+    heard: &mut Vec<Arc<AtomicU64>>,
+) -> Result<Plan<Strict>, Fail> {
+    let all = Arc::new(alloc, AtomicU64::new(0))?;
+    let mut builder = PlanBuilder::new(alloc);
+    let handler = builder.handler()?;
+    let mut id: u32 = 0;
+    for &made in made {
+        builder.control(handler, control(id, made)?)?;
+        id = id.wrapping_add(1);
+    }
+    for named in named {
+        let notifier = notifier(alloc, *named, &all, heard)?;
+        name(&mut builder, *named, notifier)?;
+    }
+    match builder.finish() {
+        Ok(plan) => Ok(plan),
+        Err(_) => Err(Fail::new("the plan")),
+    }
+}
+
+pub const BYTE: Made = Made::Number(255, 1);

@@ -1,0 +1,126 @@
+// Rows of clusters as data, and whether they are those of a plan.
+ghost use Rattle.std.specs.Prelude.{◌≡◌, ◌<◌, length, IsTrue};
+ghost use Rattle.ctrl_handlers.specs.Plan.{members};
+ghost use Rattle.ctrl_clusters.specs.NewRows.{AreNewRows};
+
+use crate::cluster::driver::Strict;
+use ctrl_calls::{ClusterRow, Work};
+use ctrl_clusters::{NewRow, NewRows, value_in};
+use ctrl_handlers::Plan;
+use ctrl_types::CtrlValue;
+use std::alloc::{AllocError, Global};
+use std::test::Fail;
+
+pub fn is_row(row: ClusterRow, want: &[CtrlValue]) -> bool {
+    ClusterRow::from_slice(want) == Some(row)
+}
+
+pub fn is_work(work: &Work, asked: u64, told: u64) -> bool {
+    work.asked == asked && work.told == told
+}
+
+/// Rows that two clusters get.
+pub type Two = &'static [(u32, &'static [CtrlValue])];
+
+pub fn rows_of(two: Two) -> Option<[NewRow; 2]> {
+    let &[(one, first), (other, second)] = two else {
+        return None;
+    };
+    let first = NewRow {
+        cluster: one,
+        row: ClusterRow::from_slice(first)?,
+    };
+    let second = NewRow {
+        cluster: other,
+        row: ClusterRow::from_slice(second)?,
+    };
+    Some([first, second])
+}
+
+/// The rows, each to be looked up under its cluster, which is one of so many.
+pub fn kept_rows(alloc: Global, clusters: u32, two: Two) -> Result<Option<NewRows>, AllocError> {
+    let Some(two) = rows_of(two) else {
+        return Ok(None);
+    };
+    let [first, second] = two;
+    let mut rows = NewRows::with_capacity(alloc, clusters, 2)?;
+    if first.cluster >= clusters || second.cluster >= clusters {
+        return Ok(None);
+    }
+    rows.push_reserved(first);
+    if rows.among(second.cluster).is_some() {
+        return Ok(None);
+    }
+    rows.push_reserved(second);
+    Ok(Some(rows))
+}
+
+/// Whether the rows are of two clusters of the plan, with a value for each member.
+pub fn are_rows(plan: &Plan<Strict>, rows: &[NewRow]) -> bool
+    ensures { IsTrue result → AreNewRows plan.now rows.now }
+{
+    match rows {
+        [one, other] => one.cluster != other.cluster && fits(plan, one) && fits(plan, other),
+        _ => false,
+    }
+}
+
+fn fits(plan: &Plan<Strict>, new: &NewRow) -> bool
+    ensures { IsTrue result → (new.now.cluster < length plan.now.clusters) × (length new.now.row ≡ length (members plan.now new.now.cluster)) }
+{
+    new.cluster < plan.cluster_count() && new.row.len() == plan.members(new.cluster).len()
+}
+
+// Members, a value for each of them, a control, and the value that the row gives it.
+const GIVEN: &[(&[u32], &[CtrlValue], u32, Option<CtrlValue>)] = &[
+    (&[4, 2], &[40, 20], 4, Some(40)),
+    (&[4, 2], &[40, 20], 2, Some(20)),
+    (&[4, 2], &[40, 20], 0, None),
+];
+
+fn gives(members: &[u32], row: &[CtrlValue], control: u32, want: Option<CtrlValue>) -> bool {
+    match ClusterRow::from_slice(row) {
+        Some(row) if row.len() == members.len() => value_in(members, &row, control) == want,
+        _ => false,
+    }
+}
+
+#[test]
+fn values_of_a_row(rt: HostRuntime) {
+    for &(members, row, control, want) in GIVEN {
+        assert!(rt; gives(members, row, control, want), "{control}");
+    }
+}
+
+// Rows of clusters below 8, a cluster, and the row that it gets among them.
+const AMONG: &[(Two, u32, Option<&[CtrlValue]>)] = &[
+    (&[(7, &[1, 2]), (3, &[5])], 7, Some(&[1, 2])),
+    (&[(7, &[1, 2]), (3, &[5])], 3, Some(&[5])),
+    (&[(7, &[1, 2]), (3, &[5])], 0, None),
+    (&[(7, &[1, 2]), (3, &[5])], 8, None),
+    (&[(7, &[1, 2]), (3, &[5])], u32::MAX, None),
+];
+
+fn is_among(
+    alloc: Global,
+    two: Two,
+    cluster: u32,
+    want: Option<&[CtrlValue]>,
+) -> Result<bool, AllocError> {
+    let Some(rows) = kept_rows(alloc, 8, two)? else {
+        return Ok(false);
+    };
+    Ok(match (rows.among(cluster), want) {
+        (Some(row), Some(values)) => is_row(row, values),
+        (None, None) => true,
+        _ => false,
+    })
+}
+
+#[test]
+fn rows_among_others(rt: HostRuntime) -> Result<(), Fail> {
+    for &(two, cluster, want) in AMONG {
+        assert!(rt; is_among(rt.alloc(), two, cluster, want)?, "{cluster}");
+    }
+    Ok(())
+}

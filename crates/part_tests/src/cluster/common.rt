@@ -1,0 +1,37 @@
+//! Pairs as data, and whether controls are those of a plan.
+ghost use Rattle.std.specs.Prelude.{◌≡◌, IsTrue};
+ghost use Rattle.ctrl_clusters.specs.Rows.{AreControlsOf};
+
+use crate::cluster::driver::Strict;
+use ctrl_handlers::Plan;
+use ctrl_settle::Ctrl;
+use ctrl_types::{CtrlValue, Pair};
+use std::alloc::Global;
+use std::test::Fail;
+
+pub fn pairs_of(alloc: Global, asked: &[(u32, CtrlValue)]) -> Result<Vec<Pair>, Fail> {
+    let mut pairs = Vec::new(alloc);
+    for &(control, value) in asked {
+        pairs.push(Pair { control, value })?;
+    }
+    Ok(pairs)
+}
+
+/// Whether these are the two controls of a plan, maybe with other bounds or defaults.
+pub fn are_of(plan: &Plan<Strict>, controls: &[Ctrl]) -> bool
+    ensures { IsTrue result → AreControlsOf plan.now controls.now }
+{
+    match (plan.controls(), controls) {
+        ([first, second], [one, other]) => is_alike(first, one) && is_alike(second, other),
+        _ => false,
+    }
+}
+
+fn is_alike(own: &Ctrl, other: &Ctrl) -> bool
+    ensures { IsTrue result → (own.now.id ≡ other.now.id) × (own.now.kind ≡ other.now.kind) × (own.now.flags ≡ other.now.flags) × (own.now.skip ≡ other.now.skip) }
+{
+    own.id() == other.id()
+        && own.kind() == other.kind()
+        && own.flags() == other.flags()
+        && own.skip() == other.skip()
+}

@@ -1,0 +1,204 @@
+// A plan of six controls, and the calls that it is asked, as data.
+ghost use Rattle.std.specs.Prelude.{◌≡◌, length};
+ghost use Rattle.ctrl_clusters.specs.Rows.{AreControlsOf};
+
+use crate::cluster::common::pairs_of;
+use crate::cluster::driver::{Judge, Strict, relation};
+use bitflags::Flags as FlagSet;
+use ctrl_calls::{Calls, Validator, Work};
+use ctrl_handlers::{Plan, PlanBuilder};
+use ctrl_lists::{ControlList, View, plan_set, read_list, try_list};
+use ctrl_settle::Ctrl;
+use ctrl_types::{CtrlId, CtrlValue, Errno, ExtControl, Fault, Flags, Kind, Which};
+use std::alloc::Global;
+use std::process::Abort;
+use std::test::Fail;
+
+// The relation that takes each row as it is, and one that refuses with EBUSY.
+const TAKING: u32 = 0;
+
+const REFUSING: u32 = 7;
+
+fn validated(number: u32) -> Calls<Strict> {
+    Calls {
+        validator: Some(Validator::new(relation(number), Judge { number })),
+        notifier: None,
+    }
+}
+
+/// A control of 0 to 255: its id, its default and its flags.
+pub type Made = (u32, CtrlValue, u32);
+
+/// A plan of one handler with these controls. Controls 0 and 1 are a cluster that takes each row; where there are more, 2 is one that takes
+/// none, and no other has a validator.
+pub fn plan_of(alloc: Global, made: &[Made]) -> Result<Plan<Strict>, Fail> {
+    let mut builder = PlanBuilder::new(alloc);
+    let handler = builder.handler()?;
+    for &(id, default, bits) in made {
+        let flags = Flags::from_bits_retain(bits);
+        match Ctrl::new(
+            CtrlId(id),
+            Kind::Integer,
+            0,
+            255,
+            1,
+            default,
+            0,
+            flags,
+            false,
+        ) {
+            Ok(ctrl) => builder.control(handler, ctrl)?,
+            Err(_) => return Err(Fail::new("a control")),
+        };
+    }
+    name(&mut builder, &[0, 1], TAKING)?;
+    if made.len() > 2 {
+        name(&mut builder, &[2], REFUSING)?;
+    }
+    match builder.finish() {
+        Ok(plan) => Ok(plan),
+        Err(_) => Err(Fail::new("the plan")),
+    }
+}
+
+fn name(builder: &mut PlanBuilder<Strict>, members: &[u32], number: u32) -> Result<(), Fail> {
+    match builder.cluster(members, validated(number)) {
+        Ok(_) => Ok(()),
+        Err(_) => Err(Fail::new("a cluster")),
+    }
+}
+
+pub const FIRST: u32 = 0x0098_0900;
+
+pub const CAMERA: u32 = 0x009a_0900;
+
+/// 3 is READ_ONLY, 4 WRITE_ONLY, and 5, of the camera class, DISABLED.
+pub const SIX: &[Made] = &[
+    (FIRST, 7, 0),
+    (FIRST + 1, 7, 0),
+    (FIRST + 2, 7, 0),
+    (FIRST + 3, 7, 0x4),
+    (FIRST + 4, 7, 0x40),
+    (CAMERA, 7, 0x1),
+];
+
+pub const VALUES: [CtrlValue; 6] = [10, 11, 12, 13, 14, 15];
+
+// control 0 is grabbed
+const GRABS: [bool; 6] = [true, false, false, false, false, false];
+
+/// An id and a value.
+pub type Entry = (u32, CtrlValue);
+
+pub type Answer = Result<&'static [Entry], (Errno, u32)>;
+
+#[derive(Clone, Copy, Debug, PartialEq, Eq)]
+pub enum Call {
+    Read,
+    Set,
+    Try,
+}
+
+/// A call, what it speaks of, the pairs from before and the entries; what it is answered, and how many validators are asked.
+pub type Case = (
+    Call,
+    Which,
+    &'static [(u32, CtrlValue)],
+    &'static [Entry],
+    Answer,
+    u64,
+);
+
+pub fn list_of(alloc: Global, entries: &[Entry]) -> Result<ControlList, Fail> {
+    let mut items = Vec::new(alloc);
+    for &(id, value) in entries {
+        let id = CtrlId(id);
+        items.push(ExtControl { id, value })?;
+    }
+    if items.len() > 100 {
+        return Err(Fail::new("a short list"));
+    }
+    Ok(ControlList::from_vec(items))
+}
+
+// What the call is answered, where the view speaks of this; the defaults can only be read.
+fn answer(
+    alloc: Global,
+    plan: &Plan<Strict>,
+    view: &View<'_>,
+    which: Which,
+    call: Call,
+    list: &ControlList,
+    work: &mut Work,
+) -> Result<ControlList, Fault>
+    requires which { view.now.which ≡ which }
+    requires controls { AreControlsOf plan.now view.now.controls }
+    requires values { length view.now.values ≡ length plan.now.controls }
+    requires grabs { length view.now.grabs ≡ length plan.now.controls }
+{
+    if call == Call::Read || which == Which::Defaults {
+        return read_list(alloc, plan, view, list);
+    }
+    let judged = if call == Call::Set {
+        plan_set(alloc, plan, view, list, work)
+    } else {
+        try_list(alloc, plan, view, list, work)
+    };
+    match judged {
+        Ok(touched) => {
+            let (answers, _) = touched.into_parts();
+            Ok(answers)
+        }
+        Err(fault) => Err(fault),
+    }
+}
+
+pub fn are_entries(answers: &[ExtControl], want: &[Entry]) -> bool {
+    for (answer, &(id, value)) in answers.iter().zip(want) {
+        if answer.id.0 != id || answer.value != value {
+            return false;
+        }
+    }
+    answers.len() == want.len()
+}
+
+fn is_answer(answer: &Result<ControlList, Fault>, want: Answer) -> bool {
+    match (answer, want) {
+        (Ok(list), Ok(entries)) => are_entries(list.as_slice(), entries),
+        (Err(fault), Err((errno, index))) => fault.errno == errno && fault.index == Some(index),
+        _ => false,
+    }
+}
+
+/// Whether the call is answered so, where a plan's controls are these.
+pub fn shows(
+    alloc: Global,
+    plan: &Plan<Strict>,
+    controls: &[Ctrl],
+    case: Case,
+) -> Result<bool, Fail>
+    requires controls { AreControlsOf plan.now controls.now }
+{
+    let (call, which, before, entries, want, asked) = case;
+    let count = plan.controls().len();
+    if count > 6 {
+        return Ok(false);
+    }
+    let pairs = pairs_of(alloc, before)?;
+    let (values, grabs) = (&VALUES[..count], &GRABS[..count]);
+    let view = View::new(0, which, controls, values, grabs, pairs.as_slice());
+    let list = list_of(alloc, entries)?;
+    let mut work = Work::new();
+    let got = answer(alloc, plan, &view, which, call, &list, &mut work);
+    Ok(is_answer(&got, want) && work.asked == asked && work.told == 0)
+}
+
+/// The plan of six answers these.
+pub fn holds(rt: &impl Abort, alloc: Global, cases: &[Case]) -> Result<(), Fail> {
+    let plan = plan_of(alloc, SIX)?;
+    for &case in cases {
+        let is_shown = shows(alloc, &plan, plan.controls(), case)?;
+        assert!(rt; is_shown, "{case:?}");
+    }
+    Ok(())
+}

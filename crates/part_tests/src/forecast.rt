@@ -1,0 +1,8 @@
+//! Tests of forecasts that are kept while frames wait: changes are drawn from a fixed seed, and after each of them the rows that are kept are
+//! compared with those that are computed anew, and the validators that were asked are counted.
+
+mod dice;
+mod driver;
+mod planning;
+mod scene;
+mod turns;

@@ -1,0 +1,137 @@
+//! File handles that are subscribed to the events of controls.
+
+ghost use Rattle.std.specs.Prelude.{ℕ, ◌≡◌, ◌≤◌, length};
+ghost use Rattle.ctrl_events.specs.Events.{events_of};
+
+use crate::raise::planning::Silent;
+use bitflags::Flags as FlagSet;
+use ctrl_events::{Event, Events, Payload};
+use ctrl_handlers::Plan;
+use ctrl_raises::{Moment, raise_between};
+use ctrl_types::{Changes, CtrlId, CtrlValue, Errno, FhId, Flags, Kind, Pair, SubFlags};
+use std::alloc::Global;
+use std::test::Fail;
+
+// What a subscription would tell at once; none of these does.
+const UNTOLD: Payload = Payload {
+    id: CtrlId(0),
+    kind: Kind::Integer,
+    value: 0,
+    flags: Flags::READ_ONLY,
+    minimum: 0,
+    maximum: 0,
+    step: 0,
+    default_value: 0,
+};
+
+// A file handle, a control, and the flags of its subscription: 0 has all without feedback, 1 all with it, 2 one without.
+const SUBSCRIBED: &[(u32, u32, u32)] = &[
+    (0, 0, 0),
+    (0, 1, 0),
+    (0, 2, 0),
+    (0, 3, 0),
+    (0, 4, 0),
+    (1, 0, 2),
+    (1, 1, 2),
+    (1, 2, 2),
+    (1, 3, 2),
+    (1, 4, 2),
+    (2, 3, 0),
+];
+
+// The most subscriptions.
+const MOST: u32 = 100;
+
+/// The events of file handles, and how many subscriptions were made.
+#[derive(Drop)]
+pub(crate) struct Listeners {
+    events: Events,
+    calls: u32,
+    ghost counted: { (j : ℕ) → (events_of events j).next ≤ calls },
+}
+
+impl Listeners {
+    fn new(alloc: Global) -> Listeners {
+        Listeners {
+            events: Events::new(alloc),
+            calls: 0,
+        }
+    }
+
+    fn subscribe(&mut self, fh: u32, control: u32, flags: u32) -> Result<(), Fail> {
+        if self.calls >= MOST {
+            return Err(Fail::new("a few subscriptions"));
+        }
+        let flags = SubFlags::from_bits_retain(flags);
+        let answer = self
+            .events
+            .subscribe(FhId(fh), control, flags, Changes::CH_VALUE, &UNTOLD);
+        self.calls += 1;
+        match answer {
+            Ok(()) => Ok(()),
+            Err(_) => Err(Fail::new("memory")),
+        }
+    }
+
+    /// The three file handles.
+    pub(crate) fn subscribed(alloc: Global) -> Result<Listeners, Fail> {
+        let mut listeners = Listeners::new(alloc);
+        for &(fh, control, flags) in SUBSCRIBED {
+            listeners.subscribe(fh, control, flags)?;
+        }
+        Ok(listeners)
+    }
+
+    /// The events once what changes between two moments is raised.
+    pub(crate) fn raised(
+        self,
+        plan: &Plan<Silent>,
+        before: &Moment,
+        after: &Moment,
+        pairs: &[Pair],
+        from: Option<FhId>,
+    ) -> Result<Events, Fail>
+        requires values_before { length before.now.values ≡ length plan.now.controls }
+        requires grabs_before { length before.now.grabs ≡ length plan.now.controls }
+        requires values { length after.now.values ≡ length plan.now.controls }
+        requires grabs { length after.now.grabs ≡ length plan.now.controls }
+    {
+        if self.calls > MOST || plan.control_count() > MOST {
+            return Err(Fail::new("a few controls"));
+        }
+        let mut events = self.events;
+        raise_between(plan, before, after, pairs, from, &mut events);
+        Ok(events)
+    }
+}
+
+/// What an event tells: the control's number, the changes, the value and the flags.
+pub(crate) type Told = (u32, u32, CtrlValue, u32);
+
+fn tells(event: &Event, first: u32, told: Told) -> bool {
+    let (control, changes, value, flags) = told;
+    event.id.0 == first.wrapping_add(control)
+        && event.changes.bits() == changes
+        && event.value == value
+        && event.flags.bits() == flags
+}
+
+/// Whether a file handle, for which none was raised before, takes just these, which are of controls whose ids begin at `first`.
+pub(crate) fn takes(events: &mut Events, fh: u32, first: u32, all: &[Told]) -> bool {
+    let mut left = all.len();
+    for (place, &told) in all.iter().enumerate() {
+        left = left.wrapping_sub(1);
+        match events.take(FhId(fh)) {
+            Ok(event) => {
+                if !tells(&event, first, told)
+                    || event.sequence as usize != place
+                    || event.pending as usize != left
+                {
+                    return false;
+                }
+            }
+            Err(_) => return false,
+        }
+    }
+    events.take(FhId(fh)) == Err(Errno::ENOENT)
+}

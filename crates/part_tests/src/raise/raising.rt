@@ -1,0 +1,271 @@
+//! What file handles hear of a change.
+
+use crate::raise::listeners::{Listeners, Told, takes};
+use crate::raise::planning::{FIRST, Silent, pairs_of, plan};
+use ctrl_handlers::Plan;
+use ctrl_raises::Moment;
+use ctrl_types::{CtrlValue, FhId};
+use std::alloc::Global;
+use std::test::Fail;
+
+/// A change, and what is taken of it.
+#[derive(Clone, Copy, Debug)]
+struct Case {
+    // values and grabs before and after
+    before: (&'static [CtrlValue], &'static [bool]),
+    after: (&'static [CtrlValue], &'static [bool]),
+    // what was applied, and the file handle whose set it is
+    pairs: &'static [(u32, CtrlValue)],
+    from: Option<u32>,
+    // what the file handles take: 0, subscribed to all without feedback; 1, to all with it; 2, to control 3 without
+    taken: [&'static [Told]; 3],
+}
+
+const FREE: &[bool] = &[false; 5];
+
+const FOLLOWER_HELD: &[bool] = &[false, true, false, false, false];
+
+const PLAIN_HELD: &[bool] = &[false, false, false, true, false];
+
+// The menu is manual.
+const MANUAL: &[CtrlValue] = &[1, 50, 0, 30, 9];
+
+// It is automatic, in two ways.
+const AUTO: &[CtrlValue] = &[0, 50, 0, 30, 9];
+
+const OTHER_AUTO: &[CtrlValue] = &[2, 50, 0, 30, 9];
+
+// The plain number differs.
+const PLAIN: &[CtrlValue] = &[1, 50, 0, 32, 9];
+
+const WITHOUT_SET: &[Case] = &[
+    // a value alone
+    Case {
+        before: (MANUAL, FREE),
+        after: (PLAIN, FREE),
+        pairs: &[(3, 32)],
+        from: None,
+        taken: [&[(3, 1, 32, 0)], &[(3, 1, 32, 0)], &[(3, 1, 32, 0)]],
+    },
+    // flags change where they differ: of the follower, and not of the master
+    Case {
+        before: (MANUAL, FREE),
+        after: (AUTO, FREE),
+        pairs: &[(0, 0)],
+        from: None,
+        taken: [
+            &[(0, 1, 0, 0x8), (1, 2, 50, 0x10)],
+            &[(0, 1, 0, 0x8), (1, 2, 50, 0x10)],
+            &[],
+        ],
+    },
+    // from one automatic value to another the follower stays inactive
+    Case {
+        before: (AUTO, FREE),
+        after: (OTHER_AUTO, FREE),
+        pairs: &[(0, 2)],
+        from: None,
+        taken: [&[(0, 1, 2, 0x8)], &[(0, 1, 2, 0x8)], &[]],
+    },
+    // both of one control
+    Case {
+        before: (AUTO, FREE),
+        after: (&[1, 60, 0, 30, 9], FREE),
+        pairs: &[(0, 1), (1, 60)],
+        from: None,
+        taken: [
+            &[(0, 1, 1, 0x8), (1, 3, 60, 0)],
+            &[(0, 1, 1, 0x8), (1, 3, 60, 0)],
+            &[],
+        ],
+    },
+    // a button that is among the pairs, whose value stays
+    Case {
+        before: (MANUAL, FREE),
+        after: (MANUAL, FREE),
+        pairs: &[(2, 0)],
+        from: None,
+        taken: [&[(2, 1, 0, 0x240)], &[(2, 1, 0, 0x240)], &[]],
+    },
+    // a value that can't be read
+    Case {
+        before: (MANUAL, FREE),
+        after: (&[1, 50, 0, 30, 8], FREE),
+        pairs: &[(4, 8)],
+        from: None,
+        taken: [&[(4, 1, 0, 0x40)], &[(4, 1, 0, 0x40)], &[]],
+    },
+    // nothing changes, also where it is set to what it is
+    Case {
+        before: (AUTO, FREE),
+        after: (AUTO, FREE),
+        pairs: &[(3, 30), (1, 50), (0, 0), (4, 9)],
+        from: None,
+        taken: [&[], &[], &[]],
+    },
+    // a grab, and its end
+    Case {
+        before: (MANUAL, FREE),
+        after: (MANUAL, PLAIN_HELD),
+        pairs: &[],
+        from: None,
+        taken: [&[(3, 2, 30, 0x2)], &[(3, 2, 30, 0x2)], &[(3, 2, 30, 0x2)]],
+    },
+    Case {
+        before: (MANUAL, PLAIN_HELD),
+        after: (MANUAL, FREE),
+        pairs: &[],
+        from: None,
+        taken: [&[(3, 2, 30, 0)], &[(3, 2, 30, 0)], &[(3, 2, 30, 0)]],
+    },
+    // a grab of a control that is inactive
+    Case {
+        before: (AUTO, FREE),
+        after: (AUTO, FOLLOWER_HELD),
+        pairs: &[],
+        from: None,
+        taken: [&[(1, 2, 50, 0x12)], &[(1, 2, 50, 0x12)], &[]],
+    },
+    // in the order of control numbers, whatever that of the pairs
+    Case {
+        before: (AUTO, FREE),
+        after: (&[2, 50, 0, 32, 8], FREE),
+        pairs: &[(4, 8), (3, 32), (2, 0), (0, 2)],
+        from: None,
+        taken: [
+            &[
+                (0, 1, 2, 0x8),
+                (2, 1, 0, 0x240),
+                (3, 1, 32, 0),
+                (4, 1, 0, 0x40),
+            ],
+            &[
+                (0, 1, 2, 0x8),
+                (2, 1, 0, 0x240),
+                (3, 1, 32, 0),
+                (4, 1, 0, 0x40),
+            ],
+            &[(3, 1, 32, 0)],
+        ],
+    },
+];
+
+const OF_A_SET: &[Case] = &[
+    // without feedback the one that sets it doesn't hear of a control in its pairs, and every other does
+    Case {
+        before: (MANUAL, FREE),
+        after: (PLAIN, FREE),
+        pairs: &[(3, 32)],
+        from: Some(0),
+        taken: [&[], &[(3, 1, 32, 0)], &[(3, 1, 32, 0)]],
+    },
+    Case {
+        before: (MANUAL, FREE),
+        after: (PLAIN, FREE),
+        pairs: &[(3, 32)],
+        from: Some(2),
+        taken: [&[(3, 1, 32, 0)], &[(3, 1, 32, 0)], &[]],
+    },
+    // with feedback it does
+    Case {
+        before: (MANUAL, FREE),
+        after: (PLAIN, FREE),
+        pairs: &[(3, 32)],
+        from: Some(1),
+        taken: [&[(3, 1, 32, 0)], &[(3, 1, 32, 0)], &[(3, 1, 32, 0)]],
+    },
+    // one that isn't subscribed
+    Case {
+        before: (MANUAL, FREE),
+        after: (PLAIN, FREE),
+        pairs: &[(3, 32)],
+        from: Some(9),
+        taken: [&[(3, 1, 32, 0)], &[(3, 1, 32, 0)], &[(3, 1, 32, 0)]],
+    },
+    // a button
+    Case {
+        before: (MANUAL, FREE),
+        after: (MANUAL, FREE),
+        pairs: &[(2, 0)],
+        from: Some(0),
+        taken: [&[], &[(2, 1, 0, 0x240)], &[]],
+    },
+    // a member that isn't among the pairs is heard of
+    Case {
+        before: (AUTO, FREE),
+        after: (&[2, 60, 0, 30, 9], FREE),
+        pairs: &[(1, 60)],
+        from: Some(0),
+        taken: [&[(0, 1, 2, 0x8)], &[(0, 1, 2, 0x8), (1, 1, 60, 0x10)], &[]],
+    },
+    // changed flags are, also of a control among the pairs
+    Case {
+        before: (MANUAL, FREE),
+        after: (&[0, 60, 0, 30, 9], FREE),
+        pairs: &[(0, 0), (1, 60)],
+        from: Some(0),
+        taken: [
+            &[(1, 3, 60, 0x10)],
+            &[(0, 1, 0, 0x8), (1, 3, 60, 0x10)],
+            &[],
+        ],
+    },
+    // and of one that isn't
+    Case {
+        before: (MANUAL, FREE),
+        after: (AUTO, FREE),
+        pairs: &[(0, 0)],
+        from: Some(0),
+        taken: [
+            &[(1, 2, 50, 0x10)],
+            &[(0, 1, 0, 0x8), (1, 2, 50, 0x10)],
+            &[],
+        ],
+    },
+];
+
+// Whether the file handles take what they should.
+fn is_heard(alloc: Global, plan: &Plan<Silent>, case: &Case) -> Result<bool, Fail> {
+    let ((old, held), (new, holding)) = (case.before, case.after);
+    let count = plan.controls().len();
+    if old.len() != count || held.len() != count || new.len() != count || holding.len() != count {
+        return Ok(false);
+    }
+    let pairs = pairs_of(alloc, case.pairs)?;
+    let from = match case.from {
+        Some(fh) => Some(FhId(fh)),
+        None => None,
+    };
+    let before = Moment::new(old, held);
+    let after = Moment::new(new, holding);
+    let listeners = Listeners::subscribed(alloc)?;
+    let mut events = listeners.raised(plan, &before, &after, pairs.as_slice(), from)?;
+    let [first, second, third] = case.taken;
+    Ok(
+        takes(&mut events, 0, FIRST, first)
+            && takes(&mut events, 1, FIRST, second)
+            && takes(&mut events, 2, FIRST, third),
+    )
+}
+
+#[test]
+fn changes_are_raised(rt: HostRuntime) -> Result<(), Fail> {
+    let alloc = rt.alloc();
+    let plan = plan(alloc)?;
+    for case in WITHOUT_SET {
+        let is_heard = is_heard(alloc, &plan, case)?;
+        assert!(rt; is_heard, "{case:?}");
+    }
+    Ok(())
+}
+
+#[test]
+fn a_set_is_heard_by_others(rt: HostRuntime) -> Result<(), Fail> {
+    let alloc = rt.alloc();
+    let plan = plan(alloc)?;
+    for case in OF_A_SET {
+        let is_heard = is_heard(alloc, &plan, case)?;
+        assert!(rt; is_heard, "{case:?}");
+    }
+    Ok(())
+}
