@@ -1,5 +1,6 @@
 pub use Rattle.ctrl_types.specs.Values
 pub mod Control
+pub mod Config
 pub mod Grid
 pub mod Settle
 pub mod Faults

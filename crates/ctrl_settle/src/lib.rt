@@ -1,11 +1,13 @@
-//! Controls and the values that they take: a driver's description is checked once, and from then on each value asked
+//! Controls and the values that they take: a driver's description, by arguments or by named fields, is checked once, and from then on each value asked
 //! for settles to one that the control allows. Nothing here takes memory.
 #![tactic(auto)]
 
+mod config;
 mod control;
 mod description;
 mod fault;
 pub mod laws;
 
+pub use config::CtrlConfig;
 pub use control::{Ctrl, settle};
 pub use fault::CtrlFault;

@@ -3,8 +3,8 @@
 use anyhow::Result;
 use bitflags::Flags as FlagSet;
 use ctrl_calls::{Calls, Driver};
-use ctrl_config::CtrlConfig;
 use ctrl_handlers::{Plan, PlanBuilder, PlanFault};
+use ctrl_settle::CtrlConfig;
 use ctrl_types::{CtrlId, Flags, Kind};
 use std::alloc::Global;
 

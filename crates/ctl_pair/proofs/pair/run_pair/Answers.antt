@@ -1,4 +1,4 @@
-use Rattle.std.proofs.Common.{sym, subst}
+use Rattle.std.proofs.Common.{rules, sym, subst}
 use Rattle.std.specs.Io.KnownBytes.{Appends}
 use Rattle.script_replies.specs.Replies.{outcome_line}
 use Rattle.ctl_pair.specs.Scripts.{IsRefused}
@@ -22,3 +22,9 @@ returns-clause-refused g c = λ other written.
 pub returns-clause-fault : goal.returns-clause-fault
 returns-clause-fault g c = λ other written.
     subst (λ o. Appends (g.W.Write.contents c.args.writer.now) (g.W.Write.contents c.with_line.new.writer) (outcome_line o)) (sym (c.with_line.ensures.same written)) (c.with_line.ensures.line written)
+
+pub returns-clause-same : goal.returns-clause-same
+returns-clause-same g c = search rules
+
+pub returns-clause-unasked : goal.returns-clause-unasked
+returns-clause-unasked g c = search rules

@@ -1,4 +1,4 @@
-use Rattle.std.proofs.Common.{arith, ◌≡◌, true, is_some, length, sym, ap, subst}
+use Rattle.std.proofs.Common.{rules, arith, ◌≡◌, true, is_some, length, sym, ap, subst}
 use Rattle.ctrl_events.specs.Events.{FileEvents, flags_in, other_events}
 use Rattle.ctrl_events.proofs.KeptLemmas.{room_left, kept_last, kept_others, none_among_others, length_others}
 use Rattle.ctrl_events.proofs.queue.Queue.put.Goals as goal
@@ -19,3 +19,6 @@ invariant_of-self c = record {
   fits = omega (arith, c.self.invariant.fits, c.push_reserved.ensures.capacity, c.drop_events.ensures.room);
   few = let less = length_others c.args.control c.self.inside.waiting.items in omega (arith, less, ap length c.drop_events.ensures.events, c.push_reserved.ensures.len, c.self.invariant.few);
 }
+
+pub returns : goal.returns
+returns c = search rules

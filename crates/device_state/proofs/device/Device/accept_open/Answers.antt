@@ -1,4 +1,4 @@
-use Rattle.std.proofs.Common.{◌≡◌, ℕ, List, [], ◌∷◌, ◌++◌, length, None, IsOk, sym, ap, subst, ◌∙◌, nat_eq, arith}
+use Rattle.std.proofs.Common.{rules, ◌≡◌, ℕ, List, [], ◌∷◌, ◌++◌, length, None, IsOk, sym, ap, subst, ◌∙◌, nat_eq, arith}
 use Rattle.std.specs.Map.{lookup}
 use Rattle.history.specs.declared.entry.Entry.{Entry}
 use Rattle.history.specs.Past.{past}
@@ -25,3 +25,6 @@ invariant_of-self-2 g c =
     (c.in_ok-insert.ensures.entries
     ∙ insert_entry-new nat_eq device.file_handles c.len-number.result c.args.handler is_new
     ∙ ap (λ (n : ℕ). device.file_handles.entries ++ (n, c.args.handler) ∷ []) number)
+
+pub returns-clause-ok : goal.returns-clause-ok
+returns-clause-ok g c = search rules

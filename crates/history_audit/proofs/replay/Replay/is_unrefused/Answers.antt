@@ -1,4 +1,4 @@
-use Rattle.std.proofs.Common.{take, Option, ap, ◌∙◌}
+use Rattle.std.proofs.Common.{rules, take, Option, ap, ◌∙◌}
 use Rattle.history.specs.Past.{past}
 use Rattle.history_audit.specs.Changing.{lacks}
 use Rattle.ctrl_types.specs.declared.errno.Errno.{Errno}
@@ -43,3 +43,6 @@ returns-in-Buffer g c =
     (c.buffer_refusal.ensures
     ∙ ap (λ (f : FramesData). buffer_refusal f.requests.all c.in-Buffer.buffer (find r.frames.requests.all c.in-Buffer.request.0)) c.self.invariant.made.frames
     ∙ ap (buffer_refusal (requests g.D.Validates.verdict r.plan.now (past (take r.count r.steps.now))) c.in-Buffer.buffer) (found g.D.Validates.verdict r.plan.now (take r.count r.steps.now) r.frames c.in-Buffer.request.0 c.self.invariant.made.frames c.self.invariant.made.legal)))
+
+pub returns-then-is_none : goal.returns-then-is_none
+returns-then-is_none g c = search rules

@@ -1,5 +1,5 @@
 -- The control that named fields describe.
-use Rattle.ctrl_config.specs.declared.CtrlConfig.{CtrlConfig}
+use Rattle.ctrl_settle.specs.declared.config.CtrlConfig.{CtrlConfig}
 use Rattle.ctrl_settle.specs.Control.{Control, described}
 
 -- each field is what its name says; a button has its own flags besides

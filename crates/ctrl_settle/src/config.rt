@@ -1,11 +1,9 @@
-//! A control described by named fields, as a driver writes it. Nothing here takes memory.
-#![tactic(auto)]
-
 ghost use Rattle.std.specs.Prelude.{◌≡◌, ◌↔◌, IsOk, IfOk, IfErr};
-ghost use Rattle.ctrl_config.specs.Config.{control_of};
+ghost use Rattle.ctrl_settle.specs.Config.{control_of};
 ghost use Rattle.ctrl_settle.specs.Faults.{IsFirstFault, IsWellFormed};
 
-use ctrl_settle::{Ctrl, CtrlFault};
+use crate::control::Ctrl;
+use crate::fault::CtrlFault;
 use ctrl_types::{CtrlId, CtrlValue, Flags, Kind};
 
 /// What a driver says of a control, not checked yet (Linux driver API, "V4L2 Controls", `struct v4l2_ctrl_config`). What each field may

@@ -1,0 +1,12 @@
+-- written out so that a wrong body is refused soon (docs/GATE.md)
+use Rattle.std.proofs.Common.{rules}
+use Rattle.ctrl_lists.specs.Answers.{set_answer}
+use Rattle.ctrl_lists.proofs.lists.plan_set.Goals as goal
+
+pub returns-in-Err-clause-err : goal.returns-in-Err-clause-err
+unfolding set_answer
+returns-in-Err-clause-err g c = search rules
+
+pub returns-in-Ok-clause-ok : goal.returns-in-Ok-clause-ok
+unfolding set_answer
+returns-in-Ok-clause-ok g c = search rules
