@@ -1,3 +1,4 @@
+use Rattle.std.proofs.Common.{rules}
 use denote.Param.Send.{sendable}
 use Rattle.turn_desk.proofs.Sending.{seat_send, desk_sync}
 use Rattle.turn_desk.proofs.clients.run_clients.Goals as goal
@@ -7,3 +8,11 @@ run_both-first-requires-send-W g κs = λ κ lives. search (sendable, seat_send,
 
 pub run_both-first-requires-send-W-Rest : goal.run_both-first-requires-send-W-Rest
 run_both-first-requires-send-W-Rest g κs = λ κ lives. search (sendable, seat_send) depth 20
+
+-- written out so that a wrong body is refused soon (docs/GATE.md)
+pub returns-clause-done : goal.returns-clause-done
+returns-clause-done g c = search rules
+
+-- written out so that a wrong body is refused soon (docs/GATE.md)
+pub returns-clause-kept : goal.returns-clause-kept
+returns-clause-kept g c = search rules

@@ -1,4 +1,4 @@
-use Rattle.std.proofs.Common.{sym, ap, ◌∙◌}
+use Rattle.std.proofs.Common.{rules, sym, ap, ◌∙◌}
 use Rattle.turn_desk.proofs.Words.{has_front}
 use Rattle.turn_desk.proofs.Turns.{looks}
 use Rattle.turn_desk.proofs.Hands.{seated_look}
@@ -18,3 +18,7 @@ pub invariant_of-seat : goal.invariant_of-seat
 invariant_of-seat g c =
     let t = g.T.Served in
     seated_look t.is_legal t.plan t.steps c.seat.inside.number c.load.result c.seat.inside.token c.load.new.seat c.seat.invariant c.load.ensures.2
+
+-- written out so that a wrong body is refused soon (docs/GATE.md)
+pub returns-clause-length : goal.returns-clause-length
+returns-clause-length g c = search rules
