@@ -40,12 +40,12 @@ pub fn blue_verdict(row: &ClusterRow) -> Verdict
     if row.len() != 2 {
         return Verdict::Accept(*row);
     }
-    // the sum of any two values fits
-    let most = i128::from(row.value(0)) + i128::from(BLUE_LIMIT.bounds[0]);
-    if i128::from(row.value(1)) <= most {
+    // where the sum doesn't fit, any blue is less
+    let most = row.value(0).saturating_add(BLUE_LIMIT.bounds[0]);
+    if row.value(1) <= most {
         return Verdict::Accept(*row);
     }
-    Verdict::Accept(row.with(1, most as i64))
+    Verdict::Accept(row.with(1, most))
 }
 
 /// What the notifier of mode, time and gain says of a row, the values of the three: 0 where the mode isn't manual; else the word for
