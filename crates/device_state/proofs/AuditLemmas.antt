@@ -16,7 +16,6 @@ use Rattle.device_history.specs.Grabs.{grabbed}
 use Rattle.device_history.specs.Snapshots.{frames}
 use Rattle.device_history.specs.Values.{now}
 use Rattle.device_history.specs.Forecasts.{forecast}
-use Rattle.ctrl_forecast.specs.Boards.{BoardData}
 use Rattle.ctrl_forecast.specs.declared.board.Forecast.{Forecast}
 use Rattle.ctrl_events.specs.Events.{EventsData}
 use Rattle.history_audit.specs.Scratch.{Agrees, HasParts, ScratchData, all_events, all_flags, flags_of_all, open_events, scratch}

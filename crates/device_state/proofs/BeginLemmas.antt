@@ -1,5 +1,5 @@
 -- The begin of a frame: what it is answered, and what it leaves.
-use Rattle.std.proofs.Common.{◌≡◌, ℕ, ◌+◌, ◌≤◌, false, true, List, [], ◌∷◌, ◌++◌, ◌<◌, length, map, drop, slice_get, subst, Option, None, Some, Result, Ok, Err, refl, ap, sym, ◌∙◌, arith, inl, inr}
+use Rattle.std.proofs.Common.{◌≡◌, ℕ, false, true, List, [], ◌∷◌, ◌++◌, ◌<◌, length, map, drop, slice_get, subst, Option, None, Some, Result, Ok, Err, refl, ap, sym, ◌∙◌, arith, inl, inr}
 use Rattle.std.specs.List.{list_any}
 use Rattle.history.specs.Past.{past}
 use Rattle.ctrl_types.specs.declared.errno.Errno.{Errno}

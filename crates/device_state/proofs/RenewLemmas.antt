@@ -1,6 +1,5 @@
 -- What a set and a grab change, for the forecasts that are renewed.
 use Rattle.std.proofs.Common.{◌≡◌, ◌≢◌, ℕ, ◌<◌, ◌≤◌, ◌⊎◌, ◌==◌, Bool, true, false, nat_eq, List, [], ◌∷◌, length, pos, slice_set, Option, None, Some, is_some, unwrap_or, inl, inr, refl, ap, sym, subst, ◌∙◌, arith}
-use Rattle.std.specs.List.{All, list_any}
 use Rattle.std.specs.Option.{option_and_then}
 use Rattle.std.proofs.lemmas.Bool.Decides.{eqb_tells, leb_tells, nat_tests}
 use Rattle.std.proofs.lemmas.List.{get_or-set_other, get_or_past}
@@ -14,7 +13,7 @@ use Rattle.ctrl_clusters.specs.NewRows.{clusters_of, row_among, value_among, wri
 use Rattle.ctrl_clusters.specs.declared.new_row.NewRow.{NewRow}
 use Rattle.ctrl_clusters.proofs.NewRowLemmas.{has_row, length_written, written_at}
 use Rattle.ctrl_clusters.proofs.OverlayLemmas.{or_true}
-use Rattle.ctrl_forecast.specs.Boards.{BoardData, DifferOnlyIn, board_of, is_in_one_of}
+use Rattle.ctrl_forecast.specs.Boards.{BoardData, board_of, is_in_one_of}
 use Rattle.ctrl_forecast.specs.Forecasts.{QueuedData}
 
 -- a board is of the controls, the grabs, the values and the queued frames

@@ -4,14 +4,14 @@ use Rattle.history.specs.Past.{past}
 use Rattle.ctrl_types.specs.declared.ids.Pair.{Pair}
 use Rattle.ctrl_calls.specs.Meanings.{Verdicts, Words}
 use Rattle.ctrl_handlers.specs.Plan.{PlanData, members}
-use Rattle.ctrl_clusters.specs.Rows.{Values, row_of}
+use Rattle.ctrl_clusters.specs.Rows.{row_of}
 use Rattle.ctrl_clusters.specs.Changes.{members_change}
 use Rattle.ctrl_clusters.specs.Notified.{AreRenewed, notified_count}
 use Rattle.device_history.specs.declared.ask.Step.TheVariants.{Begin}
 use Rattle.device_history.specs.Steps.{Past}
 use Rattle.device_history.specs.Frames.{first_of, queue, running}
 use Rattle.device_history.specs.Values.{now}
-use Rattle.device_history.specs.Snapshots.{begun_pairs, begun_refused, begun_values}
+use Rattle.device_history.specs.Snapshots.{begun_pairs, begun_values}
 use Rattle.device_history.specs.Refusals.{is_full}
 use Rattle.device_state.specs.Device.{DeviceData}
 

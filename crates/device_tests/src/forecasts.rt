@@ -176,7 +176,7 @@ fn queue_one(alloc: Global, scene: &mut Scene, number: u32) -> Result<(), Troubl
 
 fn request_made(scene: &mut Scene, number: u32) -> Result<RequestId, Trouble> {
     match make(scene, &Ask::Alloc, number)? {
-        Reply::Request(request) => Ok(request),
+        Reply::Request(request, ..) => Ok(request),
         _ => Err(Trouble::Answer(number as usize)),
     }
 }

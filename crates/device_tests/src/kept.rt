@@ -286,8 +286,8 @@ fn play_turn(
 ) -> Result<(), Trouble> {
     let ask = ask_of(alloc, &scene.device, dice)?;
     let is_crowd = scene.device.queued_count() >= MANY;
-    let behind = match ask {
-        Ask::Cancel { request } => behind(&scene.device, request),
+    let behind = match &ask {
+        Ask::Cancel { request } => behind(&scene.device, *request),
         _ => 0,
     };
     if keeps_within(scene, &ask, turn)? && is_crowd {

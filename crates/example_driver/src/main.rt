@@ -54,7 +54,7 @@ fn run<D: Driver>(
 
 // What an application asks.
 fn play<D: Driver>(rt: &(impl AllocGlobal + Print), device: &mut Device<D>) -> Result<()> {
-    let Ok(Reply::Fh(fh)) = device.handle(0, &Ask::OpenFh { handler: 1 }) else {
+    let Ok(Reply::Fh(fh, ..)) = device.handle(0, &Ask::OpenFh { handler: 1 }) else {
         bail!("the video node can't be opened");
     };
     set_values(rt, device, fh)?;
@@ -96,7 +96,7 @@ fn queue_frame<D: Driver>(
 ) -> Result<()>
     requires { length entries.now < 2 ^ 32 }
 {
-    let Ok(Reply::Request(request)) = device.handle(0, &Ask::Alloc) else {
+    let Ok(Reply::Request(request, ..)) = device.handle(0, &Ask::Alloc) else {
         bail!("no request");
     };
     set(rt, device, fh, Some(request), entries)?;

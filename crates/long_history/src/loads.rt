@@ -58,7 +58,7 @@ pub fn prepare<D: Driver>(alloc: Global, device: &mut Device<D>) -> Result<(), A
         }
     }
     for number in 0..QUEUED {
-        if let Ok(Reply::Request(request)) = device.handle(0, &Ask::Alloc) {
+        if let Ok(Reply::Request(request, ..)) = device.handle(0, &Ask::Alloc) {
             let _refused = wait(alloc, device, request, number)?;
         }
     }

@@ -4,6 +4,7 @@ ghost use Rattle.std.specs.Prelude.{◌≡◌, ◌≢◌, ◌≤◌, ◌+◌, �
 ghost use Rattle.history.specs.Past.{past};
 ghost use Rattle.ctrl_types.specs.Classes.{which_of};
 ghost use Rattle.ctrl_types.specs.declared.which.Which.TheVariants.{Defaults};
+ghost use Rattle.ctrl_clusters.specs.NewRows.{clusters_of};
 ghost use Rattle.ctrl_clusters.specs.Rows.{AreControlsOf};
 ghost use Rattle.ctrl_lists.specs.Checks.{first_refusal};
 ghost use Rattle.ctrl_lists.specs.Touched.{touched, judged_count, with_calls};
@@ -372,15 +373,39 @@ impl<D: Driver> Device<D> {
         ensures ok { OnOk result (SetsAll D.verdict D.told self.old self.new seat fh touch) }
         ensures err { OnErr result (self.new ≡ self.old) }
     {
-        if self.steps.reserve(1).is_err() {
-            return Err(Errno::ENOMEM);
-        }
-        let Ok(mut values) = copied_values(self.alloc, self.values.as_slice()) else {
+        let Ok(values) = copied_values(self.alloc, self.values.as_slice()) else {
             return Err(Errno::ENOMEM);
         };
         let Ok(clusters) = clusters_of(self.alloc, touch.rows()) else {
             return Err(Errno::ENOMEM);
         };
+        self.write_list(seat, fh, which, request, list, touch, values, clusters)
+    }
+
+    // The same, with a copy of the values and the numbers of the clusters that the list touches.
+    fn write_list(
+        &mut self,
+        seat: u32,
+        fh: FhId,
+        which: u32,
+        request: Option<RequestId>,
+        list: &ControlList,
+        touch: Touched,
+        mut values: Vec<CtrlValue>,
+        clusters: Vec<u32>,
+    ) -> Result<ControlList, Errno>
+        requires settable { IsSettable D.verdict self.old.plan (past self.old.steps) fh which request list.now touch }
+        requires present { meant (which_or (which_of which)) request ≡ None }
+        requires fresh { self.old.work.told ≡ 0 }
+        requires copied { values.items ≡ now D.verdict self.old.plan (past self.old.steps) }
+        requires clusters { clusters.items ≡ clusters_of touch.rows }
+        ensures answers { IfOk result (λ controls. controls ≡ touch.answers) }
+        ensures ok { OnOk result (SetsAll D.verdict D.told self.old self.new seat fh touch) }
+        ensures err { OnErr result (self.new ≡ self.old) }
+    {
+        if self.steps.reserve(1).is_err() {
+            return Err(Errno::ENOMEM);
+        }
         notify_changed(
             &self.plan,
             self.values.as_slice(),

@@ -6,7 +6,7 @@ use ctrl_events::{Event, Payload};
 use ctrl_types::{Changes, CtrlId, CtrlValue, Errno, Flags, Kind, SubFlags};
 
 /// A call. Flags and changes stand as bits, and a payload as the control's value.
-#[derive(Clone, Copy, Debug)]
+#[derive(Clone, Copy)]
 pub(crate) enum Call {
     /// A file handle, a control, the flags, and the value of an event at once.
     Subscribe(u32, u32, u32, CtrlValue),
@@ -21,7 +21,7 @@ pub(crate) enum Call {
 }
 
 /// What an event tells.
-#[derive(Clone, Copy, Debug)]
+#[derive(Clone, Copy)]
 pub(crate) struct Told {
     pub(crate) control: u32,
     pub(crate) changes: u32,
@@ -31,7 +31,7 @@ pub(crate) struct Told {
 }
 
 /// A look.
-#[derive(Clone, Copy, Debug)]
+#[derive(Clone, Copy)]
 pub(crate) enum Look {
     /// What waits for a file handle, in order.
     Waits(u32, &'static [Told]),

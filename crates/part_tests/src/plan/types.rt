@@ -4,7 +4,7 @@ use bitflags::Flags as FlagSet;
 use ctrl_types::{CtrlId, Errno, Flags, Kind, Which};
 use std::process::Abort;
 
-#[derive(Clone, Copy, Debug)]
+#[derive(Clone, Copy)]
 enum Case {
     // The error has this number.
     Error(Errno, u32),
@@ -78,8 +78,8 @@ fn holds(case: Case) -> bool {
 }
 
 fn check(rt: &impl Abort, cases: &[Case]) {
-    for case in cases {
-        assert!(rt; holds(*case), "{case:?}");
+    for (row, case) in cases.iter().enumerate() {
+        assert!(rt; holds(*case), "case {row}");
     }
 }
 

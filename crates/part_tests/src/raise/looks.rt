@@ -11,7 +11,7 @@ use std::alloc::Global;
 use std::test::Fail;
 
 /// What is told of a control.
-#[derive(Clone, Copy, Debug)]
+#[derive(Clone, Copy)]
 struct Told {
     kind: Kind,
     value: CtrlValue,
@@ -137,7 +137,7 @@ fn payloads(rt: HostRuntime) -> Result<(), Fail> {
     for &(values, grabs, control, told) in TOLD {
         assert!(rt;
             tells(&plan, values, grabs, control, told),
-            "{control} {told:?}"
+            "control {control}, {values:?}, {grabs:?}"
         );
     }
     Ok(())

@@ -9,7 +9,7 @@ use std::alloc::Global;
 use std::test::Fail;
 
 /// A change, and what is taken of it.
-#[derive(Clone, Copy, Debug)]
+#[derive(Clone, Copy)]
 struct Case {
     // values and grabs before and after
     before: (&'static [CtrlValue], &'static [bool]),
@@ -252,9 +252,9 @@ fn is_heard(alloc: Global, plan: &Plan<Silent>, case: &Case) -> Result<bool, Fai
 fn changes_are_raised(rt: HostRuntime) -> Result<(), Fail> {
     let alloc = rt.alloc();
     let plan = plan(alloc)?;
-    for case in WITHOUT_SET {
+    for (row, case) in WITHOUT_SET.iter().enumerate() {
         let is_heard = is_heard(alloc, &plan, case)?;
-        assert!(rt; is_heard, "{case:?}");
+        assert!(rt; is_heard, "case {row}");
     }
     Ok(())
 }
@@ -263,9 +263,9 @@ fn changes_are_raised(rt: HostRuntime) -> Result<(), Fail> {
 fn a_set_is_heard_by_others(rt: HostRuntime) -> Result<(), Fail> {
     let alloc = rt.alloc();
     let plan = plan(alloc)?;
-    for case in OF_A_SET {
+    for (row, case) in OF_A_SET.iter().enumerate() {
         let is_heard = is_heard(alloc, &plan, case)?;
-        assert!(rt; is_heard, "{case:?}");
+        assert!(rt; is_heard, "case {row}");
     }
     Ok(())
 }

@@ -114,7 +114,7 @@ fn opens<D: Driver, R: Wait>(
 {
     let (seat, answer) = desk.call(rt, seat, &Ask::OpenFh { handler: 1 });
     match answer {
-        Ok(Reply::Fh(fh)) => (seat, Some(fh)),
+        Ok(Reply::Fh(fh, ..)) => (seat, Some(fh)),
         _ => (seat, None),
     }
 }

@@ -62,7 +62,7 @@ fn rows_are_written(rt: HostRuntime) -> Result<(), Fail> {
 }
 
 // What is laid over the values, and the rows that two clusters get; the words then, and how often each of the notifiers was called.
-#[derive(Clone, Copy, Debug)]
+#[derive(Clone, Copy)]
 struct Change {
     pairs: &'static [(u32, CtrlValue)],
     rows: Two,
@@ -156,7 +156,8 @@ fn notifies(rt: &impl Abort, alloc: Global, change: &Change) -> Result<(), Fail>
     let is_told = are_told(alloc, &plan, pairs.as_slice(), &mut words, change)?;
     assert!(rt;
         is_told && are_counts(heard.as_slice(), &change.counts),
-        "{change:?}"
+        "{:?}",
+        change.pairs
     );
     Ok(())
 }

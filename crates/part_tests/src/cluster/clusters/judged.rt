@@ -287,9 +287,9 @@ fn holds_under(rt: &impl Abort, alloc: Global, made: &[Made], looks: &[Look]) ->
     if plan.controls().len() != 2 || !are_of(&plan, other.controls()) {
         return Err(Fail::new("two controls"));
     }
-    for &look in looks {
+    for (row, &look) in looks.iter().enumerate() {
         let is_shown = shows(alloc, &plan, other.controls(), &[5, 11], look)?;
-        assert!(rt; is_shown, "{look:?}");
+        assert!(rt; is_shown, "look {row}");
     }
     Ok(())
 }

@@ -18,7 +18,7 @@ use std::process::Abort;
 use std::test::Fail;
 
 /// What a plan is asked, and what it answers.
-#[derive(Clone, Copy, Debug)]
+#[derive(Clone, Copy)]
 pub enum Look {
     // what the row of a cluster becomes under pairs, and how many validators are asked
     Becomes(u32, &'static [(u32, CtrlValue)], Answer, u64),
@@ -178,9 +178,9 @@ pub fn holds(
     if values.len() != plan.controls().len() {
         return Err(Fail::new("a value for each control"));
     }
-    for &look in looks {
+    for (row, &look) in looks.iter().enumerate() {
         let is_shown = shows(alloc, &plan, plan.controls(), values, look)?;
-        assert!(rt; is_shown, "{look:?}");
+        assert!(rt; is_shown, "look {row}");
     }
     Ok(())
 }

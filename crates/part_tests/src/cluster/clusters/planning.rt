@@ -11,7 +11,7 @@ use std::sync::atomic::AtomicU64;
 use std::test::Fail;
 
 /// Controls that a plan has.
-#[derive(Clone, Copy, Debug)]
+#[derive(Clone, Copy)]
 pub enum Made {
     // a number from 0 to a maximum, in steps
     Number(i64, u64),
@@ -23,7 +23,7 @@ pub enum Made {
 }
 
 /// Clusters that it has.
-#[derive(Clone, Copy, Debug)]
+#[derive(Clone, Copy)]
 pub enum Named {
     Plain(&'static [u32]),
     // with a validator of this relation

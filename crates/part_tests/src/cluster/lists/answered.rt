@@ -280,9 +280,9 @@ fn other_defaults(rt: HostRuntime) -> Result<(), Fail> {
     if !are_of(&plan, other.controls()) {
         return Err(Fail::new("two controls"));
     }
-    for &case in DEFAULTS {
+    for (row, &case) in DEFAULTS.iter().enumerate() {
         let is_shown = shows(alloc, &plan, other.controls(), case)?;
-        assert!(rt; is_shown, "{case:?}");
+        assert!(rt; is_shown, "case {row}");
     }
     Ok(())
 }

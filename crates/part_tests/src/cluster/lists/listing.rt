@@ -92,7 +92,7 @@ pub type Entry = (u32, CtrlValue);
 
 pub type Answer = Result<&'static [Entry], (Errno, u32)>;
 
-#[derive(Clone, Copy, Debug, PartialEq, Eq)]
+#[derive(Clone, Copy, PartialEq, Eq)]
 pub enum Call {
     Read,
     Set,
@@ -196,9 +196,9 @@ pub fn shows(
 /// The plan of six answers these.
 pub fn holds(rt: &impl Abort, alloc: Global, cases: &[Case]) -> Result<(), Fail> {
     let plan = plan_of(alloc, SIX)?;
-    for &case in cases {
+    for (row, &case) in cases.iter().enumerate() {
         let is_shown = shows(alloc, &plan, plan.controls(), case)?;
-        assert!(rt; is_shown, "{case:?}");
+        assert!(rt; is_shown, "case {row}");
     }
     Ok(())
 }

@@ -10,7 +10,7 @@ use std::sync::Arc;
 use std::sync::atomic::AtomicU64;
 
 /// What a plan is asked, and what it answers.
-#[derive(Clone, Copy, Debug)]
+#[derive(Clone, Copy)]
 pub enum Look {
     Shown(u32, &'static [u32]),
     Find(u32, u32, Result<u32, Errno>),
@@ -105,8 +105,8 @@ pub fn holds(
 ) {
     let called = calling(rt, alloc);
     let plan = finished(rt, built(rt, alloc, &called, count, calls));
-    for &look in looks {
-        assert!(rt; shows(&plan, &called, look), "{look:?}");
+    for (row, &look) in looks.iter().enumerate() {
+        assert!(rt; shows(&plan, &called, look), "look {row}");
     }
 }
 

@@ -17,7 +17,6 @@ use Rattle.device_history.specs.Forecasts.{queued_frames}
 use Rattle.device_state.proofs.BoardLemmas.{board_own, board_same, line_bound, queued_once}
 use Rattle.device_state.proofs.KeptLemmas.{kept_quiet, numbered}
 use Rattle.ctrl_calls.specs.declared.work.Work.{Work}
-use Rattle.device_state.proofs.device.Device.accept.Goals.{in-Set-2, in-Store-2, in-OpenFh-2}
 use Rattle.device_state.proofs.device.Device.accept.Goals as goal
 
 -- the step fits what is kept
@@ -90,8 +89,4 @@ returns-in-Err-clause-asked g c =
     let most =
     line_bound g.D.Validates.verdict device.plan (past device.steps.items) c.args.step device.frames device.board.queued c.self.invariant.legal (rw (← c.self.view_is) at c.requires.follows) c.requires.quiet c.self.invariant.frames
     (ap (λ (b : BoardData). b.queued) c.self.invariant.board) in
-    elim c.match-step-2.branch [
-      | in-Set-2 w ↦ rw (← c.self.view_is, w.self-is) (omega (arith, c.saturating_add-self-inside.ensures, c.change_kept-changed.ensures.asked, ap (λ (x : Work). x.asked) c.new-work.ensures, most))
-      | in-Store-2 w ↦ rw (← c.self.view_is, w.self-is) (omega (arith, c.saturating_add-self-inside.ensures, c.change_kept-changed.ensures.asked, ap (λ (x : Work). x.asked) c.new-work.ensures, most))
-      | in-OpenFh-2 w ↦ rw (← c.self.view_is, w.self-is) (omega (arith, c.saturating_add-self-inside.ensures, c.change_kept-changed.ensures.asked, ap (λ (x : Work). x.asked) c.new-work.ensures, most))
-    ]
+    rw (← c.self.view_is) (omega (arith, c.saturating_add-self-inside.ensures, c.change_kept-changed.ensures.asked, ap (λ (w : Work). w.asked) c.new-work.ensures, most))

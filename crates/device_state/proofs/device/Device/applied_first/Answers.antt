@@ -1,4 +1,4 @@
-use Rattle.std.proofs.Common.{◌≡◌, ◌<◌, ℕ, List, Option, None, Some, length, is_some, slice_get, ap, sym, subst, ◌∙◌}
+use Rattle.std.proofs.Common.{◌<◌, ℕ, List, length, is_some, ap, sym, subst, ◌∙◌}
 use Rattle.std.specs.List.{All}
 use Rattle.std.specs.Option.{option_map}
 use Rattle.std.proofs.lemmas.Result.{IfOk-weaker}
@@ -7,9 +7,7 @@ use Rattle.ctrl_types.specs.declared.ids.Pair.{Pair}
 use Rattle.ctrl_clusters.specs.Rows.{Values}
 use Rattle.ctrl_forecast.specs.Applied.{applied_pairs}
 use Rattle.ctrl_forecast.specs.Looks.{seen}
-use Rattle.ctrl_forecast.specs.declared.board.Forecast.{Forecast}
 use Rattle.req_book.proofs.SettingLemmas.{known_latest}
-use Rattle.device_history.specs.Forecasts.{forecast}
 use Rattle.device_history.specs.Requests.{since, stored}
 use Rattle.device_history.specs.Snapshots.{begun_refused, begun_values}
 use Rattle.device_history.proofs.RequestLemmas.{first_queued}

@@ -1,6 +1,5 @@
-use Rattle.std.proofs.Common.{refl, ap, ◌∙◌}
+use Rattle.std.proofs.Common.{refl}
 use Rattle.history.specs.Past.{past}
-use Rattle.device_state.specs.Device.{DeviceData}
 use Rattle.device_state.proofs.HandleLemmas.{handles_refused}
 use Rattle.device_state.proofs.BeginLemmas.{handles_begin, begin_lacks}
 use Rattle.device_state.proofs.device.Device.begin.Goals as goal
