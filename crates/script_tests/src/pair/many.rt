@@ -1,14 +1,14 @@
 //! Many asks at once, on a device with boxed closures.
 
-ghost use Rattle.ctrl_calls.specs.Meanings.{JudgesBy, TellsBy};
+ghost use Rattle.std.specs.Prelude.{◌≡◌, []};
 
-use crate::pair::closures::boxes;
-use crate::pair::sample::{NoGate, sample_of};
+use crate::pair::closures::{Course, goes};
+use crate::pair::sample::NoGate;
 use ctl_pair::run_pair;
-use ctl_script::{
-    BALANCE_LIMIT, BRIGHTNESS_WORDS, BUTTON_WORDS, GAIN_LIMIT, Outcome, PAIR_WORDS, Sample,
-};
+use ctl_script::Outcome;
 use ctrl_calls::Driver;
+use device_state::{Device, Step};
+use history::Entry;
 use std::alloc::{AllocError, Global};
 use std::sync::Wait;
 use std::test::Fail;
@@ -64,60 +64,50 @@ fn lines_in(bytes: &[u8]) -> usize {
     lines
 }
 
-// Whether each of two scripts has asked 1,000 times: each command has its line, the steps of both, of each at least so many, are all that the device has, and
-// its audit agrees. The device's clusters have these closures. It is generic, since a device with boxes can't be named where they are made.
-fn both_run<D: Driver + Send, R: AllocGlobal + Threads + Wait + Sync>(
+// What two scripts of 1,000 commands have printed and made: each command has its line, the steps of both, of each at least so many, are all that the device
+// has, and its audit agrees.
+fn is_whole(
+    alloc: Global,
+    steps: &[Entry<Step>],
+    printed: &[u8],
+    least: usize,
+) -> Result<bool, AllocError> {
+    let first = steps.iter().filter(|entry| entry.seat == 0).count();
+    let second = steps.iter().filter(|entry| entry.seat == 1).count();
+    let total = steps.len();
+    let wanted = format!(in alloc; "accepted {first} {second}\naudit equal {total}\n")?;
+    let has_lines = lines_in(printed) == 2002 && printed.ends_with(wanted.as_bytes());
+    Ok(has_lines && first >= least && second >= least)
+}
+
+/// Whether each of two scripts has asked 1,000 times, had at least so many steps, and the audit of the device agrees.
+pub fn both_run<D: Driver + Send, R: Threads + Wait + Sync>(
     rt: &R,
-    judges: (D::Judge, D::Judge),
-    tellers: (D::Teller, D::Teller, D::Teller, D::Teller),
+    alloc: Global,
+    device: Device<D>,
     text: &[u8],
     least: usize,
 ) -> Result<bool, AllocError>
 where
     D::Judge: Send,
     D::Teller: Send,
-    requires limit { D.Judge.callable judges.0 }
-    requires limit_judges { JudgesBy (D.Judge.answers judges.0) (D.verdict GAIN_LIMIT) }
-    requires sum { D.Judge.callable judges.1 }
-    requires sum_judges { JudgesBy (D.Judge.answers judges.1) (D.verdict BALANCE_LIMIT) }
-    requires gain { D.Teller.callable tellers.0 }
-    requires gain_tells { TellsBy (D.Teller.answers tellers.0) (D.told PAIR_WORDS) }
-    requires balance { D.Teller.callable tellers.1 }
-    requires balance_tells { TellsBy (D.Teller.answers tellers.1) (D.told PAIR_WORDS) }
-    requires button { D.Teller.callable tellers.2 }
-    requires button_tells { TellsBy (D.Teller.answers tellers.2) (D.told BUTTON_WORDS) }
-    requires brightness { D.Teller.callable tellers.3 }
-    requires brightness_tells { TellsBy (D.Teller.answers tellers.3) (D.told BRIGHTNESS_WORDS) }
+    requires { device.steps ≡ [] }
 {
-    let alloc = rt.alloc();
     let mut reader = text;
     let mut printed = Vec::new(alloc);
-    let device = sample_of::<D>(alloc, judges, tellers)?;
     let (left, outcome) = run_pair(rt, alloc, device, &NoGate, &mut reader, &mut printed);
     let Ok(device) = left else {
         return Err(AllocError);
     };
-    let steps = device.steps();
-    let first = steps.iter().filter(|entry| entry.seat == 0).count();
-    let second = steps.iter().filter(|entry| entry.seat == 1).count();
-    let total = steps.len();
-    let wanted = format!(in alloc; "accepted {first} {second}\naudit equal {total}\n")?;
-    let has_ended = outcome == Outcome::Finished && printed.as_slice().ends_with(wanted.as_bytes());
-    Ok(has_ended && lines_in(printed.as_slice()) == 2002 && first >= least && second >= least)
+    let is_whole = is_whole(alloc, device.steps(), printed.as_slice(), least)?;
+    Ok(is_whole && outcome == Outcome::Finished)
 }
 
 #[test]
 fn two_scripts_of_1000_commands(rt: HostRuntime) -> Result<(), Fail> {
     for (at, (first, second, least)) in PAIRS.into_iter().enumerate() {
         let text = two_scripts(rt.alloc(), first, second)?;
-        let (judges, tellers) = boxes!(rt.alloc());
-        let has_run = both_run::<Sample, HostRuntime>(
-            &rt,
-            judges,
-            tellers,
-            text.as_slice(),
-            least,
-        )?;
+        let has_run = goes(&rt, Course::Scripts(text.as_slice(), least))?;
         assert!(rt; has_run, "{at}");
     }
     Ok(())
