@@ -7,7 +7,8 @@ use ctrl_types::{Changes, CtrlId, Errno, ExtControl, Fault, Flags, Kind};
 use device_history::{Ask, Reply};
 use req_book::RequestState;
 use script_replies::{
-    Outcome, ReplyLine, write_answer, write_no_frames, write_no_memory, write_outcome,
+    Audited, Outcome, ReplyLine, write_answer, write_audit, write_no_frames, write_no_memory,
+    write_outcome,
 };
 use std::alloc::Global;
 use std::io;
@@ -55,6 +56,9 @@ enum Line {
     Word(u64),
     Refused(Errno, Option<u32>),
     Ended(Outcome),
+    // Of an audit that agrees, with the number of steps, and of one that doesn't.
+    Equal(usize),
+    Differs,
     NoMemory,
     NoFrames,
 }
@@ -97,6 +101,8 @@ const CASES: &[Case] = &[
     Case::Whole(Line::Ended(Outcome::ReadFault), b"read fault\n"),
     Case::Whole(Line::Ended(Outcome::NoSecond), b"no second script\n"),
     Case::Whole(Line::Ended(Outcome::Memory), b"no memory\n"),
+    Case::Whole(Line::Equal(7), b"audit equal 7\n"),
+    Case::Whole(Line::Differs, b"audit differs\n"),
     Case::Whole(Line::NoMemory, b"no memory\n"),
     Case::Whole(Line::NoFrames, b"no frames\n"),
     Case::Silent(Outcome::Finished),
@@ -140,6 +146,8 @@ fn write_line(
         Line::Word(word) => Ok(Reply::Word(word)),
         Line::Refused(errno, index) => Err(Fault { errno, index }),
         Line::Ended(outcome) => return Ok(write_outcome(sink, reply, outcome)),
+        Line::Equal(count) => return Ok(write_audit(sink, reply, Audited::Equal(count))),
+        Line::Differs => return Ok(write_audit(sink, reply, Audited::Differs)),
         Line::NoMemory => return Ok(write_no_memory(sink)),
         Line::NoFrames => return Ok(write_no_frames(sink)),
     };
@@ -178,6 +186,25 @@ fn expect<R: AllocGlobal + Abort>(rt: &R, case: Case) -> Result<(), Fail> {
 fn lines_on_writers(rt: HostRuntime) -> Result<(), Fail> {
     for case in CASES {
         expect(&rt, *case)?;
+    }
+    Ok(())
+}
+
+// With which status the tool ends after an outcome.
+const STATUSES: &[(Outcome, u8)] = &[
+    (Outcome::Finished, 0),
+    (Outcome::BadLine(1), 1),
+    (Outcome::TooLong, 1),
+    (Outcome::ReadFault, 1),
+    (Outcome::WriteFault, 1),
+    (Outcome::NoSecond, 1),
+    (Outcome::Memory, 1),
+];
+
+#[test]
+fn statuses_of_outcomes(rt: HostRuntime) -> Result<(), Fail> {
+    for (outcome, status) in STATUSES {
+        assert!(rt; outcome.status() == *status, "{outcome:?}");
     }
     Ok(())
 }
