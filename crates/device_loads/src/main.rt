@@ -1,20 +1,23 @@
-//! Makes the same asks of a sample device at the start and behind a long history, and says on standard error how long they took: no ask is to
-//! take longer for the steps that are kept. Its words are how many steps there are to be before the second time, and how many rounds of
-//! each load are made each time. On standard output it says how many asks were refused, which is none.
+//! Measures the loads that are asked of a device directly: so many rounds of each on a sample device at the start, and again behind so many
+//! steps, since no ask is to take longer for the steps that are kept. How long they took it says on standard error, and on standard
+//! output how many asks were refused, which is none.
 #![tactic(auto)]
 
+mod asked;
 mod loads;
+mod wanted;
 
 ghost use Rattle.ctrl_calls.specs.Meanings.{JudgesBy, TellsBy};
 
-use crate::loads::{LOADS, play, prepare, set_flip};
+use crate::asked::Asked;
+use crate::loads::{LOADS, Load, fill, play, prepare};
+use crate::wanted::Wanted;
 use ctrl_calls::{Calls, ClusterRow, Driver, Notifier, Validator, Verdict};
 use device_state::Device;
 use sample_device::{
     BALANCE_LIMIT, BRIGHTNESS_WORDS, BUTTON_WORDS, GAIN_LIMIT, PAIR_WORDS, Sample, balance_verdict,
     brightness_word, button_word, gain_verdict, pair_word, sample_plan,
 };
-use std::alloc::AllocError;
 use std::process::ExitCode;
 use std::rt::Clock;
 use std::time::Instant;
@@ -26,11 +29,10 @@ type Teller = Box<dyn Fn(ClusterRow) -> u64 + Send>;
 
 fn main(rt: HostRuntime) -> io::Result<ExitCode> {
     let words = env::args(&rt)?.collect::<Vec<String>>(rt.alloc())?;
-    let (Some(steps), Some(rounds)) = (
-        number_at(words.as_slice(), 1),
-        number_at(words.as_slice(), 2),
-    ) else {
-        eprintln!(rt; "usage: long_history STEPS ROUNDS")?;
+    let Some(wanted) = Wanted::read(words.as_slice()) else {
+        eprintln!(rt;
+            "usage: device_loads STEPS ROUNDS [LOAD ..], a LOAD is sets, lists, frames or events"
+        )?;
         return Ok(ExitCode::from(2));
     };
     let limit: Judge = Box::new(rt.alloc(), |row: ClusterRow| gain_verdict(&row))?;
@@ -41,25 +43,18 @@ fn main(rt: HostRuntime) -> io::Result<ExitCode> {
     let brightness: Teller = Box::new(rt.alloc(), |row: ClusterRow| brightness_word(&row))?;
     run::<Sample, HostRuntime>(
         &rt,
-        steps,
-        rounds,
+        &wanted,
         (limit, sum),
         (gain, balance, button, brightness),
     )?;
     Ok(ExitCode::from(0))
 }
 
-// The number that a word of the command line is.
-fn number_at(words: &[String], place: usize) -> Option<u32> {
-    words.get(place)?.parse::<u32>().ok()
-}
-
-// Makes the device and the asks. The device's clusters have these closures: of autogain and gain the first validator and the first notifier, of red
+// Makes the device and the loads. The device's clusters have these closures: of autogain and gain the first validator and the first notifier, of red
 // and blue the second ones, of the button and of brightness the last notifiers.
 fn run<D: Driver, R: AllocGlobal + Print + Eprint + Clock>(
     rt: &R,
-    steps: u32,
-    rounds: u32,
+    wanted: &Wanted<'_>,
     judges: (D::Judge, D::Judge),
     tellers: (D::Teller, D::Teller, D::Teller, D::Teller),
 ) -> io::Result<()>
@@ -101,45 +96,39 @@ fn run<D: Driver, R: AllocGlobal + Print + Eprint + Clock>(
         return Err(io::Error::from(io::ErrorKind::OutOfMemory));
     };
     prepare(rt.alloc(), &mut device)?;
-    measure(rt, &mut device, rounds)?;
-    fill(rt, &mut device, steps)?;
-    measure(rt, &mut device, rounds)
+    measure(rt, &mut device, wanted)?;
+    fill(rt.alloc(), &mut device, wanted.steps)?;
+    measure(rt, &mut device, wanted)
 }
 
-// Makes so many rounds of each load, and says how long they took.
-fn measure<D: Driver, R: AllocGlobal + Print + Eprint + Clock>(
+// Makes the rounds of each load that is wanted.
+fn measure<A: Asked, R: AllocGlobal + Print + Eprint + Clock>(
     rt: &R,
-    device: &mut Device<D>,
-    rounds: u32,
+    device: &mut A,
+    wanted: &Wanted<'_>,
 ) -> io::Result<()> {
     for &(load, name) in LOADS {
-        let start = Instant::now(rt)?;
-        let mut refused = 0u32;
-        for round in 0..rounds {
-            refused = refused.saturating_add(play(rt.alloc(), device, load, round)?);
+        if wanted.has(name) {
+            make_rounds(rt, device, load, name, wanted.rounds)?;
         }
-        let elapsed = start.elapsed(rt)?;
-        println!(rt; "{name}: {rounds} rounds, {refused} asks refused")?;
-        eprintln!(rt;
-            "{name}: {} us, {} steps then",
-            elapsed.as_micros(),
-            device.steps().len()
-        )?;
     }
     Ok(())
 }
 
-// Sets until so many steps are kept, or no further step is.
-fn fill<D: Driver, R: AllocGlobal>(
+// Makes so many rounds of a load, and says how long they took.
+fn make_rounds<A: Asked, R: AllocGlobal + Print + Eprint + Clock>(
     rt: &R,
-    device: &mut Device<D>,
-    steps: u32,
-) -> Result<(), AllocError> {
-    for round in 0..steps {
-        if device.steps().len() >= steps as usize {
-            return Ok(());
-        }
-        set_flip(rt.alloc(), device, round)?;
+    device: &mut A,
+    load: Load,
+    name: &str,
+    rounds: u32,
+) -> io::Result<()> {
+    let start = Instant::now(rt)?;
+    let mut refused = 0u32;
+    for round in 0..rounds {
+        refused = refused.saturating_add(play(rt.alloc(), device, load, round)?);
     }
-    Ok(())
+    let took = start.elapsed(rt)?.as_micros();
+    println!(rt; "{name}: {rounds} rounds, {refused} asks refused")?;
+    eprintln!(rt; "{name}: {took} us, {} steps then", device.step_count())
 }
