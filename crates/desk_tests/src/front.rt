@@ -3,11 +3,11 @@
 ghost use Rattle.std.specs.Prelude.{◌≡◌};
 ghost use Rattle.turn_desk.specs.Views.{IsSeatOf, StaysAt};
 
+use crate::seats::further;
 use history::Served;
 use std::sync::Wait;
 use std::sync::atomic::AtomicU64;
 use std::sync::atomic::Ordering::SeqCst;
-use std::test::Fail;
 use std::thread;
 use std::thread::Threads;
 use turn_desk::{Desk, DeskSeat, Worker, run_both};
@@ -160,7 +160,7 @@ where
 
 // The call ends only once the other seat's look was answered, so a look that waits for the turn fails here.
 #[test]
-fn looks_while_another_calls(rt: HostRuntime) -> Result<(), Fail> {
+fn looks_while_another_calls(rt: HostRuntime) {
     let flags = Flags {
         inside: AtomicU64::new(0),
         looked: AtomicU64::new(0),
@@ -169,9 +169,8 @@ fn looks_while_another_calls(rt: HostRuntime) -> Result<(), Fail> {
     let Ok((desk, first)) = Desk::new(rt.alloc(), Slow { flags: &flags }) else {
         panic!(rt; "no memory for a desk")
     };
-    let (first, second) = desk.another(&rt, first);
-    look_while_called(&rt, &desk, &flags, first, second?);
+    let (first, second) = further(&rt, &desk, first);
+    look_while_called(&rt, &desk, &flags, first, second);
     let looked = flags.looked.load(SeqCst);
     assert!(rt; looked == 1 && flags.late.load(SeqCst) == 0);
-    Ok(())
 }

@@ -3,7 +3,7 @@
 ghost use Rattle.std.specs.Prelude.{◌≡◌};
 
 use crate::counter::{Answer, Ask, Counter};
-use crate::seats::open;
+use crate::seats::{further, open};
 use std::alloc::Global;
 use std::sync::atomic::AtomicU64;
 use std::sync::atomic::Ordering::SeqCst;
@@ -139,20 +139,19 @@ fn two_threads_call(rt: HostRuntime) -> Result<(), Fail> {
 
 // Each of the two goes on only once the other has come as far, which on one thread never is.
 #[test]
-fn two_threads_meet_at_the_gate(rt: HostRuntime) -> Result<(), Fail> {
+fn two_threads_meet_at_the_gate(rt: HostRuntime) {
     let (desk, first) = open(&rt, rt.alloc());
-    let (first, second) = desk.another(&rt, first);
+    let (first, second) = further(&rt, &desk, first);
     let gate = Meeting::new();
     let one = Party {
         seat: first,
         client: Adder::new(rt.alloc(), 3),
     };
     let two = Party {
-        seat: second?,
+        seat: second,
         client: Adder::new(rt.alloc(), 3),
     };
     let (one, two, outcome) = run_clients(&rt, &desk, &gate, one, two);
-    outcome?;
-    assert!(rt; gate.was_held() && one.client.sums() == 3 && two.client.sums() == 3);
-    Ok(())
+    let are_told = one.client.sums() == 3 && two.client.sums() == 3;
+    assert!(rt; outcome.is_ok() && gate.was_held() && are_told);
 }

@@ -4,7 +4,6 @@ ghost use Rattle.std.specs.Prelude.{◌≡◌};
 
 use std::sync::atomic::AtomicU64;
 use std::sync::atomic::Ordering::SeqCst;
-use std::test::Fail;
 use turn_desk::{Worker, run_both_within};
 
 // Counts the work that is done, and keeps its name.
@@ -35,7 +34,7 @@ impl<'a> Worker for Named<'a> {
 
 // Where the first thread or the second is refused both workers give up, and nobody waits. With two threads both work.
 #[test]
-fn works_with_two_threads_alone(rt: HostRuntime) -> Result<(), Fail> {
+fn works_with_two_threads_alone(rt: HostRuntime) {
     let mut are_right = true;
     for threads in 0..3 {
         let works = AtomicU64::new(0);
@@ -53,5 +52,4 @@ fn works_with_two_threads_alone(rt: HostRuntime) -> Result<(), Fail> {
         are_right = are_right && works.load(SeqCst) == wanted;
     }
     assert!(rt; are_right);
-    Ok(())
 }

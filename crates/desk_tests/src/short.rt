@@ -1,12 +1,15 @@
 //! Memory runs out at each allocation in turn: a heap of its own is made a little larger each time.
 
+ghost use Rattle.turn_desk.specs.Views.{IsSeatOf};
+
 use crate::counter::{Answer, Ask, Counter};
-use crate::seats::listed;
+use crate::seats::{further, listed};
 use linked_list_allocator::LocalHeap;
 use std::alloc::{Allocator, Global};
+use std::process::Abort;
 use std::sync::Wait;
 use std::test::Fail;
-use turn_desk::{Desk, DeskFault};
+use turn_desk::{Desk, DeskFault, DeskSeat};
 
 const ACCEPTED: Option<(Answer, Answer)> = Some((Answer::Sum(1), Answer::Sum(3)));
 
@@ -18,27 +21,30 @@ fn accepted(answer: Answer) -> usize {
 
 // What two asks were answered, if there was a desk, and whether all seats came back and the history has just what was
 // accepted. Where there was none, it says whether the counter came back for want of memory.
-fn two_calls<A: Allocator + Clone, R: Wait>(
+fn two_calls<A: Allocator + Clone, R: Abort + Wait>(
     rt: &R,
     alloc: Global,
     heap: A,
     own: A,
 ) -> (Option<(Answer, Answer)>, bool) {
-    let (desk, first) = match Desk::new(heap, Counter::new(own, 10)) {
-        Ok(made) => made,
-        Err((counter, fault)) => {
-            return (None, fault == DeskFault::Memory && counter.total() == 0);
-        }
-    };
-    let (first, second) = desk.another(rt, first);
-    let Ok(second) = second else {
-        return (None, false);
-    };
+    match Desk::new(heap, Counter::new(own, 10)) {
+        Ok((desk, first)) => two_calls_at(rt, alloc, desk, first),
+        Err((counter, fault)) => (None, fault == DeskFault::Memory && counter.total() == 0),
+    }
+}
+
+fn two_calls_at<A: Allocator, R: Abort + Wait>(
+    rt: &R,
+    alloc: Global,
+    desk: Desk<Counter<A>, A>,
+    first: DeskSeat<Counter<A>>,
+) -> (Option<(Answer, Answer)>, bool)
+    requires { IsSeatOf desk first }
+{
+    let (first, second) = further(rt, &desk, first);
     let (first, one) = desk.call(rt, first, &Ask::Add(1));
     let (second, two) = desk.call(rt, second, &Ask::Add(2));
-    let Some(seats) = listed(alloc, Some(first), Some(second)) else {
-        return (None, false);
-    };
+    let seats = listed(rt, alloc, Some(first), Some(second));
     let Ok(counter) = desk.close(seats) else {
         return (None, false);
     };

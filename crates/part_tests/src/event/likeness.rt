@@ -6,7 +6,9 @@ use crate::event::scene::Scene;
 use std::alloc::Global;
 
 // Calls. Those with the same number in front leave the same events for file handle 0.
-const PASTS: &[(u32, &[Call])] = &[
+type Past = (u32, &'static [Call]);
+
+const PASTS: &[Past] = &[
     (0, &[]),
     (0, &[Call::Subscribe(0, 3, 0, 5)]),
     (
@@ -62,16 +64,37 @@ fn after(alloc: Global, calls: &[Call]) -> Scene {
 
 // The first two of the pasts, by their places, that are taken for alike where they aren't, or the other way round.
 fn mistaken(alloc: Global) -> Option<(usize, usize)> {
-    for (place, (number, calls)) in PASTS.iter().enumerate() {
-        let one = after(alloc, calls);
-        for (other_place, (other_number, calls)) in PASTS.iter().enumerate() {
-            let other = after(alloc, calls);
-            if one.is_like(&other, 0) != (number == other_number) {
-                return Some((place, other_place));
-            }
+    mistaken_among(alloc, PASTS)
+}
+
+fn mistaken_among(alloc: Global, pasts: &[Past]) -> Option<(usize, usize)> {
+    for (place, past) in pasts.iter().enumerate() {
+        if let Some(other) = mistaken_at(alloc, past, pasts) {
+            return Some((place, other));
         }
     }
     None
+}
+
+fn mistaken_at(alloc: Global, past: &Past, pasts: &[Past]) -> Option<usize> {
+    let one = after(alloc, past.1);
+    mistaken_for(alloc, &one, past.0, pasts)
+}
+
+// The first past that the events of a number are mistaken for.
+fn mistaken_for(alloc: Global, one: &Scene, number: u32, pasts: &[Past]) -> Option<usize> {
+    for (place, past) in pasts.iter().enumerate() {
+        if is_after(alloc, one, past.1) != (number == past.0) {
+            return Some(place);
+        }
+    }
+    None
+}
+
+// Whether events are taken for those that calls leave.
+fn is_after(alloc: Global, one: &Scene, calls: &[Call]) -> bool {
+    let other = after(alloc, calls);
+    one.is_like(&other, 0)
 }
 
 #[test]

@@ -153,12 +153,8 @@ impl Scene {
     pub fn is_twin(&self, alloc: Global, plan: &Plan<Ordered>) -> Result<bool, AllocError>
         requires { IsKept plan.now self.now.values.items self.now.grabs.items self.now.board }
     {
-        let mut queued = Vec::new(alloc);
-        for frame in &self.waiting {
-            let request = RequestId(frame.number);
-            queued.push(Queued::new(request, frame.number, frame.asked.as_slice()))?;
-        }
-        let board = Board::compute(
+        let queued = queued(alloc, self.waiting.as_slice())?;
+        let computed = Board::compute(
             alloc,
             plan,
             plan.controls(),
@@ -166,8 +162,24 @@ impl Scene {
             self.grabs.as_slice(),
             queued.as_slice(),
             &mut Work::new(),
-        )?;
-        Ok(self.board.is_like(&board))
+        );
+        is_like(&self.board, computed)
+    }
+}
+
+fn queued(alloc: Global, waiting: &[Waiting]) -> Result<Vec<Queued<'_>>, AllocError> {
+    let mut queued = Vec::new(alloc);
+    for frame in waiting {
+        let request = RequestId(frame.number);
+        queued.push(Queued::new(request, frame.number, frame.asked.as_slice()))?;
+    }
+    Ok(queued)
+}
+
+fn is_like(board: &Board, computed: Result<Board, AllocError>) -> Result<bool, AllocError> {
+    match computed {
+        Ok(other) => Ok(board.is_like(&other)),
+        Err(error) => Err(error),
     }
 }
 
