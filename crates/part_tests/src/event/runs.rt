@@ -468,14 +468,9 @@ fn plays(alloc: Global, run: &Run) -> bool {
     true
 }
 
-// The test is handed the table, as each function that names a constant has a copy of all that it leads to.
-fn all_runs() -> &'static [Run] {
-    RUNS
-}
-
 #[test]
 fn runs(rt: HostRuntime) {
-    for (number, run) in all_runs().iter().enumerate() {
+    for (number, run) in RUNS.iter().enumerate() {
         assert!(rt; plays(rt.alloc(), run), "{number}");
     }
 }

@@ -20,22 +20,17 @@ const CLUSTERS: &[(&[u32], bool)] = &[(&[0, 1], true), (&[5, 2], true), (&[4, 3]
 /// Eight numbers from 0 to 10, some of them in clusters of two.
 pub fn plan_of(alloc: Global) -> Result<Plan<Ordered>, Fail> {
     let mut builder = PlanBuilder::new(alloc);
-    fill(&mut builder)?;
-    match builder.finish() {
-        Ok(plan) => Ok(plan),
-        Err(_) => Err(Fail::new("the plan")),
-    }
-}
-
-fn fill(builder: &mut PlanBuilder<Ordered>) -> Result<(), Fail> {
     let handler = builder.handler()?;
     for id in 0..8 {
         builder.control(handler, number(id)?)?;
     }
     for &(members, is_judged) in CLUSTERS {
-        name(builder, members, is_judged)?;
+        name(&mut builder, members, is_judged)?;
     }
-    Ok(())
+    match builder.finish() {
+        Ok(plan) => Ok(plan),
+        Err(_) => Err(Fail::new("the plan")),
+    }
 }
 
 fn number(id: u32) -> Result<Ctrl, Fail> {

@@ -85,14 +85,6 @@ fn control(
 
 pub(crate) fn plan(alloc: Global) -> Result<Plan<Silent>, Fail> {
     let mut builder = PlanBuilder::new(alloc);
-    fill(&mut builder)?;
-    match builder.finish() {
-        Ok(plan) => Ok(plan),
-        Err(_) => Err(Fail::new("the plan")),
-    }
-}
-
-fn fill(builder: &mut PlanBuilder<Silent>) -> Result<(), Fail> {
     let handler = builder.handler()?;
     let mut id = FIRST;
     for &(kind, maximum, step, default, bits) in MADE {
@@ -103,9 +95,12 @@ fn fill(builder: &mut PlanBuilder<Silent>) -> Result<(), Fail> {
         validator: None,
         notifier: None,
     };
-    match builder.auto_cluster(&[0, 1], MANUAL, none) {
-        Ok(_) => Ok(()),
-        Err(_) => Err(Fail::new("an auto cluster")),
+    if builder.auto_cluster(&[0, 1], MANUAL, none).is_err() {
+        return Err(Fail::new("an auto cluster"));
+    }
+    match builder.finish() {
+        Ok(plan) => Ok(plan),
+        Err(_) => Err(Fail::new("the plan")),
     }
 }
 

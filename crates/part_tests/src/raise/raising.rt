@@ -6,7 +6,6 @@ use ctrl_handlers::Plan;
 use ctrl_raises::Moment;
 use ctrl_types::{CtrlValue, FhId};
 use std::alloc::Global;
-use std::process::Abort;
 use std::test::Fail;
 
 /// A change, and what is taken of it.
@@ -249,27 +248,24 @@ fn is_heard(alloc: Global, plan: &Plan<Silent>, case: &Case) -> Result<bool, Fai
     )
 }
 
-fn are_heard(
-    rt: &impl Abort,
-    alloc: Global,
-    plan: &Plan<Silent>,
-    cases: &[Case],
-) -> Result<(), Fail> {
-    for (row, case) in cases.iter().enumerate() {
-        let is_heard = is_heard(alloc, plan, case)?;
+#[test]
+fn changes_are_raised(rt: HostRuntime) -> Result<(), Fail> {
+    let alloc = rt.alloc();
+    let plan = plan(alloc)?;
+    for (row, case) in WITHOUT_SET.iter().enumerate() {
+        let is_heard = is_heard(alloc, &plan, case)?;
         assert!(rt; is_heard, "case {row}");
     }
     Ok(())
 }
 
 #[test]
-fn changes_are_raised(rt: HostRuntime) -> Result<(), Fail> {
-    let plan = plan(rt.alloc())?;
-    are_heard(&rt, rt.alloc(), &plan, WITHOUT_SET)
-}
-
-#[test]
 fn a_set_is_heard_by_others(rt: HostRuntime) -> Result<(), Fail> {
-    let plan = plan(rt.alloc())?;
-    are_heard(&rt, rt.alloc(), &plan, OF_A_SET)
+    let alloc = rt.alloc();
+    let plan = plan(alloc)?;
+    for (row, case) in OF_A_SET.iter().enumerate() {
+        let is_heard = is_heard(alloc, &plan, case)?;
+        assert!(rt; is_heard, "case {row}");
+    }
+    Ok(())
 }

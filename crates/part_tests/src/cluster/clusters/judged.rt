@@ -1,5 +1,5 @@
 // What clusters make of rows, and which members are inactive.
-use super::looks::{Look, all_shown, holds};
+use super::looks::{Look, holds, shows};
 use super::planning::{BYTE, Made, Named, plan_of};
 use crate::cluster::common::are_of;
 use ctrl_types::{CtrlValue, Errno};
@@ -287,7 +287,11 @@ fn holds_under(rt: &impl Abort, alloc: Global, made: &[Made], looks: &[Look]) ->
     if plan.controls().len() != 2 || !are_of(&plan, other.controls()) {
         return Err(Fail::new("two controls"));
     }
-    all_shown(rt, alloc, &plan, other.controls(), &[5, 11], looks)
+    for (row, &look) in looks.iter().enumerate() {
+        let is_shown = shows(alloc, &plan, other.controls(), &[5, 11], look)?;
+        assert!(rt; is_shown, "look {row}");
+    }
+    Ok(())
 }
 
 #[test]

@@ -126,7 +126,7 @@ fn lays(
     Ok(is_laid && is_work(&work, want.2, 0))
 }
 
-fn shows(
+pub fn shows(
     alloc: Global,
     plan: &Plan<Strict>,
     controls: &[Ctrl],
@@ -165,25 +165,6 @@ fn shows(
     })
 }
 
-/// A plan whose controls are these shows this at these values.
-pub fn all_shown(
-    rt: &impl Abort,
-    alloc: Global,
-    plan: &Plan<Strict>,
-    controls: &[Ctrl],
-    values: &[CtrlValue],
-    looks: &[Look],
-) -> Result<(), Fail>
-    requires controls { AreControlsOf plan.now controls.now }
-    requires values { length values.now ≡ length plan.now.controls }
-{
-    for (row, &look) in looks.iter().enumerate() {
-        let is_shown = shows(alloc, plan, controls, values, look)?;
-        assert!(rt; is_shown, "look {row}");
-    }
-    Ok(())
-}
-
 /// A plan of these controls and clusters shows this at these values.
 pub fn holds(
     rt: &impl Abort,
@@ -197,5 +178,9 @@ pub fn holds(
     if values.len() != plan.controls().len() {
         return Err(Fail::new("a value for each control"));
     }
-    all_shown(rt, alloc, &plan, plan.controls(), values, looks)
+    for (row, &look) in looks.iter().enumerate() {
+        let is_shown = shows(alloc, &plan, plan.controls(), values, look)?;
+        assert!(rt; is_shown, "look {row}");
+    }
+    Ok(())
 }

@@ -96,43 +96,22 @@ pub fn plan_of(
     named: &[Named],
     heard: &mut Vec<Arc<AtomicU64>>,
 ) -> Result<Plan<Strict>, Fail> {
+    let all = Arc::new(alloc, AtomicU64::new(0))?;
     let mut builder = PlanBuilder::new(alloc);
-    fill(alloc, &mut builder, made, named, heard)?;
-    match builder.finish() {
-        Ok(plan) => Ok(plan),
-        Err(_) => Err(Fail::new("the plan")),
-    }
-}
-
-fn fill(
-    alloc: Global,
-    builder: &mut PlanBuilder<Strict>,
-    made: &[Made],
-    named: &[Named],
-    heard: &mut Vec<Arc<AtomicU64>>,
-) -> Result<(), Fail> {
     let handler = builder.handler()?;
     let mut id: u32 = 0;
     for &made in made {
         builder.control(handler, control(id, made)?)?;
         id = id.wrapping_add(1);
     }
-    let all = Arc::new(alloc, AtomicU64::new(0))?;
     for named in named {
-        add(alloc, builder, *named, &all, heard)?;
+        let notifier = notifier(alloc, *named, &all, heard)?;
+        name(&mut builder, *named, notifier)?;
     }
-    Ok(())
-}
-
-fn add(
-    alloc: Global,
-    builder: &mut PlanBuilder<Strict>,
-    named: Named,
-    all: &Arc<AtomicU64>,
-    heard: &mut Vec<Arc<AtomicU64>>,
-) -> Result<(), Fail> {
-    let notifier = notifier(alloc, named, all, heard)?;
-    name(builder, named, notifier)
+    match builder.finish() {
+        Ok(plan) => Ok(plan),
+        Err(_) => Err(Fail::new("the plan")),
+    }
 }
 
 pub const BYTE: Made = Made::Number(255, 1);

@@ -33,14 +33,6 @@ pub type Made = (u32, CtrlValue, u32);
 /// none, and no other has a validator.
 pub fn plan_of(alloc: Global, made: &[Made]) -> Result<Plan<Strict>, Fail> {
     let mut builder = PlanBuilder::new(alloc);
-    fill(&mut builder, made)?;
-    match builder.finish() {
-        Ok(plan) => Ok(plan),
-        Err(_) => Err(Fail::new("the plan")),
-    }
-}
-
-fn fill(builder: &mut PlanBuilder<Strict>, made: &[Made]) -> Result<(), Fail> {
     let handler = builder.handler()?;
     for &(id, default, bits) in made {
         let flags = Flags::from_bits_retain(bits);
@@ -59,11 +51,14 @@ fn fill(builder: &mut PlanBuilder<Strict>, made: &[Made]) -> Result<(), Fail> {
             Err(_) => return Err(Fail::new("a control")),
         };
     }
-    name(builder, &[0, 1], TAKING)?;
+    name(&mut builder, &[0, 1], TAKING)?;
     if made.len() > 2 {
-        name(builder, &[2], REFUSING)?;
+        name(&mut builder, &[2], REFUSING)?;
     }
-    Ok(())
+    match builder.finish() {
+        Ok(plan) => Ok(plan),
+        Err(_) => Err(Fail::new("the plan")),
+    }
 }
 
 fn name(builder: &mut PlanBuilder<Strict>, members: &[u32], number: u32) -> Result<(), Fail> {
@@ -176,7 +171,12 @@ fn is_answer(answer: &Result<ControlList, Fault>, want: Answer) -> bool {
 }
 
 /// Whether the call is answered so, where a plan's controls are these.
-fn shows(alloc: Global, plan: &Plan<Strict>, controls: &[Ctrl], case: Case) -> Result<bool, Fail>
+pub fn shows(
+    alloc: Global,
+    plan: &Plan<Strict>,
+    controls: &[Ctrl],
+    case: Case,
+) -> Result<bool, Fail>
     requires controls { AreControlsOf plan.now controls.now }
 {
     let (call, which, before, entries, want, asked) = case;
@@ -193,25 +193,12 @@ fn shows(alloc: Global, plan: &Plan<Strict>, controls: &[Ctrl], case: Case) -> R
     Ok(is_answer(&got, want) && work.asked == asked && work.told == 0)
 }
 
-/// A plan whose controls are these answers so.
-pub fn answers(
-    rt: &impl Abort,
-    alloc: Global,
-    plan: &Plan<Strict>,
-    controls: &[Ctrl],
-    cases: &[Case],
-) -> Result<(), Fail>
-    requires controls { AreControlsOf plan.now controls.now }
-{
-    for (row, &case) in cases.iter().enumerate() {
-        let is_shown = shows(alloc, plan, controls, case)?;
-        assert!(rt; is_shown, "case {row}");
-    }
-    Ok(())
-}
-
 /// The plan of six answers these.
 pub fn holds(rt: &impl Abort, alloc: Global, cases: &[Case]) -> Result<(), Fail> {
     let plan = plan_of(alloc, SIX)?;
-    answers(rt, alloc, &plan, plan.controls(), cases)
+    for (row, &case) in cases.iter().enumerate() {
+        let is_shown = shows(alloc, &plan, plan.controls(), case)?;
+        assert!(rt; is_shown, "case {row}");
+    }
+    Ok(())
 }
