@@ -2,16 +2,17 @@
 use Rattle.std.specs.Prelude.{◌≡◌, ◌≢◌, ℕ, ℤ, pos, ◌+ℤ◌, ◌*ℤ◌, ◌≤ℤ◌, ◌<ℤ◌, int_le, if◌then◌else◌, ⊤, [], ◌∷◌, List, ◌==◌, MatchBool}
 use Rattle.ctrl_calls.specs.Meanings.{Verdicts, Words}
 use Rattle.ctrl_calls.specs.declared.verdict.Verdict.{Verdict}
-use Rattle.ctrl_calls.specs.declared.verdict.Verdict.TheVariants.{Accept}
+use Rattle.ctrl_calls.specs.declared.verdict.Verdict.TheVariants.{Accept, Refuse}
+use Rattle.ctrl_types.specs.declared.errno.Errno.TheVariants.{EINVAL}
 
 -- the lesser of two
 abbrev pub lesser : ℤ → ℤ → ℤ
 lesser a b = if int_le a b then a else b
 
--- relation 1: of red and blue, blue is at most red and the first bound
+-- relation 1: of red and blue, blue is at most red and the first bound; no other row is theirs
 abbrev pub limited : List ℤ → List ℤ → Verdict
 limited (margin ∷ rest) (red ∷ blue ∷ []) = Accept (red ∷ lesser blue (red +ℤ margin) ∷ [])
-limited _ row = Accept row
+limited _ row = Refuse EINVAL
 
 -- what the camera's validators make of a row; under another relation it is accepted as it is
 abbrev pub camera_verdict : Verdicts

@@ -1,6 +1,6 @@
 //! The camera: two handlers, seven controls and two clusters with closures.
 
-use anyhow::Result;
+use anyhow::{Context, Result};
 use bitflags::Flags as FlagSet;
 use ctrl_calls::{Calls, Driver};
 use ctrl_handlers::{Plan, PlanBuilder, PlanFault};
@@ -43,13 +43,13 @@ pub fn camera_plan<D: Driver>(
     or_fault(builder.finish())
 }
 
-// Adds the sensor's controls, and makes mode, time and gain an auto cluster, which is manual where the mode is 1.
+// Adds the sensor's controls, and makes mode, time and gain an auto cluster, which is manual where the mode is 1. A fault names its control.
 fn add_sensor<D: Driver>(builder: &mut PlanBuilder<D>, sensor: u32, calls: Calls<D>) -> Result<()> {
-    let mode = add(builder, sensor, config(MODE, Kind::Menu, 0, 1, 0))?;
-    let time = add(builder, sensor, config(TIME, Kind::Integer, 1, 65535, 312))?;
-    let gain = add(builder, sensor, config(GAIN, Kind::Integer, 0, 255, 16))?;
-    add(builder, sensor, config(HFLIP, Kind::Boolean, 0, 1, 0))?;
-    add(builder, sensor, lamps())?;
+    let mode = add(builder, sensor, config(MODE, Kind::Menu, 0, 1, 0)).context("mode")?;
+    let time = add(builder, sensor, config(TIME, Kind::Integer, 1, 65535, 312)).context("time")?;
+    let gain = add(builder, sensor, config(GAIN, Kind::Integer, 0, 255, 16)).context("gain")?;
+    add(builder, sensor, config(HFLIP, Kind::Boolean, 0, 1, 0)).context("hflip")?;
+    add(builder, sensor, lamps()).context("lamps")?;
     builder.menu_name(mode, 0, "Auto")?;
     builder.menu_name(mode, 1, "Manual")?;
     or_fault(builder.auto_cluster(&[mode, time, gain], 1, calls))?;
@@ -58,8 +58,8 @@ fn add_sensor<D: Driver>(builder: &mut PlanBuilder<D>, sensor: u32, calls: Calls
 
 // Adds the video node's controls, red and blue, and makes them a cluster.
 fn add_video<D: Driver>(builder: &mut PlanBuilder<D>, video: u32, calls: Calls<D>) -> Result<()> {
-    let red = add(builder, video, config(RED, Kind::Integer, 0, 255, 128))?;
-    let blue = add(builder, video, config(BLUE, Kind::Integer, 0, 255, 128))?;
+    let red = add(builder, video, config(RED, Kind::Integer, 0, 255, 128)).context("red")?;
+    let blue = add(builder, video, config(BLUE, Kind::Integer, 0, 255, 128)).context("blue")?;
     or_fault(builder.cluster(&[red, blue], calls))?;
     Ok(())
 }

@@ -4,6 +4,7 @@ ghost use Rattle.std.specs.Prelude.{◌≡◌};
 ghost use Rattle.example_driver.specs.Camera.{AreJoined, camera_told, camera_verdict};
 
 use ctrl_calls::{ClusterRow, Notifies, Relation, Validates, Verdict};
+use ctrl_types::Errno;
 
 /// The driver of the camera. It has no value: it only ties the meanings to the types of the closures.
 pub enum Camera {}
@@ -33,12 +34,12 @@ pub const EXPOSURE_WORDS: Relation = Relation {
 };
 
 /// What the validator of red and blue makes of a row, the values of the two: it is accepted with the lesser of blue and red and 64 in
-/// the place of blue. A row of another length is accepted as it is.
+/// the place of blue. A row of another length is refused with EINVAL.
 pub fn blue_verdict(row: &ClusterRow) -> Verdict
     ensures { result ≡ camera_verdict BLUE_LIMIT row.now }
 {
     if row.len() != 2 {
-        return Verdict::Accept(*row);
+        return Verdict::Refuse(Errno::EINVAL);
     }
     // where the sum doesn't fit, any blue is less
     let most = row.value(0).saturating_add(BLUE_LIMIT.bounds[0]);

@@ -156,6 +156,9 @@ fn show(rt: &impl Print, what: &str, answer: &Result<Reply, Fault>) -> io::Resul
         ),
         Ok(Reply::Frame { buffer, .. }) => println!(rt; "{what}: buffer {buffer}"),
         Ok(_) => println!(rt; "{what}: ok"),
-        Err(fault) => println!(rt; "{what}: error {}", fault.errno.number()),
+        Err(Fault { errno, index }) => match index {
+            Some(index) => println!(rt; "{what}: error {} index {index}", errno.number()),
+            None => println!(rt; "{what}: error {}", errno.number()),
+        },
     }
 }
