@@ -1,11 +1,11 @@
 //! Devices without closures.
 
-ghost use Rattle.std.specs.Prelude.{⊤, ◌≡◌};
+ghost use Rattle.std.specs.Prelude.{⊤, ◌≡◌, [], IfOk};
 ghost use Rattle.ctrl_calls.specs.declared.verdict.Verdict.TheVariants.{Accept};
 
 use bitflags::Flags as FlagSet;
 use ctl_script::sample_plan;
-use ctrl_calls::{Calls, ClusterRow, Judging, Notifies, Telling, Validates, Verdict};
+use ctrl_calls::{Calls, ClusterRow, Driver, Judging, Notifies, Telling, Validates, Verdict};
 use ctrl_settle::Ctrl;
 use ctrl_types::{CtrlId, Flags, Kind};
 use device_state::{Device, Plan, PlanBuilder, PlanFault};
@@ -63,11 +63,27 @@ pub enum Kept {
 }
 
 /// A fresh device. The error is want of memory, and it stands for any fault of the plan, too: a test that meets it fails.
-pub fn device_of(alloc: Global, kept: Kept) -> Result<Device<Silent>, AllocError> {
-    let plan = match kept {
-        Kept::Sample => sample_plan(alloc, none(), none(), none(), none()),
-        Kept::Menus => menus(alloc),
-    };
+pub fn kept_device(alloc: Global, kept: Kept) -> Result<Device<Silent>, AllocError> {
+    match kept {
+        Kept::Sample => sample(alloc),
+        Kept::Menus => device_of(alloc, menus(alloc)),
+    }
+}
+
+/// A fresh sample device without closures.
+pub fn sample(alloc: Global) -> Result<Device<Silent>, AllocError>
+    ensures { IfOk result (λ device. device.steps ≡ []) }
+{
+    device_of(alloc, sample_plan(alloc, none(), none(), none(), none()))
+}
+
+/// A fresh device of a plan, if there is one. The error stands for any fault of the plan, too; whoever meets one fails.
+pub fn device_of<D: Driver>(
+    alloc: Global,
+    plan: Result<Plan<D>, PlanFault>,
+) -> Result<Device<D>, AllocError>
+    ensures { IfOk result (λ device. device.steps ≡ []) }
+{
     let Ok(plan) = plan else {
         return Err(AllocError);
     };
@@ -87,6 +103,14 @@ fn none() -> Calls<Silent> {
 // A menu of names, of which the first is empty, and one of numbers, the least and the greatest among them.
 fn menus(alloc: Global) -> Result<Plan<Silent>, PlanFault> {
     let mut builder = PlanBuilder::new(alloc);
+    add_menus(&mut builder)?;
+    match builder.finish() {
+        Ok(plan) => Ok(plan),
+        Err((_, fault)) => Err(fault),
+    }
+}
+
+fn add_menus(builder: &mut PlanBuilder<Silent>) -> Result<(), PlanFault> {
     builder.handler()?;
     for (id, kind) in [(1, Kind::Menu), (2, Kind::IntegerMenu)] {
         let flags = Flags::empty();
@@ -100,9 +124,5 @@ fn menus(alloc: Global) -> Result<Plan<Silent>, PlanFault> {
     builder.menu_name(0, 4, "last")?;
     builder.menu_number(1, 0, i64::MIN)?;
     builder.menu_number(1, 1, 25)?;
-    builder.menu_number(1, 4, i64::MAX)?;
-    match builder.finish() {
-        Ok(plan) => Ok(plan),
-        Err((_, fault)) => Err(fault),
-    }
+    builder.menu_number(1, 4, i64::MAX)
 }

@@ -1,5 +1,6 @@
 //! Lines on a writer that takes all that it is given, a few bytes a write, or fails at one of its writes.
 
+use crate::streams::Sink;
 use bitflags::Flags as FlagSet;
 use ctrl_events::Event;
 use ctrl_lists::ControlList;
@@ -12,34 +13,9 @@ use script_replies::{
 };
 use std::alloc::Global;
 use std::io;
-use std::io::{ErrorKind, Write};
+use std::io::ErrorKind;
 use std::process::Abort;
 use std::test::Fail;
-
-// Takes bytes into room of its own, at most `most` a write. The write with the number `fails_at`, from 1, fails.
-#[derive(Drop)]
-struct Sink {
-    bytes: Vec<u8>,
-    most: usize,
-    fails_at: u32,
-    writes: u32,
-}
-
-impl Write for Sink {
-    fn write(&mut self, buf: &[u8]) -> io::Result<usize> {
-        self.writes = self.writes.saturating_add(1);
-        if self.writes == self.fails_at {
-            return Err(io::Error::from(ErrorKind::Interrupted));
-        }
-        let count = buf.len().min(self.most);
-        self.bytes.extend_from_slice(&buf[..count])?;
-        Ok(count)
-    }
-
-    fn flush(&mut self) -> io::Result<()> {
-        Err(io::Error::from(ErrorKind::Other))
-    }
-}
 
 const ALL: usize = usize::MAX;
 
@@ -171,8 +147,8 @@ fn expect<R: AllocGlobal + Abort>(rt: &R, case: Case) -> Result<(), Fail> {
     let mut sink = Sink {
         bytes: Vec::new(rt.alloc()),
         most,
-        fails_at,
         writes: 0,
+        fault: Some((fails_at, Some(ErrorKind::Interrupted))),
     };
     let mut reply = ReplyLine::new(rt.alloc())?;
     let is_written = write_line(rt.alloc(), &mut sink, &mut reply, line)?.is_ok();

@@ -206,10 +206,14 @@ const ITEMS: Script = Script {
     outcome: Outcome::Finished,
 };
 
-/// Each script.
-pub const SCRIPTS: &[Script] = &[
+const SCRIPTS: &[Script] = &[
     COMMANDS, REQUESTS, EVENTS, CUT, SWAPPED, LACKING, LONG, ITEMS,
 ];
+
+/// Each script. Each function that names a constant has a copy of all that it leads to, so tests are handed them.
+pub fn scripts() -> &'static [Script] {
+    SCRIPTS
+}
 
 impl Script {
     /// Its bytes. The line with the number `left_out`, from 0, is empty in place of a command.
@@ -247,4 +251,15 @@ impl Script {
         }
         steps
     }
+}
+
+/// How many lines end in a text.
+pub fn lines_in(bytes: &[u8]) -> usize {
+    let mut lines = 0usize;
+    for byte in bytes {
+        if *byte == b'\n' {
+            lines = lines.saturating_add(1);
+        }
+    }
+    lines
 }

@@ -1,8 +1,7 @@
 //! Readers and writers over memory that fail when they are told to, and what a run with them came to.
 
-use crate::devices::{Kept, Silent, device_of};
+use crate::devices::{Kept, kept_device};
 use ctl_script::{Outcome, run_script};
-use device_state::Device;
 use std::alloc::{AllocError, Global};
 use std::io;
 use std::io::{ErrorKind, Read, Write};
@@ -96,7 +95,8 @@ pub struct Ran {
 
 /// Runs a script on a fresh device.
 pub fn run(alloc: Global, kept: Kept, text: &[u8], streams: Streams) -> Result<Ran, AllocError> {
-    let device: Device<Silent> = device_of(alloc, kept)?;
+    let bytes = Vec::with_capacity(alloc, 1024)?;
+    let device = kept_device(alloc, kept)?;
     let mut source = Source {
         text,
         most: streams.most_read,
@@ -104,7 +104,7 @@ pub fn run(alloc: Global, kept: Kept, text: &[u8], streams: Streams) -> Result<R
         fault: streams.read_fault,
     };
     let mut sink = Sink {
-        bytes: Vec::with_capacity(alloc, 1024)?,
+        bytes,
         most: streams.most_written,
         writes: 0,
         fault: streams.write_fault,

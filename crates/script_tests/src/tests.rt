@@ -1,5 +1,5 @@
 use crate::devices::Kept;
-use crate::scripts::{SCRIPTS, Script};
+use crate::scripts::{Script, lines_in, scripts};
 use crate::streams::{Ran, Streams, WHOLE, run};
 use ctl_script::{MAX_INPUT, MAX_READS, Outcome};
 use std::alloc::{AllocError, Global};
@@ -15,25 +15,42 @@ fn is_run(ran: &Ran, bytes: &[u8], outcome: Outcome, steps: usize) -> bool {
     ran.bytes.as_slice() == bytes && ran.outcome == outcome && ran.steps == steps
 }
 
+// Runs a script; its line with the number `left_out` is empty in place of a command.
+fn run_of(
+    alloc: Global,
+    script: &Script,
+    left_out: Option<usize>,
+    streams: Streams,
+) -> Result<Ran, AllocError> {
+    let text = script.text(alloc, left_out)?;
+    run(alloc, script.kept, text.as_slice(), streams)
+}
+
+// A run that wrote all lines of a script, and ended with all of its steps as it does.
+fn is_whole(alloc: Global, script: &Script, ran: &Ran) -> Result<bool, AllocError> {
+    let reply = script.reply(alloc)?;
+    let steps = script.steps(script.lines.len());
+    Ok(is_run(ran, reply.as_slice(), script.outcome, steps))
+}
+
 // A script prints its lines to a writer that takes few bytes at once.
 fn prints(alloc: Global, script: &Script, most: usize) -> Result<bool, AllocError> {
-    let (text, reply) = (script.text(alloc, None)?, script.reply(alloc)?);
     let streams = Streams {
         most_written: most,
         ..WHOLE
     };
-    let ran = run(alloc, script.kept, text.as_slice(), streams)?;
+    let ran = run_of(alloc, script, None, streams)?;
     let lines = script.lines.len();
-    let fewest = if most == 1 { reply.len() } else { lines };
+    let fewest = if most == 1 { ran.bytes.len() } else { lines };
     // a writer that takes a line whole takes it in one write
     let is_few = most < 4096 || ran.writes as usize == lines;
-    let has_run = is_run(&ran, reply.as_slice(), script.outcome, script.steps(lines));
-    Ok(has_run && ran.writes as usize >= fewest && is_few)
+    let is_enough = ran.writes as usize >= fewest;
+    Ok(is_whole(alloc, script, &ran)? && is_enough && is_few)
 }
 
 #[test]
 fn scripts_print_their_lines(rt: HostRuntime) -> Result<(), AllocError> {
-    for (number, script) in SCRIPTS.iter().enumerate() {
+    for (number, script) in scripts().iter().enumerate() {
         for most in MOST {
             assert!(rt; prints(rt.alloc(), script, most)?, "{number} {most}");
         }
@@ -50,36 +67,28 @@ fn fails_at(
     number: u32,
     fault: Option<ErrorKind>,
 ) -> Result<Option<bool>, AllocError> {
-    let (text, reply) = (script.text(alloc, None)?, script.reply(alloc)?);
     let streams = Streams {
         most_written: most,
         write_fault: Some((number, fault)),
         ..WHOLE
     };
-    let ran = run(alloc, script.kept, text.as_slice(), streams)?;
+    let ran = run_of(alloc, script, None, streams)?;
     if ran.writes < number {
         return Ok(None);
     }
-    let written = ran.bytes.as_slice();
-    let whole = lines_in(written);
-    let is_prefix = written.len() < reply.len() && reply.as_slice().starts_with(written);
+    let whole = lines_in(ran.bytes.as_slice());
     let steps = script.steps(whole.saturating_add(1));
-    Ok(Some(
-        is_prefix
-            && ran.outcome == Outcome::WriteFault
-            && ran.writes == number
-            && ran.steps == steps,
-    ))
+    let has_failed = ran.outcome == Outcome::WriteFault
+        && ran.writes == number
+        && ran.steps == steps;
+    Ok(Some(is_beginning(alloc, script, &ran)? && has_failed))
 }
 
-fn lines_in(bytes: &[u8]) -> usize {
-    let mut lines = 0usize;
-    for byte in bytes {
-        if *byte == b'\n' {
-            lines = lines.saturating_add(1);
-        }
-    }
-    lines
+// A run that wrote a beginning of a script's lines, and not all.
+fn is_beginning(alloc: Global, script: &Script, ran: &Ran) -> Result<bool, AllocError> {
+    let reply = script.reply(alloc)?;
+    let written = ran.bytes.as_slice();
+    Ok(written.len() < reply.len() && reply.as_slice().starts_with(written))
 }
 
 // Whether each write fails as it has to; and the number of the first that isn't made.
@@ -101,7 +110,7 @@ fn fails_at_each(
 
 #[test]
 fn writers_fail_at_each_write(rt: HostRuntime) -> Result<(), AllocError> {
-    for (number, script) in SCRIPTS.iter().enumerate() {
+    for (number, script) in scripts().iter().enumerate() {
         for most in MOST {
             for fault in FAULTS {
                 let failed = fails_at_each(rt.alloc(), script, most, fault)?;
@@ -116,28 +125,36 @@ fn writers_fail_at_each_write(rt: HostRuntime) -> Result<(), AllocError> {
     Ok(())
 }
 
-// A read that fails ends the run before a command was asked; one that is interrupted is made again.
-fn reads(alloc: Global, script: &Script, number: u32) -> Result<bool, AllocError> {
-    let (text, reply) = (script.text(alloc, None)?, script.reply(alloc)?);
-    let mut streams = Streams {
+// A read that fails ends the run before a command was asked.
+fn read_fails(alloc: Global, script: &Script, number: u32) -> Result<bool, AllocError> {
+    let streams = Streams {
         most_read: 8,
         read_fault: Some((number, ErrorKind::Other)),
         ..WHOLE
     };
-    let failed = run(alloc, script.kept, text.as_slice(), streams)?;
-    streams.read_fault = Some((number, ErrorKind::Interrupted));
-    let ran = run(alloc, script.kept, text.as_slice(), streams)?;
-    let steps = script.steps(script.lines.len());
-    Ok(
-        failed.reads == number
-            && is_run(&failed, b"read fault\n", Outcome::ReadFault, 0)
-            && is_run(&ran, reply.as_slice(), script.outcome, steps),
-    )
+    let failed = run_of(alloc, script, None, streams)?;
+    let has_failed = is_run(&failed, b"read fault\n", Outcome::ReadFault, 0);
+    Ok(failed.reads == number && has_failed)
+}
+
+// One that is interrupted is made again.
+fn read_is_interrupted(alloc: Global, script: &Script, number: u32) -> Result<bool, AllocError> {
+    let streams = Streams {
+        most_read: 8,
+        read_fault: Some((number, ErrorKind::Interrupted)),
+        ..WHOLE
+    };
+    let ran = run_of(alloc, script, None, streams)?;
+    is_whole(alloc, script, &ran)
+}
+
+fn reads(alloc: Global, script: &Script, number: u32) -> Result<bool, AllocError> {
+    Ok(read_fails(alloc, script, number)? && read_is_interrupted(alloc, script, number)?)
 }
 
 #[test]
 fn readers_fail_at_each_read(rt: HostRuntime) -> Result<(), AllocError> {
-    for (number, script) in SCRIPTS.iter().enumerate() {
+    for (number, script) in scripts().iter().enumerate() {
         let length = script.text(rt.alloc(), None)?.len();
         let count = u32::try_from(length.div_ceil(8)).unwrap_or(0);
         // the last read shows the end
@@ -195,22 +212,36 @@ fn inputs_at_the_limits(rt: HostRuntime) -> Result<(), AllocError> {
 // answered, and the device has their steps. Where one of the device's was, the line is answered with error 12, and all else is as if
 // an empty line had stood in its place.
 fn stands_refusals(alloc: Global, script: &Script, refused: &mut u32) -> Result<bool, AllocError> {
-    let (text, reply) = (script.text(alloc, None)?, script.reply(alloc)?);
-    let ran = run(alloc, script.kept, text.as_slice(), WHOLE)?;
-    let steps = script.steps(script.lines.len());
-    if is_run(&ran, reply.as_slice(), script.outcome, steps) {
+    let ran = run_of(alloc, script, None, WHOLE)?;
+    if is_whole(alloc, script, &ran)? {
         return Ok(true);
     }
     *refused = refused.saturating_add(1);
-    let (start, lines) = alike(ran.bytes.as_slice(), reply.as_slice());
+    let (start, lines) = beginning(alloc, script, &ran)?;
+    stands_refusal(alloc, script, &ran, start, lines)
+}
+
+// How many bytes and how many lines a run wrote as the script does.
+fn beginning(alloc: Global, script: &Script, ran: &Ran) -> Result<(usize, usize), AllocError> {
+    let reply = script.reply(alloc)?;
+    Ok(alike(ran.bytes.as_slice(), reply.as_slice()))
+}
+
+// A run in which one growth was refused, behind so many bytes and lines.
+fn stands_refusal(
+    alloc: Global,
+    script: &Script,
+    ran: &Ran,
+    start: usize,
+    lines: usize,
+) -> Result<bool, AllocError> {
     let Some((same, rest)) = ran.bytes.as_slice().split_at_checked(start) else {
         return Ok(false);
     };
     if ran.outcome == Outcome::Memory {
         return Ok(rest == b"no memory\n".as_slice() && ran.steps == script.steps(lines));
     }
-    let text = script.text(alloc, Some(lines))?;
-    let without = run(alloc, script.kept, text.as_slice(), WHOLE)?;
+    let without = run_of(alloc, script, Some(lines), WHOLE)?;
     let is_as_without = without.outcome == ran.outcome && without.steps == ran.steps;
     Ok(is_as_without && is_refused_line(same, rest, without.bytes.as_slice()))
 }
@@ -243,7 +274,7 @@ fn alike(a: &[u8], b: &[u8]) -> (usize, usize) {
 #[test]
 fn scripts_with_a_refused_growth(rt: HostRuntime) {
     let mut refused = 0u32;
-    for (number, script) in SCRIPTS.iter().enumerate() {
+    for (number, script) in scripts().iter().enumerate() {
         let mut stood = stands_refusals(rt.alloc(), script, &mut refused);
         if stood.is_err() {
             refused = refused.saturating_add(1);

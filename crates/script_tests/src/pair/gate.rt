@@ -1,6 +1,6 @@
 //! Two scripts that wait for each other.
 
-use crate::pair::sample::fresh;
+use crate::devices::sample;
 use ctl_pair::{Gate, run_pair};
 use ctl_script::Outcome;
 use std::alloc::AllocError;
@@ -68,7 +68,7 @@ fn scripts_meet_at_the_gate(rt: HostRuntime) -> Result<(), AllocError> {
     let gate = Meeting::new();
     let mut reader = SCRIPTS;
     let mut printed = Vec::new(rt.alloc());
-    let device = fresh(rt.alloc())?;
+    let device = sample(rt.alloc())?;
     let (left, outcome) = run_pair(&rt, rt.alloc(), device, &gate, &mut reader, &mut printed);
     let has_printed = printed.as_slice() == PRINTED && outcome == Outcome::Finished;
     assert!(rt; gate.was_held() && left.is_ok() && has_printed);

@@ -4,6 +4,7 @@ ghost use Rattle.std.specs.Prelude.{◌≡◌, []};
 
 use crate::pair::closures::{Course, goes};
 use crate::pair::sample::NoGate;
+use crate::scripts::lines_in;
 use ctl_pair::run_pair;
 use ctl_script::Outcome;
 use ctrl_calls::Driver;
@@ -52,16 +53,6 @@ fn two_scripts(alloc: Global, first: Script, second: Script) -> Result<Vec<u8>, 
     text.extend_from_slice(b"==\n")?;
     add_script(&mut text, second)?;
     Ok(text)
-}
-
-fn lines_in(bytes: &[u8]) -> usize {
-    let mut lines = 0usize;
-    for byte in bytes {
-        if *byte == b'\n' {
-            lines = lines.saturating_add(1);
-        }
-    }
-    lines
 }
 
 // What two scripts of 1,000 commands have printed and made: each command has its line, the steps of both, of each at least so many, are all that the device

@@ -1,17 +1,15 @@
-//! The sample device, with closures and without.
+//! The sample device with closures.
 
-ghost use Rattle.std.specs.Prelude.{⊤, ◌≡◌, [], IfOk};
-ghost use Rattle.ctrl_calls.specs.declared.verdict.Verdict.TheVariants.{Accept};
+ghost use Rattle.std.specs.Prelude.{◌≡◌, [], IfOk};
 ghost use Rattle.ctrl_calls.specs.Meanings.{JudgesBy, TellsBy};
 
+use crate::devices::device_of;
 use ctl_pair::Gate;
 use ctl_script::{
     BALANCE_LIMIT, BRIGHTNESS_WORDS, BUTTON_WORDS, GAIN_LIMIT, PAIR_WORDS, sample_plan,
 };
-use ctrl_calls::{
-    Calls, ClusterRow, Driver, Judging, Notifier, Notifies, Telling, Validates, Validator, Verdict,
-};
-use device_state::{Device, Plan, PlanFault};
+use ctrl_calls::{Calls, Driver, Notifier, Validator};
+use device_state::Device;
 use std::alloc::{AllocError, Global};
 
 /// Lets each command pass at once.
@@ -19,78 +17,6 @@ pub struct NoGate;
 
 impl Gate for NoGate {
     fn pass(&self, _seat: u32, _k: u32) {}
-}
-
-/// A driver that keeps no closure.
-pub enum Silent {}
-
-#[derive(Drop)]
-pub struct Accepts;
-
-impl Judging for Accepts {
-    ghost callable = { λ _. ⊤ };
-
-    ghost answers = { λ _ row verdict. verdict ≡ Accept row };
-
-    fn judge(&self, row: ClusterRow) -> Verdict {
-        Verdict::Accept(row)
-    }
-}
-
-#[derive(Drop)]
-pub struct Says;
-
-impl Telling for Says {
-    ghost callable = { λ _. ⊤ };
-
-    ghost answers = { λ _ _ _. ⊤ };
-
-    fn tell(&self, row: ClusterRow) -> u64 {
-        let _ = row;
-        0
-    }
-}
-
-impl Validates for Silent {
-    type Judge = Accepts;
-
-    ghost verdict = { λ _ row. Accept row };
-}
-
-impl Notifies for Silent {
-    type Teller = Says;
-
-    ghost told = { λ _ _ _. ⊤ };
-}
-
-fn none() -> Calls<Silent> {
-    Calls {
-        validator: None,
-        notifier: None,
-    }
-}
-
-/// A fresh sample device without closures.
-pub fn fresh(alloc: Global) -> Result<Device<Silent>, AllocError>
-    ensures { IfOk result (λ device. device.steps ≡ []) }
-{
-    device_of(alloc, sample_plan(alloc, none(), none(), none(), none()))
-}
-
-/// A fresh device of a plan, if there is one. The error stands for any fault of the plan, too; whoever meets one fails.
-pub fn device_of<D: Driver>(
-    alloc: Global,
-    plan: Result<Plan<D>, PlanFault>,
-) -> Result<Device<D>, AllocError>
-    ensures { IfOk result (λ device. device.steps ≡ []) }
-{
-    let Ok(plan) = plan else {
-        return Err(AllocError);
-    };
-    match Device::new(alloc, plan) {
-        Ok(device) => Ok(device),
-        Err(_) => Err(AllocError),
-    }
 }
 
 /// A fresh sample device whose clusters have these closures: the first validator and the first notifier are those of autogain and gain,

@@ -1,7 +1,8 @@
 //! Two scripts on readers and writers that fail.
 
+use crate::devices::sample;
 use crate::pair::gate::SCRIPTS;
-use crate::pair::sample::{NoGate, fresh};
+use crate::pair::sample::NoGate;
 use ctl_pair::run_pair;
 use ctl_script::Outcome;
 use std::alloc::{AllocError, Global};
@@ -120,7 +121,7 @@ fn goes<R: Threads + Wait + Sync>(
         bytes: Vec::new(alloc),
         room: course.room,
     };
-    let device = fresh(alloc)?;
+    let device = sample(alloc)?;
     let (left, outcome) = run_pair(rt, alloc, device, &NoGate, &mut reader, &mut writer);
     let Ok(device) = left else {
         return Err(AllocError);
