@@ -8,7 +8,7 @@ ghost use Rattle.ctrl_clusters.specs.Rows.{is_grabbed};
 ghost use Rattle.device_history.specs.Grabs.{grabbed, grab_answer};
 ghost use Rattle.device_history.specs.Flags.{flags_now};
 ghost use Rattle.device_history.specs.Frames.{queue};
-ghost use Rattle.device_history.specs.Handles.{handler_of, shown, open_answer, close_answer};
+ghost use Rattle.device_history.specs.Handles.{opened, handler_of, shown, open_answer, close_answer};
 ghost use Rattle.device_history.specs.Values.{defaults, now};
 ghost use Rattle.ctrl_clusters.specs.Notified.{HaveWords};
 ghost use Rattle.device_history.specs.Refusals.{refused, is_full};
@@ -195,6 +195,13 @@ impl<D: Driver> Device<D> {
         ensures { result ≡ handler_of (past self.now.steps) fh }
     {
         self.file_handles.get(&fh.0).copied()
+    }
+
+    /// How many file handles are open, at most 64, for a driver's own use (of this project). It takes no memory.
+    pub fn open_count(&self) -> usize
+        ensures { result ≡ length (opened (past self.now.steps)) }
+    {
+        self.file_handles.len()
     }
 
     /// Whether what an audit worked out of some history is what the device has: the present values and flags, the requests with their
@@ -584,7 +591,8 @@ impl<D: Driver> Device<D> {
         Ok(())
     }
 
-    fn is_full(&self) -> bool
+    /// Whether no further step is kept, for a driver's own use: an ask that adds one is refused by check 33, or 9 (ENOSPC, 28). It takes no memory.
+    pub fn is_full(&self) -> bool
         ensures { result ≡ is_full (past self.now.steps) }
     {
         self.steps.len() >= MAX_STEPS

@@ -91,6 +91,8 @@ pub enum Trouble {
     Calls(usize),
     /// It added another step, or none, or one that it mustn't.
     Step(usize),
+    /// It was refused, and the check that is named has another errno.
+    Check(usize),
     /// A reader told otherwise.
     Seen(usize),
     /// It was refused for want of memory and changed something.

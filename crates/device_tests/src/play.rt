@@ -5,6 +5,7 @@ use crate::closures::Counter;
 use crate::looks::all_tell;
 use crate::plan::{Scene, Table, Trouble, scene_of};
 use crate::twin::are_alike;
+use ask_reasons::check_of;
 use ctrl_calls::Work;
 use ctrl_types::{Errno, Fault};
 use device_state::{Ask, Reply};
@@ -130,6 +131,9 @@ fn compare(
 ) -> Result<(), Trouble> {
     if !is_wanted(&scene.device, ask, answer, row.1, before) {
         return Err(Trouble::Answer(number));
+    }
+    if !is_named(scene, ask, answer) {
+        return Err(Trouble::Check(number));
     }
     if !are_calls(scene, row.2) {
         return Err(Trouble::Calls(number));
@@ -265,5 +269,16 @@ fn is_entered(
                 && is_step_of(&scene.device, &entry.step, ask, answer)
         }
         None => false,
+    }
+}
+
+// Whether the check that is named of a refused ask has the errno that it was refused with; a list, whose refusal alone has an index, has none named.
+fn is_named(scene: &Scene, ask: &Ask, answer: &Result<Reply, Fault>) -> bool {
+    let Err(fault) = answer else {
+        return true;
+    };
+    match check_of(&scene.device, ask) {
+        Some(check) => check.errno() == Some(fault.errno),
+        None => fault.index.is_some(),
     }
 }

@@ -90,8 +90,9 @@ impl<D: Driver> Device<D> {
         self.frames.running()
     }
 
-    // Why no further request is made.
-    pub(super) fn alloc_refusal(&self) -> Option<Errno>
+    /// Why no further request is made, for a driver's own use: check 18 (ENOSPC, 28); none where nothing but the limit of steps or want of memory refuses
+    /// it. It takes no memory.
+    pub fn alloc_refusal(&self) -> Option<Errno>
         ensures { result ≡ alloc_refusal (requests D.verdict self.now.plan (past self.now.steps)) }
     {
         self.frames.alloc_refusal()
@@ -104,8 +105,12 @@ impl<D: Driver> Device<D> {
         self.frames.store_refusal(request)
     }
 
-    // Why a request takes no buffer.
-    pub(super) fn buffer_refusal(&self, request: RequestId, buffer: u32) -> Option<Errno>
+    /// Why a request takes no buffer, for a driver's own use: check 19 (EINVAL, 22), 20, 21 or 22 (EBUSY, 16); none where nothing but the limit of steps or
+    /// want of memory refuses it. It takes no memory.
+    ///
+    /// - `request`: any request, there or not.
+    /// - `buffer`: any number.
+    pub fn buffer_refusal(&self, request: RequestId, buffer: u32) -> Option<Errno>
         ensures { result ≡ buffer_refusal (requests D.verdict self.now.plan (past self.now.steps)) buffer (request_of D.verdict self.now.plan (past self.now.steps) request.0) }
     {
         self.frames.buffer_refusal(request, buffer)

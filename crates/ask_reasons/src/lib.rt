@@ -1,0 +1,9 @@
+//! Which check of docs/RULES.md refused an ask, for people. A refused ask changes nothing, so the device can be asked behind it.
+#![tactic(auto)]
+
+mod check;
+pub mod laws;
+mod singles;
+
+pub use check::Check;
+pub use singles::check_of;
