@@ -1,2 +1,4 @@
 pub mod Checks
 pub mod Singles
+pub mod Lists
+pub mod Reasons

@@ -3,7 +3,10 @@
 
 mod check;
 pub mod laws;
+mod lists;
+mod reason;
 mod singles;
 
 pub use check::Check;
+pub use reason::{Reason, reason_of};
 pub use singles::check_of;

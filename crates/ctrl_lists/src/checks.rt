@@ -29,13 +29,29 @@ pub(crate) fn check_whole<D: Driver>(
     ensures few { OnOk result (length list.now ≤ MAX_ENTRIES) }
     ensures err { IfErr result (λ refusal. first_refusal (refused_if (is_long list.now) EINVAL ∷ refused_if (is_of_no_class plan.now view.now list.now) EINVAL ∷ []) ≡ Some refusal) }
 {
-    if list.len() > MAX_ENTRIES {
-        return Err(Refusal::whole(Errno::EINVAL));
+    if is_long(list) || is_of_no_class(plan, view, list) {
+        Err(Refusal::whole(Errno::EINVAL))
+    } else {
+        Ok(())
     }
-    if list.is_empty() && shows_none_of(plan, view, view.which) {
-        return Err(Refusal::whole(Errno::EINVAL));
-    }
-    Ok(())
+}
+
+/// Whether a list has more entries than it may have.
+pub(crate) fn is_long(list: &ControlList) -> bool
+    ensures { result ≡ is_long list.now }
+{
+    list.len() > MAX_ENTRIES
+}
+
+/// Whether a list has no entries, and is about a class of which no control is shown.
+pub(crate) fn is_of_no_class<D: Driver>(
+    plan: &Plan<D>,
+    view: &View<'_>,
+    list: &ControlList,
+) -> bool
+    ensures { result ≡ is_of_no_class plan.now view.now list.now }
+{
+    list.is_empty() && shows_none_of(plan, view, view.which)
 }
 
 // Whether a list speaks of a class of which no control is shown.

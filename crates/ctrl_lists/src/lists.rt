@@ -266,9 +266,9 @@ fn judge_pairs<D: Driver>(
     }
 }
 
-// The rows and the answers, where the pairs are laid over the values behind those from before.
+/// The rows and the answers, where the pairs are laid over the values behind those from before.
 #[tactic(auto, using(crate::proofs::TouchLemmas::own_among, crate::proofs::TouchLemmas::more_among))]
-fn judge_joined<D: Driver>(
+pub(crate) fn judge_joined<D: Driver>(
     alloc: Global,
     plan: &Plan<D>,
     view: &View<'_>,

@@ -9,7 +9,7 @@ pub use ctrl_forecast::{ClusterList, Forecast, ValueRow};
 pub use ctrl_handlers::{
     MAX_CONTROLS, MAX_HANDLERS, MAX_MENU_NAME, MenuItem, MenuName, Plan, PlanBuilder, PlanFault,
 };
-pub use ctrl_lists::{ControlList, MAX_ENTRIES};
+pub use ctrl_lists::{ControlList, MAX_ENTRIES, View};
 pub use device::Device;
 pub use device_history::{Ask, CtrlInfo, MAX_FILE_HANDLES, MAX_STEPS, PairList, Reply, Step};
 pub use frame_queue::RequestState;

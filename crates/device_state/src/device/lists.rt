@@ -182,8 +182,19 @@ impl<D: Driver> Device<D> {
         }
     }
 
-    // What a get is read against, after its first checks.
-    fn read_view(&self, fh: FhId, which: u32, request: Option<RequestId>) -> Result<View<'_>, Errno>
+    /// What a get is read against, behind the checks that every list begins with: the handler of its file handle, which values it speaks
+    /// of, the controls, the values that it reads, and the grabs (Linux userspace API, "struct v4l2_ext_controls"). It takes no memory and
+    /// changes nothing.
+    ///
+    /// - `fh`, `which`, `request`: as of `get`.
+    ///
+    /// Refused by the first of the checks 1 to 3 of a list in docs/RULES.md that doesn't hold: EBADF (9), EINVAL (22) or EACCES (13).
+    pub fn read_view(
+        &self,
+        fh: FhId,
+        which: u32,
+        request: Option<RequestId>,
+    ) -> Result<View<'_>, Errno>
         ensures passed { OnOk result (first_refusal (opening_checks D.verdict self.now.plan (past self.now.steps) fh which request false) ≡ None) }
         ensures err { IfErr result (λ errno. first_refusal (opening_checks D.verdict self.now.plan (past self.now.steps) fh which request false) ≡ Some (record { errno = errno; place = None })) }
         ensures view { IfOk result (λ view. view ≡ read_view D.verdict self.now.plan (past self.now.steps) fh which request) }
@@ -217,8 +228,13 @@ impl<D: Driver> Device<D> {
         }
     }
 
-    // What a list that writes is judged against, after its first checks.
-    fn write_view(
+    /// What a set and a try are judged against, behind the checks that every list begins with: as of `read_view`, but with the present
+    /// values, and with the pairs that the request asks for where `which` speaks of one. It takes no memory and changes nothing.
+    ///
+    /// - `fh`, `which`, `request`: as of `set`.
+    ///
+    /// Refused by the first of the checks 1 to 3 of a list in docs/RULES.md that doesn't hold: EBADF (9), EBUSY (16) or EINVAL (22).
+    pub fn write_view(
         &self,
         fh: FhId,
         which: u32,
