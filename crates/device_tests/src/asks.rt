@@ -477,6 +477,14 @@ fn is_info(info: &CtrlInfo, want: Want) -> bool {
     }
 }
 
+/// The place of the entry that is to be refused, where it is one.
+pub fn entry_of(want: Want) -> Option<u32> {
+    match want {
+        Want::Entry(_, place) => Some(place),
+        _ => None,
+    }
+}
+
 fn is_fault(ask: &Ask, fault: Fault, want: Want) -> bool {
     let count = count_in(ask);
     let (errno, index) = match want {

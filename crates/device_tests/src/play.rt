@@ -1,11 +1,11 @@
 //! Makes the asks of a table.
 
-use crate::asks::{Row, asked, is_refused_growth, is_step, is_step_of, is_wanted};
+use crate::asks::{Row, Want, asked, entry_of, is_refused_growth, is_step, is_step_of, is_wanted};
 use crate::closures::Counter;
 use crate::looks::all_tell;
 use crate::plan::{Scene, Table, Trouble, scene_of};
 use crate::twin::are_alike;
-use ask_reasons::check_of;
+use ask_reasons::reason_of;
 use ctrl_calls::Work;
 use ctrl_types::{Errno, Fault};
 use device_state::{Ask, Reply};
@@ -77,7 +77,11 @@ fn play_ask(
     let ask = row.0.ask(alloc, place.part)?;
     let before = scene.device.steps().len();
     let answer = answer_to(alloc, scene, &ask, place, refused)?;
-    compare(scene, row, place.number, &ask, &answer, before)
+    compare(scene, row, place.number, &ask, &answer, before)?;
+    if !is_named(alloc, scene, row.1, &ask, &answer)? {
+        return Err(Trouble::Check(place.number));
+    }
+    Ok(())
 }
 
 // Where an ask is refused for want of memory, it is made again.
@@ -131,9 +135,6 @@ fn compare(
 ) -> Result<(), Trouble> {
     if !is_wanted(&scene.device, ask, answer, row.1, before) {
         return Err(Trouble::Answer(number));
-    }
-    if !is_named(scene, ask, answer) {
-        return Err(Trouble::Check(number));
     }
     if !are_calls(scene, row.2) {
         return Err(Trouble::Calls(number));
@@ -272,13 +273,27 @@ fn is_entered(
     }
 }
 
-// Whether the check that is named of a refused ask has the errno that it was refused with; a list, whose refusal alone has an index, has none named.
-fn is_named(scene: &Scene, ask: &Ask, answer: &Result<Reply, Fault>) -> bool {
+// Whether the check that is named of a refused ask has the errno that it was refused with, where it has one of its own, and the entry that is
+// wanted. Validators may be asked for it, which the device doesn't count.
+fn is_named(
+    alloc: Global,
+    scene: &mut Scene,
+    want: Want,
+    ask: &Ask,
+    answer: &Result<Reply, Fault>,
+) -> Result<bool, Trouble> {
     let Err(fault) = answer else {
-        return true;
+        return Ok(true);
     };
-    match check_of(&scene.device, ask) {
-        Some(check) => check.errno() == Some(fault.errno),
-        None => fault.index.is_some(),
-    }
+    let work = scene.device.work();
+    let reason = reason_of(alloc, &scene.device, ask)?;
+    scene.look();
+    Ok(match reason {
+        Some(reason) => {
+            reason.check.errno().unwrap_or(fault.errno) == fault.errno
+                && reason.entry == entry_of(want)
+                && scene.device.work() == work
+        }
+        None => false,
+    })
 }
