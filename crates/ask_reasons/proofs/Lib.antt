@@ -1,1 +1,3 @@
 pub mod Errnos
+pub mod Failed
+pub mod Fitting

@@ -44,11 +44,7 @@ pub(crate) fn is_long(list: &ControlList) -> bool
 }
 
 /// Whether a list has no entries, and is about a class of which no control is shown.
-pub(crate) fn is_of_no_class<D: Driver>(
-    plan: &Plan<D>,
-    view: &View<'_>,
-    list: &ControlList,
-) -> bool
+pub(crate) fn is_of_no_class<D: Driver>(plan: &Plan<D>, view: &View<'_>, list: &ControlList) -> bool
     ensures { result ≡ is_of_no_class plan.now view.now list.now }
 {
     list.is_empty() && shows_none_of(plan, view, view.which)

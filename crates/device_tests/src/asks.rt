@@ -3,6 +3,7 @@
 use crate::closures::Counting;
 use crate::looks::Look;
 use crate::sample::HFLIP;
+use ask_reasons::Reason;
 use bitflags::Flags as FlagSet;
 use ctrl_events::Event;
 use ctrl_types::{CtrlId, Errno, ExtControl, Fault, FhId, Kind, Pair, RequestId, SubFlags};
@@ -122,6 +123,8 @@ pub enum Want {
     Entry(Errno, u32),
     /// The refusal of a whole list: the index is the number of entries.
     Whole(Errno),
+    /// The refusal of a list by the check with this number in docs/RULES.md, at an entry or as a whole.
+    Check(u32, Errno, Option<u32>),
 }
 
 /// An ask, its answer, and the calls of closures that it makes: of clusters, in rising number, how often the validator is asked and
@@ -477,11 +480,12 @@ fn is_info(info: &CtrlInfo, want: Want) -> bool {
     }
 }
 
-/// The place of the entry that is to be refused, where it is one.
-pub fn entry_of(want: Want) -> Option<u32> {
+/// Whether a reason has the entry that is wanted, and the number of the check where that is.
+pub fn is_wanted_reason(reason: Reason, want: Want) -> bool {
     match want {
-        Want::Entry(_, place) => Some(place),
-        _ => None,
+        Want::Entry(_, place) => reason.entry == Some(place),
+        Want::Check(number, _, entry) => reason.check.number() == number && reason.entry == entry,
+        _ => reason.entry.is_none(),
     }
 }
 
@@ -489,8 +493,8 @@ fn is_fault(ask: &Ask, fault: Fault, want: Want) -> bool {
     let count = count_in(ask);
     let (errno, index) = match want {
         Want::Refused(errno) => (errno, None),
-        Want::Whole(errno) => (errno, count),
-        Want::Entry(errno, place) => match ask {
+        Want::Whole(errno) | Want::Check(_, errno, None) => (errno, count),
+        Want::Entry(errno, place) | Want::Check(_, errno, Some(place)) => match ask {
             Ask::TryCtrls { .. } => (errno, Some(place)),
             _ => (errno, count),
         },

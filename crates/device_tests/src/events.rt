@@ -183,7 +183,7 @@ const JOINED: &[Row] = &[
     // what is refused, tried, or changes nothing, isn't heard
     (
         Question::List(SET, BY_ONE, &[(RED, 255), (BLUE, 255)]),
-        Want::Whole(Errno::EINVAL),
+        Want::Entry(Errno::EINVAL, 0),
         &[(1, 1, 0)],
     ),
     (

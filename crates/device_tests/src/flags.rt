@@ -126,17 +126,17 @@ const KINDS: &[Row] = &[
     // WRITE_ONLY
     (
         Question::List(GET, NOW, HIDDEN),
-        Want::Whole(Errno::EACCES),
+        Want::Entry(Errno::EACCES, 1),
         &[],
     ),
     (
         Question::List(GET, USER, HIDDEN),
-        Want::Whole(Errno::EACCES),
+        Want::Entry(Errno::EACCES, 1),
         &[],
     ),
     (
         Question::List(GET, DEFAULTS, HIDDEN),
-        Want::Whole(Errno::EACCES),
+        Want::Entry(Errno::EACCES, 1),
         &[],
     ),
     (
@@ -191,7 +191,7 @@ const GRABS: &[Row] = &[
     ),
     (
         Question::List(SET, NOW, GRABBED),
-        Want::Whole(Errno::EBUSY),
+        Want::Entry(Errno::EBUSY, 1),
         &[],
     ),
     (
@@ -202,7 +202,7 @@ const GRABS: &[Row] = &[
     (Question::List(TRY, NOW, BEFORE), ACCESS, &[]),
     (
         Question::List(SET, NOW, BEFORE),
-        Want::Whole(Errno::EBUSY),
+        Want::Entry(Errno::EBUSY, 0),
         &[],
     ),
     (
@@ -214,7 +214,7 @@ const GRABS: &[Row] = &[
     (Question::Grab(4, false), Want::Done, &[]),
     (
         Question::List(SET, NOW, BEHIND),
-        Want::Whole(Errno::EACCES),
+        Want::Entry(Errno::EACCES, 0),
         &[],
     ),
     (

@@ -51,13 +51,13 @@ const SHOWN: &[Row] = &[
     (Question::Query(0, 10), Want::Default(0), &[]),
     (
         Question::List(GET, NOW, &[(20, 0)]),
-        Want::Whole(Errno::EINVAL),
+        Want::Entry(Errno::EINVAL, 0),
         &[],
     ),
     (Question::Query(0, 20), Want::Refused(Errno::EINVAL), &[]),
     (
         Question::List(GET, NOW, &[(40, 0)]),
-        Want::Whole(Errno::EINVAL),
+        Want::Entry(Errno::EINVAL, 0),
         &[],
     ),
     (Question::Query(0, 40), Want::Refused(Errno::EINVAL), &[]),
@@ -81,7 +81,7 @@ const SHOWN: &[Row] = &[
     (Question::Query(1, 10), Want::Default(0), &[]),
     (
         Question::List(GET, At(1, 0, None), &[(20, 0)]),
-        Want::Whole(Errno::EINVAL),
+        Want::Entry(Errno::EINVAL, 0),
         &[],
     ),
     (Question::Query(1, 20), Want::Refused(Errno::EINVAL), &[]),
@@ -111,7 +111,7 @@ const SHOWN: &[Row] = &[
     (Question::Query(2, 10), Want::Default(0), &[]),
     (
         Question::List(GET, At(2, 0, None), &[(20, 0)]),
-        Want::Whole(Errno::EINVAL),
+        Want::Entry(Errno::EINVAL, 0),
         &[],
     ),
     (Question::Query(2, 20), Want::Refused(Errno::EINVAL), &[]),
@@ -160,7 +160,7 @@ const SHOWN: &[Row] = &[
     (Question::Query(3, 50), Want::Default(1), &[]),
     (
         Question::List(GET, At(3, 0, None), &[(60, 0)]),
-        Want::Whole(Errno::EINVAL),
+        Want::Entry(Errno::EINVAL, 0),
         &[],
     ),
     (Question::Query(3, 60), Want::Refused(Errno::EINVAL), &[]),

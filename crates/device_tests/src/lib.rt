@@ -43,6 +43,8 @@ mod plan;
 #[cfg(test)]
 mod play;
 #[cfg(test)]
+mod reasons;
+#[cfg(test)]
 mod replay;
 #[cfg(test)]
 mod requests;

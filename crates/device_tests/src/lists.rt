@@ -96,7 +96,7 @@ const WRITTEN: &[Row] = &[
     (Question::List(TRY, NOW, BOTH), Want::Values(&[255, 8]), &[]),
     (
         Question::List(SET, NOW, BOTH),
-        Want::Whole(Errno::EBUSY),
+        Want::Entry(Errno::EBUSY, 1),
         &[],
     ),
 ];

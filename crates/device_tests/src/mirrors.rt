@@ -91,7 +91,7 @@ const MOVED: &[Row] = &[
     (Question::Told(0), Want::Word(77), &[]),
     (
         Question::List(SET, NOW, &[(FOLLOWER, 3)]),
-        Want::Whole(Errno::EACCES),
+        Want::Entry(Errno::EACCES, 0),
         &[],
     ),
     (
@@ -119,12 +119,12 @@ const REFUSED: &[Row] = &[
     (Question::Open(0, 1), Want::Opened, &[]),
     (
         Question::List(SET, NOW, &[(STUBBORN, 5)]),
-        Want::Whole(Errno::EACCES),
+        Want::Entry(Errno::EACCES, 0),
         &[(1, 1, 0)],
     ),
     (
         Question::List(SET, NOW, &[(BESIDE, 5)]),
-        Want::Whole(Errno::EACCES),
+        Want::Entry(Errno::EACCES, 0),
         &[(1, 1, 0)],
     ),
     (
@@ -155,13 +155,13 @@ const GRABS: &[Row] = &[
     (Question::Grab(0, true), Want::Done, &[]),
     (
         Question::List(SET, NOW, &[(LEAD, 5)]),
-        Want::Whole(Errno::EBUSY),
+        Want::Entry(Errno::EBUSY, 0),
         &[],
     ),
     (Question::Grab(0, true), Want::Done, &[]),
     (
         Question::List(SET, NOW, &[(LEAD, 5)]),
-        Want::Whole(Errno::EBUSY),
+        Want::Entry(Errno::EBUSY, 0),
         &[],
     ),
     (
@@ -201,22 +201,22 @@ const ALL_GRABBED: &[Row] = &[
     (Question::Query(0, 112), Want::Flags(0x3), &[]),
     (
         Question::List(SET, NOW, &[(FOLLOWER, 5)]),
-        Want::Whole(Errno::EACCES),
+        Want::Entry(Errno::EACCES, 0),
         &[],
     ),
     (
         Question::List(SET, NOW, &[(112, 5)]),
-        Want::Whole(Errno::EINVAL),
+        Want::Entry(Errno::EINVAL, 0),
         &[],
     ),
     (
         Question::List(SET, NOW, &[(STUBBORN, 5)]),
-        Want::Whole(Errno::EBUSY),
+        Want::Entry(Errno::EBUSY, 0),
         &[],
     ),
     (
         Question::List(SET, NOW, &[(111, 5)]),
-        Want::Whole(Errno::EBUSY),
+        Want::Entry(Errno::EBUSY, 0),
         &[],
     ),
 ];

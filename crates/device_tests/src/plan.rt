@@ -91,7 +91,7 @@ pub enum Trouble {
     Calls(usize),
     /// It added another step, or none, or one that it mustn't.
     Step(usize),
-    /// It was refused, and the check that is named has another errno.
+    /// It was refused, and another check is named, or another entry.
     Check(usize),
     /// A reader told otherwise.
     Seen(usize),

@@ -1,6 +1,8 @@
 //! Makes the asks of a table.
 
-use crate::asks::{Row, Want, asked, entry_of, is_refused_growth, is_step, is_step_of, is_wanted};
+use crate::asks::{
+    Row, Want, asked, is_refused_growth, is_step, is_step_of, is_wanted, is_wanted_reason,
+};
 use crate::closures::Counter;
 use crate::looks::all_tell;
 use crate::plan::{Scene, Table, Trouble, scene_of};
@@ -273,8 +275,8 @@ fn is_entered(
     }
 }
 
-// Whether the check that is named of a refused ask has the errno that it was refused with, where it has one of its own, and the entry that is
-// wanted. Validators may be asked for it, which the device doesn't count.
+// Whether the check that is named of a refused ask is the one that is wanted, and has the errno that the ask was refused with, where it has one of
+// its own. Validators may be asked for it, which the device doesn't count.
 fn is_named(
     alloc: Global,
     scene: &mut Scene,
@@ -291,7 +293,7 @@ fn is_named(
     Ok(match reason {
         Some(reason) => {
             reason.check.errno().unwrap_or(fault.errno) == fault.errno
-                && reason.entry == entry_of(want)
+                && is_wanted_reason(reason, want)
                 && scene.device.work() == work
         }
         None => false,

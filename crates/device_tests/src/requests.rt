@@ -135,7 +135,7 @@ const GRABBED: &[Row] = &[
     (Question::Grab(8, true), Want::Done, &[]),
     (
         Question::List(SET, ONE, &[(RED, 6)]),
-        Want::Whole(Errno::EBUSY),
+        Want::Entry(Errno::EBUSY, 0),
         &[],
     ),
     (
@@ -264,7 +264,7 @@ const SHOWN: &[Row] = &[
     (Question::List(GET, TWO, HIDDEN), Want::Values(&[5, 6]), &[]),
     (
         Question::List(GET, BY_OTHER, HIDDEN),
-        Want::Whole(Errno::EINVAL),
+        Want::Entry(Errno::EINVAL, 1),
         &[],
     ),
     (

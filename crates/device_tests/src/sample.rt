@@ -164,7 +164,7 @@ const SETS: &[Row] = &[
     ),
     (
         Question::List(SET, NOW, &[(BLUE, 200)]),
-        Want::Whole(Errno::EINVAL),
+        Want::Entry(Errno::EINVAL, 0),
         &[(1, 1, 0)],
     ),
     (
@@ -208,7 +208,7 @@ const SETS: &[Row] = &[
     ),
     (
         Question::List(SET, NOW, &[(HUE, 3)]),
-        Want::Whole(Errno::EINVAL),
+        Want::Entry(Errno::EINVAL, 0),
         &[],
     ),
 ];
@@ -311,7 +311,7 @@ const KINDS: &[Row] = &[
     ),
     (
         Question::List(SET, NOW, &[(RED, 5)]),
-        Want::Whole(Errno::EBUSY),
+        Want::Entry(Errno::EBUSY, 0),
         &[],
     ),
     (Question::Grab(8, false), Want::Done, &[]),

@@ -117,7 +117,7 @@ macro_rules! refusing {
         &[
         (Question::Open(0, 1), Want::Opened, &[]),
         (Question::List(TRY, NOW, &[(GAIN, 9)]), Want::Entry($errno, 0), &[(0, 1, 0)]),
-        (Question::List(SET, NOW, &[(GAIN, 9)]), Want::Whole($errno), &[(0, 1, 0)]),
+        (Question::List(SET, NOW, &[(GAIN, 9)]), Want::Entry($errno, 0), &[(0, 1, 0)]),
         (Question::Told(0), Want::Word(1007), &[]),
         (Question::List(GET, NOW, &[(GAIN, 0)]), Want::Values(&[7]), &[]),
         (Question::List(SET, NOW, &[(ALONE, 8)]), Want::Values(&[8]), &[]),
