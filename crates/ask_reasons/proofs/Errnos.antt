@@ -1,9 +1,8 @@
 -- The check that is named goes with the answer.
-use Rattle.std.proofs.Common.{◌≡◌, ℕ, Bool, true, false, not, nat_le, if◌then◌else◌, List, [], ◌∷◌, length, Option, None, Some, Result, Ok, Err, is_some, slice_get, IfSome, subst, sym, ◌∙◌, refl}
+use Rattle.std.proofs.Common.{◌≡◌, ℕ, Bool, true, false, not, nat_le, if◌then◌else◌, List, [], ◌∷◌, length, Option, None, Some, Ok, Err, is_some, slice_get, IfSome, subst, sym, ◌∙◌, refl}
 use Rattle.std.specs.Option.{option_map, is_none}
 use Rattle.ctrl_types.specs.declared.errno.Errno.{Errno}
 use Rattle.ctrl_types.specs.declared.errno.Errno.TheVariants.{EBADF, EBUSY, EINVAL, ENOENT, ENOSPC}
-use Rattle.ctrl_types.specs.declared.errno.Fault.{Fault}
 use Rattle.ctrl_types.specs.declared.ids.CtrlId.{CtrlId}
 use Rattle.ctrl_types.specs.declared.ids.FhId.{FhId}
 use Rattle.req_book.specs.Requests.{RequestData, is_idle, is_held, is_pending}
@@ -194,11 +193,11 @@ single_explained ask (Some check) (Err fault) l h = record { errno = own check f
 pub explained : (verdicts : Verdicts) (plan : PlanData) (past : Past) (ask : Ask) → Explains ask (reason_of verdicts plan past ask) (refusal verdicts plan past ask)
 explained verdicts plan past (asks.GetCtrls fh which request list) =
     list_explained (asks.GetCtrls fh which request list) (fault_at_count (length list)) get_names (get_checks verdicts plan past fh which request list)
-        (entries_read plan (read_view verdicts plan past fh which request) list) (λ r. refl) (get_fits verdicts plan past fh which request list)
+    (entries_read plan (read_view verdicts plan past fh which request) list) (λ r. refl) (get_fits verdicts plan past fh which request list)
 explained verdicts plan past (asks.SetCtrls fh which request list) =
     list_explained (asks.SetCtrls fh which request list) (fault_at_count (length list)) set_names (set_checks verdicts plan past fh which request list)
-        (entries_judged verdicts plan (write_view verdicts plan past fh which request) list) (λ r. refl) (set_fits verdicts plan past fh which request list)
+    (entries_judged verdicts plan (write_view verdicts plan past fh which request) list) (λ r. refl) (set_fits verdicts plan past fh which request list)
 explained verdicts plan past (asks.TryCtrls fh which request list) =
     list_explained (asks.TryCtrls fh which request list) (fault_at_entry (length list)) try_names (try_checks verdicts plan past fh which request list)
-        (entries_judged verdicts plan (write_view verdicts plan past fh which request) list) (λ r. refl) (try_fits verdicts plan past fh which request list)
+    (entries_judged verdicts plan (write_view verdicts plan past fh which request) list) (λ r. refl) (try_fits verdicts plan past fh which request list)
 explained verdicts plan past ask = single_explained ask (check_of verdicts plan past ask) (answer_of verdicts plan past [] ask) refl (singles_so verdicts plan past ask refl)

@@ -1,7 +1,11 @@
 -- Each check of a list refuses with the errno of its name.
-use Rattle.std.proofs.Common.{◌≡◌, ℕ, Bool, true, false, ◌+◌, ◌&&◌, List, [], ◌∷◌, ◌++◌, map, Option, None, Some, IfSome, Result, Ok, Err, if◌then◌else◌, is_some, refl, sym, subst}
-use Rattle.std.specs.Option.{is_none}
+use Rattle.std.proofs.Common.{◌≡◌, ℕ, Bool, true, false, ◌+◌, ◌&&◌, ◌||◌, ◌==◌, not, int_lt, unsigned_abs, List, [], ◌∷◌, ◌++◌, map, Option, None, Some, IfSome, Result, Ok, Err, if◌then◌else◌, is_some, refl, sym, subst}
+use Rattle.std.specs.Int.{bit_at}
+use Rattle.std.specs.Option.{is_none, option_and_then}
+use Rattle.std.specs.Result.{is_ok}
+use Rattle.ctrl_types.specs.Classes.{which_of}
 use Rattle.ctrl_types.specs.Flags.{contains}
+use Rattle.ctrl_types.specs.declared.flags.TheConstants.Flags.{READ_ONLY, WRITE_ONLY}
 use Rattle.ctrl_types.specs.Values.{CtrlValue}
 use Rattle.ctrl_types.specs.declared.errno.Errno.{Errno}
 use Rattle.ctrl_types.specs.declared.errno.Errno.TheVariants.{EACCES, EBADF, EBUSY, EINVAL, ENOSPC, ERANGE}
@@ -17,21 +21,23 @@ use Rattle.ctrl_types.specs.declared.which.Which.TheVariants.{Current, Defaults,
 use Rattle.ctrl_calls.specs.Meanings.{Verdicts}
 use Rattle.ctrl_settle.specs.Control.{Control}
 use Rattle.ctrl_settle.specs.Settle.{item, settle, settle_as}
-use Rattle.ctrl_handlers.specs.Plan.{PlanData, control_in}
+use Rattle.ctrl_handlers.specs.Plan.{PlanData, control, control_in}
+use Rattle.ctrl_clusters.specs.Rows.{is_grabbed}
 use Rattle.ctrl_lists.specs.declared.refusal.Refusal.{Refusal}
-use Rattle.ctrl_lists.specs.View.{ViewData}
-use Rattle.ctrl_lists.specs.Checks.{at_first, first_from, first_refusal, found_at, judging_refusal, naming_refusal, read_checks, reading_refusal, refused_if, write_checks, writing_refusal}
+use Rattle.ctrl_lists.specs.View.{ViewData, named, pairs_of}
+use Rattle.ctrl_lists.specs.Checks.{at_first, first_from, first_refusal, found_at, is_long, is_of_no_class, judging_refusal, laid_pairs, naming_refusal, read_checks, reading_refusal, refused_if, write_checks, writing_refusal}
 use Rattle.ctrl_lists.specs.Checks as list_checks
 use Rattle.ctrl_lists.specs.Answers.{answered}
 use Rattle.ctrl_lists.specs.Failed.{first_failed, read_names, write_names}
 use Rattle.req_book.specs.Requests.{RequestData, is_complete, is_idle}
 use Rattle.device_history.specs.declared.ask.Ask.{Ask}
 use Rattle.device_history.specs.Steps.{Past}
+use Rattle.device_history.specs.Handles.{handler_of}
 use Rattle.device_history.specs.Refusals.{fault_of, is_full}
-use Rattle.device_history.specs.Lists.{controls_of, get_checks, opening_checks, read_view, refused_with, request_refusal, set_checks, through_refusal, try_checks, write_view}
+use Rattle.device_history.specs.Snapshots.{request}
+use Rattle.device_history.specs.Lists.{controls_of, get_checks, opening_checks, read_view, refused_with, request_refusal, set_checks, through_refusal, try_checks, which_or, write_view, writes_defaults}
 use Rattle.ask_reasons.specs.declared.check.Check.{Check}
 use Rattle.ask_reasons.specs.declared.check.Check.TheVariants as checks
-use Rattle.ask_reasons.specs.declared.reason.Reason.{Reason}
 use Rattle.ask_reasons.specs.Checks.{errno_of}
 use Rattle.ask_reasons.specs.Lists.{get_names, name_of, only, opening_names, reason_at, request_part, set_names, try_names, writing_part}
 use Rattle.ask_reasons.specs.Reasons.{Explains, GoesWith, index_of}
@@ -95,30 +101,36 @@ request_own true (Some r) = choice (is_idle r.state) request_part None (Some EBU
 request_own false None = refl
 request_own false (Some r) = choice_of (is_complete r.state) request_part (Ok r.snapshot) (Err EACCES) tt refl
 
-through_own : (verdicts : Verdicts) (plan : PlanData) (past : Past) (writes : Bool) (which : Which) (request : Option RequestId)
-    → AreOwn request_part (through_refusal verdicts plan past writes which request)
-through_own verdicts plan past writes Request request = request_own writes _
-through_own verdicts plan past writes Current request = tt
-through_own verdicts plan past writes Defaults request = tt
-through_own verdicts plan past writes (Class n) request = tt
+through_own : (verdicts : Verdicts) (plan : PlanData) (past : Past) (writes : Bool) (which : Which) (id : Option RequestId)
+    → AreOwn request_part (through_refusal verdicts plan past writes which id)
+through_own verdicts plan past writes Request id = request_own writes (option_and_then (λ r. request verdicts plan past r.0) id)
+through_own verdicts plan past writes Current id = tt
+through_own verdicts plan past writes Defaults id = tt
+through_own verdicts plan past writes (Class n) id = tt
 
 opening_fits : (verdicts : Verdicts) (plan : PlanData) (past : Past) (fh : FhId) (which : ℕ) (request : Option RequestId) (writes : Bool)
     → AllFit opening_names (opening_checks verdicts plan past fh which request writes)
-opening_fits verdicts plan past fh which request writes =
-    (if_fits _ (only checks.ListHandle) EBADF refl,
-        (if_fits _ (only checks.WhichReadable) EINVAL refl,
-            (if_fits _ (only checks.NotDefaults) EINVAL refl,
-                (with_fits request_part _ (through_own verdicts plan past writes _ request), tt))))
+opening_fits verdicts plan past fh which request writes = (
+  if_fits (is_none (handler_of past fh)) (only checks.ListHandle) EBADF refl,
+  (
+    if_fits (not (is_ok (which_of which))) (only checks.WhichReadable) EINVAL refl,
+    (
+      if_fits (writes_defaults writes (which_or (which_of which))) (only checks.NotDefaults) EINVAL refl,
+      (with_fits request_part (through_refusal verdicts plan past writes (which_or (which_of which)) request) (through_own verdicts plan past writes (which_or (which_of which)) request), tt),
+    ),
+  ),
+)
 
 -- the checks of the entries
 naming_own : (plan : PlanData) (view : ViewData) (entry : ExtControl) → AreOwn (only checks.EntryNamed) (naming_refusal plan view entry)
-naming_own plan view entry = choice _ (only checks.EntryNamed) None (Some EINVAL) tt refl
+naming_own plan view entry = choice (is_some (named plan view.handler view.which entry.id)) (only checks.EntryNamed) None (Some EINVAL) tt refl
 
 reading_own : (plan : PlanData) (p : Pair) → AreOwn (only checks.EntryReadable) (reading_refusal plan p)
-reading_own plan p = choice _ (only checks.EntryReadable) (Some EACCES) None refl tt
+reading_own plan p = choice (contains (control plan p.control).flags WRITE_ONLY) (only checks.EntryReadable) (Some EACCES) None refl tt
 
 item_own : (c : Control) (v : CtrlValue) → AreOwn writing_part (list_checks.errno_of (item c v))
-item_own c v = choice_of _ writing_part (Err ERANGE) _ refl (choice_of _ writing_part (Err EINVAL) (Ok v) refl tt)
+item_own c v =
+    choice_of (int_lt v c.minimum || int_lt c.maximum v) writing_part (Err ERANGE) _ refl (choice_of (bit_at c.skip (unsigned_abs v) == 1) writing_part (Err EINVAL) (Ok v) refl tt)
 
 kind_own : (kind : Kind) (c : Control) (v : CtrlValue) → AreOwn writing_part (list_checks.errno_of (settle_as kind c v))
 kind_own Integer c v = tt
@@ -135,7 +147,8 @@ settling_own c v = kind_own c.kind c v
 
 writing_own : (plan : PlanData) (view : ViewData) (is_set : Bool) (p : Pair) → AreOwn writing_part (writing_refusal plan view is_set p)
 writing_own plan view is_set p =
-    choice _ writing_part (Some EACCES) _ refl (choice _ writing_part (Some EBUSY) _ refl (settling_own (control_in view.controls p.control) p.value))
+    choice (contains (control plan p.control).flags READ_ONLY) writing_part (Some EACCES) _ refl
+    (choice (is_set && is_grabbed view.grabs p.control) writing_part (Some EBUSY) _ refl (settling_own (control_in view.controls p.control) p.value))
 
 -- a cluster refuses with whatever errno
 any_own : (o : Option Errno) → AreOwn (only checks.ClusterTakes) o
@@ -143,43 +156,59 @@ any_own None = tt
 any_own (Some errno) = tt
 
 read_fits : (plan : PlanData) (view : ViewData) (list : List ExtControl) → AllFit (map name_of read_names) (read_checks plan view list)
-read_fits plan view list =
-    (if_fits _ (only checks.EntryCount) EINVAL refl,
-        (if_fits _ (only checks.ClassShown) EINVAL refl,
-            (first_fits (only checks.EntryNamed) (naming_refusal plan view) 0 list (naming_own plan view),
-                (first_fits (only checks.EntryReadable) (reading_refusal plan) 0 _ (reading_own plan), tt))))
+read_fits plan view list = (
+  if_fits (is_long list) (only checks.EntryCount) EINVAL refl,
+  (
+    if_fits (is_of_no_class plan view list) (only checks.ClassShown) EINVAL refl,
+    (
+      first_fits (only checks.EntryNamed) (naming_refusal plan view) 0 list (naming_own plan view),
+      (first_fits (only checks.EntryReadable) (reading_refusal plan) 0 (pairs_of plan view.handler view.which list) (reading_own plan), tt),
+    ),
+  ),
+)
 
 write_fits : (verdicts : Verdicts) (plan : PlanData) (view : ViewData) (is_set : Bool) (list : List ExtControl)
     → AllFit (map name_of write_names) (write_checks verdicts plan view is_set list)
-write_fits verdicts plan view is_set list =
-    (if_fits _ (only checks.EntryCount) EINVAL refl,
-        (if_fits _ (only checks.ClassShown) EINVAL refl,
-            (first_fits (only checks.EntryNamed) (naming_refusal plan view) 0 list (naming_own plan view),
-                (first_fits writing_part (writing_refusal plan view is_set) 0 _ (writing_own plan view is_set),
-                    (first_fits (only checks.ClusterTakes) _ 0 _ (λ p. any_own _), tt)))))
+write_fits verdicts plan view is_set list = (
+  if_fits (is_long list) (only checks.EntryCount) EINVAL refl,
+  (
+    if_fits (is_of_no_class plan view list) (only checks.ClassShown) EINVAL refl,
+    (
+      first_fits (only checks.EntryNamed) (naming_refusal plan view) 0 list (naming_own plan view),
+      (
+        first_fits writing_part (writing_refusal plan view is_set) 0 (pairs_of plan view.handler view.which list) (writing_own plan view is_set),
+        (
+          first_fits (only checks.ClusterTakes) (judging_refusal verdicts plan view (laid_pairs plan view list)) 0 (pairs_of plan view.handler view.which list)
+              (λ p. any_own (judging_refusal verdicts plan view (laid_pairs plan view list) p)),
+          tt,
+        ),
+      ),
+    ),
+  ),
+)
 
 -- whole lists
 pub get_fits : (verdicts : Verdicts) (plan : PlanData) (past : Past) (fh : FhId) (which : ℕ) (request : Option RequestId) (list : List ExtControl)
     → AllFit get_names (get_checks verdicts plan past fh which request list)
 get_fits verdicts plan past fh which request list =
     fit_joined opening_names (map name_of read_names) (opening_checks verdicts plan past fh which request false) (read_checks plan (read_view verdicts plan past fh which request) list)
-        (opening_fits verdicts plan past fh which request false) (read_fits plan (read_view verdicts plan past fh which request) list)
+    (opening_fits verdicts plan past fh which request false) (read_fits plan (read_view verdicts plan past fh which request) list)
 
 pub set_fits : (verdicts : Verdicts) (plan : PlanData) (past : Past) (fh : FhId) (which : ℕ) (request : Option RequestId) (list : List ExtControl)
     → AllFit set_names (set_checks verdicts plan past fh which request list)
 set_fits verdicts plan past fh which request list =
     fit_joined opening_names (map name_of write_names ++ only checks.RoomForSet ∷ []) (opening_checks verdicts plan past fh which request true)
-        (write_checks verdicts plan (write_view verdicts plan past fh which request) true list ++ refused_if (is_full past) ENOSPC ∷ [])
-        (opening_fits verdicts plan past fh which request true)
-        (fit_joined (map name_of write_names) (only checks.RoomForSet ∷ []) (write_checks verdicts plan (write_view verdicts plan past fh which request) true list) (refused_if (is_full past) ENOSPC ∷ [])
-            (write_fits verdicts plan (write_view verdicts plan past fh which request) true list)
-            (if_fits (is_full past) (only checks.RoomForSet) ENOSPC refl, tt))
+    (write_checks verdicts plan (write_view verdicts plan past fh which request) true list ++ refused_if (is_full past) ENOSPC ∷ [])
+    (opening_fits verdicts plan past fh which request true)
+    (fit_joined (map name_of write_names) (only checks.RoomForSet ∷ []) (write_checks verdicts plan (write_view verdicts plan past fh which request) true list) (refused_if (is_full past) ENOSPC ∷ [])
+    (write_fits verdicts plan (write_view verdicts plan past fh which request) true list)
+    (if_fits (is_full past) (only checks.RoomForSet) ENOSPC refl, tt))
 
 pub try_fits : (verdicts : Verdicts) (plan : PlanData) (past : Past) (fh : FhId) (which : ℕ) (request : Option RequestId) (list : List ExtControl)
     → AllFit try_names (try_checks verdicts plan past fh which request list)
 try_fits verdicts plan past fh which request list =
     fit_joined opening_names (map name_of write_names) (opening_checks verdicts plan past fh which request true) (write_checks verdicts plan (write_view verdicts plan past fh which request) false list)
-        (opening_fits verdicts plan past fh which request true) (write_fits verdicts plan (write_view verdicts plan past fh which request) false list)
+    (opening_fits verdicts plan past fh which request true) (write_fits verdicts plan (write_view verdicts plan past fh which request) false list)
 
 -- so what is told of the first check that refuses goes with the answer
 pub list_explained : (ask : Ask) (fault : Refusal → Fault) (names : List (Errno → Check)) (cs : List (Option Refusal)) (entries : List ExtControl)

@@ -1,6 +1,6 @@
 -- Which check refuses a list: the first that doesn't hold of those that define what the list is answered (device_history/specs/Lists), by its name
 -- (of this project).
-use Rattle.std.specs.Prelude.{ℕ, Bool, List, [], ◌∷◌, ◌++◌, map, Option}
+use Rattle.std.specs.Prelude.{ℕ, List, [], ◌∷◌, ◌++◌, map, Option}
 use Rattle.ctrl_types.specs.declared.errno.Errno.{Errno}
 use Rattle.ctrl_types.specs.declared.errno.Errno.TheVariants.{EACCES, EBUSY, ERANGE}
 use Rattle.ctrl_types.specs.declared.ids.ExtControl.{ExtControl}

@@ -1,6 +1,6 @@
 -- Which check refuses an ask that is no list: the first that doesn't hold, in the order in which docs/RULES.md names them at the ask. The law `errnos` says
 -- that its errno is the answer's.
-use Rattle.std.specs.Prelude.{ℕ, not, nat_le, slice_get, if◌then◌else◌, List, [], ◌∷◌, length, Option, None, Some, is_some}
+use Rattle.std.specs.Prelude.{ℕ, not, nat_le, slice_get, if◌then◌else◌, List, length, Option, None, Some, is_some}
 use Rattle.std.specs.Option.{is_none}
 use Rattle.ctrl_types.specs.declared.ids.CtrlId.{CtrlId}
 use Rattle.ctrl_types.specs.declared.ids.FhId.{FhId}

@@ -1,6 +1,6 @@
 //! Lists of controls.
 
-ghost use Rattle.std.specs.Prelude.{◌≡◌, ◌++◌, Bool, None, Some, IfOk};
+ghost use Rattle.std.specs.Prelude.{◌≡◌, ◌++◌, true, None, Some, IfOk};
 ghost use Rattle.std.specs.Option.{option_map};
 ghost use Rattle.history.specs.Past.{past};
 ghost use Rattle.ctrl_lists.specs.Checks.{first_refusal, write_checks};
@@ -32,9 +32,7 @@ pub(crate) fn get_reason<D: Driver>(
             Ok(failed) => Ok(named(failed)),
             Err(error) => Err(error),
         },
-        Err(errno) => Ok(Some(opening_reason(
-            device, fh, which, request, false, errno,
-        ))),
+        Err(errno) => Ok(Some(opening_reason(device, fh, which, request, false, errno))),
     }
 }
 
@@ -91,9 +89,7 @@ fn write_reason<D: Driver>(
                 Err(error) => Err(error),
             }
         }
-        Err(errno) => Ok(Some(opening_reason(
-            device, fh, which, request, true, errno,
-        ))),
+        Err(errno) => Ok(Some(opening_reason(device, fh, which, request, true, errno))),
     }
 }
 
