@@ -47,8 +47,14 @@ const EACH: Table = Table {
             skip: 4,
             ..DIGIT
         },
-        Control { id: JUDGED, ..DIGIT },
-        Control { id: BESIDE, ..DIGIT },
+        Control {
+            id: JUDGED,
+            ..DIGIT
+        },
+        Control {
+            id: BESIDE,
+            ..DIGIT
+        },
     ],
     clusters: &[Cluster {
         members: &[5, 6],
