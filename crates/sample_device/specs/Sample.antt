@@ -134,9 +134,9 @@ abbrev pub IsAllowed : List ℤ → List ℤ → ℕ → Type 0
 IsAllowed bounds (value ∷ []) word = IsBetween bounds word
 IsAllowed bounds _ word = ⊤
 
--- relation 13: the value and 64, of a value that isn't below -64 or above 2147483647
+-- relation 13: the value and 64, of a value that isn't below -64
 abbrev pub IsShifted : List ℤ → ℕ → Type 0
-IsShifted (value ∷ []) word = negsuc 63 ≤ℤ value → value ≤ℤ pos 2147483647 → pos word ≡ value +ℤ pos 64
+IsShifted (value ∷ []) word = negsuc 63 ≤ℤ value → pos word ≡ value +ℤ pos 64
 IsShifted _ word = ⊤
 
 -- what the sample driver's notifiers may say; under another relation they may say anything

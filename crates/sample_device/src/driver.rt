@@ -116,8 +116,8 @@ pub fn button_word(row: &ClusterRow) -> u64
     1
 }
 
-/// The word that the notifier of brightness says of a row: the value and 64. Of a row of another length, and of a value below
-/// -64 or above 2147483647, it says 0.
+/// The word that the notifier of brightness says of a row of one value: the value and 64. Of a row of another length, and of a
+/// value below -64, it says 0.
 pub fn brightness_word(row: &ClusterRow) -> u64
     ensures { sample_told BRIGHTNESS_WORDS row.now result }
 {
@@ -128,10 +128,11 @@ pub fn brightness_word(row: &ClusterRow) -> u64
 }
 
 fn shifted(value: i64) -> u64
-    ensures { negsuc 63 ≤ℤ value → value ≤ℤ pos 2147483647 → pos result ≡ value +ℤ pos 64 }
+    ensures { negsuc 63 ≤ℤ value → pos result ≡ value +ℤ pos 64 }
 {
-    if value < -64 || value > 2_147_483_647 {
+    if value < -64 {
         return 0;
     }
-    (value + 64) as u64
+    // the greatest value and 64 fit a word, though not an i64
+    (i128::from(value) + 64) as u64
 }
