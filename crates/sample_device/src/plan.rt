@@ -1,8 +1,9 @@
-ghost use Rattle.std.specs.Prelude.{◌≡◌, IfOk, IfErr, Ok};
+ghost use Rattle.std.specs.Prelude.{◌≡◌, IfOk, IfErr, Ok, Some, None};
 ghost use Rattle.ctrl_settle.specs.Control.{described};
 ghost use Rattle.ctrl_settle.specs.Faults.{IsWellFormed};
 ghost use Rattle.sample_device.specs.Sample.{sample, whole_sample, sample_before, first_controls as first_controls_of, sample_controls as sample_controls_of, autogain as autogain_of, gain as gain_of, flip as flip_of, hue as hue_of, brightness as brightness_of, power as power_of, button as button_of, balance as balance_of, no_flags};
 
+use crate::driver::{BALANCE_LIMIT, BRIGHTNESS_WORDS, BUTTON_WORDS, GAIN_LIMIT, PAIR_WORDS};
 use bitflags::Flags as FlagSet;
 use ctrl_calls::{Calls, Driver};
 use ctrl_handlers::{Plan, PlanBuilder, PlanFault};
@@ -11,7 +12,7 @@ use ctrl_types::{CtrlId, Flags, Kind};
 use std::alloc::Global;
 
 /// A builder that holds the plan of the sample device before it is finished. The only fault is `Memory` (7); the calls are then let
-/// go.
+/// go. Any calls will do, such as none at all; `sample_plan` takes those of the sample's driver alone.
 ///
 /// - `of_gain`: the calls of cluster 0, the auto cluster of autogain and gain.
 /// - `of_balance`: those of cluster 1, red and blue.
@@ -177,12 +178,12 @@ fn plain(
 }
 
 /// The plan of the sample device: 10 controls on 2 handlers, in 8 clusters. The only fault is `Memory` (7); the calls are then let
-/// go.
+/// go. The caller owes that the closures of each cluster are there and answer by its relations.
 ///
-/// - `of_gain`: the calls of cluster 0, the auto cluster of autogain and gain.
-/// - `of_balance`: those of cluster 1, red and blue.
-/// - `of_button`: those of cluster 2, the button.
-/// - `of_brightness`: those of cluster 3, brightness.
+/// - `of_gain`: the calls of cluster 0, the auto cluster of autogain and gain: `GAIN_LIMIT` and `PAIR_WORDS`.
+/// - `of_balance`: those of cluster 1, red and blue: `BALANCE_LIMIT` and `PAIR_WORDS`.
+/// - `of_button`: those of cluster 2, the button: no validator, and `BUTTON_WORDS`.
+/// - `of_brightness`: those of cluster 3, brightness: no validator, and `BRIGHTNESS_WORDS`.
 #[tactic(auto, using(crate::proofs::PlanLemmas::finished_sample))]
 pub fn sample_plan<D: Driver>(
     alloc: Global,
@@ -191,6 +192,10 @@ pub fn sample_plan<D: Driver>(
     of_button: Calls<D>,
     of_brightness: Calls<D>,
 ) -> Result<Plan<D>, PlanFault>
+    requires gain { of_gain ≡ record { validator = Some GAIN_LIMIT; notifier = Some PAIR_WORDS } }
+    requires balance { of_balance ≡ record { validator = Some BALANCE_LIMIT; notifier = Some PAIR_WORDS } }
+    requires button { of_button ≡ record { validator = None; notifier = Some BUTTON_WORDS } }
+    requires brightness { of_brightness ≡ record { validator = None; notifier = Some BRIGHTNESS_WORDS } }
     ensures ok { IfOk result (λ plan. plan ≡ whole_sample of_gain of_balance of_button of_brightness) }
     ensures err { IfErr result (λ fault. fault ≡ PlanFault.Memory) }
 {

@@ -4,7 +4,7 @@ ghost use Rattle.std.specs.Prelude.{⊤, ◌≡◌, [], IfOk};
 ghost use Rattle.ctrl_calls.specs.declared.verdict.Verdict.TheVariants.{Accept};
 
 use bitflags::Flags as FlagSet;
-use ctl_script::sample_plan;
+use ctl_script::sample_builder;
 use ctrl_calls::{Calls, ClusterRow, Driver, Judging, Notifies, Telling, Validates, Verdict};
 use ctrl_settle::Ctrl;
 use ctrl_types::{CtrlId, Flags, Kind};
@@ -74,7 +74,7 @@ pub fn kept_device(alloc: Global, kept: Kept) -> Result<Device<Silent>, AllocErr
 pub fn sample(alloc: Global) -> Result<Device<Silent>, AllocError>
     ensures { IfOk result (λ device. device.steps ≡ []) }
 {
-    device_of(alloc, sample_plan(alloc, none(), none(), none(), none()))
+    device_of(alloc, sample_without(alloc))
 }
 
 /// A fresh device of a plan, if there is one. The error stands for any fault of the plan, too; whoever meets one fails.
@@ -93,6 +93,11 @@ pub fn device_of<D: Driver>(
     }
 }
 
+// The plan of the sample device, but that no cluster has closures.
+fn sample_without(alloc: Global) -> Result<Plan<Silent>, PlanFault> {
+    finished(sample_builder(alloc, none(), none(), none(), none())?)
+}
+
 fn none() -> Calls<Silent> {
     Calls {
         validator: None,
@@ -104,6 +109,10 @@ fn none() -> Calls<Silent> {
 fn menus(alloc: Global) -> Result<Plan<Silent>, PlanFault> {
     let mut builder = PlanBuilder::new(alloc);
     add_menus(&mut builder)?;
+    finished(builder)
+}
+
+fn finished(builder: PlanBuilder<Silent>) -> Result<Plan<Silent>, PlanFault> {
     match builder.finish() {
         Ok(plan) => Ok(plan),
         Err((_, fault)) => Err(fault),
