@@ -1,5 +1,8 @@
 //! The camera: two handlers, seven controls and two clusters with closures.
 
+ghost use Rattle.std.specs.Prelude.{◌≡◌, None, Some};
+
+use crate::driver::{BLUE_LIMIT, EXPOSURE_WORDS};
 use anyhow::{Context, Result};
 use bitflags::Flags as FlagSet;
 use ctrl_calls::{Calls, Driver};
@@ -24,15 +27,18 @@ pub const RED: CtrlId = CtrlId(0x0098_090e);
 pub const BLUE: CtrlId = CtrlId(0x0098_090f);
 
 /// The plan of the camera. Handler 0 is the sensor's, handler 1 the video node's, which shows the sensor's controls too, but for the
-/// lamps.
+/// lamps. The caller owes that each cluster gets the calls that are its own.
 ///
-/// - `of_exposure`: the calls of cluster 0, the auto cluster of mode, time and gain.
-/// - `of_balance`: those of cluster 1, red and blue.
+/// - `of_exposure`: the calls of cluster 0, the auto cluster of mode, time and gain: no validator, and a notifier by `EXPOSURE_WORDS`.
+/// - `of_balance`: those of cluster 1, red and blue: a validator by `BLUE_LIMIT`, and no notifier.
 pub fn camera_plan<D: Driver>(
     alloc: Global,
     of_exposure: Calls<D>,
     of_balance: Calls<D>,
-) -> Result<Plan<D>> {
+) -> Result<Plan<D>>
+    requires exposure { of_exposure ≡ record { validator = None; notifier = Some EXPOSURE_WORDS } }
+    requires balance { of_balance ≡ record { validator = Some BLUE_LIMIT; notifier = None } }
+{
     let mut builder = PlanBuilder::new(alloc);
     let sensor = builder.handler()?;
     let video = builder.handler()?;
@@ -44,7 +50,9 @@ pub fn camera_plan<D: Driver>(
 }
 
 // Adds the sensor's controls, and makes mode, time and gain an auto cluster, which is manual where the mode is 1. A fault names its control.
-fn add_sensor<D: Driver>(builder: &mut PlanBuilder<D>, sensor: u32, calls: Calls<D>) -> Result<()> {
+fn add_sensor<D: Driver>(builder: &mut PlanBuilder<D>, sensor: u32, calls: Calls<D>) -> Result<()>
+    requires { calls ≡ record { validator = None; notifier = Some EXPOSURE_WORDS } }
+{
     let mode = add(builder, sensor, config(MODE, Kind::Menu, 0, 1, 0)).context("mode")?;
     let time = add(builder, sensor, config(TIME, Kind::Integer, 1, 65535, 312)).context("time")?;
     let gain = add(builder, sensor, config(GAIN, Kind::Integer, 0, 255, 16)).context("gain")?;
@@ -57,7 +65,9 @@ fn add_sensor<D: Driver>(builder: &mut PlanBuilder<D>, sensor: u32, calls: Calls
 }
 
 // Adds the video node's controls, red and blue, and makes them a cluster.
-fn add_video<D: Driver>(builder: &mut PlanBuilder<D>, video: u32, calls: Calls<D>) -> Result<()> {
+fn add_video<D: Driver>(builder: &mut PlanBuilder<D>, video: u32, calls: Calls<D>) -> Result<()>
+    requires { calls ≡ record { validator = Some BLUE_LIMIT; notifier = None } }
+{
     let red = add(builder, video, config(RED, Kind::Integer, 0, 255, 128)).context("red")?;
     let blue = add(builder, video, config(BLUE, Kind::Integer, 0, 255, 128)).context("blue")?;
     or_fault(builder.cluster(&[red, blue], calls))?;
