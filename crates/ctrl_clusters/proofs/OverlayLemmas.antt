@@ -2,6 +2,7 @@
 use Rattle.std.proofs.Common.{◌≡◌, ◌≢◌, ℕ, zero, suc, eq-eqb, ◌<◌, ◌≤◌, ◌+◌, ◌==◌, ◌&&◌, ◌||◌, not, Bool, true, false, cond, nat_eq, List, [], ◌∷◌, length, map, pos, Option, None, Some, is_some, unwrap_or, Ok, Err, Result, is_err, inl, inr, ◌⊎◌, subst, refl, ap, sym, ◌∙◌, arith}
 use Rattle.std.specs.List.{All, list_any, range_with_len}
 use Rattle.std.specs.Option.{option_and_then, option_or}
+use Rattle.std.specs.Result.{is_ok}
 use Rattle.std.proofs.lemmas.Bool.Decides.{eqb_tells}
 use Rattle.std.proofs.lemmas.List.Elements.{All-head, All-tail, All-weaker}
 use Rattle.std.proofs.lemmas.List.{length-map}
@@ -21,7 +22,7 @@ use Rattle.ctrl_settle.specs.Settle.{settle}
 use Rattle.ctrl_handlers.specs.Plan.{PlanData, IsPlan, cluster_of, members, names_twice, calls_of, control_in}
 use Rattle.ctrl_handlers.proofs.ClusterLemmas.{or_false, or_false_right}
 use Rattle.ctrl_clusters.specs.Rows.{Values, value_at, row_of, value_in, Grabs, is_grabbed, overwritten, settle_row, settled_before}
-use Rattle.ctrl_clusters.specs.Judging.{becomes, judge, judge_by, judge_settled, judged, takes_row}
+use Rattle.ctrl_clusters.specs.Judging.{asks, becomes, judge, judge_by, judge_settled, judged, takes_row}
 use Rattle.ctrl_clusters.specs.Overlay.{is_among, is_touched, is_held, row_after, given_by, given_in, value_after, overlay, refused_clusters}
 use Rattle.ctrl_clusters.specs.NewRows.{clusters_of, row_among, value_among, written}
 use Rattle.ctrl_clusters.specs.declared.new_row.NewRow.{NewRow}
@@ -258,6 +259,18 @@ alike_judge verdicts controls others cs (Some relation) row all = by (verdicts r
     by : (verdict : Verdict) → judged controls cs verdict ≡ judged others cs verdict
     by (Refuse errno) = refl
     by (Accept answer) = rw (alike_takes controls others cs answer all) refl
+
+-- whether a validator is asked hangs on the values of the cluster's members alone
+pub asks_alike : (plan : PlanData) (controls : List Control) (values elsewhere : Values) (pairs : List Pair) (k : ℕ) → All (λ c. value_at values c ≡ value_at elsewhere c) (members plan k)
+    → asks plan controls values pairs k ≡ asks plan controls elsewhere pairs k
+unfolding asks
+asks_alike plan controls values elsewhere pairs k all =
+    ap (λ (row : List CtrlValue). is_some (calls_of plan k).validator && is_ok (settle_row controls (members plan k) row)) over
+  where
+    over : overwritten values pairs (members plan k) ≡ overwritten elsewhere pairs (members plan k)
+    over =
+        alike_map (λ c. unwrap_or (last_value pairs c) (value_at values c)) (λ c. unwrap_or (last_value pairs c) (value_at elsewhere c)) (λ c. value_at values c ≡ value_at elsewhere c) (members plan k)
+        (λ c h. rw h refl) all
 
 -- clusters don't touch each other
 pub separate : (verdicts : Verdicts) (plan : PlanData) (controls others : List Control) (values elsewhere : Values) (grabs held : Grabs) (pairs more : List Pair) (k : ℕ)

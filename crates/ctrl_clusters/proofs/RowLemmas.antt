@@ -1,15 +1,17 @@
 -- The loops over a row.
-use Rattle.std.proofs.Common.{◌≡◌, ◌≢◌, ℕ, ℤ, suc, eq-eqb, slice_get, ◌∙◌, ◌<◌, ◌+◌, ◌==◌, ◌&&◌, ◌||◌, Bool, true, false, pos, List, [], ◌∷◌, ◌++◌, length, take, drop, get_or, set, if◌then◌else◌, Some, Result, Ok, Err, refl, sym, ap}
+use Rattle.std.proofs.Common.{◌≡◌, ◌≢◌, ℕ, ℤ, suc, eq-eqb, slice_get, ◌∙◌, ◌<◌, ◌+◌, ◌==◌, ◌&&◌, ◌||◌, Bool, true, false, pos, List, [], ◌∷◌, ◌++◌, length, take, drop, get_or, set, if◌then◌else◌, Option, None, Some, is_some, Result, Ok, Err, refl, sym, ap}
 use Rattle.std.proofs.lemmas.Option.{get_or_from_slice_get}
 use Rattle.std.proofs.lemmas.List.{append-nil, append_assoc, take_more_set, drop_more}
+use Rattle.std.specs.Result.{is_ok}
 use Rattle.ctrl_types.specs.declared.errno.Errno.{Errno}
 use Rattle.ctrl_types.specs.declared.ids.Pair.{Pair}
+use Rattle.ctrl_calls.specs.declared.relation.Relation.{Relation}
 use Rattle.ctrl_settle.specs.Control.{Control}
 use Rattle.ctrl_settle.specs.Settle.{settle}
 use Rattle.ctrl_handlers.specs.Plan.{PlanData, control_in}
 use Rattle.ctrl_clusters.specs.Changes.{is_changed, row_changes}
 use Rattle.ctrl_clusters.specs.Rows.{Values, value_at, settle_row, settled_before, value_in}
-use Rattle.ctrl_clusters.specs.Judging.{is_value, takes_row}
+use Rattle.ctrl_clusters.specs.Judging.{after_judging, is_value, takes_row, with_call}
 
 -- values that are settled, before what the others settle to
 abbrev pub before : List ℤ → Result (List ℤ) Errno → Result (List ℤ) Errno
@@ -79,3 +81,13 @@ pub changes_next : (plan : PlanData) (values : Values) (pairs : List Pair) (memb
     → row_changes plan values pairs (drop i members) (drop i row)
     ≡ (is_changed plan values pairs (get_or members i 0) (value_at row i) || row_changes plan values pairs (drop (i + 1) members) (drop (i + 1) row))
 changes_next plan values pairs members row i within there = rw (drop_more members i 0 within, drop_more row i (pos 0) there) refl
+
+-- members that settle are judged, where there is a validator by asking it
+pub asked_settled : (o : Option Relation) (settled : Result (List ℤ) Errno) (row : List ℤ) (count : ℕ) → settled ≡ Ok row → after_judging o count ≡ with_call (is_some o && is_ok settled) count
+asked_settled None settled row count is = refl
+asked_settled (Some relation) settled row count is = rw is refl
+
+-- and where one doesn't, nobody is asked
+pub asked_unsettled : (o : Option Relation) (settled : Result (List ℤ) Errno) (errno : Errno) (count : ℕ) → settled ≡ Err errno → count ≡ with_call (is_some o && is_ok settled) count
+asked_unsettled None settled errno count is = refl
+asked_unsettled (Some relation) settled errno count is = rw is refl

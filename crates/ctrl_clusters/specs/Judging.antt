@@ -1,7 +1,8 @@
 -- What a cluster makes of a row: its validator judges it (Linux driver API, "V4L2 Controls", "Control Clusters": `try_ctrl`;
 -- which refusals pass, and that an accepted row is settled, is of this project).
-use Rattle.std.specs.Prelude.{ℕ, Bool, true, false, ◌&&◌, if◌then◌else◌, List, [], ◌∷◌, Option, None, Some, Result, Ok, Err}
+use Rattle.std.specs.Prelude.{ℕ, Bool, true, false, ◌&&◌, ◌+◌, ◌-◌, ◌^◌, min, if◌then◌else◌, List, [], ◌∷◌, Option, None, Some, is_some, Result, Ok, Err}
 use Rattle.std.specs.Ordering.{int_eq}
+use Rattle.std.specs.Result.{is_ok}
 use Rattle.ctrl_types.specs.Values.{CtrlValue}
 use Rattle.ctrl_types.specs.declared.errno.Errno.{Errno}
 use Rattle.ctrl_types.specs.declared.errno.Errno.TheVariants.{EACCES, EBUSY, EINVAL, ERANGE}
@@ -64,3 +65,17 @@ judge_settled verdicts plan controls k (Ok row) = judge verdicts plan controls k
 unfoldable pub becomes : Verdicts → PlanData → List Control → Values → List Pair → ℕ → Result (List CtrlValue) Errno
 becomes verdicts plan controls values pairs k =
     judge_settled verdicts plan controls k (settle_row controls (members plan k) (overwritten values pairs (members plan k)))
+
+-- Whether a validator is asked where the row of a cluster becomes what these pairs make of it: its members settle, and it has one.
+unfoldable pub asks : PlanData → List Control → Values → List Pair → ℕ → Bool
+asks plan controls values pairs k =
+    is_some (calls_of plan k).validator && is_ok (settle_row controls (members plan k) (overwritten values pairs (members plan k)))
+
+-- a count with one call more, where there is a call
+abbrev pub with_call : Bool → ℕ → ℕ
+with_call true count = one_more count
+with_call false count = count
+
+-- a count with so many calls more, in 64 bits: a full count stays
+abbrev pub with_calls : ℕ → ℕ → ℕ
+with_calls calls count = min (count + calls) (2 ^ 64 - 1)

@@ -34,6 +34,10 @@ pub record AreRenewed (says : Words) (plan : PlanData) (changed : ℕ → Bool) 
 abbrev pub notified_count : PlanData → (ℕ → Bool) → ℕ
 notified_count plan changed = count_by (λ k. is_some (calls_of plan k).notifier && changed k) (range_with_len 0 (length plan.clusters))
 
+-- how many clusters have a notifier
+abbrev pub notifier_count : PlanData → ℕ
+notifier_count plan = notified_count plan (λ k. true)
+
 -- What the words are after one cluster got a row, where it changed or not: a changed cluster has a word that its notifier may say of the row,
 -- and every other word stays.
 pub record IsRenewed (says : Words) (plan : PlanData) (k : ℕ) (changed : Bool) (row : List CtrlValue) (old new : List ℕ) : Type 0 where

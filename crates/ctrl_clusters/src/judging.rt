@@ -2,7 +2,7 @@ ghost use Rattle.std.specs.Prelude.{◌≡◌, ◌<◌, ◌≤◌, ◌+◌, leng
 ghost use Rattle.std.specs.List.{All};
 ghost use Rattle.ctrl_handlers.specs.Plan.{members, calls_of};
 ghost use Rattle.ctrl_clusters.specs.Rows.{AreControlsOf};
-ghost use Rattle.ctrl_clusters.specs.Judging.{refusal_of, judged, judge, becomes, after_judging};
+ghost use Rattle.ctrl_clusters.specs.Judging.{refusal_of, judged, judge, becomes, asks, after_judging, with_call};
 
 use crate::rows::{overwritten, settle_row, takes_row};
 use ctrl_calls::{ClusterRow, Driver, Verdict, Work, ask};
@@ -53,7 +53,7 @@ pub fn judge<D: Driver>(
 /// - `cluster`: the number of a cluster; the caller owes one below `Plan::cluster_count`.
 /// - `values`: a value for each control, in the order of their numbers; the caller owes exactly as many.
 /// - `pairs`: what is asked for; pairs of other clusters' controls count for nothing.
-/// - `work`: its count `asked` grows by one where the validator is asked.
+/// - `work`: its count `asked` grows by one where the members' values settle and the cluster has a validator, and else stays.
 ///
 /// Refused by the checks 51 (ERANGE, 34) and 52 (EINVAL, 22) of docs/RULES.md for the first member that doesn't settle, and then as `judge`
 /// refuses. It takes no memory.
@@ -74,6 +74,7 @@ pub fn becomes<D: Driver>(
     ensures at_most_once { work.new.asked ≤ work.old.asked + 1 }
     ensures asked { OnOk result (work.new.asked ≡ after_judging (calls_of plan.now cluster).validator work.old.asked) }
     ensures told { work.new.told ≡ work.old.told }
+    ensures counted { work.new ≡ record work.old { asked = with_call (asks plan.now controls.now values.now pairs.now cluster) work.old.asked } }
 {
     let members = plan.members(cluster);
     let row = overwritten(values, pairs, members);

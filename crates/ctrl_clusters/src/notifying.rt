@@ -1,11 +1,11 @@
 //! Whom a device notifies of rows, and the words that they say.
 
-ghost use Rattle.std.specs.Prelude.{◌≡◌, ◌<◌, length, IfOk};
+ghost use Rattle.std.specs.Prelude.{◌≡◌, ◌<◌, length, IfOk, OnOk, OnErr};
 ghost use Rattle.ctrl_handlers.specs.Plan.{calls_of, members};
 ghost use Rattle.ctrl_clusters.specs.Rows.{row_of};
 ghost use Rattle.ctrl_clusters.specs.NewRows.{AreNewRows, row_given};
 ghost use Rattle.ctrl_clusters.specs.Changes.{row_changes, cluster_changes, members_change};
-ghost use Rattle.ctrl_clusters.specs.Notified.{MaySay, HaveWords, AreRenewed, IsRenewed, notified_count, after_notifying, after_change};
+ghost use Rattle.ctrl_clusters.specs.Notified.{MaySay, HaveWords, AreRenewed, IsRenewed, notified_count, notifier_count, after_notifying, after_change};
 
 use crate::changes::row_changes;
 use crate::new_rows::NewRows;
@@ -168,21 +168,25 @@ fn notify_where<D: Driver>(
 /// - `alloc`: where the words lie.
 /// - `plan`: what the device is built of.
 /// - `values`: the values; the caller owes one for each control.
+/// - `work`: its count `told`, which the caller owes to be 0, is then the number of notifiers that were called; each of the plan is, once.
 ///
 /// Refused with want of memory; nobody is notified then.
 pub fn first_words<D: Driver>(
     alloc: Global,
     plan: &Plan<D>,
     values: &[CtrlValue],
+    work: &mut Work,
 ) -> Result<Vec<u64>, AllocError>
-    requires { length values.now ≡ length plan.now.controls }
-    ensures { IfOk result (λ words. HaveWords D.told plan.now values.now words.items) }
+    requires values { length values.now ≡ length plan.now.controls }
+    requires fresh { work.old.told ≡ 0 }
+    ensures words { IfOk result (λ words. HaveWords D.told plan.now values.now words.items) }
+    ensures work { OnOk result (work.new ≡ record work.old { told = notifier_count plan.now }) }
+    ensures unheard { OnErr result (work.new ≡ work.old) }
 {
     let count = plan.cluster_count();
     let mut words = Vec::with_capacity(alloc, count as usize)?;
-    let mut work = Work::new();
     for cluster in 0..count {
-        words.push_reserved(notify_present(plan, values, cluster, &mut work));
+        words.push_reserved(notify_present(plan, values, cluster, work));
     }
     Ok(words)
 }
@@ -196,7 +200,8 @@ fn notify_present<D: Driver>(
 ) -> u64
     requires known { cluster < length plan.now.clusters }
     requires there { length values.now ≡ length plan.now.controls }
-    ensures { MaySay D.told (calls_of plan.now cluster).notifier (row_of values.now (members plan.now cluster)) result }
+    ensures word { MaySay D.told (calls_of plan.now cluster).notifier (row_of values.now (members plan.now cluster)) result }
+    ensures work { work.new ≡ record work.old { told = after_notifying (calls_of plan.now cluster).notifier work.old.told } }
 {
     let row = present_row(values, plan.members(cluster));
     notify(plan, cluster, &row, work)

@@ -6,6 +6,7 @@ pub mod RisingLemmas
 pub mod NamingLemmas
 pub mod RightLemmas
 pub mod RenewLemmas
+pub mod AskingLemmas
 pub mod KeptLemmas
 pub mod ReadyLemmas
 pub mod LikeLemmas

@@ -146,10 +146,6 @@ named_within plan pairs =
     (All-from_get_or (λ k. k < length plan.clusters) (range_with_len 0 (length plan.clusters)) 0
     (λ i lt. let less : i < length plan.clusters = omega (arith, lt, length-range_with_len 0 (length plan.clusters)) in omega (arith, less, get_or-range_with_len 0 (length plan.clusters) i 0 less)))
 
--- as many as they touch
-pub named_count : (plan : PlanData) (pairs : List Pair) → length (named_clusters plan pairs) ≡ touched_count plan pairs
-named_count plan pairs = length-filter (λ k. is_touched pairs (members plan k)) (range_with_len 0 (length plan.clusters))
-
 -- what a kept frame names is what its pairs do
 pub kept_named : (verdicts : Verdicts) (plan : PlanData) (controls : List Control) (grabs : Grabs) (values : Values) (fs : List FrameData) (p : ℕ) → length values ≡ length plan.controls → p < length fs
     → (qs : List QueuedData) → board_seen fs ≡ board_of verdicts plan controls grabs values qs → (frame_at fs p).named ≡ named_clusters plan (frame_at fs p).asked

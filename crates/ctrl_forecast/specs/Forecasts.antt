@@ -1,13 +1,13 @@
 -- Forecasts: what queued frames will make of a device's values, each over what the one before leaves (of this project).
-use Rattle.std.specs.Prelude.{ℕ, List, [], ◌∷◌}
+use Rattle.std.specs.Prelude.{ℕ, List, [], ◌∷◌, count_by}
 use Rattle.std.specs.List.{sum_by}
 use Rattle.ctrl_types.specs.declared.ids.Pair.{Pair}
 use Rattle.ctrl_types.specs.declared.ids.RequestId.{RequestId}
 use Rattle.ctrl_calls.specs.Meanings.{Verdicts}
 use Rattle.ctrl_settle.specs.Control.{Control}
-use Rattle.ctrl_handlers.specs.Plan.{PlanData}
+use Rattle.ctrl_handlers.specs.Plan.{PlanData, members}
 use Rattle.ctrl_clusters.specs.Rows.{Values, Grabs}
-use Rattle.ctrl_clusters.specs.Overlay.{overlay, refused_clusters}
+use Rattle.ctrl_clusters.specs.Overlay.{is_touched, overlay, refused_clusters}
 use Rattle.ctrl_forecast.specs.Touched.{touched_count}
 use Rattle.ctrl_forecast.specs.declared.board.Forecast.{Forecast}
 
@@ -40,3 +40,11 @@ values_behind values (row ∷ rows) = values_behind row.values rows
 -- how many clusters queued frames touch, each for itself
 abbrev pub touched_by_all : PlanData → List QueuedData → ℕ
 touched_by_all plan queued = sum_by (λ q. touched_count plan q.asked) queued
+
+-- how many queued frames name a cluster: a member is among what they ask for
+abbrev pub naming_count : PlanData → List QueuedData → ℕ → ℕ
+naming_count plan queued k = count_by (λ q. is_touched q.asked (members plan k)) queued
+
+-- How often queued frames name some clusters, each for itself.
+abbrev pub named_by_frames : PlanData → List QueuedData → List ℕ → ℕ
+named_by_frames plan queued clusters = sum_by (naming_count plan queued) clusters

@@ -4,5 +4,6 @@ pub mod Touched
 pub mod Applied
 pub mod Forecasts
 pub mod Boards
+pub mod Asking
 pub mod Frames
 pub mod Looks

@@ -1,10 +1,12 @@
 //! What queued frames will have, kept while they wait.
 
-ghost use Rattle.std.specs.Prelude.{◌≡◌, nat_eq, ◌<◌, ◌≤◌, ◌+◌, ◌-◌, ◌*◌, ◌++◌, ◌∷◌, ◌↔◌, ℕ, [], drop, length, option_map, slice_get, IfOk, OnOk, OnErr, IsTrue};
+ghost use Rattle.std.specs.Prelude.{◌≡◌, nat_eq, ◌<◌, ◌≤◌, ◌+◌, ◌++◌, ◌∷◌, ◌↔◌, ℕ, [], drop, length, option_map, slice_get, IfOk, OnOk, OnErr, IsTrue};
 ghost use Rattle.std.specs.List.{All, position, remove};
 ghost use Rattle.ctrl_clusters.specs.Rows.{AreControlsOf, Grabs, Values};
-ghost use Rattle.ctrl_forecast.specs.Boards.{DifferOnlyIn, asked_at, board_of, no_board};
-ghost use Rattle.ctrl_forecast.specs.Forecasts.{touched_by_all, values_behind};
+ghost use Rattle.ctrl_clusters.specs.Judging.{with_calls};
+ghost use Rattle.ctrl_forecast.specs.Asking.{asked_count, renewing_count};
+ghost use Rattle.ctrl_forecast.specs.Boards.{DifferOnlyIn, asked_at, board_of, named_clusters, no_board};
+ghost use Rattle.ctrl_forecast.specs.Forecasts.{named_by_frames, touched_by_all, values_behind};
 ghost use Rattle.ctrl_forecast.specs.Looks.{seen};
 ghost use Rattle.ctrl_forecast.specs.Touched.{touched_count};
 
@@ -186,6 +188,7 @@ impl Board {
         ensures ok { OnOk result (self.new ≡ board_of D.verdict plan.now controls.now grabs.now values.now (self.old.queued ++ queued.now ∷ [])) }
         ensures err { OnErr result (self.new ≡ self.old) }
         ensures asked { work.new.asked ≤ work.old.asked + touched_count plan.now queued.now.asked }
+        ensures counted { OnOk result (work.new.asked ≡ with_calls (asked_count plan.now controls.now (values_behind values.now self.old.rows) grabs.now queued.now.asked) work.old.asked) }
         ensures told { work.new.told ≡ work.old.told }
     {
         self.frames.reserve(1)?;
@@ -219,7 +222,8 @@ impl Board {
     ///
     /// - `place`: a place, from 0; the caller owes a frame there.
     /// - `plan`, `controls`, `values`, `grabs`: as of `overlay`; `values` are those before the first frame.
-    /// - `work`: its count `asked` grows by at most one for each frame behind the place and each cluster with a member among its pairs.
+    /// - `work`: its count `asked` grows by one for each cluster with a validator that the frame names, a member being among its pairs, and each frame
+    ///   behind it that names the cluster too, unless a member that this asks for is grabbed or a member doesn't settle.
     ///
     /// The caller owes that the board was kept with this plan and these controls, over these values and under these grabs. It takes no memory and
     /// refuses nothing. Nobody is told.
@@ -237,7 +241,8 @@ impl Board {
         requires place { place < length self.old.queued }
         requires kept { self.old ≡ board_of D.verdict plan.now controls.now grabs.now values.now self.old.queued }
         ensures frames { self.new ≡ board_of D.verdict plan.now controls.now grabs.now values.now (remove self.old.queued place) }
-        ensures asked { work.new.asked ≤ work.old.asked + touched_count plan.now (asked_at self.old.queued place) * (length self.old.queued - 1 - place) }
+        ensures asked { work.new.asked ≤ work.old.asked + named_by_frames plan.now (drop (place + 1) self.old.queued) (named_clusters plan.now (asked_at self.old.queued place)) }
+        ensures counted { work.new.asked ≡ with_calls (renewing_count D.verdict plan.now controls.now grabs.now values.now (remove self.old.queued place) place (named_clusters plan.now (asked_at self.old.queued place))) work.old.asked }
         ensures told { work.new.told ≡ work.old.told }
     {
         // the plan is a finished one, as the contract of `controls` says
@@ -259,7 +264,8 @@ impl Board {
     ///
     /// - `plan`, `controls`, `values`, `grabs`: as of `overlay`, as they are now; `values` are those before the first frame.
     /// - `clusters`: the clusters, in any order; the caller owes that each is one of the plan.
-    /// - `work`: its count `asked` grows by at most one for each frame and each of the clusters.
+    /// - `work`: its count `asked` grows by one for each of the clusters with a validator and each frame that names it, a member being among its pairs,
+    ///   unless a member that it asks for is grabbed or a member doesn't settle.
     ///
     /// The caller owes that the board was kept with this plan and these controls, over values and under grabs that differ from these in the
     /// clusters alone. It takes no memory and refuses nothing. Nobody is told.
@@ -277,7 +283,8 @@ impl Board {
         requires clusters { All (λ k. k < length plan.now.clusters) clusters.now }
         requires kept { (before : Values) × (held : Grabs) × (self.old ≡ board_of D.verdict plan.now controls.now held before self.old.queued) × DifferOnlyIn plan.now clusters.now before held values.now grabs.now }
         ensures frames { self.new ≡ board_of D.verdict plan.now controls.now grabs.now values.now self.old.queued }
-        ensures asked { work.new.asked ≤ work.old.asked + length clusters.now * length self.old.queued }
+        ensures asked { work.new.asked ≤ work.old.asked + named_by_frames plan.now self.old.queued clusters.now }
+        ensures counted { work.new.asked ≡ with_calls (renewing_count D.verdict plan.now controls.now grabs.now values.now self.old.queued 0 clusters.now) work.old.asked }
         ensures told { work.new.told ≡ work.old.told }
     {
         // the plan is a finished one, as the contract of `controls` says

@@ -1,8 +1,10 @@
 //! A queued frame that is kept, with what it will have.
 
-ghost use Rattle.std.specs.Prelude.{◌≡◌, ◌<◌, ◌≤◌, ◌+◌, length, IfOk};
+ghost use Rattle.std.specs.Prelude.{◌≡◌, ◌<◌, ◌≤◌, ◌+◌, length, IfOk, OnOk};
 ghost use Rattle.ctrl_handlers.specs.Plan.{members};
 ghost use Rattle.ctrl_clusters.specs.Rows.{AreControlsOf};
+ghost use Rattle.ctrl_clusters.specs.Judging.{with_calls};
+ghost use Rattle.ctrl_forecast.specs.Asking.{asked_count};
 ghost use Rattle.ctrl_forecast.specs.Frames.{forecast_of, frame_over, marked, with_outcome};
 ghost use Rattle.ctrl_forecast.specs.Touched.{touched_count};
 
@@ -74,7 +76,7 @@ impl Model for Frame {
 }
 
 impl Frame {
-    ghost use Rattle.std.specs.Prelude.{◌≡◌, ◌<◌, ◌≤◌, ◌+◌, length, IfOk};
+    ghost use Rattle.std.specs.Prelude.{◌≡◌, ◌<◌, ◌≤◌, ◌+◌, length, IfOk, OnOk};
 
     // A frame over values, with room for each cluster that its pairs name. The error is that a growth was refused.
     pub(crate) fn new<D: Driver>(
@@ -90,6 +92,7 @@ impl Frame {
         requires values { length values.now ≡ length plan.now.controls }
         ensures frame { IfOk result (λ f. f ≡ frame_over D.verdict plan.now controls.now grabs.now values.now queued.now) }
         ensures asked { work.new.asked ≤ work.old.asked + touched_count plan.now queued.now.asked }
+        ensures counted { OnOk result (work.new.asked ≡ with_calls (asked_count plan.now controls.now values.now grabs.now queued.now.asked) work.old.asked) }
         ensures told { work.new.told ≡ work.old.told }
     {
         let asked = Vec::from_slice(alloc, queued.asked)?;

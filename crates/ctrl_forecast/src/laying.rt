@@ -1,8 +1,10 @@
-ghost use Rattle.std.specs.Prelude.{◌≡◌, ◌<◌, ◌≤◌, ◌+◌, ◌&&◌, true, length, IfOk, if◌then◌else◌};
+ghost use Rattle.std.specs.Prelude.{◌≡◌, ◌<◌, ◌≤◌, ◌+◌, ◌&&◌, true, length, IfOk, OnOk};
 ghost use Rattle.std.specs.List.{list_any};
 ghost use Rattle.ctrl_handlers.specs.Plan.{members};
 ghost use Rattle.ctrl_clusters.specs.Rows.{AreControlsOf, is_grabbed};
 ghost use Rattle.ctrl_clusters.specs.Overlay.{is_touched, is_held, row_after, overlay, refused_clusters};
+ghost use Rattle.ctrl_clusters.specs.Judging.{with_call, with_calls};
+ghost use Rattle.ctrl_forecast.specs.Asking.{asked_count, asks_row};
 ghost use Rattle.ctrl_forecast.specs.Boards.{named_clusters};
 ghost use Rattle.ctrl_forecast.specs.Touched.{touched_count};
 
@@ -32,7 +34,8 @@ pub struct Overlaid {
 /// - `values`: a value for each control, in the order of their numbers; the caller owes exactly as many.
 /// - `grabs`: for each control whether it is grabbed.
 /// - `pairs`: what is laid; of a control the last pair counts.
-/// - `work`: its count `asked` grows by at most one for each cluster with a member among the pairs.
+/// - `work`: its count `asked` grows by one for each cluster with a validator and with a member among the pairs, unless such a member is grabbed or
+///   a member doesn't settle. Where a growth is refused, it may have grown by less.
 ///
 /// The error is that a growth was refused. Nobody is told.
 pub fn overlay<D: Driver>(
@@ -50,6 +53,7 @@ pub fn overlay<D: Driver>(
     ensures refused { IfOk result (λ o. o.refused ≡ refused_clusters D.verdict plan.now controls.now values.now grabs.now pairs.now) }
     ensures long { IfOk result (λ o. length o.values ≡ length values.now) }
     ensures asked { work.new.asked ≤ work.old.asked + touched_count plan.now pairs.now }
+    ensures counted { OnOk result (work.new.asked ≡ with_calls (asked_count plan.now controls.now values.now grabs.now pairs.now) work.old.asked) }
     ensures told { work.new.told ≡ work.old.told }
 {
     let named = named_clusters(alloc, plan, pairs)?;
@@ -83,10 +87,13 @@ pub(crate) fn overlay_named<D: Driver>(
     ensures refused { IfOk result (λ o. o.refused ≡ refused_clusters D.verdict plan.now controls.now values.now grabs.now pairs.now) }
     ensures long { IfOk result (λ o. length o.values ≡ length values.now) }
     ensures asked { work.new.asked ≤ work.old.asked + touched_count plan.now pairs.now }
+    ensures counted { OnOk result (work.new.asked ≡ with_calls (asked_count plan.now controls.now values.now grabs.now pairs.now) work.old.asked) }
     ensures told { work.new.told ≡ work.old.told }
 {
     let mut after = Vec::from_slice(alloc, values)?;
     let mut refused = Vec::new(alloc);
+    // a count fits its type once it is read
+    let _before = work.asked;
     for &cluster in named {
         match touched_row(plan, controls, values, grabs, pairs, cluster, work) {
             Ok(row) => write_rows(plan, &mut after, &[NewRow { cluster, row }]),
@@ -114,8 +121,7 @@ pub(crate) fn row_after<D: Driver>(
     requires cluster { cluster < length plan.now.clusters }
     ensures row { result ≡ row_after D.verdict plan.now controls.now values.now grabs.now pairs.now cluster }
     ensures long { IfOk result (λ row. length row ≡ length (members plan.now cluster)) }
-    ensures asked { work.new.asked ≤ work.old.asked + (if is_touched pairs.now (members plan.now cluster) then 1 else 0) }
-    ensures told { work.new.told ≡ work.old.told }
+    ensures counted { work.new ≡ record work.old { asked = with_call (asks_row plan.now controls.now values.now grabs.now pairs.now cluster) work.old.asked } }
 {
     let members = plan.members(cluster);
     if !is_touched(pairs, members) {
@@ -140,8 +146,7 @@ fn touched_row<D: Driver>(
     requires touched { is_touched pairs.now (members plan.now cluster) ≡ true }
     ensures row { result ≡ row_after D.verdict plan.now controls.now values.now grabs.now pairs.now cluster }
     ensures long { IfOk result (λ row. length row ≡ length (members plan.now cluster)) }
-    ensures asked { work.new.asked ≤ work.old.asked + 1 }
-    ensures told { work.new.told ≡ work.old.told }
+    ensures counted { work.new ≡ record work.old { asked = with_call (asks_row plan.now controls.now values.now grabs.now pairs.now cluster) work.old.asked } }
 {
     if is_held(grabs, pairs, plan.members(cluster)) {
         return Err(Errno::EBUSY);

@@ -1,12 +1,14 @@
 //! Clusters that are renewed in frames that are kept, one cluster after another, each through the frames in their order.
 
-ghost use Rattle.std.specs.Prelude.{◌≡◌, ◌<◌, ◌≤◌, ◌+◌, ◌-◌, ◌*◌, ℕ, length, map, is_err};
+ghost use Rattle.std.specs.Prelude.{◌≡◌, ◌<◌, ◌≤◌, ℕ, length, map, is_err};
 ghost use Rattle.std.specs.List.{All};
 ghost use Rattle.ctrl_handlers.specs.Plan.{members};
 ghost use Rattle.ctrl_clusters.specs.Rows.{AreControlsOf, row_of};
 ghost use Rattle.ctrl_clusters.specs.Overlay.{row_after};
+ghost use Rattle.ctrl_clusters.specs.Judging.{with_call, with_calls};
+ghost use Rattle.ctrl_forecast.specs.Asking.{asked_from, asks_row, renewing_count};
 ghost use Rattle.ctrl_forecast.specs.Boards.{board_of};
-ghost use Rattle.ctrl_forecast.specs.Frames.{AreFrames, AreReady, IsRenewed, IsRightAt, board_seen, queued_of, renewed_at, row_or, setting, values_before};
+ghost use Rattle.ctrl_forecast.specs.Frames.{AreFrames, AreReady, IsRenewed, IsRightAt, board_seen, frame_at, queued_of, renewed_at, row_or, setting, values_before};
 
 use crate::frame::Frame;
 use crate::laying::row_after;
@@ -33,11 +35,12 @@ pub(crate) fn renew_clusters<D: Driver>(
     requires from { from ≤ length frames.old.items }
     requires ready { AreReady (setting D.verdict plan.now controls.now grabs.now values.now) from clusters.now frames.old.items }
     ensures frames { board_seen frames.new.items ≡ board_of D.verdict plan.now controls.now grabs.now values.now (map queued_of frames.old.items) }
-    ensures asked { work.new.asked ≤ work.old.asked + length clusters.now * (length frames.old.items - from) }
+    ensures counted { work.new.asked ≡ with_calls (renewing_count D.verdict plan.now controls.now grabs.now values.now (map queued_of frames.old.items) from clusters.now) work.old.asked }
     ensures told { work.new.told ≡ work.old.told }
 {
-    // the plan is a finished one, as the contract of `controls` says
+    // the plan is a finished one, as the contract of `controls` says, and a count fits its type once it is read
     let _plan = plan.controls();
+    let _before = work.asked;
     for &cluster in clusters {
         renew_cluster(frames, from, plan, controls, values, grabs, cluster, work);
     }
@@ -61,11 +64,12 @@ fn renew_cluster<D: Driver>(
     requires frames { AreFrames plan.now frames.old.items }
     requires before { (i : ℕ) → i < from → i < length frames.old.items → IsRightAt (setting D.verdict plan.now controls.now grabs.now values.now) frames.old.items cluster i }
     ensures renewed { IsRenewed (setting D.verdict plan.now controls.now grabs.now values.now) cluster (length frames.new.items) frames.old.items frames.new.items }
-    ensures asked { work.new.asked ≤ work.old.asked + (length frames.old.items - from) }
+    ensures counted { work.new.asked ≡ with_calls (asked_from D.verdict plan.now controls.now grabs.now values.now (map queued_of frames.old.items) from cluster) work.old.asked }
     ensures told { work.new.told ≡ work.old.told }
 {
-    // the plan is a finished one, as the contract of `controls` says
+    // the plan is a finished one, as the contract of `controls` says, and a count fits its type once it is read
     let _plan = plan.controls();
+    let _before = work.asked;
     for place in from..frames.len() {
         renew_at(frames, place, plan, controls, values, grabs, cluster, work);
     }
@@ -88,8 +92,7 @@ fn renew_at<D: Driver>(
     requires frames { AreFrames plan.now frames.old.items }
     requires place { place < length frames.old.items }
     ensures frames { frames.new.items ≡ renewed_at (setting D.verdict plan.now controls.now grabs.now values.now) cluster place frames.old.items }
-    ensures asked { work.new.asked ≤ work.old.asked + 1 }
-    ensures told { work.new.told ≡ work.old.told }
+    ensures counted { work.new ≡ record work.old { asked = with_call (asks_row plan.now controls.now (values_before values.now frames.old.items place) grabs.now (frame_at frames.old.items place).asked cluster) work.old.asked } }
 {
     let base = values_before(frames.as_slice(), place, values);
     let asked = frames[place].asked();
@@ -126,8 +129,7 @@ fn row_over<D: Driver>(
     ensures row { result.0 ≡ row_or (row_of base.now (members plan.now cluster)) (row_after D.verdict plan.now controls.now base.now grabs.now pairs.now cluster) }
     ensures refused { result.1 ≡ is_err (row_after D.verdict plan.now controls.now base.now grabs.now pairs.now cluster) }
     ensures long { length result.0 ≡ length (members plan.now cluster) }
-    ensures asked { work.new.asked ≤ work.old.asked + 1 }
-    ensures told { work.new.told ≡ work.old.told }
+    ensures counted { work.new ≡ record work.old { asked = with_call (asks_row plan.now controls.now base.now grabs.now pairs.now cluster) work.old.asked } }
 {
     match row_after(plan, controls, base, grabs, pairs, cluster, work) {
         Ok(row) => (row, false),

@@ -112,9 +112,9 @@ read_checks plan view list =
     ∷ at_first (reading_refusal plan) (pairs_of plan view.handler view.which list)
     ∷ []
 
--- The checks of a list that writes, to set or to try, the first refusal first; places as above.
-abbrev pub write_checks : Verdicts → PlanData → ViewData → Bool → List ExtControl → List (Option Refusal)
-write_checks verdicts plan view is_set list =
+-- The checks of a list that writes, to set or to try, that are made before a cluster is judged, the first refusal first; places as above.
+abbrev pub entry_checks : PlanData → ViewData → Bool → List ExtControl → List (Option Refusal)
+entry_checks plan view is_set list =
     -- more than 64 entries: EINVAL
     refused_if (is_long list) EINVAL
     -- no entries, about a class of which no control is shown: EINVAL
@@ -124,7 +124,13 @@ write_checks verdicts plan view is_set list =
     -- the first control that can't be written, looked at in this order: READ_ONLY: EACCES; to be set and grabbed: EBUSY; a value that
     -- doesn't settle: its errno
     ∷ at_first (writing_refusal plan view is_set) (pairs_of plan view.handler view.which list)
+    ∷ []
+
+-- All checks of a list that writes, the first refusal first: those, and last its clusters.
+abbrev pub write_checks : Verdicts → PlanData → ViewData → Bool → List ExtControl → List (Option Refusal)
+write_checks verdicts plan view is_set list =
+    entry_checks plan view is_set list
     -- the first control whose cluster is refused, which is that of the first entry of the first such cluster: the errno of the first member
     -- that doesn't settle, or else that of judging
-    ∷ at_first (judging_refusal verdicts plan view (laid_pairs plan view list)) (pairs_of plan view.handler view.which list)
+    ++ at_first (judging_refusal verdicts plan view (laid_pairs plan view list)) (pairs_of plan view.handler view.which list)
     ∷ []

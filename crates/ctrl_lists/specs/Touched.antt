@@ -1,5 +1,5 @@
 -- The clusters that a list touches, and the rows that they get (Linux driver API, "V4L2 Controls", "Control Clusters").
-use Rattle.std.specs.Prelude.{◌≡◌, ℕ, ◌+◌, ◌-◌, ◌^◌, min, nat_eq, ◌<◌, length, if◌then◌else◌, List, [], ◌∷◌, ◌++◌, Option, None, Some, is_some, count_by, Ok}
+use Rattle.std.specs.Prelude.{◌≡◌, ℕ, Bool, nat_eq, ◌<◌, length, if◌then◌else◌, List, [], ◌∷◌, ◌++◌, Option, None, Some, is_some, count_by, Ok}
 use Rattle.std.specs.List.{All, list_any, fold}
 use Rattle.ctrl_types.specs.declared.ids.ExtControl.{ExtControl}
 use Rattle.ctrl_types.specs.declared.ids.Pair.{Pair}
@@ -8,10 +8,12 @@ use Rattle.ctrl_settle.specs.Control.{Control}
 use Rattle.ctrl_handlers.specs.Plan.{PlanData, control, cluster_of, calls_of, members}
 use Rattle.ctrl_clusters.specs.Rows.{Values}
 use Rattle.ctrl_clusters.specs.Judging.{becomes}
+pub use Rattle.ctrl_clusters.specs.Judging.{with_calls}
 use Rattle.ctrl_clusters.specs.NewRows.{clusters_of, value_written}
 use Rattle.ctrl_clusters.specs.declared.new_row.NewRow.{NewRow}
 use Rattle.ctrl_lists.specs.View.{ViewData, pairs_of}
-use Rattle.ctrl_lists.specs.Checks.{laid_pairs}
+use Rattle.ctrl_lists.specs.declared.refusal.Refusal.{Refusal}
+use Rattle.ctrl_lists.specs.Checks.{entry_checks, first_refusal, laid_pairs}
 
 -- these clusters, with one more where it isn't among them
 abbrev pub with_cluster : List ℕ → Option ℕ → List ℕ
@@ -56,6 +58,13 @@ pub record IsTouched (verdicts : Verdicts) (plan : PlanData) (view : ViewData) (
 abbrev pub judged_count : PlanData → List ℕ → ℕ
 judged_count plan clusters = count_by (λ k. is_some (calls_of plan k).validator) clusters
 
--- a count with so many calls more, in 64 bits: a full count stays
-abbrev pub with_calls : ℕ → ℕ → ℕ
-with_calls calls count = min (count + calls) (2 ^ 64 - 1)
+-- so many at most, and none where something refuses first
+abbrev pub none_where : Option Refusal → ℕ → ℕ
+none_where None most = most
+none_where (Some refusal) most = 0
+
+-- How many validators a list that writes asks at most: one for each cluster that it touches, and none where one of the checks before that
+-- refuses it.
+abbrev pub list_asks : PlanData → ViewData → Bool → List ExtControl → ℕ
+list_asks plan view is_set list =
+    none_where (first_refusal (entry_checks plan view is_set list)) (length (touched plan (pairs_of plan view.handler view.which list)))

@@ -1,11 +1,11 @@
-ghost use Rattle.std.specs.Prelude.{◌≡◌, ◌≢◌, ◌<◌, ◌≤◌, ◌+◌, ◌⊎◌, ◌++◌, None, Some, Ok, Err, length, map, IfOk, IfErr, OnOk, IsTrue};
+ghost use Rattle.std.specs.Prelude.{◌≡◌, ◌≢◌, ◌<◌, ◌≤◌, ◌+◌, ◌⊎◌, ◌++◌, true, false, None, Some, Ok, Err, length, map, IfOk, IfErr, OnOk, IsTrue};
 ghost use Rattle.std.specs.List.{All};
 ghost use Rattle.ctrl_types.specs.declared.which.Which.TheVariants.{Defaults};
 ghost use Rattle.ctrl_clusters.specs.Rows.{AreControlsOf};
 ghost use Rattle.ctrl_clusters.specs.Overlay.{is_among};
 ghost use Rattle.ctrl_lists.specs.View.{pairs_of};
 ghost use Rattle.ctrl_lists.specs.Checks.{at_first, first_refusal, judging_refusal, read_checks, write_checks, laid_pairs, memory_refusal};
-ghost use Rattle.ctrl_lists.specs.Touched.{touched, AreJudged, IsTouched, judged_count, with_calls};
+ghost use Rattle.ctrl_lists.specs.Touched.{touched, AreJudged, IsTouched, judged_count, list_asks, with_calls};
 ghost use Rattle.ctrl_lists.specs.Answers.{value_read, entry_read, entry_judged, entries_judged, get_answer, set_answer, try_answer, may_lack, no_memory};
 ghost use Rattle.ctrl_lists.specs.declared.limits.TheConstants.{MAX_ENTRIES};
 
@@ -67,7 +67,7 @@ pub fn read_list<D: Driver>(
 ///   flags and skipped items, a value and a grab for each, and that it doesn't speak of the defaults, which can't be written.
 /// - `list`: the entries. It is lent, and never changed.
 /// - `work`: its count `asked` grows by one for each validator that is asked, by no more than the clusters that the list touches; `told`
-///   stays. After a refusal, too, `asked` may have grown.
+///   stays. After a refusal by check 8, or with ENOMEM, `asked` may have grown too; a list that the checks 4 to 7 refuse asks nobody.
 ///
 /// Refused by the first of the checks 4 to 8 of a list in docs/RULES.md that doesn't hold: EACCES (13), EBUSY (16), EINVAL (22) or ERANGE
 /// (34). ENOMEM (12) may stand in place of any answer from check 6 on, unless there are no entries. The index is the number of entries.
@@ -86,7 +86,7 @@ pub fn plan_set<D: Driver>(
     ensures ok { IfOk result (λ touch. set_answer D.verdict plan.now view.now list.now ≡ Ok touch.answers) }
     ensures touched { IfOk result (λ touch. IsTouched D.verdict plan.now view.now list.now touch) }
     ensures err { IfErr result (λ fault. (set_answer D.verdict plan.now view.now list.now ≡ Err fault) ⊎ (IsTrue (may_lack list.now) × (fault ≡ no_memory (length list.now)))) }
-    ensures at_most { work.new.asked ≤ work.old.asked + length (touched plan.now (pairs_of plan.now view.now.handler view.now.which list.now)) }
+    ensures at_most { work.new.asked ≤ work.old.asked + list_asks plan.now view.now true list.now }
     ensures asked { OnOk result (work.new.asked ≡ with_calls (judged_count plan.now (touched plan.now (pairs_of plan.now view.now.handler view.now.which list.now))) work.old.asked) }
     ensures told { work.new.told ≡ work.old.told }
 {
@@ -119,7 +119,7 @@ pub fn try_list<D: Driver>(
     ensures ok { IfOk result (λ touch. try_answer D.verdict plan.now view.now list.now ≡ Ok touch.answers) }
     ensures touched { IfOk result (λ touch. IsTouched D.verdict plan.now view.now list.now touch) }
     ensures err { IfErr result (λ fault. (try_answer D.verdict plan.now view.now list.now ≡ Err fault) ⊎ (IsTrue (may_lack list.now) × (fault ≡ no_memory (length list.now)))) }
-    ensures at_most { work.new.asked ≤ work.old.asked + length (touched plan.now (pairs_of plan.now view.now.handler view.now.which list.now)) }
+    ensures at_most { work.new.asked ≤ work.old.asked + list_asks plan.now view.now false list.now }
     ensures asked { OnOk result (work.new.asked ≡ with_calls (judged_count plan.now (touched plan.now (pairs_of plan.now view.now.handler view.now.which list.now))) work.old.asked) }
     ensures told { work.new.told ≡ work.old.told }
 {
@@ -218,7 +218,7 @@ fn judge_list<D: Driver>(
     ensures answers { IfOk result (λ touch. touch.answers ≡ entries_judged D.verdict plan.now view.now list.now) }
     ensures touched { IfOk result (λ touch. IsTouched D.verdict plan.now view.now list.now touch) }
     ensures err { IfErr result (λ refusal. (first_refusal (write_checks D.verdict plan.now view.now is_set list.now) ≡ Some refusal) ⊎ (IsTrue (may_lack list.now) × (refusal ≡ memory_refusal))) }
-    ensures at_most { work.new.asked ≤ work.old.asked + length (touched plan.now (pairs_of plan.now view.now.handler view.now.which list.now)) }
+    ensures at_most { work.new.asked ≤ work.old.asked + list_asks plan.now view.now is_set list.now }
     ensures asked { OnOk result (work.new.asked ≡ with_calls (judged_count plan.now (touched plan.now (pairs_of plan.now view.now.handler view.now.which list.now))) work.old.asked) }
     ensures told { work.new.told ≡ work.old.told }
 {

@@ -21,7 +21,7 @@ use Rattle.ctrl_calls.specs.Meanings.{Verdicts}
 use Rattle.ctrl_clusters.specs.Rows.{Values}
 use Rattle.ctrl_lists.specs.declared.refusal.Refusal.{Refusal}
 use Rattle.ctrl_lists.specs.View.{ViewData, pairs_of}
-use Rattle.ctrl_lists.specs.Checks.{first_refusal, refused_if, errno_of, read_checks, write_checks}
+use Rattle.ctrl_lists.specs.Checks.{first_refusal, refused_if, errno_of, read_checks, entry_checks, write_checks}
 use Rattle.ctrl_lists.specs.Answers.{ListAnswer, answered, fault_at_count, fault_at_entry, entries_read, entries_judged, may_lack}
 use Rattle.device_history.specs.Steps.{Past}
 use Rattle.device_history.specs.Refusals.{Answer, is_full}
@@ -132,6 +132,12 @@ set_checks verdicts plan past fh which request list =
 abbrev pub try_checks : Verdicts → PlanData → Past → FhId → ℕ → Option RequestId → List ExtControl → List (Option Refusal)
 try_checks verdicts plan past fh which request list =
     opening_checks verdicts plan past fh which request true ++ write_checks verdicts plan (write_view verdicts plan past fh which request) false list
+
+-- The checks of a set or a try that are made before a cluster is judged: those that every list begins with, and then those of its entries
+-- (ctrl_lists/specs/Checks).
+abbrev pub checks_before_judging : Verdicts → PlanData → Past → FhId → ℕ → Option RequestId → Bool → List ExtControl → List (Option Refusal)
+checks_before_judging verdicts plan past fh which request is_set list =
+    opening_checks verdicts plan past fh which request true ++ entry_checks plan (write_view verdicts plan past fh which request) is_set list
 
 -- the reply with a list's controls, or its fault
 abbrev pub controls_of : ListAnswer → Answer

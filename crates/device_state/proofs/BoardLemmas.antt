@@ -29,8 +29,6 @@ use Rattle.device_history.proofs.PastLemmas.{now_add}
 use Rattle.device_history.proofs.QueuedFrames.{waiting_add}
 use Rattle.device_history.proofs.FitLemmas.{fits}
 use Rattle.device_history.proofs.FrameLaw.{found_request, frames_legal}
-use Rattle.ctrl_forecast.specs.Touched.{touched_count}
-use Rattle.device_state.specs.Entering.{quiet_asks}
 use Rattle.step_effects.specs.Lines.{frame_in, line_after, line_asks, pairs_in}
 use Rattle.step_effects.specs.Quiet.{is_quiet}
 
@@ -103,28 +101,9 @@ queued_once verdicts plan older queued legal line =
     subst AreOnce (sym (ap (map (λ (q : QueuedData). q.request.0)) line ∙ frames_named plan older (queue older))) (frames_legal verdicts plan older legal).once
 
 -- what a quiet step asks at most, of what is kept
-pub line_bound : (verdicts : Verdicts) (plan : PlanData) (older : Past) (step : Step) (f : FramesData) (queued : List QueuedData) → IsLegal verdicts plan older → MayFollow verdicts plan older step → is_quiet step ≡ true
-    → f ≡ frames verdicts plan older → queued ≡ queued_frames plan older → line_asks plan f step queued ≡ quiet_asks plan older step
-line_bound verdicts plan older step f queued legal may quiet own line = rw (own, line) (by step (fits verdicts plan older step may) quiet)
-  where
-    by : (step : Step) → FitsFrames verdicts plan older step → is_quiet step ≡ true → line_asks plan (frames verdicts plan older) step (queued_frames plan older) ≡ quiet_asks plan older step
-    by (steps.OpenFh handler) fits_it q = cc
-    by (steps.CloseFh fh) fits_it q = cc
-    by (steps.Set fh pairs) fits_it q = cc
-    by (steps.Grab c on) fits_it q = cc
-    by steps.Alloc fits_it q = refl
-    by (steps.Store r pairs) fits_it q = refl
-    by (steps.Buffer r number) fits_it q = refl
-    by (steps.Queue r) fits_it q = omega (arith, ap (λ (frame : QueuedData). touched_count plan frame.asked) (frame_is verdicts plan older r.0 legal fits_it))
-    by (steps.Begin r) fits_it q = cc
-    by (steps.Complete r) fits_it q = refl
-    by (steps.Cancel r) fits_it q = omega arith
-    by steps.StreamOff fits_it q = refl
-    by (steps.Reinit r) fits_it q = refl
-    by (steps.Free r) fits_it q = refl
-    by (steps.Subscribe fh c flags) fits_it q = refl
-    by (steps.Unsubscribe fh c) fits_it q = refl
-    by (steps.Take fh c) fits_it q = refl
+pub line_bound : (verdicts : Verdicts) (plan : PlanData) (older : Past) (step : Step) (f : FramesData) (queued : List QueuedData)
+    → f ≡ frames verdicts plan older → queued ≡ queued_frames plan older → line_asks plan f step queued ≡ line_asks plan (frames verdicts plan older) step (queued_frames plan older)
+line_bound verdicts plan older step f queued own line = rw (own, line) refl
 
 -- the board that is kept, as one of what is kept beside it
 pub board_own : (verdicts : Verdicts) (plan : PlanData) (grabs grabs' : Grabs) (values values' : Values) (queued : List QueuedData) (b : BoardData) → b ≡ board_of verdicts plan plan.controls grabs values queued → grabs' ≡ grabs → values' ≡ values

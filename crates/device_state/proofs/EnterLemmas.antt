@@ -18,7 +18,8 @@ use Rattle.device_history.specs.Refusals.{is_full, refused, fault_of}
 use Rattle.device_history.specs.Grabs.{grabbed}
 use Rattle.device_history.specs.Values.{laid, now, now_after}
 use Rattle.device_history.specs.Words.{changes}
-use Rattle.device_history.specs.Snapshots.{applied, before_completion, request, request_in, snapshot}
+use Rattle.device_history.specs.Forecasts.{queued_frames}
+use Rattle.device_history.specs.Snapshots.{applied, before_completion, frames, request, request_in, snapshot}
 use Rattle.device_history.specs.Requests.{asked, state}
 use Rattle.std.specs.Option.{option_map}
 use Rattle.req_book.specs.Refusals as book
@@ -29,11 +30,13 @@ use Rattle.device_history.specs.Answers.{MayAnswer, MayLackMemory, answer_of, st
 use Rattle.device_history.specs.Legal.{MayFollow}
 use Rattle.device_history.proofs.FrameLaw.{found_request}
 use Rattle.ctrl_lists.specs.Touched.{with_calls}
-use Rattle.device_state.specs.Device.{DeviceData, Handles, may_ask, must_ask, with_step, step_changes}
+use Rattle.device_state.specs.Device.{DeviceData, Handles, list_most, list_touches, may_ask, must_ask, with_step, step_changes}
+use Rattle.step_effects.specs.Lines.{line_asks}
 use Rattle.step_effects.specs.Quiet.{NamesKnown, is_quiet}
-use Rattle.device_state.specs.Entering.{IsEntered, quiet_asks}
+use Rattle.device_state.specs.Entering.{IsEntered}
 use Rattle.device_state.specs.Kept.{Caches, IsKept}
-use Rattle.device_state.proofs.HandleLemmas.{at_rest, asked_since, handles_asked, handles_set, set_at_least, told_since}
+use Rattle.device_state.proofs.HandleLemmas.{at_rest, asked_since, handles_asked, handles_set, told_since}
+use Rattle.device_state.proofs.BoundLemmas.{set_at_least}
 use Rattle.device_state.proofs.SettingLemmas.{store_adds}
 use Rattle.device_state.specs.Setting.{IsSettable, SetsList}
 use Rattle.device_history.specs.Lists.{list_pairs, meant, which_or}
@@ -55,7 +58,7 @@ use Rattle.step_effects.proofs.QuietLemmas.{acted_quiet}
 pub entered : (verdicts : Verdicts) (plan : PlanData) (older : Past) (words : List ℕ) (ask : Ask) (refusal own : Option Errno) (step : Step) (reply : Reply) → refusal ≡ own → is_quiet step ≡ true
     → answer_of verdicts plan older words ask ≡ stepped own older reply → answer_of verdicts plan older [] ask ≡ stepped own older reply → (own ≡ None → step_of verdicts plan older ask ≡ Some step)
     → (IsOk (stepped own older reply) → MayLackMemory verdicts plan older ask) → no_memory ask ≡ refused ENOMEM → must_ask plan older ask ≡ 0 → (own ≡ None → NamesKnown (length plan.controls) step)
-    → quiet_asks plan older step ≤ may_ask plan older ask → IsEntered verdicts plan older words ask refusal step reply
+    → line_asks plan (frames verdicts plan older) step (queued_frames plan older) ≤ may_ask verdicts plan older ask → IsEntered verdicts plan older words ask refusal step reply
 entered verdicts plan older words ask refusal own step reply is quiet answers alone adds lacks plain nobody known most =
     subst (λ (o : Option Errno). IsEntered verdicts plan older words ask o step reply) (sym is)
     (record { quiet = quiet; answers = answers; answers_alone = alone; adds = adds; lacks = lacks; plain = plain; asks_nobody = nobody; known = known; most = most })
@@ -90,7 +93,7 @@ quiet_changes verdicts plan older step c quiet =
     ap (λ (l : Option (List Pair)). changes plan (now verdicts plan older) (now_after verdicts plan (grabbed plan older) (laid plan older step) (now verdicts plan older)) l c) (acted_quiet verdicts plan older step quiet)
 
 -- a call that adds one
-pub handles_quiet : (verdicts : Verdicts) (old : DeviceData) (work : Work) (seat : ℕ) (ask : Ask) (step : Step) (reply : Reply) → work.told ≡ 0 → work.asked ≤ may_ask old.plan (past old.steps) ask
+pub handles_quiet : (verdicts : Verdicts) (old : DeviceData) (work : Work) (seat : ℕ) (ask : Ask) (step : Step) (reply : Reply) → work.told ≡ 0 → work.asked ≤ may_ask verdicts old.plan (past old.steps) ask
     → (with_calls (must_ask old.plan (past old.steps) ask) 0 ≤ work.asked) → MayAnswer verdicts old.plan (past old.steps) old.words ask (Ok reply)
     → step_of verdicts old.plan (past old.steps) ask ≡ Some step → is_quiet step ≡ true
     → Handles verdicts old (with_step (record old { work = work }) seat step) seat ask (Ok reply)
@@ -106,14 +109,14 @@ handles_quiet verdicts old work seat ask step reply told asked all may adds quie
 }
 
 pub handles_entered : (verdicts : Verdicts) (old : DeviceData) (start work : Work) (seat : ℕ) (ask : Ask) (step : Step) (reply : Reply) → start ≡ at_rest → work.told ≡ start.told
-    → work.asked ≤ start.asked + quiet_asks old.plan (past old.steps) step → IsEntered verdicts old.plan (past old.steps) old.words ask None step reply → is_full (past old.steps) ≡ false
+    → work.asked ≤ start.asked + line_asks old.plan (frames verdicts old.plan (past old.steps)) step (queued_frames old.plan (past old.steps)) → IsEntered verdicts old.plan (past old.steps) old.words ask None step reply → is_full (past old.steps) ≡ false
     → Handles verdicts old (with_step (record old { work = work }) seat step) seat ask (Ok reply)
 handles_entered verdicts old start work seat ask step reply rest untold asked is room =
     handles_quiet verdicts old work seat ask step reply (told_since start work rest untold) (omega (arith, asked_since start work _ rest asked, is.most)) (rw is.asks_nobody (omega arith)) (inl (sym (is.answers ∙ rw room refl))) (is.adds refl) is.quiet
 
 -- one for which there is no memory
 pub handles_lacking : (verdicts : Verdicts) (old new : DeviceData) (start work : Work) (seat : ℕ) (ask : Ask) (step : Step) (reply : Reply) → new ≡ record old { work = work } → start ≡ at_rest → work.told ≡ start.told
-    → work.asked ≤ start.asked + quiet_asks old.plan (past old.steps) step → IsEntered verdicts old.plan (past old.steps) old.words ask None step reply → is_full (past old.steps) ≡ false → Handles verdicts old new seat ask (refused ENOMEM)
+    → work.asked ≤ start.asked + line_asks old.plan (frames verdicts old.plan (past old.steps)) step (queued_frames old.plan (past old.steps)) → IsEntered verdicts old.plan (past old.steps) old.words ask None step reply → is_full (past old.steps) ≡ false → Handles verdicts old new seat ask (refused ENOMEM)
 handles_lacking verdicts old new start work seat ask step reply begin rest untold asked is room =
     handles_asked verdicts old new start work seat ask (refused ENOMEM) begin rest untold (omega (arith, asked, is.most)) (λ e. cc) refl (entered_lacks verdicts old.plan (past old.steps) old.words ask step reply is room)
 
@@ -141,18 +144,18 @@ state_unread verdicts plan older r errno is = by (state older r) is
 
 -- a list that stores its pairs in a request
 pub handles_store : (verdicts : Verdicts) (old : DeviceData) (start work : Work) (seat : ℕ) (fh : FhId) (which : ℕ) (request : Option RequestId) (stored : RequestId) (list : List ExtControl) (touch : TouchedData) (controls : List ExtControl)
-    → start ≡ at_rest → work.told ≡ start.told → work.asked ≤ start.asked + length (touched old.plan (list_pairs old.plan (past old.steps) fh which list))
+    → start ≡ at_rest → work.told ≡ start.told → work.asked ≤ start.asked + list_most verdicts old.plan (past old.steps) fh which request true list (list_touches old.plan (past old.steps) fh which list)
     → IsSettable verdicts old.plan (past old.steps) fh which request list touch → meant (which_or (which_of which)) request ≡ Some stored → controls ≡ touch.answers
     → with_calls (judged_count old.plan (touched old.plan (list_pairs old.plan (past old.steps) fh which list))) 0 ≤ work.asked
     → Handles verdicts old (with_step (record old { work = work }) seat (steps.Store stored touch.pairs)) seat (asks.SetCtrls fh which request list) (Ok (Controls controls))
 handles_store verdicts old start work seat fh which request stored list touch controls rest untold asked sets through reply all =
     handles_quiet verdicts old work seat (asks.SetCtrls fh which request list) (steps.Store stored touch.pairs) (Controls controls) (told_since start work rest untold)
-    (omega (arith, asked_since start work _ rest asked, set_at_least (past old.steps) (meant (which_or (which_of which)) request) (length (touched old.plan (list_pairs old.plan (past old.steps) fh which list))))) all
+    (omega (arith, asked_since start work _ rest asked, set_at_least verdicts old.plan (past old.steps) fh which request list)) all
     (inl (ap (λ (l : List ExtControl). Ok (Controls l)) reply ∙ sym sets.accepted)) (store_adds verdicts old.plan (past old.steps) fh which request stored list touch sets through) refl
 
 -- a list that is accepted
 pub handles_list : (verdicts : Verdicts) (told : Words) (old between new : DeviceData) (start work : Work) (seat : ℕ) (fh : FhId) (which : ℕ) (request : Option RequestId) (list : List ExtControl) (touch : TouchedData) (controls : List ExtControl)
-    → between ≡ record old { work = work } → start ≡ at_rest → work.told ≡ start.told → work.asked ≤ start.asked + length (touched old.plan (list_pairs old.plan (past old.steps) fh which list))
+    → between ≡ record old { work = work } → start ≡ at_rest → work.told ≡ start.told → work.asked ≤ start.asked + list_most verdicts old.plan (past old.steps) fh which request true list (list_touches old.plan (past old.steps) fh which list)
     → IsSettable verdicts old.plan (past old.steps) fh which request list touch → controls ≡ touch.answers → with_calls (judged_count old.plan (touched old.plan (list_pairs old.plan (past old.steps) fh which list))) 0 ≤ work.asked
     → SetsList verdicts told between new seat fh (meant (which_or (which_of which)) request) touch
     → Handles verdicts old new seat (asks.SetCtrls fh which request list) (Ok (Controls controls))

@@ -1,7 +1,7 @@
 -- What a call does to the device: where it adds no step, where it opens or closes a file handle, where it sets controls.
-use Rattle.std.proofs.Common.{◌≡◌, ℕ, ◌<◌, ◌≤◌, ◌+◌, ◌*◌, Bool, List, [], ◌∷◌, ◌++◌, length, Option, Some, None, Ok, Err, IsOk, OnOk, refl, ap, sym, subst, ◌∙◌, arith, inl}
+use Rattle.std.proofs.Common.{◌≡◌, ℕ, ◌<◌, ◌≤◌, ◌+◌, Bool, true, List, [], ◌∷◌, ◌++◌, length, Option, Some, None, Ok, Err, IsOk, OnOk, refl, ap, sym, subst, ◌∙◌, arith, inl}
 use Rattle.std.specs.List.{list_any}
-use Rattle.std.proofs.lemmas.List.{append-nil, length-map}
+use Rattle.std.proofs.lemmas.List.{append-nil}
 use Rattle.history.specs.Past.{past}
 use Rattle.history.proofs.Pasts.{length_past}
 use Rattle.ctrl_calls.specs.Meanings.{Verdicts, Words}
@@ -19,8 +19,8 @@ use Rattle.device_history.specs.declared.ask.Ask.TheVariants as asks
 use Rattle.device_history.specs.declared.ask.Reply.{Reply}
 use Rattle.device_history.specs.declared.ask.Reply.TheVariants.{Fh, Done, Controls}
 use Rattle.device_history.specs.declared.ask.Step.TheVariants.{OpenFh, CloseFh, Set, Grab}
-use Rattle.ctrl_handlers.specs.Plan.{PlanData, members}
-use Rattle.ctrl_lists.specs.Touched.{TouchedData, touched}
+use Rattle.ctrl_handlers.specs.Plan.{PlanData, cluster_of, members}
+use Rattle.ctrl_lists.specs.Touched.{TouchedData, none_where, touched}
 use Rattle.device_history.specs.Grabs.{grabbed, grab_answer}
 use Rattle.device_history.specs.Steps.{Past}
 use Rattle.device_history.specs.Values.{now}
@@ -30,8 +30,12 @@ use Rattle.device_history.specs.RequestAnswers.{state_answer}
 use Rattle.device_history.specs.Queries.{query_answer, next_answer, told_answer}
 use Rattle.device_history.specs.Lists.{list_pairs, meant, which_or}
 use Rattle.device_history.specs.Answers.{MayAnswer, taken}
-use Rattle.device_history.specs.Frames.{queue}
-use Rattle.device_state.specs.Device.{DeviceData, Handles, may_ask, must_ask, set_asks, with_step, step_changes}
+use Rattle.device_history.specs.Forecasts.{queued_frames}
+use Rattle.ctrl_forecast.specs.Forecasts.{named_by_frames}
+use Rattle.ctrl_clusters.specs.NewRows.{clusters_of}
+use Rattle.ctrl_lists.specs.declared.refusal.Refusal.{Refusal}
+use Rattle.device_state.specs.Device.{DeviceData, Handles, forecast_asks, grab_asks, list_most, list_touches, may_ask, must_ask, with_step, step_changes}
+use Rattle.device_state.proofs.BoundLemmas.{forecasts_asked, set_opened}
 use Rattle.device_state.specs.Setting.{IsSettable, SetsAll}
 use Rattle.ctrl_clusters.specs.Changes.{cluster_changes}
 use Rattle.ctrl_lists.specs.Touched.{judged_count, with_calls}
@@ -47,7 +51,7 @@ pub asked_at_rest : (work : Work) (n : ℕ) → work ≡ at_rest → work.asked 
 asked_at_rest work n rest = omega (arith, ap (λ (w : Work). w.asked) rest)
 
 -- a call that adds no step
-pub handles_none : (verdicts : Verdicts) (old : DeviceData) (work : Work) (seat : ℕ) (ask : Ask) (answer : Answer) → work.told ≡ 0 → work.asked ≤ may_ask old.plan (past old.steps) ask
+pub handles_none : (verdicts : Verdicts) (old : DeviceData) (work : Work) (seat : ℕ) (ask : Ask) (answer : Answer) → work.told ≡ 0 → work.asked ≤ may_ask verdicts old.plan (past old.steps) ask
     → (IsOk answer → with_calls (must_ask old.plan (past old.steps) ask) 0 ≤ work.asked) → taken verdicts old.plan (past old.steps) ask answer ≡ None → MayAnswer verdicts old.plan (past old.steps) old.words ask answer
     → Handles verdicts old (record old { work = work }) seat ask answer
 handles_none verdicts old work seat ask answer told asked all none may = record {
@@ -177,7 +181,7 @@ handles_close verdicts old work seat fh rest is = record {
 }
 
 -- a grab tells nobody
-pub handles_grab : (verdicts : Verdicts) (old : DeviceData) (start work : Work) (seat c : ℕ) (on : Bool) → start ≡ at_rest → work.told ≡ start.told → work.asked ≤ start.asked + length (queue (past old.steps))
+pub handles_grab : (verdicts : Verdicts) (old : DeviceData) (start work : Work) (seat c : ℕ) (on : Bool) → start ≡ at_rest → work.told ≡ start.told → work.asked ≤ start.asked + grab_asks old.plan (past old.steps) (cluster_of old.plan c)
     → grab_answer old.plan (past old.steps) c ≡ Ok Done
     → Handles verdicts old (with_step (record old { work = work }) seat (Grab c on)) seat (asks.Grab c on) (Ok Done)
 handles_grab verdicts old start work seat c on rest untold asked is = record {
@@ -193,7 +197,7 @@ handles_grab verdicts old start work seat c on rest untold asked is = record {
 
 -- a call that changes nothing, where validators were asked
 pub handles_asked : (verdicts : Verdicts) (old new : DeviceData) (start work : Work) (seat : ℕ) (ask : Ask) (answer : Answer) → new ≡ record old { work = work } → start ≡ at_rest
-    → work.told ≡ start.told → work.asked ≤ start.asked + may_ask old.plan (past old.steps) ask → (IsOk answer → with_calls (must_ask old.plan (past old.steps) ask) 0 ≤ work.asked) → taken verdicts old.plan (past old.steps) ask answer ≡ None
+    → work.told ≡ start.told → work.asked ≤ start.asked + may_ask verdicts old.plan (past old.steps) ask → (IsOk answer → with_calls (must_ask old.plan (past old.steps) ask) 0 ≤ work.asked) → taken verdicts old.plan (past old.steps) ask answer ≡ None
     → MayAnswer verdicts old.plan (past old.steps) old.words ask answer → Handles verdicts old new seat ask answer
 handles_asked verdicts old new start work seat ask answer begin rest told asked all none may =
     rw begin (handles_none verdicts old work seat ask answer (told_since start work rest told) (asked_since start work _ rest asked) all none may)
@@ -225,23 +229,21 @@ set_changing verdicts plan older fh which request list touch reply sets current 
     ∙ ap (λ (pairs : List Pair). list_any (step_changes verdicts plan older (Some (Set fh pairs))) (members plan j)) (sym sets.own_pairs)
     ∙ changes_written verdicts plan (now verdicts plan older) (grabbed plan older) touch.pairs touch.rows j sets.plans (length_now verdicts plan older) lt (own_judged verdicts plan older fh which request list touch sets current) sets.free
 
--- a set asks for what its list touches, however many frames are queued
-pub set_at_least : (older : Past) (o : Option RequestId) (n : ℕ) → n ≤ set_asks older o n
-set_at_least older None n = omega arith
-set_at_least older (Some r) n = omega arith
-
 -- a set that is accepted
 pub handles_set : (verdicts : Verdicts) (told : Words) (old between new : DeviceData) (start work : Work) (seat : ℕ) (fh : FhId) (which : ℕ) (request : Option RequestId) (list : List ExtControl) (touch : TouchedData) (controls : List ExtControl)
-    → between ≡ record old { work = work } → start ≡ at_rest → work.told ≡ start.told → work.asked ≤ start.asked + length (touched old.plan (list_pairs old.plan (past old.steps) fh which list))
+    → between ≡ record old { work = work } → start ≡ at_rest → work.told ≡ start.told → work.asked ≤ start.asked + list_most verdicts old.plan (past old.steps) fh which request true list (list_touches old.plan (past old.steps) fh which list)
     → IsSettable verdicts old.plan (past old.steps) fh which request list touch → meant (which_or (which_of which)) request ≡ None → controls ≡ touch.answers → with_calls (judged_count old.plan (touched old.plan (list_pairs old.plan (past old.steps) fh which list))) 0 ≤ work.asked → SetsAll verdicts told between new seat fh touch
     → Handles verdicts old new seat (asks.SetCtrls fh which request list) (Ok (Controls controls))
 handles_set verdicts told old between new start work seat fh which request list touch controls begin rest untold asked sets current reply all does =
     let done : SetsAll verdicts told (record old { work = work }) new seat fh touch = rw begin at does in
     let changing = set_changing verdicts old.plan (past old.steps) fh which request list touch (Controls controls) sets current in
     let own : List ℕ = touched old.plan (list_pairs old.plan (past old.steps) fh which list) in
-    let many : length touch.rows ≡ length own =
-    sym (length-map touch.rows (λ r. r.cluster)) ∙ ap length sets.judged.each_once ∙ ap (λ (pairs : List Pair). length (touched old.plan pairs)) sets.own_pairs in
-    let renewed : new.work.asked ≤ work.asked + length own * length (queue (past old.steps)) = subst (λ (n : ℕ). new.work.asked ≤ work.asked + n * length (queue (past old.steps))) many done.asked in
+    let clusters : clusters_of touch.rows ≡ own = sets.judged.each_once ∙ ap (touched old.plan) sets.own_pairs in
+    let passed = set_opened verdicts old.plan (past old.steps) fh which request list touch.answers sets.accepted in
+    let judged : work.asked ≤ start.asked + length own = subst (λ (o : Option Refusal). work.asked ≤ start.asked + none_where o (length own)) passed.1 asked in
+    let renewed : new.work.asked ≤ work.asked + forecast_asks old.plan (past old.steps) (which_or (which_of which)) own =
+    subst (λ (n : ℕ). new.work.asked ≤ work.asked + n) (sym (forecasts_asked verdicts old.plan (past old.steps) fh which request own passed.0 current))
+    (subst (λ (ks : List ℕ). new.work.asked ≤ work.asked + named_by_frames old.plan (queued_frames old.plan (past old.steps)) ks) clusters done.asked) in
     record {
       plan = done.plan;
       answers = inl (ap (λ (l : List ExtControl). Ok (Controls l)) reply ∙ sym sets.accepted);
@@ -254,7 +256,8 @@ handles_set verdicts told old between new start work seat fh which request list 
           done.notified
           ∙ notified_same old.plan (cluster_changes old.plan (now verdicts old.plan (past old.steps)) touch.pairs touch.rows)
           (λ k. list_any (step_changes verdicts old.plan (past old.steps) (taken verdicts old.plan (past old.steps) (asks.SetCtrls fh which request list) (Ok (Controls controls)))) (members old.plan k)) (λ j lt. sym (changing j lt));
-      asked = subst (λ (o : Option RequestId). new.work.asked ≤ set_asks (past old.steps) o (length own)) (sym current) (omega (arith, renewed, asked_since start work _ rest asked));
+      asked = subst (λ (o : Option Refusal). new.work.asked ≤ none_where o (length own + forecast_asks old.plan (past old.steps) (which_or (which_of which)) own)) (sym passed.1)
+          (omega (arith, renewed, asked_since start work _ rest judged));
       asked_all = λ _. omega (arith, done.counted, all);
     }
 

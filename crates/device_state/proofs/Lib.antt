@@ -4,6 +4,7 @@ pub mod EventLemmas
 pub mod BeginLemmas
 pub mod SetLemmas
 pub mod AnswerLemmas
+pub mod BoundLemmas
 pub mod SettingLemmas
 pub mod BoardLemmas
 pub mod RenewLemmas

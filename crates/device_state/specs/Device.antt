@@ -1,28 +1,33 @@
 -- What a device is seen as, and what a call does to it (of this project).
-use Rattle.std.specs.Prelude.{◌≡◌, ◌+◌, ◌*◌, ℕ, Bool, false, ◌≤◌, [], ◌∷◌, ◌++◌, List, Option, None, Some, IsErr, IsOk, length, ◌<◌, slice_index}
+use Rattle.std.specs.Prelude.{◌≡◌, ◌+◌, ℕ, Bool, true, false, ◌≤◌, [], ◌∷◌, ◌++◌, List, Option, None, Some, IsErr, IsOk, length, ◌<◌, slice_index}
 use Rattle.std.specs.List.{list_any}
 use Rattle.history.specs.Past.{past, entered}
 use Rattle.ctrl_calls.specs.declared.work.Work.{Work}
 use Rattle.device_history.specs.declared.ask.Ask.{Ask}
 use Rattle.device_history.specs.declared.ask.Ask.TheVariants as asks
 use Rattle.device_history.specs.declared.ask.Step.{Step}
-use Rattle.ctrl_handlers.specs.Plan.{PlanData, members}
+use Rattle.device_history.specs.declared.ask.Step.TheVariants as steps
+use Rattle.ctrl_handlers.specs.Plan.{PlanData, cluster_of, members}
 use Rattle.ctrl_calls.specs.Meanings.{Verdicts}
 use Rattle.ctrl_clusters.specs.Notified.{notified_count}
-use Rattle.ctrl_lists.specs.Touched.{touched, judged_count, with_calls}
+use Rattle.ctrl_lists.specs.Checks.{first_refusal}
+use Rattle.ctrl_lists.specs.Touched.{touched, judged_count, none_where, with_calls}
 use Rattle.device_history.specs.Steps.{History, Past}
 use Rattle.device_history.specs.Grabs.{grabbed}
 use Rattle.device_history.specs.Values.{laid, now, now_after}
 use Rattle.device_history.specs.Words.{acted, changes}
-use Rattle.device_history.specs.Requests.{asked}
-use Rattle.device_history.specs.Frames.{queue}
-use Rattle.ctrl_forecast.specs.Touched.{touched_count}
-use Rattle.step_effects.specs.Lines.{touched_behind}
+use Rattle.device_history.specs.Snapshots.{frames}
+use Rattle.ctrl_forecast.specs.Forecasts.{named_by_frames}
+use Rattle.step_effects.specs.Lines.{line_asks}
 use Rattle.device_history.specs.Forecasts.{queued_frames}
 use Rattle.device_history.specs.Refusals.{Answer}
 use Rattle.device_history.specs.Answers.{MayAnswer, taken}
-use Rattle.device_history.specs.Lists.{list_pairs, meant, which_or}
+use Rattle.device_history.specs.Lists.{checks_before_judging, list_pairs, which_or}
 use Rattle.ctrl_types.specs.Classes.{which_of}
+use Rattle.ctrl_types.specs.declared.which.Which.{Which}
+use Rattle.ctrl_types.specs.declared.which.Which.TheVariants.{Request}
+use Rattle.ctrl_types.specs.declared.ids.ExtControl.{ExtControl}
+use Rattle.ctrl_types.specs.declared.ids.FhId.{FhId}
 use Rattle.ctrl_types.specs.declared.ids.RequestId.{RequestId}
 
 -- A device: what it was built of, the steps that it accepted, the words that its clusters were told last, and how often
@@ -43,23 +48,38 @@ step_changes verdicts plan past None c = false
 step_changes verdicts plan past (Some step) c =
     changes plan (now verdicts plan past) (now_after verdicts plan (grabbed plan past) (laid plan past step) (now verdicts plan past)) (acted verdicts plan past step) c
 
--- how many validators a set asks at most that touches so many clusters: one for each of them, and where it speaks of no request once more for
--- each queued frame
-abbrev pub set_asks : Past → Option RequestId → ℕ → ℕ
-set_asks past None clusters = clusters + clusters * length (queue past)
-set_asks past (Some r) clusters = clusters
+-- so many validators at most, and none where a check before judging refuses the list
+abbrev pub list_most : Verdicts → PlanData → Past → FhId → ℕ → Option RequestId → Bool → List ExtControl → ℕ → ℕ
+list_most verdicts plan past fh which request is_set list most = none_where (first_refusal (checks_before_judging verdicts plan past fh which request is_set list)) most
 
--- How many validators an ask may have asked: a set of present values one for each cluster that it touches, and as many again for each queued
--- frame; a set through a request and a try one for each cluster that they touch; queueing one for each cluster that its request names, and a
--- cancellation that many for each frame queued behind; a grab one for each queued frame; every other ask none, so that the begin of a frame and a
--- forecast ask nobody.
-abbrev pub may_ask : PlanData → Past → Ask → ℕ
-may_ask plan past (asks.SetCtrls fh which request list) = set_asks past (meant (which_or (which_of which)) request) (length (touched plan (list_pairs plan past fh which list)))
-may_ask plan past (asks.TryCtrls fh which request list) = length (touched plan (list_pairs plan past fh which list))
-may_ask plan past (asks.Queue id) = touched_count plan (asked plan past id.0)
-may_ask plan past (asks.Cancel id) = touched_behind plan id.0 (queued_frames plan past)
-may_ask plan past (asks.Grab c on) = length (queue past)
-may_ask plan past _ = 0
+-- how many clusters a list touches
+abbrev pub list_touches : PlanData → Past → FhId → ℕ → List ExtControl → ℕ
+list_touches plan past fh which list = length (touched plan (list_pairs plan past fh which list))
+
+-- how many validators are asked at most for the forecasts where some clusters are set: none where they are stored in a request, and else one for each
+-- of them and each queued frame that names it
+abbrev pub forecast_asks : PlanData → Past → Which → List ℕ → ℕ
+forecast_asks plan past Request clusters = 0
+forecast_asks plan past _ clusters = named_by_frames plan (queued_frames plan past) clusters
+
+-- how many where the cluster of a control is grabbed
+abbrev pub grab_asks : PlanData → Past → Option ℕ → ℕ
+grab_asks plan past None = 0
+grab_asks plan past (Some k) = named_by_frames plan (queued_frames plan past) (k ∷ [])
+
+-- How many validators an ask may have asked: a set and a try one for each cluster that they touch, and a set of present values one more for each
+-- queued frame that names the cluster, but none where the list is refused before a cluster is judged; queueing one for each cluster that its
+-- request names, and a cancellation one for each of these and each frame queued behind that names it too; a grab one for each queued frame that
+-- names the cluster; every other ask none, so that the begin of a frame and a forecast ask nobody.
+abbrev pub may_ask : Verdicts → PlanData → Past → Ask → ℕ
+may_ask verdicts plan past (asks.SetCtrls fh which request list) =
+    list_most verdicts plan past fh which request true list
+    (list_touches plan past fh which list + forecast_asks plan past (which_or (which_of which)) (touched plan (list_pairs plan past fh which list)))
+may_ask verdicts plan past (asks.TryCtrls fh which request list) = list_most verdicts plan past fh which request false list (list_touches plan past fh which list)
+may_ask verdicts plan past (asks.Queue id) = line_asks plan (frames verdicts plan past) (steps.Queue id) (queued_frames plan past)
+may_ask verdicts plan past (asks.Cancel id) = line_asks plan (frames verdicts plan past) (steps.Cancel id) (queued_frames plan past)
+may_ask verdicts plan past (asks.Grab c on) = grab_asks plan past (cluster_of plan c)
+may_ask verdicts plan past _ = 0
 
 -- how many a set and a try ask where they are accepted: the clusters with a validator among them
 abbrev pub must_ask : PlanData → Past → Ask → ℕ
@@ -79,5 +99,5 @@ pub record Handles (verdicts : Verdicts) (old new : DeviceData) (seat : ℕ) (as
       → list_any (step_changes verdicts old.plan (past old.steps) (taken verdicts old.plan (past old.steps) ask answer)) (members old.plan k) ≡ false
       → slice_index new.words k ≡ slice_index old.words k
   pub notified : new.work.told ≡ notified_count old.plan (λ k. list_any (step_changes verdicts old.plan (past old.steps) (taken verdicts old.plan (past old.steps) ask answer)) (members old.plan k))
-  pub asked : new.work.asked ≤ may_ask old.plan (past old.steps) ask
+  pub asked : new.work.asked ≤ may_ask verdicts old.plan (past old.steps) ask
   pub asked_all : IsOk answer → with_calls (must_ask old.plan (past old.steps) ask) 0 ≤ new.work.asked

@@ -7,24 +7,15 @@ use Rattle.ctrl_handlers.specs.Plan.{PlanData}
 use Rattle.device_history.specs.declared.ask.Ask.{Ask}
 use Rattle.device_history.specs.declared.ask.Reply.{Reply}
 use Rattle.device_history.specs.declared.ask.Step.{Step}
-use Rattle.device_history.specs.declared.ask.Step.TheVariants as steps
 use Rattle.device_history.specs.Steps.{Past}
-use Rattle.device_history.specs.Requests.{asked}
+use Rattle.device_history.specs.Snapshots.{frames}
 use Rattle.device_history.specs.Forecasts.{queued_frames}
-use Rattle.ctrl_forecast.specs.Touched.{touched_count}
-use Rattle.step_effects.specs.Lines.{touched_behind}
+use Rattle.step_effects.specs.Lines.{line_asks}
 use Rattle.device_history.specs.Refusals.{refused}
 use Rattle.device_history.specs.RequestAnswers.{stepped}
 use Rattle.device_history.specs.Answers.{answer_of, step_of, no_memory, MayLackMemory}
 use Rattle.step_effects.specs.Quiet.{NamesKnown, is_quiet}
 use Rattle.device_state.specs.Device.{may_ask, must_ask}
-
--- how many validators such a step asks at most, after a history: a queueing one for each cluster that its request names, a cancellation that many
--- for each frame behind its own
-abbrev pub quiet_asks : PlanData → Past → Step → ℕ
-quiet_asks plan past (steps.Queue r) = touched_count plan (asked plan past r.0)
-quiet_asks plan past (steps.Cancel r) = touched_behind plan r.0 (queued_frames plan past)
-quiet_asks plan past _ = 0
 
 -- An ask that adds a step which leaves file handles, grabs and values: it is answered its own refusal, then that no further step is kept, and else
 -- the reply; want of memory may take the place of the reply.
@@ -36,5 +27,6 @@ pub record IsEntered (verdicts : Verdicts) (plan : PlanData) (past : Past) (word
   pub lacks : IsOk (stepped refusal past reply) → MayLackMemory verdicts plan past ask
   pub plain : no_memory ask ≡ refused ENOMEM
   pub asks_nobody : must_ask plan past ask ≡ 0
-  pub most : quiet_asks plan past step ≤ may_ask plan past ask
+  -- validators are asked as often as for the step, at most
+  pub most : line_asks plan (frames verdicts plan past) step (queued_frames plan past) ≤ may_ask verdicts plan past ask
   pub known : refusal ≡ None → NamesKnown (length plan.controls) step

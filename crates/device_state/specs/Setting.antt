@@ -1,5 +1,5 @@
 -- What an accepted list makes of the values, the words and the counts, one cluster after another (of this project).
-use Rattle.std.specs.Prelude.{◌≡◌, ◌<◌, ◌≤◌, ◌+◌, ◌*◌, ℕ, length, false, ◌++◌, List, [], ◌∷◌, Option, None, Some, Ok}
+use Rattle.std.specs.Prelude.{◌≡◌, ◌<◌, ◌≤◌, ◌+◌, ℕ, length, false, ◌++◌, List, [], ◌∷◌, Option, None, Some, Ok}
 use Rattle.std.specs.List.{All, list_any}
 use Rattle.history.specs.Past.{past}
 use Rattle.ctrl_types.specs.declared.ids.ExtControl.{ExtControl}
@@ -14,12 +14,13 @@ use Rattle.device_history.specs.declared.ask.Step.TheVariants.{Set, Store}
 use Rattle.ctrl_clusters.specs.Rows.{is_grabbed}
 use Rattle.device_history.specs.Grabs.{grabbed}
 use Rattle.device_history.specs.Steps.{Past}
-use Rattle.device_history.specs.Frames.{queue}
+use Rattle.ctrl_forecast.specs.Forecasts.{named_by_frames}
+use Rattle.device_history.specs.Forecasts.{queued_frames}
 use Rattle.device_history.specs.Values.{now}
 use Rattle.device_history.specs.Refusals.{is_full}
 use Rattle.device_history.specs.Lists.{earlier_pairs, list_pairs, meant, set_list_answer, which_or}
 use Rattle.device_state.specs.Device.{DeviceData, with_step}
-use Rattle.ctrl_clusters.specs.NewRows.{row_given}
+use Rattle.ctrl_clusters.specs.NewRows.{clusters_of, row_given}
 use Rattle.ctrl_clusters.specs.Changes.{cluster_changes}
 use Rattle.ctrl_clusters.specs.Notified.{AreRenewed, notified_count}
 
@@ -41,7 +42,7 @@ pub record SetsAll (verdicts : Verdicts) (told : Words) (old new : DeviceData) (
   pub words : AreRenewed told old.plan (cluster_changes old.plan (now verdicts old.plan (past old.steps)) touch.pairs touch.rows) (row_given touch.rows) old.words new.words
   pub notified : new.work.told ≡ notified_count old.plan (cluster_changes old.plan (now verdicts old.plan (past old.steps)) touch.pairs touch.rows)
   -- the forecasts of the queued frames are renewed in the touched clusters
-  pub asked : new.work.asked ≤ old.work.asked + length touch.rows * length (queue (past old.steps))
+  pub asked : new.work.asked ≤ old.work.asked + named_by_frames old.plan (queued_frames old.plan (past old.steps)) (clusters_of touch.rows)
   pub counted : old.work.asked ≤ new.work.asked
 
 -- what accepting a list does: it stores the pairs in the request that it speaks of, or sets it

@@ -7,7 +7,6 @@ ghost use Rattle.device_history.specs.declared.ask.Step.TheVariants as steps;
 ghost use Rattle.ctrl_clusters.specs.Rows.{is_grabbed};
 ghost use Rattle.device_history.specs.Grabs.{grabbed, grab_answer};
 ghost use Rattle.device_history.specs.Flags.{flags_now};
-ghost use Rattle.device_history.specs.Frames.{queue};
 ghost use Rattle.device_history.specs.Handles.{opened, handler_of, shown, open_answer, close_answer};
 ghost use Rattle.device_history.specs.Values.{defaults, now};
 ghost use Rattle.ctrl_clusters.specs.Notified.{HaveWords};
@@ -17,7 +16,8 @@ ghost use Rattle.device_history.specs.RequestAnswers.{state_answer};
 ghost use Rattle.device_history.specs.Answers.{MayAnswer};
 ghost use Rattle.device_history.specs.Legal.{IsLegal};
 ghost use Rattle.history_audit.specs.Scratch.{Agrees};
-ghost use Rattle.device_state.specs.Device.{Handles, with_step};
+ghost use Rattle.ctrl_handlers.specs.Plan.{cluster_of};
+ghost use Rattle.device_state.specs.Device.{Handles, grab_asks, with_step};
 
 mod begin;
 mod events;
@@ -117,7 +117,8 @@ impl<D: Driver> Device<D> {
         let Ok(frames) = Frames::new(alloc, plan.control_count()) else {
             return Err((plan, Errno::ENOMEM));
         };
-        let Ok(words) = first_words(alloc, &plan, values.as_slice()) else {
+        let mut told = Work::new();
+        let Ok(words) = first_words(alloc, &plan, values.as_slice(), &mut told) else {
             return Err((plan, Errno::ENOMEM));
         };
         Ok(Device {
@@ -560,7 +561,7 @@ impl<D: Driver> Device<D> {
     fn accept_grab(&mut self, seat: u32, control: u32, on: bool) -> Result<(), AllocError>
         requires { IsOk (grab_answer self.old.plan (past self.old.steps) control) }
         ensures ok { OnOk result (self.new ≡ with_step (record self.old { work = self.new.work }) seat (steps.Grab control on)) }
-        ensures asked { OnOk result (self.new.work.asked ≤ self.old.work.asked + length (queue (past self.old.steps))) }
+        ensures asked { OnOk result (self.new.work.asked ≤ self.old.work.asked + grab_asks self.old.plan (past self.old.steps) (cluster_of self.old.plan control)) }
         ensures told { OnOk result (self.new.work.told ≡ self.old.work.told) }
         ensures err { OnErr result (self.new ≡ self.old) }
     {

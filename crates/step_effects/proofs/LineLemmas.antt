@@ -1,14 +1,15 @@
 -- A frame that is taken out of those that are queued.
-use Rattle.std.proofs.Common.{◌≡◌, ℕ, suc, zero, ◌<◌, ◌+◌, ◌-◌, ◌*◌, Bool, true, false, not, cond, nat_eq, List, [], ◌∷◌, ◌++◌, length, map, filter, Option, None, Some, refl, ap, sym, subst, ◌∙◌, arith, length-append}
+use Rattle.std.proofs.Common.{◌≡◌, ℕ, suc, zero, ◌<◌, ◌≤◌, ◌+◌, Bool, true, false, not, cond, nat_eq, List, [], ◌∷◌, ◌++◌, length, map, filter, drop, Option, None, Some, refl, ap, sym, subst, ◌∙◌, arith, length-append}
 use Rattle.std.specs.List.{list_any, position_from, remove}
 use Rattle.std.proofs.lemmas.Bool.Decides.{nat_tests}
+use Rattle.std.proofs.lemmas.List.{drop_all}
+use Rattle.std.proofs.lemmas.List.Sums.{sum_by-cons}
 use Rattle.ctrl_handlers.specs.Plan.{PlanData}
 use Rattle.ctrl_handlers.proofs.ClusterLemmas.{or_false, or_false_right}
-use Rattle.ctrl_forecast.specs.Boards.{asked_at}
-use Rattle.ctrl_forecast.specs.Forecasts.{QueuedData}
-use Rattle.ctrl_forecast.specs.Touched.{touched_count}
+use Rattle.ctrl_forecast.specs.Boards.{asked_at, named_clusters}
+use Rattle.ctrl_forecast.specs.Forecasts.{QueuedData, named_by_frames, naming_count}
 use Rattle.frame_queue.specs.Frames.{AreOnce}
-use Rattle.step_effects.specs.Lines.{touched_behind}
+use Rattle.step_effects.specs.Lines.{named_behind}
 
 -- the frames of other requests
 abbrev pub without : ℕ → List QueuedData → List QueuedData
@@ -34,9 +35,9 @@ none_found r i (q ∷ queued) none = by (nat_eq r q.request.0) refl none (none_f
     by true is h rest = cc
     by false is h rest = rw is (ap (λ (qs : List QueuedData). q ∷ qs) (rest h))
 
--- The frame at the place that was found is taken, and no other; and how many clusters it touches, once for each behind it.
+-- The frame at the place that was found is taken, and no other; and how often those behind it name its clusters.
 pub one_found : (plan : PlanData) (r i p : ℕ) (queued : List QueuedData) → AreOnce (map (λ q. q.request.0) queued) → position_from (λ q. nat_eq r q.request.0) i queued ≡ Some p
-    → (n : ℕ) × (p ≡ i + n) × (remove queued n ≡ without r queued) × (touched_behind plan r queued ≡ touched_count plan (asked_at queued n) * (length queued - 1 - n))
+    → (n : ℕ) × (p ≡ i + n) × (remove queued n ≡ without r queued) × (named_behind plan r queued ≡ named_by_frames plan (drop (n + 1) queued) (named_clusters plan (asked_at queued n)))
 one_found plan r i p [] once found = cc
 one_found plan r i p (q ∷ queued) once found = by (nat_eq r q.request.0) refl found (one_found plan r (i + 1) p queued once.1)
   where
@@ -45,17 +46,25 @@ one_found plan r i p (q ∷ queued) once found = by (nat_eq r q.request.0) refl 
 
     by : (b : Bool) → nat_eq r q.request.0 ≡ b → cond b (Some i) (position_from (λ q. nat_eq r q.request.0) (i + 1) queued) ≡ Some p
         → (position_from (λ q. nat_eq r q.request.0) (i + 1) queued ≡ Some p
-        → (n : ℕ) × (p ≡ i + 1 + n) × (remove queued n ≡ without r queued) × (touched_behind plan r queued ≡ touched_count plan (asked_at queued n) * (length queued - 1 - n)))
-        → (n : ℕ) × (p ≡ i + n) × (remove (q ∷ queued) n ≡ without r (q ∷ queued)) × (touched_behind plan r (q ∷ queued) ≡ touched_count plan (asked_at (q ∷ queued) n) * (length (q ∷ queued) - 1 - n))
+        → (n : ℕ) × (p ≡ i + 1 + n) × (remove queued n ≡ without r queued) × (named_behind plan r queued ≡ named_by_frames plan (drop (n + 1) queued) (named_clusters plan (asked_at queued n))))
+        → (n : ℕ) × (p ≡ i + n) × (remove (q ∷ queued) n ≡ without r (q ∷ queued)) × (named_behind plan r (q ∷ queued) ≡ named_by_frames plan (drop (n + 1) (q ∷ queued)) (named_clusters plan (asked_at (q ∷ queued) n)))
     by true is h rest =
         let same : q.request.0 ≡ r = sym (same_of r q.request.0 is) in
         let none : list_any (nat_eq r) (map (λ q. q.request.0) queued) ≡ false = subst (λ (k : ℕ). list_any (nat_eq k) (map (λ q. q.request.0) queued) ≡ false) same once.0 in
-        let all : suc (length queued) - 1 - 0 ≡ length queued = omega arith in
-        (0, omega (arith, first i p h), sym (rw is (none_taken r queued none)), rw is (ap (λ (n : ℕ). touched_count plan q.asked * n) (sym all)))
+        (0, omega (arith, first i p h), sym (rw is (none_taken r queued none)), rw is refl)
     by false is h rest =
         let behind = rest h in
-        let left : length queued - 1 - behind.0 ≡ suc (length queued) - 1 - suc behind.0 = omega arith in
-        (suc behind.0, omega (arith, behind.1), rw is (ap (λ (qs : List QueuedData). q ∷ qs) behind.2), rw is (behind.3 ∙ ap (λ (n : ℕ). touched_count plan (asked_at queued behind.0) * n) left))
+        let next : suc (behind.0 + 1) ≡ suc behind.0 + 1 = omega arith in
+        (suc behind.0, omega (arith, behind.1), rw is (ap (λ (qs : List QueuedData). q ∷ qs) behind.2), rw is (behind.3 ∙ ap (λ (n : ℕ). named_by_frames plan (drop n (q ∷ queued)) (named_clusters plan (asked_at queued behind.0))) next))
+
+-- no frame names a cluster
+none_named : (plan : PlanData) (ks : List ℕ) → named_by_frames plan [] ks ≡ 0
+none_named plan [] = refl
+none_named plan (k ∷ ks) = omega (arith, sum_by-cons (naming_count plan []) k ks, none_named plan ks)
+
+-- behind the last frame none is
+pub none_behind : (plan : PlanData) (queued : List QueuedData) (place : ℕ) (ks : List ℕ) → length queued ≤ place + 1 → named_by_frames plan (drop (place + 1) queued) ks ≡ 0
+none_behind plan queued place ks all = ap (λ (qs : List QueuedData). named_by_frames plan qs ks) (drop_all (place + 1) queued all) ∙ none_named plan ks
 
 -- the last of some is taken again
 pub last_taken : (queued : List QueuedData) (q : QueuedData) → remove (queued ++ q ∷ []) (length queued) ≡ queued

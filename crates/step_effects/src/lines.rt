@@ -14,7 +14,7 @@ ghost use Rattle.device_history.specs.Grabs.{grabbed};
 ghost use Rattle.device_history.specs.Values.{now};
 ghost use Rattle.device_history.specs.EventSteps.{events_after};
 ghost use Rattle.device_history.specs.FrameSteps.{frames_changed};
-ghost use Rattle.step_effects.specs.Lines.{TakesOne, after_queueing, after_taking, frame_in, line_after, line_asks, queueing_asks, taking_asks};
+ghost use Rattle.step_effects.specs.Lines.{TakesOne, after_queueing, after_taking, asked_after, asked_queueing, asked_taking, frame_in, line_after, line_asks, queueing_asks, taking_asks};
 ghost use Rattle.step_effects.specs.Quiet.{FitsIn, NamesKnown, is_quiet};
 
 use crate::quiet::change_quiet;
@@ -32,8 +32,8 @@ use std::alloc::AllocError;
 ///
 /// - `plan`, `values`, `grabs`, `number`, `step`, `frames`, `events`: as of `change_quiet`.
 /// - `board`: the queued frames, with what they will have over these values, under these grabs; the caller owes that no request is queued twice.
-/// - `work`: its count `asked` grows, where a frame is queued, by at most one for each cluster that it touches; where one is cancelled, by that many
-///   at most for each frame behind it; else by none.
+/// - `work`: its count `asked` grows, where a frame is queued, by at most one for each cluster that it names; where one is cancelled, by at most one for
+///   each of these and each frame behind it that names the cluster too; else by none.
 ///
 /// The error is that a growth was refused; nothing was changed then but `work`.
 pub fn change_kept<D: Driver>(
@@ -64,6 +64,7 @@ pub fn change_kept<D: Driver>(
     ensures events_kept { OnErr result (events.new ≡ events.old) }
     ensures board_kept { OnErr result (board.new ≡ board.old) }
     ensures asked { work.new.asked ≤ work.old.asked + line_asks plan.now frames.old step.now board.old.queued }
+    ensures counted { OnOk result (work.new.asked ≡ asked_after D.verdict plan.now grabs.now values.now frames.old step.now board.old.queued work.old.asked) }
     ensures told { work.new.told ≡ work.old.told }
 {
     queue_frame(plan, values, grabs, step, frames, board, work)?;
@@ -94,6 +95,7 @@ fn queue_frame<D: Driver>(
     ensures ok { OnOk result (board.new ≡ board_of D.verdict plan.now plan.now.controls grabs.now values.now (after_queueing frames.now step.now board.old.queued)) }
     ensures err { OnErr result (board.new ≡ board.old) }
     ensures asked { work.new.asked ≤ work.old.asked + queueing_asks plan.now frames.now step.now }
+    ensures counted { OnOk result (work.new.asked ≡ asked_queueing D.verdict plan.now grabs.now values.now frames.now step.now board.old.queued work.old.asked) }
     ensures told { work.new.told ≡ work.old.told }
 {
     match step {
@@ -145,6 +147,7 @@ fn take_frames<D: Driver>(
     requires once { TakesOne step.now board.old.queued }
     ensures board { board.new ≡ board_of D.verdict plan.now plan.now.controls grabs.now values.now (after_taking step.now board.old.queued) }
     ensures asked { work.new.asked ≤ work.old.asked + taking_asks plan.now step.now board.old.queued }
+    ensures counted { work.new.asked ≡ asked_taking D.verdict plan.now grabs.now values.now step.now board.old.queued work.old.asked }
     ensures told { work.new.told ≡ work.old.told }
 {
     match step {

@@ -16,7 +16,7 @@ ghost use Rattle.device_history.specs.Handles.{handler_of};
 ghost use Rattle.device_history.specs.Lists.{earlier_pairs, handler_or, list_pairs, meant, opening_checks, read_view, request_refusal, through_refusal, values_read, which_or, write_view, writes_defaults};
 ghost use Rattle.device_history.specs.Snapshots.{request as request_of};
 ghost use Rattle.device_history.specs.Answers.{MayAnswer};
-ghost use Rattle.device_state.specs.Device.{Handles, with_step};
+ghost use Rattle.device_state.specs.Device.{Handles, list_most, list_touches, with_step};
 ghost use Rattle.device_state.specs.Setting.{IsSettable, SetsAll, SetsList};
 
 use super::Device;
@@ -66,7 +66,7 @@ impl<D: Driver> Device<D> {
     /// changed, that is where its value differs, or it acts on each write and was asked for, the cluster's notifier is told the
     /// new row, once, and its word is kept; the clusters are told in rising number. What changes is raised for the file handles that are
     /// subscribed to it, as `handle` says. A list without entries is a step, too. Where frames are queued their forecasts follow, for which
-    /// each touched cluster is judged once more for each of them, at most.
+    /// each touched cluster is judged once more for each of them that names it, at most.
     ///
     /// Where `which` speaks of a request the values are stored in it, as they were given, for its frame (Linux userspace API, "Request
     /// API"); nothing else is changed, and nobody is told. Rows are judged all the same, over the present values with the earlier pairs
@@ -303,7 +303,7 @@ impl<D: Driver> Device<D> {
         work: &mut Work,
     ) -> Result<Reply, Fault>
         ensures answers { MayAnswer D.verdict self.now.plan (past self.now.steps) self.now.words (asks.TryCtrls fh which request list.now) result }
-        ensures at_most { work.new.asked ≤ work.old.asked + length (touched self.now.plan (list_pairs self.now.plan (past self.now.steps) fh which list.now)) }
+        ensures at_most { work.new.asked ≤ work.old.asked + list_most D.verdict self.now.plan (past self.now.steps) fh which request false list.now (list_touches self.now.plan (past self.now.steps) fh which list.now) }
         ensures asked { OnOk result (work.new.asked ≡ with_calls (judged_count self.now.plan (touched self.now.plan (list_pairs self.now.plan (past self.now.steps) fh which list.now))) work.old.asked) }
         ensures told { work.new.told ≡ work.old.told }
     {
@@ -352,7 +352,7 @@ impl<D: Driver> Device<D> {
     ) -> Result<Touched, Fault>
         ensures ok { IfOk result (λ touch. IsSettable D.verdict self.now.plan (past self.now.steps) fh which request list.now touch) }
         ensures err { IfErr result (λ fault. MayAnswer D.verdict self.now.plan (past self.now.steps) self.now.words (asks.SetCtrls fh which request list.now) (Err fault)) }
-        ensures at_most { work.new.asked ≤ work.old.asked + length (touched self.now.plan (list_pairs self.now.plan (past self.now.steps) fh which list.now)) }
+        ensures at_most { work.new.asked ≤ work.old.asked + list_most D.verdict self.now.plan (past self.now.steps) fh which request true list.now (list_touches self.now.plan (past self.now.steps) fh which list.now) }
         ensures asked { OnOk result (work.new.asked ≡ with_calls (judged_count self.now.plan (touched self.now.plan (list_pairs self.now.plan (past self.now.steps) fh which list.now))) work.old.asked) }
         ensures told { work.new.told ≡ work.old.told }
     {

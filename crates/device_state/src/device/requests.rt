@@ -10,8 +10,10 @@ ghost use Rattle.device_history.specs.Legal.{MayFollow};
 ghost use Rattle.device_history.specs.Refusals.{is_full};
 ghost use Rattle.device_history.specs.Snapshots.{frames, request as request_of, requests};
 ghost use Rattle.device_state.specs.Device.{Handles, with_step};
+ghost use Rattle.device_history.specs.Forecasts.{queued_frames};
+ghost use Rattle.step_effects.specs.Lines.{line_asks};
 ghost use Rattle.step_effects.specs.Quiet.{NamesKnown, is_quiet};
-ghost use Rattle.device_state.specs.Entering.{IsEntered, quiet_asks};
+ghost use Rattle.device_state.specs.Entering.{IsEntered};
 
 use super::{Device, refused};
 use ctrl_calls::{Driver, Work};
@@ -190,7 +192,7 @@ impl<D: Driver> Device<D> {
         requires known { NamesKnown (length self.old.plan.controls) step }
         ensures ok { OnOk result (self.new ≡ with_step (record self.old { work = self.new.work }) seat step) }
         ensures err { OnErr result (self.new ≡ record self.old { work = self.new.work }) }
-        ensures asked { self.new.work.asked ≤ self.old.work.asked + quiet_asks self.old.plan (past self.old.steps) step }
+        ensures asked { self.new.work.asked ≤ self.old.work.asked + line_asks self.old.plan (frames D.verdict self.old.plan (past self.old.steps)) step (queued_frames self.old.plan (past self.old.steps)) }
         ensures counted { self.old.work.asked ≤ self.new.work.asked }
         ensures told { self.new.work.told ≡ self.old.work.told }
     {

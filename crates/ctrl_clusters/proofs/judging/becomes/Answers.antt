@@ -1,8 +1,38 @@
 -- written out so that a wrong body is refused soon (docs/GATE.md)
-use Rattle.std.proofs.Common.{rules}
-use Rattle.ctrl_clusters.specs.Judging.{becomes}
+use Rattle.std.proofs.Common.{◌≡◌, ◌∙◌, ℕ, List, Result, Ok, Err, ap, rules, sym}
+use Rattle.ctrl_types.specs.Values.{CtrlValue}
+use Rattle.ctrl_types.specs.declared.errno.Errno.{Errno}
+use Rattle.ctrl_calls.specs.declared.work.Work.{Work}
+use Rattle.ctrl_handlers.specs.Plan.{calls_of, members}
+use Rattle.ctrl_clusters.specs.Rows.{overwritten, settle_row}
+use Rattle.ctrl_clusters.specs.Judging.{asks, becomes}
+use Rattle.ctrl_clusters.proofs.RowLemmas.{asked_settled, asked_unsettled}
 use Rattle.ctrl_clusters.proofs.judging.becomes.Goals as goal
 
 pub returns-in-Ok-clause-row : goal.returns-in-Ok-clause-row
 unfolding becomes
 returns-in-Ok-clause-row g c = search rules
+
+-- the row is judged once it has settled
+pub returns-in-Ok-clause-counted : goal.returns-in-Ok-clause-counted
+unfolding asks
+returns-in-Ok-clause-counted g c =
+    let k : ℕ = c.args.cluster in
+    let settled : settle_row c.args.controls.now (members c.args.plan.now k) (overwritten c.args.values.now c.args.pairs.now (members c.args.plan.now k)) ≡ Ok c.in-Ok.row =
+    sym
+    (c.settle_row.ensures.row ∙ ap (settle_row c.args.controls.now c.members-members.result.now) c.overwritten-row.ensures
+    ∙ ap (λ (cs : List ℕ). settle_row c.args.controls.now cs (overwritten c.args.values.now c.args.pairs.now cs)) c.members-members.ensures.members)
+    ∙ c.in-Ok.is in
+    c.judge.ensures.counted ∙ ap (λ (n : ℕ). record c.args.work.now { asked = n }) (asked_settled (calls_of c.args.plan.now k).validator _ c.in-Ok.row c.args.work.now.asked settled)
+
+-- and nobody is asked where it doesn't
+pub returns-in-Err-clause-counted : goal.returns-in-Err-clause-counted
+unfolding asks
+returns-in-Err-clause-counted g c =
+    let k : ℕ = c.args.cluster in
+    let unsettled : settle_row c.args.controls.now (members c.args.plan.now k) (overwritten c.args.values.now c.args.pairs.now (members c.args.plan.now k)) ≡ Err c.in-Err.errno =
+    sym
+    (c.settle_row.ensures.row ∙ ap (settle_row c.args.controls.now c.members-members.result.now) c.overwritten-row.ensures
+    ∙ ap (λ (cs : List ℕ). settle_row c.args.controls.now cs (overwritten c.args.values.now c.args.pairs.now cs)) c.members-members.ensures.members)
+    ∙ c.in-Err.is in
+    ap (λ (n : ℕ). record c.args.work.now { asked = n }) (asked_unsettled (calls_of c.args.plan.now k).validator _ c.in-Err.errno c.args.work.now.asked unsettled)

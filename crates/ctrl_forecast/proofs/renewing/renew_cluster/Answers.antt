@@ -1,8 +1,24 @@
-use Rattle.std.proofs.Common.{◌∙◌, ◌<◌, ◌+◌, ℕ, List, length, sym, ap, subst, arith}
-use Rattle.std.proofs.lemmas.List.{length-set}
-use Rattle.ctrl_forecast.specs.Frames.{FrameData, IsRenewed, Setting, base_at, frame_at, renewed, setting}
-use Rattle.ctrl_forecast.proofs.RenewLemmas.{renewed_next}
+use Rattle.std.proofs.Common.{◌≡◌, ◌∙◌, ◌<◌, ◌+◌, ◌-◌, ℕ, Bool, List, length, map, count_by, refl, sym, ap, subst, arith}
+use Rattle.std.specs.List.{range_with_len}
+use Rattle.std.proofs.lemmas.List.{length-map, length-set}
+use Rattle.ctrl_calls.specs.declared.work.Work.{Work}
+use Rattle.ctrl_clusters.specs.Judging.{with_calls}
+use Rattle.ctrl_forecast.specs.Asking.{asks_at}
+use Rattle.ctrl_forecast.specs.Frames.{FrameData, IsRenewed, Setting, base_at, frame_at, queued_of, renewed, setting}
+use Rattle.ctrl_forecast.proofs.AskingLemmas.{calls_none, renewed_count}
+use Rattle.ctrl_forecast.proofs.RenewLemmas.{renewed_next, renewed_none}
 use Rattle.ctrl_forecast.proofs.renewing.renew_cluster.Goals as goal
+
+pub loop-place-init : goal.loop-place-init
+loop-place-init g c =
+    let s : Setting = setting g.D.Validates.verdict c.args.plan.now c.args.controls.now c.args.grabs.now c.args.values.now in
+    let none : c.args.from - c.args.from ≡ 0 = omega arith in
+    record {
+      renewed = renewed_none s c.args.cluster c.args.from c.args.frames.now.items c.requires.frames c.requires.before;
+      many = refl;
+      counted = calls_none c.args.work.now.asked (omega arith) ∙ ap (λ (n : ℕ). with_calls (count_by (asks_at g.D.Validates.verdict c.args.plan.now c.args.controls.now c.args.grabs.now c.args.values.now (map queued_of c.args.frames.now.items) c.args.cluster) (range_with_len c.args.from n)) c.args.work.now.asked) (sym none);
+      told = refl;
+    }
 
 pub loop-place-preserved : goal.loop-place-preserved
 loop-place-preserved g c =
@@ -14,6 +30,15 @@ loop-place-preserved g c =
     record {
       renewed = subst (IsRenewed s k (p + 1) c.args.frames.now.items) (sym c.renew_at.ensures.frames) (renewed_next s k p c.args.frames.now.items fs c.controls-plan.ensures.plan c.requires.cluster lt c.loop-place.invariant.renewed);
       many = ap length c.renew_at.ensures.frames ∙ length-set fs p (renewed s (base_at s fs p) k (frame_at fs p)) ∙ c.loop-place.invariant.many;
-      asked = omega (arith, c.loop-place.invariant.asked, c.renew_at.ensures.asked, c.loop-place.auto.place);
-      told = c.renew_at.ensures.told ∙ c.loop-place.invariant.told;
+      counted = renewed_count s c.args.frames.now.items fs c.args.from k p c.args.work.now.asked c.loop-place.work.asked c.renew_at.new.work.asked c.controls-plan.ensures.plan c.requires.values c.requires.cluster c.loop-place.auto.place lt c.loop-place.invariant.renewed c.loop-place.invariant.counted
+          (ap (λ (w : Work). w.asked) c.renew_at.ensures.counted);
+      told = ap (λ (w : Work). w.told) c.renew_at.ensures.counted ∙ c.loop-place.invariant.told;
     }
+
+pub returns-clause-counted : goal.returns-clause-counted
+returns-clause-counted g c =
+    let old : List FrameData = c.args.frames.now.items in
+    let there : ℕ → Bool = asks_at g.D.Validates.verdict c.args.plan.now c.args.controls.now c.args.grabs.now c.args.values.now (map queued_of old) c.args.cluster in
+    let all : c.loop-place.place - c.args.from ≡ length (map queued_of old) - c.args.from =
+    omega (arith, c.loop-place-test.false, c.loop-place.auto.place, c.loop-place.auto.place-end, c.len-place-end.ensures, c.args.frames.now.ok, c.requires.from, length-map old queued_of) in
+    c.loop-place.invariant.counted ∙ ap (λ (n : ℕ). with_calls (count_by there (range_with_len c.args.from n)) c.args.work.now.asked) all

@@ -1,7 +1,11 @@
-use Rattle.std.proofs.Common.{◌≡◌, ◌∙◌, ◌+◌, ◌-◌, ◌*◌, ℕ, List, length, drop, get_or, sym, ap, subst, arith}
-use Rattle.std.proofs.lemmas.List.{length-map, drop_more, drop_all}
+use Rattle.std.proofs.Common.{◌∙◌, ◌+◌, ℕ, List, drop, get_or, map, ap, subst}
+use Rattle.std.proofs.lemmas.List.{drop_more, drop_all}
+use Rattle.ctrl_clusters.specs.Judging.{with_calls}
+use Rattle.ctrl_forecast.specs.Asking.{asked_from}
 use Rattle.ctrl_forecast.specs.Boards.{board_of}
+use Rattle.ctrl_forecast.specs.Forecasts.{QueuedData}
 use Rattle.ctrl_forecast.specs.Frames.{AreReady, FrameData, Setting, queued_of, setting}
+use Rattle.ctrl_forecast.proofs.AskingLemmas.{cluster_count, clusters_count}
 use Rattle.ctrl_forecast.proofs.KeptLemmas.{ready_kept, ready_next}
 use Rattle.ctrl_forecast.proofs.renewing.renew_clusters.Goals as goal
 
@@ -12,13 +16,13 @@ loop-cluster-preserved g c =
     let gs : List FrameData = c.renew_cluster.new.frames.items in
     let i : ℕ = c.loop-cluster.cluster-index in
     let ks : List ℕ = c.args.clusters.now in
-    let m : ℕ = length c.args.frames.now.items - c.args.from in
-    let long : length fs ≡ length c.args.frames.now.items = sym (length-map fs queued_of) ∙ ap length c.loop-cluster.invariant.queued ∙ length-map c.args.frames.now.items queued_of in
-    let next : (i + 1) * m ≡ i * m + m = omega arith in
     record {
       ready = ready_next s c.args.from (get_or ks i 0) (drop (i + 1) ks) fs gs (subst (λ (l : List ℕ). AreReady s c.args.from l fs) (drop_more ks i 0 c.loop-cluster-test.true) c.loop-cluster.invariant.ready) c.renew_cluster.ensures.renewed;
       queued = c.renew_cluster.ensures.renewed.queued ∙ c.loop-cluster.invariant.queued;
-      asked = omega (arith, c.loop-cluster.invariant.asked, c.renew_cluster.ensures.asked, next, ap (λ (n : ℕ). n - c.args.from) long);
+      counted = cluster_count (asked_from g.D.Validates.verdict c.args.plan.now c.args.controls.now c.args.grabs.now c.args.values.now (map queued_of c.args.frames.now.items) c.args.from) ks i
+          c.args.work.now.asked c.loop-cluster.work.asked c.renew_cluster.new.work.asked c.loop-cluster-test.true c.loop-cluster.invariant.counted
+          (c.renew_cluster.ensures.counted
+          ∙ ap (λ (qs : List QueuedData). with_calls (asked_from g.D.Validates.verdict c.args.plan.now c.args.controls.now c.args.grabs.now c.args.values.now qs c.args.from (get_or ks i 0)) c.loop-cluster.work.asked) c.loop-cluster.invariant.queued);
       told = c.renew_cluster.ensures.told ∙ c.loop-cluster.invariant.told;
     }
 
@@ -29,3 +33,8 @@ returns-clause-frames g c =
     ready_kept g.D.Validates.verdict c.args.plan.now c.args.controls.now c.args.grabs.now c.args.values.now c.args.from fs c.controls-plan.ensures.finished c.requires.values
     (subst (λ (l : List ℕ). AreReady s c.args.from l fs) (drop_all c.loop-cluster.cluster-index c.args.clusters.now c.loop-cluster-test.false) c.loop-cluster.invariant.ready)
     ∙ ap (board_of g.D.Validates.verdict c.args.plan.now c.args.controls.now c.args.grabs.now c.args.values.now) c.loop-cluster.invariant.queued
+
+pub returns-clause-counted : goal.returns-clause-counted
+returns-clause-counted g c =
+    clusters_count g.D.Validates.verdict c.args.plan.now c.args.controls.now c.args.grabs.now c.args.values.now (map queued_of c.args.frames.now.items) c.args.from c.args.clusters.now
+    c.loop-cluster.cluster-index c.args.work.now.asked c.loop-cluster.work.asked c.loop-cluster-test.false c.loop-cluster.invariant.counted

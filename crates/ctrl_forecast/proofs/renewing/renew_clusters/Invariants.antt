@@ -1,4 +1,7 @@
-use Rattle.std.proofs.Common.{◌≡◌, ◌≤◌, ◌+◌, ◌-◌, ◌*◌, length, map, drop}
+use Rattle.std.proofs.Common.{◌≡◌, map, drop, take}
+use Rattle.std.specs.List.{sum_by}
+use Rattle.ctrl_clusters.specs.Judging.{with_calls}
+use Rattle.ctrl_forecast.specs.Asking.{asked_from}
 use Rattle.ctrl_forecast.specs.Frames.{AreReady, queued_of, setting}
 use Rattle.ctrl_forecast.proofs.renewing.renew_clusters.Given as goal
 
@@ -7,6 +10,6 @@ abbrev pub invariant-loop-cluster : goal.invariant-loop-cluster
 invariant-loop-cluster g l = record {
   ready : AreReady (setting g.D.Validates.verdict l.plan l.controls l.grabs l.values) l.from (drop l.cluster-index l.clusters) l.frames.items;
   queued : map queued_of l.frames.items ≡ map queued_of l.initial.frames.items;
-  asked : l.work.asked ≤ l.initial.work.asked + l.cluster-index * (length l.initial.frames.items - l.from);
+  counted : l.work.asked ≡ with_calls (sum_by (asked_from g.D.Validates.verdict l.plan l.controls l.grabs l.values (map queued_of l.initial.frames.items) l.from) (take l.cluster-index l.clusters)) l.initial.work.asked;
   told : l.work.told ≡ l.initial.work.told;
 }

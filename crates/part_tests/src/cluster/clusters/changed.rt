@@ -179,8 +179,9 @@ fn first_words_of_notifiers(rt: HostRuntime) -> Result<(), Fail> {
     if plan.controls().len() != VALUES.len() {
         return Err(Fail::new("five controls"));
     }
-    let words = first_words(alloc, &plan, VALUES)?;
+    let mut work = Work::new();
+    let words = first_words(alloc, &plan, VALUES, &mut work)?;
     let are_words = words.as_slice() == [11_010, 1_000, 2_013, 0].as_slice();
-    assert!(rt; are_words && are_counts(heard.as_slice(), &[1, 1, 1]));
+    assert!(rt; are_words && are_counts(heard.as_slice(), &[1, 1, 1]) && work.told == 3);
     Ok(())
 }

@@ -1,6 +1,8 @@
 use Rattle.std.proofs.Common.{◌∙◌, ◌++◌, List, [], ◌∷◌, length, map, ap}
 use Rattle.ctrl_clusters.specs.Rows.{Values}
+use Rattle.ctrl_clusters.specs.Judging.{with_calls}
 use Rattle.ctrl_forecast.specs.declared.board.Forecast.{Forecast}
+use Rattle.ctrl_forecast.specs.Asking.{asked_count}
 use Rattle.ctrl_forecast.specs.Boards.{BoardData}
 use Rattle.ctrl_forecast.specs.Forecasts.{values_behind}
 use Rattle.ctrl_forecast.specs.Frames.{FrameData, board_seen, forecast_of, frame_over}
@@ -22,3 +24,10 @@ returns-clause-ok g c =
     ∙ ap (λ (f : FrameData). before ++ f ∷ [])
     (c.in_ok-frame.ensures.frame ∙ ap over (c.values_behind.ensures ∙ ap (λ (fs : List FrameData). values_behind c.args.values.now (map forecast_of fs)) c.reserve.ensures.items)))
     ∙ kept_more g.D.Validates.verdict c.args.plan.now c.args.controls.now c.args.grabs.now c.args.values.now before c.args.self.now.queued c.args.queued.now (c.self.view_is ∙ c.requires.kept)
+
+-- it is laid over what the last one leaves
+pub returns-clause-counted : goal.returns-clause-counted
+returns-clause-counted g c =
+    c.in_ok-frame.ensures.counted
+    ∙ ap (λ (values : Values). with_calls (asked_count c.args.plan.now c.args.controls.now values c.args.grabs.now c.args.queued.now.asked) c.args.work.now.asked)
+    (c.values_behind.ensures ∙ ap (values_behind c.args.values.now) (ap (map forecast_of) c.reserve.ensures.items ∙ ap (λ (b : BoardData). b.rows) c.self.view_is))

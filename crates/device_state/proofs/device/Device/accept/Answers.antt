@@ -79,7 +79,7 @@ pub returns-in-Ok-clause-asked : goal.returns-in-Ok-clause-asked
 returns-in-Ok-clause-asked g c =
     let device = c.self.inside in
     let most =
-    line_bound g.D.Validates.verdict device.plan (past device.steps.items) c.args.step device.frames device.board.queued c.self.invariant.legal (rw (← c.self.view_is) at c.requires.follows) c.requires.quiet c.self.invariant.frames
+    line_bound g.D.Validates.verdict device.plan (past device.steps.items) c.args.step device.frames device.board.queued c.self.invariant.frames
     (ap (λ (b : BoardData). b.queued) c.self.invariant.board) in
     rw (← c.self.view_is) (omega (arith, c.saturating_add-self-inside.ensures, c.change_kept-changed.ensures.asked, ap (λ (w : Work). w.asked) c.new-work.ensures, most))
 
@@ -87,6 +87,6 @@ pub returns-in-Err-clause-asked : goal.returns-in-Err-clause-asked
 returns-in-Err-clause-asked g c =
     let device = c.self.inside in
     let most =
-    line_bound g.D.Validates.verdict device.plan (past device.steps.items) c.args.step device.frames device.board.queued c.self.invariant.legal (rw (← c.self.view_is) at c.requires.follows) c.requires.quiet c.self.invariant.frames
+    line_bound g.D.Validates.verdict device.plan (past device.steps.items) c.args.step device.frames device.board.queued c.self.invariant.frames
     (ap (λ (b : BoardData). b.queued) c.self.invariant.board) in
     rw (← c.self.view_is) (omega (arith, c.saturating_add-self-inside.ensures, c.change_kept-changed.ensures.asked, ap (λ (w : Work). w.asked) c.new-work.ensures, most))

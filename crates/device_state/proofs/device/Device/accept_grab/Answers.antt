@@ -1,13 +1,15 @@
-use Rattle.std.proofs.Common.{List, [], ◌∷◌, ◌++◌, ◌≡◌, ◌<◌, length, slice_set, IsOk, refl, sym, ap, subst, ◌∙◌, arith}
+use Rattle.std.proofs.Common.{ℕ, List, [], ◌∷◌, ◌++◌, ◌≡◌, ◌<◌, length, slice_set, IsOk, refl, sym, ap, subst, ◌∙◌, arith}
 use Rattle.history.specs.declared.entry.Entry.{Entry}
 use Rattle.history.specs.Past.{past}
 use Rattle.std.proofs.lemmas.List.Elements.{All-cons}
 use Rattle.ctrl_clusters.specs.Rows.{Grabs, is_grabbed}
+use Rattle.ctrl_forecast.specs.Boards.{BoardData}
+use Rattle.ctrl_forecast.specs.Forecasts.{named_by_frames}
 use Rattle.ctrl_raises.specs.Raises.{MomentData}
 use Rattle.device_history.specs.declared.ask.Step.{Step}
 use Rattle.device_history.specs.declared.ask.Step.TheVariants.{Grab}
 use Rattle.device_history.specs.Grabs.{grab_answer, grabbed}
-use Rattle.device_state.specs.Device.{DeviceData}
+use Rattle.device_state.specs.Device.{DeviceData, grab_asks}
 use Rattle.device_state.proofs.KeptLemmas.{around, kept_grab, grab_known, moment, numbered}
 use Rattle.device_history.specs.Values.{now}
 use Rattle.device_history.specs.Forecasts.{queued_frames}
@@ -98,3 +100,16 @@ renew-requires-clause-kept g c =
 -- the cluster is there
 pub renew-requires-clause-clusters : goal.renew-requires-clause-clusters
 renew-requires-clause-clusters g c = All-cons (λ k. k < length c.self.inside.plan.clusters) c.cluster_of.result [] c.cluster_of.ensures.within (λ k d lt. absurd (omega (arith, lt)))
+
+-- the frames that name the cluster are judged anew
+pub returns-clause-asked : goal.returns-clause-asked
+returns-clause-asked g c =
+    let device = c.self.inside in
+    let k : ℕ = c.cluster_of.result in
+    rw (← c.self.view_is)
+    (omega (
+      arith,
+      c.renew.ensures.asked,
+      ap (λ (b : BoardData). named_by_frames device.plan b.queued (k ∷ [])) c.self.invariant.board,
+      ap (grab_asks device.plan (past device.steps.items)) c.cluster_of.ensures.cluster,
+    ))

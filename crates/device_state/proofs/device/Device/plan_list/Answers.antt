@@ -1,6 +1,7 @@
-use Rattle.std.proofs.Common.{sym, ◌∙◌}
+use Rattle.std.proofs.Common.{true, sym, ◌∙◌}
 use Rattle.history.specs.Past.{past}
 use Rattle.device_state.proofs.AnswerLemmas.{set_denied, set_full}
+use Rattle.device_state.proofs.BoundLemmas.{read_bound}
 use Rattle.device_state.proofs.SettingLemmas.{settable, read_asked}
 use Rattle.device_state.proofs.device.Device.plan_list.Goals as goal
 
@@ -34,3 +35,25 @@ returns-clause-asked g c =
     rw (← c.self.view_is)
     (read_asked g.D.Validates.verdict device.plan (past device.steps.items) c.args.fh c.args.which c.args.request c.args.list.now c.in-Ok.view c.plan_set.new.work.asked c.args.work.now.asked
     (rw (← c.self.view_is) at c.in-Ok.ensures.view) c.in-Ok-plan_set.ensures.asked)
+
+-- validators are asked as often as is said
+pub returns-in-Err-plan_set-clause-at_most : goal.returns-in-Err-plan_set-clause-at_most
+returns-in-Err-plan_set-clause-at_most g c =
+    let device = c.self.inside in
+    rw (← c.self.view_is)
+    (read_bound g.D.Validates.verdict device.plan (past device.steps.items) c.args.fh c.args.which c.args.request true c.args.list.now c.in-Ok.view c.plan_set.new.work.asked c.args.work.now.asked
+    (rw (← c.self.view_is) at c.in-Ok.ensures.passed) (rw (← c.self.view_is) at c.in-Ok.ensures.view) c.plan_set.ensures.at_most)
+
+pub returns-then-is_full-clause-at_most : goal.returns-then-is_full-clause-at_most
+returns-then-is_full-clause-at_most g c =
+    let device = c.self.inside in
+    rw (← c.self.view_is)
+    (read_bound g.D.Validates.verdict device.plan (past device.steps.items) c.args.fh c.args.which c.args.request true c.args.list.now c.in-Ok.view c.plan_set.new.work.asked c.args.work.now.asked
+    (rw (← c.self.view_is) at c.in-Ok.ensures.passed) (rw (← c.self.view_is) at c.in-Ok.ensures.view) c.plan_set.ensures.at_most)
+
+pub returns-clause-at_most : goal.returns-clause-at_most
+returns-clause-at_most g c =
+    let device = c.self.inside in
+    rw (← c.self.view_is)
+    (read_bound g.D.Validates.verdict device.plan (past device.steps.items) c.args.fh c.args.which c.args.request true c.args.list.now c.in-Ok.view c.plan_set.new.work.asked c.args.work.now.asked
+    (rw (← c.self.view_is) at c.in-Ok.ensures.passed) (rw (← c.self.view_is) at c.in-Ok.ensures.view) c.plan_set.ensures.at_most)

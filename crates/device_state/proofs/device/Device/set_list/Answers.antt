@@ -1,10 +1,8 @@
-use Rattle.std.proofs.Common.{length, refl, ap, ◌∙◌, arith}
+use Rattle.std.proofs.Common.{refl, ap, ◌∙◌, arith}
 use Rattle.history.specs.Past.{past}
 use Rattle.device_state.specs.Device.{DeviceData}
-use Rattle.ctrl_types.specs.Classes.{which_of}
-use Rattle.ctrl_lists.specs.Touched.{touched}
-use Rattle.device_history.specs.Lists.{list_pairs, meant, which_or}
-use Rattle.device_state.proofs.HandleLemmas.{handles_asked, asked_all, set_at_least}
+use Rattle.device_state.proofs.BoundLemmas.{set_at_least}
+use Rattle.device_state.proofs.HandleLemmas.{handles_asked, asked_all}
 use Rattle.device_state.proofs.EnterLemmas.{handles_list}
 use Rattle.device_state.proofs.SettingLemmas.{set_lacks}
 use Rattle.device_state.proofs.device.Device.set_list.Goals as goal
@@ -13,7 +11,7 @@ pub returns-in-Err : goal.returns-in-Err
 returns-in-Err g c =
     let planned = c.plan_list-planned in
     let device = c.args.self.now in
-    let at_least = set_at_least (past device.steps) (meant (which_or (which_of c.args.which)) c.args.request) (length (touched device.plan (list_pairs device.plan (past device.steps) c.args.fh c.args.which c.args.list.now))) in
+    let at_least = set_at_least g.D.Validates.verdict device.plan (past device.steps) c.args.fh c.args.which c.args.request c.args.list.now in
     handles_asked g.D.Validates.verdict c.args.self.now _ c.new-work.result planned.new.work c.args.seat _ _
     (ap (λ (d : DeviceData). record d { work = planned.new.work }) c.self.view_is) c.new-work.ensures planned.ensures.told
     (omega (arith, planned.ensures.at_most, at_least)) (λ e. cc) refl c.in-Err.ensures.err
@@ -30,7 +28,7 @@ pub returns-in-Err-accept_set : goal.returns-in-Err-accept_set
 returns-in-Err-accept_set g c =
     let planned = c.plan_list-planned in
     let device = c.args.self.now in
-    let at_least = set_at_least (past device.steps) (meant (which_or (which_of c.args.which)) c.args.request) (length (touched device.plan (list_pairs device.plan (past device.steps) c.args.fh c.args.which c.args.list.now))) in
+    let at_least = set_at_least g.D.Validates.verdict device.plan (past device.steps) c.args.fh c.args.which c.args.request c.args.list.now in
     rw (c.at.ensures, c.len.ensures)
     (handles_asked g.D.Validates.verdict c.args.self.now _ c.new-work.result planned.new.work c.args.seat _ _
     (c.in-Err-accept_set.ensures.err ∙ ap (λ (d : DeviceData). record d { work = planned.new.work }) c.self.view_is) c.new-work.ensures planned.ensures.told

@@ -1,5 +1,7 @@
+use Rattle.std.proofs.Common.{false}
 use Rattle.history.specs.Past.{past}
 use Rattle.device_state.proofs.AnswerLemmas.{try_judged, try_denied, try_unread}
+use Rattle.device_state.proofs.BoundLemmas.{read_bound}
 use Rattle.device_state.proofs.SettingLemmas.{read_asked}
 use Rattle.device_state.proofs.device.Device.try_list.Goals as goal
 
@@ -27,3 +29,18 @@ returns-in-Ok-try_list-clause-asked g c =
 pub returns-in-Err-clause-answers : goal.returns-in-Err-clause-answers
 returns-in-Err-clause-answers g c =
     rw (c.at.ensures, c.len.ensures) (try_unread g.D.Validates.verdict c.args.self.now.plan (past c.args.self.now.steps) c.args.self.now.words c.args.fh c.args.which c.args.request c.args.list.now c.in-Err.errno c.in-Err.ensures.err)
+
+-- validators are asked as often as is said
+pub returns-in-Ok-try_list-clause-at_most : goal.returns-in-Ok-try_list-clause-at_most
+returns-in-Ok-try_list-clause-at_most g c =
+    let device = c.self.inside in
+    rw (← c.self.view_is)
+    (read_bound g.D.Validates.verdict device.plan (past device.steps.items) c.args.fh c.args.which c.args.request false c.args.list.now c.in-Ok.view c.try_list.new.work.asked c.args.work.now.asked
+    (rw (← c.self.view_is) at c.in-Ok.ensures.passed) (rw (← c.self.view_is) at c.in-Ok.ensures.view) c.try_list.ensures.at_most)
+
+pub returns-in-Err-try_list-clause-at_most : goal.returns-in-Err-try_list-clause-at_most
+returns-in-Err-try_list-clause-at_most g c =
+    let device = c.self.inside in
+    rw (← c.self.view_is)
+    (read_bound g.D.Validates.verdict device.plan (past device.steps.items) c.args.fh c.args.which c.args.request false c.args.list.now c.in-Ok.view c.try_list.new.work.asked c.args.work.now.asked
+    (rw (← c.self.view_is) at c.in-Ok.ensures.passed) (rw (← c.self.view_is) at c.in-Ok.ensures.view) c.try_list.ensures.at_most)

@@ -1,4 +1,4 @@
-use Rattle.std.proofs.Common.{◌≡◌, ◌<◌, ℕ, false, subst, List, [], ◌∷◌, ◌++◌, length, refl, sym, ap, ◌∙◌}
+use Rattle.std.proofs.Common.{◌≡◌, ◌<◌, ◌≤◌, ◌+◌, ℕ, false, subst, List, [], ◌∷◌, ◌++◌, length, refl, sym, ap, ◌∙◌, arith}
 use Rattle.history.specs.declared.entry.Entry.{Entry}
 use Rattle.history.specs.Past.{past}
 use Rattle.ctrl_types.specs.declared.ids.Pair.{Pair}
@@ -16,7 +16,9 @@ use Rattle.ctrl_clusters.specs.Rows.{Values, value_at}
 use Rattle.ctrl_clusters.specs.NewRows.{clusters_of, written}
 use Rattle.ctrl_clusters.specs.declared.new_row.NewRow.{NewRow}
 use Rattle.ctrl_clusters.proofs.NewRowLemmas.{length_written}
-use Rattle.ctrl_forecast.specs.Boards.{is_in_one_of}
+use Rattle.ctrl_calls.specs.declared.work.Work.{Work}
+use Rattle.ctrl_forecast.specs.Boards.{BoardData, is_in_one_of}
+use Rattle.ctrl_forecast.specs.Forecasts.{QueuedData, named_by_frames}
 use Rattle.device_state.proofs.RenewLemmas.{board_kept, board_like, written_apart}
 use Rattle.device_state.proofs.SetLemmas.{new_rows}
 use Rattle.device_history.proofs.PresentLemmas.{length_grabbed, length_now}
@@ -140,3 +142,32 @@ renew-requires-clause-kept g c =
         grabs_stay = λ d apart. refl;
       },
     )
+
+-- each touched cluster has its row, and the frames that name it follow
+pub returns-clause-ok : goal.returns-clause-ok
+returns-clause-ok g c =
+    let device = c.self.inside in
+    let queued : List QueuedData = queued_frames device.plan (past device.steps.items) in
+    let own : c.as_slice-4.result.now ≡ clusters_of c.args.touch.rows = c.as_slice-4.ensures.value ∙ c.requires.clusters in
+    let renewed : c.renew.new.work.asked ≤ named_by_frames device.plan queued (clusters_of c.args.touch.rows) =
+    omega (
+      arith,
+      c.renew.ensures.asked,
+      ap (λ (w : Work). w.asked) c.new-work.ensures,
+      ap (λ (b : BoardData). named_by_frames device.plan b.queued c.as_slice-4.result.now) c.self.invariant.board,
+      ap (named_by_frames device.plan queued) own,
+    ) in
+    let with : List Pair → Entry Step = λ pairs. record { seat = c.args.seat; step = Set c.args.fh pairs } in
+    let kept : c.notify_changed.new.work.asked ≡ device.work.asked = ap (λ (w : Work). w.asked) c.notify_changed.ensures.work in
+    rw (← c.self.view_is)
+    (record {
+      plan = refl;
+      steps =
+          c.push_reserved.ensures.items
+          ∙ ap (λ (s : List (Entry Step)). s ++ with c.from_vec.result ∷ []) c.reserve.ensures.items
+          ∙ ap (λ (pairs : List Pair). device.steps.items ++ with pairs ∷ []) (c.from_vec.ensures ∙ c.into_parts-controls.ensures.pairs);
+      words = rw (c.as_slice.ensures.value, c.pairs.ensures, c.new_rows.ensures, c.self.invariant.values) at c.notify_changed.ensures.words;
+      notified = rw (c.as_slice.ensures.value, c.pairs.ensures, c.new_rows.ensures, c.self.invariant.values) at (ap (λ (w : Work). w.told) c.notify_changed.ensures.work);
+      asked = omega (arith, renewed, kept, c.saturating_add-self-inside.ensures);
+      counted = omega (arith, kept, c.saturating_add-self-inside.ensures);
+    })
