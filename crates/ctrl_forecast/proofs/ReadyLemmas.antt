@@ -7,7 +7,6 @@ use Rattle.std.proofs.lemmas.List.{map-append, take-map, drop-map}
 use Rattle.std.proofs.lemmas.List.Edits.{length-remove, get_or-remove_below, get_or-remove_above}
 use Rattle.std.proofs.lemmas.List.Elements.{All-from_get_or, All-filter}
 use Rattle.std.proofs.lemmas.List.FromFn.{get_or-range_with_len, length-range_with_len}
-use Rattle.std.proofs.lemmas.List.Sums.{length-filter}
 use Rattle.ctrl_types.specs.declared.ids.Pair.{Pair}
 use Rattle.ctrl_calls.specs.Meanings.{Verdicts}
 use Rattle.ctrl_settle.specs.Control.{Control}
@@ -18,7 +17,6 @@ use Rattle.ctrl_clusters.proofs.OverlayLemmas.{or_true, or_true_right, same_each
 use Rattle.ctrl_forecast.specs.Forecasts.{QueuedData, forecasts}
 use Rattle.ctrl_forecast.specs.Boards.{BoardData, DifferOnlyIn, board_of, is_in_one_of, named_clusters}
 use Rattle.ctrl_forecast.specs.Frames.{FrameData, no_frame, frame_at, queued_of, forecast_of, board_seen, setting, values_before, IsFrame, AreFrames, IsRightAt, AreReady}
-use Rattle.ctrl_forecast.specs.Touched.{touched_count}
 use Rattle.ctrl_forecast.proofs.RisingLemmas.{among_passing}
 use Rattle.ctrl_forecast.proofs.RightLemmas.{right_moves, untouched_row}
 use Rattle.ctrl_forecast.proofs.RenewLemmas.{grabs_agree}

@@ -1,8 +1,5 @@
 -- written out so that a wrong body is refused soon (docs/GATE.md)
-use Rattle.std.proofs.Common.{◌≡◌, ◌∙◌, ℕ, List, Result, Ok, Err, ap, rules, sym}
-use Rattle.ctrl_types.specs.Values.{CtrlValue}
-use Rattle.ctrl_types.specs.declared.errno.Errno.{Errno}
-use Rattle.ctrl_calls.specs.declared.work.Work.{Work}
+use Rattle.std.proofs.Common.{◌≡◌, ◌∙◌, ℕ, List, Ok, Err, ap, rules, sym}
 use Rattle.ctrl_handlers.specs.Plan.{calls_of, members}
 use Rattle.ctrl_clusters.specs.Rows.{overwritten, settle_row}
 use Rattle.ctrl_clusters.specs.Judging.{asks, becomes}

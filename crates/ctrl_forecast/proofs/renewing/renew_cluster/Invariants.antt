@@ -1,4 +1,4 @@
-use Rattle.std.proofs.Common.{◌≡◌, ◌+◌, ◌-◌, length, map, count_by}
+use Rattle.std.proofs.Common.{◌≡◌, ◌-◌, length, map, count_by}
 use Rattle.std.specs.List.{range_with_len}
 use Rattle.ctrl_clusters.specs.Judging.{with_calls}
 use Rattle.ctrl_forecast.specs.Asking.{asks_at}

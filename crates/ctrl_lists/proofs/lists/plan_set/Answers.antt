@@ -10,3 +10,9 @@ returns-in-Err-clause-err g c = search rules
 pub returns-in-Ok-clause-ok : goal.returns-in-Ok-clause-ok
 unfolding set_answer
 returns-in-Ok-clause-ok g c = search rules
+
+pub returns-in-Err-clause-at_most : goal.returns-in-Err-clause-at_most
+returns-in-Err-clause-at_most g c = c.judge_list.ensures.at_most
+
+pub returns-in-Ok-clause-at_most : goal.returns-in-Ok-clause-at_most
+returns-in-Ok-clause-at_most g c = c.judge_list.ensures.at_most

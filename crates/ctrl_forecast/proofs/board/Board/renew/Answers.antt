@@ -2,7 +2,7 @@ use Rattle.std.proofs.Common.{◌≡◌, ◌∙◌, ◌≤◌, ◌+◌, ℕ, Lis
 use Rattle.ctrl_clusters.specs.Judging.{with_calls}
 use Rattle.ctrl_forecast.specs.Asking.{renewing_count}
 use Rattle.ctrl_forecast.specs.Boards.{BoardData, board_of}
-use Rattle.ctrl_forecast.specs.Forecasts.{QueuedData, named_by_frames}
+use Rattle.ctrl_forecast.specs.Forecasts.{named_by_frames}
 use Rattle.ctrl_forecast.specs.Frames.{FrameData, queued_of}
 use Rattle.ctrl_forecast.proofs.AskingLemmas.{calls_most, renewing_most}
 use Rattle.ctrl_forecast.proofs.ReadyLemmas.{ready_changed}
