@@ -10,7 +10,7 @@ use std::alloc::{AllocError, Global};
 use std::marker::Model;
 
 /// The subscriptions of a file handle, the events that wait for it, in the order of their last raises, and the number of the next. There is
-/// room for an event of each subscription, so that a raise takes no memory.
+/// room for an event of each subscription, so that a raise needs no memory.
 #[derive(Drop)]
 pub(crate) struct Queue {
     subscribed: Vec<Subscription>,

@@ -1,5 +1,5 @@
 -- What an audit makes of a device's own steps.
-use Rattle.std.proofs.Common.{◌≡◌, ℕ, suc, zero, ◌<◌, List, [], ◌∷◌, ◌++◌, length, take, slice_get, Some, refl, ap, sym, ◌∙◌, subst, arith}
+use Rattle.std.proofs.Common.{◌≡◌, ℕ, suc, zero, ◌<◌, List, [], ◌∷◌, ◌++◌, length, map, take, slice_get, Some, refl, ap, sym, ◌∙◌, subst, arith}
 use Rattle.history.specs.Past.{past}
 use Rattle.ctrl_calls.specs.Meanings.{Verdicts}
 use Rattle.ctrl_handlers.specs.Plan.{PlanData}
@@ -10,7 +10,9 @@ use Rattle.history_audit.specs.declared.fault.AuditFault.{AuditFault}
 use Rattle.history_audit.specs.declared.fault.AuditFault.TheVariants as faults
 use Rattle.history_audit.specs.Fault.{IsFault, StopsAt}
 use Rattle.ctrl_clusters.specs.Rows.{Grabs, Values}
+use Rattle.req_book.specs.Alike.{compared}
 use Rattle.frame_queue.specs.Frames.{FramesData}
+use Rattle.frame_queue.specs.Like.{IsLike}
 use Rattle.device_history.specs.Steps.{Past}
 use Rattle.device_history.specs.Grabs.{grabbed}
 use Rattle.device_history.specs.Snapshots.{frames}
@@ -40,17 +42,25 @@ pub own_fault : (verdicts : Verdicts) (device : DeviceData) (fault : AuditFault)
 own_fault verdicts device (faults.NotLegal index) legal is = absurd (stops_nowhere verdicts device.plan device.steps index legal is)
 own_fault verdicts device faults.Memory legal is = refl
 
+-- the same is alike
+same_alike : {a b : FramesData} → a ≡ b → IsLike a b
+same_alike is = record {
+  requests = record { controls = ap (λ (f : FramesData). f.requests.controls) is; requests = ap (λ (f : FramesData). map compared f.requests.all) is };
+  queue = ap (λ (f : FramesData). f.queue) is;
+  running = ap (λ (f : FramesData). f.running) is;
+}
+
 -- what it works out agrees
 pub own_agrees : (verdicts : Verdicts) (device : DeviceData) (s : ScratchData) → s ≡ scratch verdicts device.plan (past device.steps) → Agrees verdicts device.plan (past device.steps) s
-own_agrees verdicts device s is = record { values = ap (λ (d : ScratchData). d.values) is; flags = ap (λ (d : ScratchData). d.flags) is; frames = ap (λ (d : ScratchData). d.frames) is; forecasts = ap (λ (d : ScratchData). d.forecasts) is; events = ap (λ (d : ScratchData). d.events) is }
+own_agrees verdicts device s is = record { values = ap (λ (d : ScratchData). d.values) is; flags = ap (λ (d : ScratchData). d.flags) is; frames = same_alike (ap (λ (d : ScratchData). d.frames) is); forecasts = ap (λ (d : ScratchData). d.forecasts) is; events = ap (λ (d : ScratchData). d.events) is }
 
 -- parts that are what a history makes are those of a scratch exactly where it agrees
 pub agrees_both : (verdicts : Verdicts) (plan : PlanData) (past : Past) (s : ScratchData) (values : Values) (grabs : Grabs) (requests : FramesData) (rows : List Forecast) (handles : List (ℕ × ℕ)) (kept : EventsData) → values ≡ now verdicts plan past
     → grabs ≡ grabbed plan past → requests ≡ frames verdicts plan past → rows ≡ forecast verdicts plan past → open_events kept handles ≡ all_events verdicts plan past
     → (HasParts s plan values grabs requests rows handles kept → Agrees verdicts plan past s) × (Agrees verdicts plan past s → HasParts s plan values grabs requests rows handles kept)
 agrees_both verdicts plan past s values grabs requests rows handles kept v g f b e = (
-  λ has. record { values = has.values ∙ v; flags = has.flags ∙ same; frames = has.frames ∙ f; forecasts = has.forecasts ∙ b; events = has.events ∙ e },
-  λ agrees. record { values = agrees.values ∙ sym v; flags = agrees.flags ∙ sym same; frames = agrees.frames ∙ sym f; forecasts = agrees.forecasts ∙ sym b; events = agrees.events ∙ sym e },
+  λ has. record { values = has.values ∙ v; flags = has.flags ∙ same; frames = subst (IsLike s.frames) f has.frames; forecasts = has.forecasts ∙ b; events = has.events ∙ e },
+  λ agrees. record { values = agrees.values ∙ sym v; flags = agrees.flags ∙ sym same; frames = subst (IsLike s.frames) (sym f) agrees.frames; forecasts = agrees.forecasts ∙ sym b; events = agrees.events ∙ sym e },
 )
   where
     same : flags_of_all plan values grabs ≡ all_flags verdicts plan past

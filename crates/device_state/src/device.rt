@@ -206,8 +206,8 @@ impl<D: Driver> Device<D> {
     }
 
     /// Whether what an audit worked out of some history is what the device has: the present values and flags, the requests with their
-    /// state, buffer, pairs and snapshot, the queue with its forecasts, and of each open file handle the events that wait and the number of its next
-    /// one (of this project). It takes no memory, and neither validators nor notifiers are called. An audit of the device's own plan and steps agrees, as the law `own_audits` says.
+    /// state, buffer and pairs, and of complete ones the snapshot, the queue with its forecasts, and of each open file handle the events that wait and the number of its next
+    /// one (of this project). What a begin applied of a request isn't compared, neither of a complete nor of a running one. It takes no memory, and neither validators nor notifiers are called. An audit of the device's own plan and steps agrees, as the law `own_audits` says.
     ///
     /// - `scratch`: what an audit answered; the caller sees to it that it was of this device's plan.
     pub fn agrees(&self, scratch: &Scratch) -> bool

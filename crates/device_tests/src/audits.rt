@@ -124,6 +124,83 @@ const PASTS: &[Past] = &[
             Question::Cancel(1),
         ],
     ),
+    // what a begin applied of a request that asks for the default doesn't count: of a complete one, which began or was cancelled, nor of a running one
+    (
+        31,
+        &[
+            OPEN,
+            Question::Alloc(1),
+            Question::List(SET, ONE, &[(RED, 128)]),
+            Question::Buffer(1, 7),
+            Question::Queue(1),
+            Question::Begin,
+            Question::Complete,
+        ],
+    ),
+    (
+        31,
+        &[
+            OPEN,
+            Question::Alloc(1),
+            Question::List(SET, ONE, &[(RED, 128)]),
+            Question::Buffer(1, 7),
+            Question::Queue(1),
+            Question::Cancel(1),
+        ],
+    ),
+    (
+        32,
+        &[
+            OPEN,
+            Question::Alloc(1),
+            Question::List(SET, ONE, &[(RED, 128)]),
+            Question::Buffer(1, 7),
+            Question::Queue(1),
+            Question::Begin,
+        ],
+    ),
+    (
+        32,
+        &[
+            OPEN,
+            Question::Alloc(1),
+            Question::List(SET, ONE, &[(RED, 128)]),
+            Question::Buffer(1, 7),
+            Question::Queue(1),
+            Question::Grab(8, true),
+            Question::Begin,
+            Question::Grab(8, false),
+        ],
+    ),
+    // in the snapshot it does: these differ in it alone
+    (
+        33,
+        &[
+            OPEN,
+            Question::Alloc(1),
+            Question::List(SET, ONE, &[(RED, 128)]),
+            Question::Buffer(1, 7),
+            Question::Queue(1),
+            Question::Begin,
+            Question::List(SET, NOW, &[(RED, 200)]),
+            Question::Complete,
+        ],
+    ),
+    (
+        34,
+        &[
+            OPEN,
+            Question::Alloc(1),
+            Question::List(SET, ONE, &[(RED, 128)]),
+            Question::Buffer(1, 7),
+            Question::Queue(1),
+            Question::Grab(8, true),
+            Question::Begin,
+            Question::Grab(8, false),
+            Question::List(SET, NOW, &[(RED, 200)]),
+            Question::Complete,
+        ],
+    ),
     // subscriptions alone don't count
     (1, &[OPEN, Question::SubscribeAll(0, 1, SHOWN, 0x2)]),
     (

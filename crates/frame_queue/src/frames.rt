@@ -1,10 +1,11 @@
-ghost use Rattle.std.specs.Prelude.{◌≡◌, ◌↔◌, IsTrue, ◌++◌, ◌<◌, ◌∷◌, [], length, None, Some, Ok, Err, true, IfErr, IfOk, IfSome, OnOk, MatchResult, slice_get, is_some, ℕ, remove, filter, not, nat_eq, option_copied};
+ghost use Rattle.std.specs.Prelude.{◌≡◌, ◌↔◌, IsTrue, ◌++◌, ◌<◌, ◌∷◌, [], length, None, Some, Ok, Err, true, IfErr, IfOk, IfSome, OnOk, MatchResult, slice_get, is_some, ℕ, remove, filter, not, nat_eq, option_copied, vec_capacity};
 ghost use Rattle.std.specs.Option.{option_map, ok_or};
 ghost use Rattle.std.specs.List.{All};
 ghost use Rattle.req_book.specs.Requests.{RequestData, find, changed, completed, with_pairs, with_buffer, cleared, without, fresh};
 ghost use Rattle.req_book.specs.Refusals.{alloc_refusal, store_refusal, buffer_refusal, queue_refusal, clear_refusal, state_answer, buffer_answer, asked_answer, snapshot_answer, value_answer, answered, unless, IsRefusedBy};
 ghost use Rattle.ctrl_types.specs.declared.errno.Errno.TheVariants.{ENOENT, ENOMEM};
 ghost use Rattle.frame_queue.specs.Frames.{is_queued, with_requests, queued_last, begin_answer, after_begin, first_waiting, buffer_number, first_begun, complete_refusal, after_complete, cancel_refusal, cancelled, running_done, unless_refused, after_off};
+ghost use Rattle.frame_queue.specs.Like.{IsLike};
 
 use ctrl_types::{CtrlValue, Errno, Pair, RequestId};
 use req_book::{MAX_REQUESTS, RequestState, Requests};
@@ -21,17 +22,24 @@ pub struct Frames {
 }
 
 impl Model for Frames {
-    ghost use Rattle.frame_queue.specs.Frames.{FramesData, AreFrames};
+    ghost use Rattle.frame_queue.specs.Frames.{FramesData};
+    ghost use Rattle.frame_queue.specs.Places.{HasPlaces};
+    ghost use Rattle.std.specs.Prelude.{vec_capacity};
 
     ghost Value = { FramesData };
 
     ghost view = { λ f. record { requests = f.requests; queue = f.queue.items; running = f.running } };
 
-    ghost invariant = { λ f. AreFrames (record { requests = f.requests; queue = f.queue.items; running = f.running }) };
+    ghost invariant = { λ f. HasPlaces (record { requests = f.requests; queue = f.queue.items; running = f.running }) (vec_capacity f.queue) };
 }
 
 impl Frames {
-    /// No request is there, and room for 64 in the queue. `controls` is the number of the device's controls. Refused by check 34 (ENOMEM, 12).
+    /// No request is there, and there is room for 64 in the queue (of this project).
+    ///
+    /// - `alloc`: where this call, `alloc`, `store` and `queue` take their memory.
+    /// - `controls`: the number of the device's controls, any `u32`; those that are stored have numbers below it.
+    ///
+    /// Refused by check 34 (ENOMEM, 12).
     pub fn new(alloc: Global, controls: u32) -> Result<Frames, Errno>
         ensures { MatchResult result (λ frames. frames ≡ record { requests = record { controls = controls; all = [] }; queue = []; running = None }) (λ errno. errno ≡ ENOMEM) }
     {
@@ -45,10 +53,13 @@ impl Frames {
         }
     }
 
-    /// Whether other requests are the same in the same order, with state, buffer, what they ask for and what their frames had, for as many
-    /// controls; whether the same wait in the same order, and the same one runs. It takes no memory.
+    /// Whether other requests are the same in the same order, with state, buffer, what they ask for and, of complete ones, what their frames had,
+    /// for as many controls; whether the same wait in the same order, and the same one runs (of this project). What a begin applied doesn't count. It takes no
+    /// memory and refuses nothing.
+    ///
+    /// - `other`: any requests with their queue.
     pub fn is_like(&self, other: &Frames) -> bool
-        ensures { IsTrue result ↔ (self.now ≡ other.now) }
+        ensures { IsTrue result ↔ IsLike self.now other.now }
     {
         if !self.requests.is_like(&other.requests) {
             return false;
@@ -59,7 +70,9 @@ impl Frames {
         self.queue.as_slice() == other.queue.as_slice()
     }
 
-    /// The request that waits at a place of the queue, from 0. It holds a buffer.
+    /// The request that waits at a place of the queue, none where fewer wait (of this project). It holds a buffer. It takes no memory.
+    ///
+    /// - `place`: any place, from 0 in the order of queueing.
     pub fn queued(&self, place: usize) -> Option<RequestId>
         ensures place { option_map (λ id. id.0) result ≡ slice_get self.now.queue place }
         ensures buffer { (id : ℕ) (r : RequestData) → find self.now.requests.all id ≡ Some r → is_queued r.state ≡ true → is_some r.buffer ≡ true }
@@ -70,14 +83,14 @@ impl Frames {
         }
     }
 
-    /// How many requests wait.
+    /// How many requests wait, at most 64 (of this project). It takes no memory and refuses nothing.
     pub fn queue_len(&self) -> usize
         ensures { result ≡ length self.now.queue }
     {
         self.queue.len()
     }
 
-    /// The request whose frame is being made.
+    /// The request whose frame is being made, where one is (of this project). It takes no memory.
     pub fn running(&self) -> Option<RequestId>
         ensures { option_map (λ id. id.0) result ≡ self.now.running }
     {
@@ -87,18 +100,16 @@ impl Frames {
         }
     }
 
-    /// Has a request wait for its frame, the last (`MEDIA_REQUEST_IOC_QUEUE`), and makes room for what its frame will have. Refused by check
-    /// 19 (EINVAL, 22), 20 (EBUSY, 16), 23 (ENOENT, 2) or 34 (ENOMEM, 12), which changes nothing.
+    /// Has a request wait for its frame, the last (Linux userspace API, "ioctl MEDIA_REQUEST_IOC_QUEUE"), and makes room for what its frame will have;
+    /// its place in the queue takes no memory.
+    ///
+    /// - `id`: any request, there or not.
+    ///
+    /// Refused by check 19 (EINVAL, 22), 20 (EBUSY, 16), 23 (ENOENT, 2) or 34 (ENOMEM, 12), which changes nothing.
     pub fn queue(&mut self, id: RequestId) -> Result<(), Errno>
         ensures ok { OnOk result ((queue_refusal (find self.old.requests.all id.0) ≡ None) × (self.new ≡ queued_last self.old id.0)) }
         ensures err { IfErr result (λ errno. IsRefusedBy (queue_refusal (find self.old.requests.all id.0)) errno × (self.new ≡ self.old)) }
     {
-        if let Some(errno) = self.requests.queue_refusal(id) {
-            return Err(errno);
-        }
-        if self.queue.reserve(1).is_err() {
-            return Err(Errno::ENOMEM);
-        }
         match self.requests.mark_queued(id) {
             Ok(()) => {
                 self.queue.push_reserved(id.0);
@@ -109,9 +120,10 @@ impl Frames {
     }
 
     /// Has the frame of the first request that waits be made, in which controls get these values, and answers the request and the number of
-    /// its buffer.
+    /// its buffer (Linux userspace API, "Request API": requests run in the order of queueing; begins as calls are of this project).
     ///
-    /// - `applied`: the values after the begin of the controls that the request asks for and whose cluster isn't refused.
+    /// - `applied`: the values after the begin of the controls that the request asks for and whose cluster isn't refused; the last pair of a control
+    ///   counts, and one that names no control doesn't.
     ///
     /// Refused by check 24 (EBUSY, 16) or 25 (ENOENT, 2), which changes nothing. It takes no memory.
     pub fn begin(&mut self, applied: &[Pair]) -> Result<(RequestId, u32), Errno>
@@ -161,8 +173,8 @@ impl Frames {
         self.requests.mark_running(RequestId(id), applied);
     }
 
-    /// Ends the frame that is being made (of this project: a driver completes its request): its snapshot has the values that it got at its
-    /// begin, and else these.
+    /// Ends the frame that is being made (Linux userspace API, "Request API"; ends as calls are of this project): its request is complete, whose snapshot
+    /// has the values that it got at its begin, and else these.
     ///
     /// - `values`: the present values; the caller owes one for each control, in the order of their numbers.
     ///
@@ -191,7 +203,10 @@ impl Frames {
         self.requests.mark_complete(RequestId(id), values);
     }
 
-    /// Why a request isn't taken from the queue: check 19 (EINVAL, 22), 27 (EBUSY, 16) or 28 (EINVAL, 22).
+    /// Why a request isn't taken from the queue (of this project): check 19 (EINVAL, 22), 27 (EBUSY, 16) or 28 (EINVAL, 22); none where nothing refuses
+    /// it. It takes no memory.
+    ///
+    /// - `id`: any request, there or not.
     pub fn cancel_refusal(&self, id: RequestId) -> Option<Errno>
         ensures { result ≡ cancel_refusal (find self.now.requests.all id.0) }
     {
@@ -205,6 +220,7 @@ impl Frames {
     /// Takes a request from the queue (of this project; `VIDIOC_STREAMOFF` does it to all): it is complete, without having run, and its
     /// snapshot has these values.
     ///
+    /// - `id`: any request, there or not.
     /// - `values`: the present values; the caller owes one for each control, in the order of their numbers.
     ///
     /// Refused by check 19 (EINVAL, 22), 27 (EBUSY, 16) or 28 (EINVAL, 22), which changes nothing. It takes no memory.
@@ -232,8 +248,8 @@ impl Frames {
         self.requests.mark_complete(RequestId(id), values);
     }
 
-    /// Stops the stream (`VIDIOC_STREAMOFF`): the request whose frame is being made and all that wait are complete; the first has the values
-    /// that it got at its begin, and else, as the others, these.
+    /// Stops the stream (Linux userspace API, "ioctl VIDIOC_STREAMON, VIDIOC_STREAMOFF"): the request whose frame is being made and all that
+    /// wait are complete; the first has the values that it got at its begin, and else, as the others, these.
     ///
     /// - `values`: the present values; the caller owes one for each control, in the order of their numbers.
     ///
@@ -265,92 +281,126 @@ impl Frames {
         self.requests.mark_complete(RequestId(id), values);
     }
 
-    /// The number of the device's controls.
+    /// The number of the device's controls, as it was given to `new` (of this project). It takes no memory and refuses nothing.
     pub fn controls(&self) -> u32
         ensures { result ≡ self.now.requests.controls }
     {
         self.requests.controls()
     }
 
-    /// How many requests there are.
+    /// How many requests there are, at most 64 (of this project). It takes no memory and refuses nothing.
     pub fn count(&self) -> usize
         ensures { result ≡ length self.now.requests.all }
     {
         self.requests.count()
     }
 
-    /// A request's state. Refused by check 19 (EINVAL, 22).
+    /// A request's state (Linux userspace API, "Request API"). Refused by check 19 (EINVAL, 22). It takes no memory.
+    ///
+    /// - `id`: any request, there or not.
     pub fn state_of(&self, id: RequestId) -> Result<RequestState, Errno>
         ensures { result ≡ state_answer (find self.now.requests.all id.0) }
     {
         self.requests.state_of(id)
     }
 
-    /// The number of the buffer that a request holds, where it has one. Refused by check 19 (EINVAL, 22).
+    /// The number of the buffer that a request was given, where it was given one since it was made, or made as new; a complete one keeps it (Linux
+    /// userspace API, "Request API"; that it has one is of this project). Refused by check 19 (EINVAL, 22). It takes no memory.
+    ///
+    /// - `id`: any request, there or not.
     pub fn buffer_of(&self, id: RequestId) -> Result<Option<u32>, Errno>
         ensures { result ≡ buffer_answer (find self.now.requests.all id.0) }
     {
         self.requests.buffer_of(id)
     }
 
-    /// What a request asks for: of each control the last stored pair, in order of control numbers. Refused by check 19 (EINVAL, 22).
+    /// What a request asks for (Linux userspace API, "Request API"): of each control the last stored pair, in order of control numbers. Refused by
+    /// check 19 (EINVAL, 22). It takes no memory.
+    ///
+    /// - `id`: any request, there or not.
     pub fn asked(&self, id: RequestId) -> Result<&[Pair], Errno>
         ensures { MatchResult result (λ pairs. asked_answer (find self.now.requests.all id.0) ≡ Ok pairs.now) (λ errno. asked_answer (find self.now.requests.all id.0) ≡ Err errno) }
     {
         self.requests.asked(id)
     }
 
-    /// The value of a control that the frame of a complete request had. Refused by check 19 or 13 (EINVAL, 22), or 30 (EACCES, 13).
+    /// The value of a control that the frame of a complete request had (Linux userspace API, "Request API": its controls are read once it is complete):
+    /// of one that its begin applied that value, of any other the value in force at the completion.
+    ///
+    /// - `id`: any request, there or not.
+    /// - `control`: any number, of a control or not.
+    ///
+    /// Refused by check 19 or 13 (EINVAL, 22), or 30 (EACCES, 13). It takes no memory.
     pub fn snapshot(&self, id: RequestId, control: u32) -> Result<CtrlValue, Errno>
         ensures { result ≡ value_answer self.now.requests.controls control (find self.now.requests.all id.0) }
     {
         self.requests.snapshot(id, control)
     }
 
-    /// The value of each control that the frame of a complete request had. Refused by check 19 (EINVAL, 22) or 30 (EACCES, 13).
+    /// The value of each control that the frame of a complete request had, in the order of their numbers (Linux userspace API, "Request API": its
+    /// controls are read once it is complete). Refused by check 19 (EINVAL, 22) or 30 (EACCES, 13). It takes no memory.
+    ///
+    /// - `id`: any request, there or not.
     pub fn snapshot_values(&self, id: RequestId) -> Result<&[CtrlValue], Errno>
         ensures { MatchResult result (λ values. snapshot_answer (find self.now.requests.all id.0) ≡ Ok values.now) (λ errno. snapshot_answer (find self.now.requests.all id.0) ≡ Err errno) }
     {
         self.requests.snapshot_values(id)
     }
 
-    /// Why no further request is made: check 18 (ENOSPC, 28).
+    /// Why no further request is made: check 18 (ENOSPC, 28), the limit of 64 (of this project); none where nothing but want of memory refuses it. It
+    /// takes no memory.
     pub fn alloc_refusal(&self) -> Option<Errno>
         ensures { result ≡ alloc_refusal self.now.requests.all }
     {
         self.requests.alloc_refusal()
     }
 
-    /// Why a request takes no settings: check 19 (EINVAL, 22) or 20 (EBUSY, 16).
+    /// Why a request takes no settings (Linux userspace API, "Request API": a queued one can't be changed): check 19 (EINVAL, 22) or 20 (EBUSY, 16);
+    /// none where nothing but want of memory refuses them. It takes no memory.
+    ///
+    /// - `id`: any request, there or not.
     pub fn store_refusal(&self, id: RequestId) -> Option<Errno>
         ensures { result ≡ store_refusal (find self.now.requests.all id.0) }
     {
         self.requests.store_refusal(id)
     }
 
-    /// Why a request takes no buffer: check 19 (EINVAL, 22), or one of 20 to 22 (EBUSY, 16).
+    /// Why a request takes no buffer (Linux userspace API, "Request API"; that it has one, that no two hold a number, and the order are of this
+    /// project): check 19 (EINVAL, 22), or one of 20 to 22 (EBUSY, 16); none where it takes it. It takes no memory.
+    ///
+    /// - `id`: any request, there or not.
+    /// - `number`: any number.
     pub fn buffer_refusal(&self, id: RequestId, number: u32) -> Option<Errno>
         ensures { result ≡ buffer_refusal self.now.requests.all number (find self.now.requests.all id.0) }
     {
         self.requests.buffer_refusal(id, number)
     }
 
-    /// Why a request isn't queued: check 19 (EINVAL, 22), 20 (EBUSY, 16) or 23 (ENOENT, 2).
+    /// Why a request isn't queued (Linux userspace API, "ioctl MEDIA_REQUEST_IOC_QUEUE"; the order is of this project): check 19 (EINVAL, 22), 20
+    /// (EBUSY, 16) or 23 (ENOENT, 2); none where nothing but want of memory refuses it. It takes no memory.
+    ///
+    /// - `id`: any request, there or not.
     pub fn queue_refusal(&self, id: RequestId) -> Option<Errno>
         ensures { result ≡ queue_refusal (find self.now.requests.all id.0) }
     {
         self.requests.queue_refusal(id)
     }
 
-    /// Why a request is neither made as new nor freed: check 19 (EINVAL, 22) or 29 (EBUSY, 16).
+    /// Why a request is neither made as new nor let go (Linux userspace API, "ioctl MEDIA_REQUEST_IOC_REINIT"; that a queued or running one isn't let go is of
+    /// this project): check 19 (EINVAL, 22) or 29 (EBUSY, 16); none where nothing refuses it. It takes no memory.
+    ///
+    /// - `id`: any request, there or not.
     pub fn clear_refusal(&self, id: RequestId) -> Option<Errno>
         ensures { result ≡ clear_refusal (find self.now.requests.all id.0) }
     {
         self.requests.clear_refusal(id)
     }
 
-    /// Makes a request: idle, without a buffer, and with nothing asked (`MEDIA_IOC_REQUEST_ALLOC`). The caller owes an `id` that no request
-    /// has. Refused by check 18 (ENOSPC, 28) or 34 (ENOMEM, 12), which changes nothing.
+    /// Makes a request, the last: idle, without a buffer, and with nothing asked (Linux userspace API, "ioctl MEDIA_IOC_REQUEST_ALLOC").
+    ///
+    /// - `id`: its number; the caller owes one that no request has.
+    ///
+    /// Refused by check 18 (ENOSPC, 28) or 34 (ENOMEM, 12), which changes nothing.
     pub fn alloc(&mut self, id: RequestId) -> Result<(), Errno>
         requires { find self.old.requests.all id.0 ≡ None }
         ensures ok { OnOk result ((alloc_refusal self.old.requests.all ≡ None) × (self.new ≡ with_requests self.old (record self.old.requests { all = self.old.requests.all ++ fresh id.0 ∷ [] }))) }
@@ -359,9 +409,10 @@ impl Frames {
         self.requests.alloc(id)
     }
 
-    /// Stores values that a request asks for (`VIDIOC_S_EXT_CTRLS` with `V4L2_CTRL_WHICH_REQUEST_VAL`): of each control the last stored pair
-    /// counts.
+    /// Stores values that a request asks for (Linux userspace API, "Request API"; `VIDIOC_S_EXT_CTRLS` with `V4L2_CTRL_WHICH_REQUEST_VAL`): of each
+    /// control the last stored pair counts.
     ///
+    /// - `id`: any request, there or not.
     /// - `pairs`: any number, a control any number of times; the caller owes numbers of controls.
     ///
     /// Refused by check 19 (EINVAL, 22), 20 (EBUSY, 16) or 34 (ENOMEM, 12), which changes nothing.
@@ -373,8 +424,13 @@ impl Frames {
         self.requests.store(id, pairs)
     }
 
-    /// Gives a request the buffer with a number (`VIDIOC_QBUF` with `request_fd`; that it has one, and that no two hold a number, is of this
-    /// project). Refused by check 19 (EINVAL, 22), or one of 20 to 22 (EBUSY, 16), which changes nothing. It takes no memory.
+    /// Gives a request the buffer with a number (Linux userspace API, "Request API"; `VIDIOC_QBUF` with `request_fd`; that it has one, and that no two
+    /// hold a number, is of this project).
+    ///
+    /// - `id`: any request, there or not.
+    /// - `number`: any number.
+    ///
+    /// Refused by check 19 (EINVAL, 22), or one of 20 to 22 (EBUSY, 16), which changes nothing. It takes no memory.
     pub fn add_buffer(&mut self, id: RequestId, number: u32) -> Result<(), Errno>
         ensures answer { result ≡ answered (buffer_refusal self.old.requests.all number (find self.old.requests.all id.0)) }
         ensures frames { self.new ≡ with_requests self.old (unless (buffer_refusal self.old.requests.all number (find self.old.requests.all id.0)) self.old.requests (changed self.old.requests id.0 (with_buffer number))) }
@@ -382,8 +438,12 @@ impl Frames {
         self.requests.add_buffer(id, number)
     }
 
-    /// Makes a request as new (`MEDIA_REQUEST_IOC_REINIT`). Refused by check 19 (EINVAL, 22) or 29 (EBUSY, 16), which changes nothing. It
-    /// takes no memory.
+    /// Makes a request as new (Linux userspace API, "ioctl MEDIA_REQUEST_IOC_REINIT"): idle, without a buffer, and with nothing asked; it keeps its place
+    /// among the others.
+    ///
+    /// - `id`: any request, there or not.
+    ///
+    /// Refused by check 19 (EINVAL, 22) or 29 (EBUSY, 16), which changes nothing. It takes no memory.
     pub fn reinit(&mut self, id: RequestId) -> Result<(), Errno>
         ensures answer { result ≡ answered (clear_refusal (find self.old.requests.all id.0)) }
         ensures frames { self.new ≡ with_requests self.old (unless (clear_refusal (find self.old.requests.all id.0)) self.old.requests (changed self.old.requests id.0 cleared)) }
@@ -391,8 +451,11 @@ impl Frames {
         self.requests.reinit(id)
     }
 
-    /// Lets a request go (`close` of its descriptor; that a queued or running one is refused is of this project). Refused by check 19 (EINVAL,
-    /// 22) or 29 (EBUSY, 16), which changes nothing. It takes no memory.
+    /// Lets a request go: its id names nothing then (Linux userspace API, "request close()"; that a queued or running one is refused is of this project).
+    ///
+    /// - `id`: any request, there or not.
+    ///
+    /// Refused by check 19 (EINVAL, 22) or 29 (EBUSY, 16), which changes nothing. It takes no memory.
     pub fn free(&mut self, id: RequestId) -> Result<(), Errno>
         ensures answer { result ≡ answered (clear_refusal (find self.old.requests.all id.0)) }
         ensures frames { self.new ≡ with_requests self.old (unless (clear_refusal (find self.old.requests.all id.0)) self.old.requests (record self.old.requests { all = without id.0 self.old.requests.all })) }
@@ -403,7 +466,8 @@ impl Frames {
 
 // Takes a number out.
 fn leave(ids: &mut Vec<u32>, id: u32)
-    ensures { ids.new.items ≡ filter (λ j. not (nat_eq id j)) ids.old.items }
+    ensures left { ids.new.items ≡ filter (λ j. not (nat_eq id j)) ids.old.items }
+    ensures room { vec_capacity ids.new ≡ vec_capacity ids.old }
 {
     ids.retain(|other| id != *other);
 }

@@ -11,6 +11,7 @@ use Rattle.ctrl_clusters.specs.PresentFlags.{flags_under}
 use Rattle.ctrl_clusters.specs.Rows.{Grabs, Values}
 use Rattle.ctrl_forecast.specs.declared.board.Forecast.{Forecast}
 use Rattle.frame_queue.specs.Frames.{FramesData}
+use Rattle.frame_queue.specs.Like.{IsLike}
 use Rattle.device_history.specs.Steps.{Past}
 use Rattle.device_history.specs.Handles.{opened}
 use Rattle.device_history.specs.Events.{next_sequence, pending}
@@ -73,18 +74,18 @@ scratch verdicts plan past = record {
 }
 
 -- Values, the flags that they have with grabs, requests with their queue, what the queued frames will have, and the events of some file handles,
--- each with its handler, are those of a scratch.
+-- each with its handler, are those of a scratch; what a begin applied doesn't count.
 pub record HasParts (s : ScratchData) (plan : PlanData) (present : Values) (grabs : Grabs) (requests : FramesData) (rows : List Forecast) (handles : List (ℕ × ℕ)) (kept : EventsData) : Type 0 where
   pub values : s.values ≡ present
   pub flags : s.flags ≡ flags_of_all plan present grabs
-  pub frames : s.frames ≡ requests
+  pub frames : IsLike s.frames requests
   pub forecasts : s.forecasts ≡ rows
   pub events : s.events ≡ open_events kept handles
 
--- All that a scratch has is what a history makes of a device.
+-- All that a scratch has is what a history makes of a device, but for what a begin applied, which doesn't count.
 pub record Agrees (verdicts : Verdicts) (plan : PlanData) (past : Past) (s : ScratchData) : Type 0 where
   pub values : s.values ≡ now verdicts plan past
   pub flags : s.flags ≡ all_flags verdicts plan past
-  pub frames : s.frames ≡ frames verdicts plan past
+  pub frames : IsLike s.frames (frames verdicts plan past)
   pub forecasts : s.forecasts ≡ forecast verdicts plan past
   pub events : s.events ≡ all_events verdicts plan past

@@ -110,8 +110,8 @@ impl Scratch {
     }
 
     /// Whether it has these values, the flags that they make with these grabs, these requests with their queue, the same of each queued frame, and
-    /// these open file handles with the same events that wait, in the same order, and the same numbers of their next events. Subscriptions and the
-    /// handlers of file handles are left out. It takes no memory and asks nobody.
+    /// these open file handles with the same events that wait, in the same order, and the same numbers of their next events. What a begin applied of a
+    /// request, subscriptions, and the handlers of file handles are left out. It takes no memory and asks nobody.
     ///
     /// - `plan`: what the device is built of.
     /// - `values`, `grabs`: a value, and whether it is grabbed, for each control in the order of their numbers; the caller owes exactly as

@@ -1,5 +1,5 @@
--- When requests, and stores of them, are seen as the same.
-use Rattle.std.proofs.Common.{rules, arith, ◌≡◌, ◌∙◌, ◌<◌, ℕ, zero, suc, length, Bool, List, [], ◌∷◌, Option, None, Some, slice_get, int_eq, nat_eq, ◌&&◌, refl, sym, ap}
+-- When requests, and stores of them, are alike.
+use Rattle.std.proofs.Common.{rules, arith, ◌≡◌, ◌∙◌, ◌<◌, ℕ, zero, suc, length, Bool, List, [], ◌∷◌, Option, None, Some, slice_get, map, int_eq, nat_eq, ◌&&◌, refl, sym, ap}
 use Rattle.std.specs.Bool.{Decides}
 use Rattle.std.specs.Option.{option_eq, option_map, option_and_then}
 use Rattle.std.specs.Cmp.Lexicographic.{pointwise}
@@ -16,6 +16,9 @@ use Rattle.slab.specs.Slab.{Slab, get}
 use Rattle.req_book.specs.Objects.{AreKept, request_at, request_in, requests_in, snapshot_seen}
 use Rattle.req_book.proofs.ObjectLemmas.{first_in}
 use Rattle.req_book.specs.Requests.{RequestData, RequestsData}
+use Rattle.req_book.specs.Alike.{AreLike, compared}
+use Rattle.std.proofs.lemmas.List.{length-map}
+use Rattle.std.proofs.lemmas.Option.{slice_get-map}
 
 -- what `==` says of two states
 pub states : (a b : RequestState) (r : Bool) → r ≡ sameb the_type a b → Decides r (a ≡ b)
@@ -29,33 +32,28 @@ numbers a b r is = search rules
 pub pairs : (a b : List Pair) (r : Bool) → r ≡ pointwise eq-value.it a b → Decides r (a ≡ b)
 pairs = slice_eq-Decides (λ a b. search rules)
 
--- of values that may be missing
-pub some_values : (a b : List (Option CtrlValue)) (r : Bool) → r ≡ pointwise (option_eq int_eq) a b → Decides r (a ≡ b)
-some_values = slice_eq-Decides (λ a b. search rules)
-
 -- of values
 pub values : (a b : List CtrlValue) (r : Bool) → r ≡ pointwise int_eq a b → Decides r (a ≡ b)
 values = slice_eq-Decides Decides-int_eq
 
--- requests that are seen as the same have the same parts
+-- requests that are alike have the same parts
 abbrev pub Same : Object → Object → Type 0
-Same a b = ((((a.state ≡ b.state) × (a.buffer ≡ b.buffer)) × (a.pairs.items ≡ b.pairs.items)) × (a.applied.items ≡ b.applied.items)) × (snapshot_seen a.state a.values.items ≡ snapshot_seen b.state b.values.items)
+Same a b = (((a.state ≡ b.state) × (a.buffer ≡ b.buffer)) × (a.pairs.items ≡ b.pairs.items)) × (snapshot_seen a.state a.values.items ≡ snapshot_seen b.state b.values.items)
 
-pub same_seen : (id : ℕ) (a b : Object) → Same a b → request_at id a ≡ request_at id b
-same_seen id a b same = λ i. record { id = id; state = same.0.0.0.0 i; buffer = same.0.0.0.1 i; pairs = same.0.0.1 i; applied = same.0.1 i; snapshot = same.1 i }
+pub same_alike : (id : ℕ) (a b : Object) → Same a b → compared (request_at id a) ≡ compared (request_at id b)
+same_alike id a b same = λ i. record { id = id; state = same.0.0.0 i; buffer = same.0.0.1 i; pairs = same.0.1 i; applied = []; snapshot = same.1 i }
 
-pub seen_same : (id : ℕ) (a b : Object) → request_at id a ≡ request_at id b → Same a b
-seen_same id a b is = ((((ap (λ (r : RequestData). r.state) is, ap (λ (r : RequestData). r.buffer) is), ap (λ (r : RequestData). r.pairs) is), ap (λ (r : RequestData). r.applied) is), ap (λ (r : RequestData). r.snapshot) is)
+pub alike_same : (id : ℕ) (a b : Object) → compared (request_at id a) ≡ compared (request_at id b) → Same a b
+alike_same id a b is = (((ap (λ (r : RequestData). r.state) is, ap (λ (r : RequestData). r.buffer) is), ap (λ (r : RequestData). r.pairs) is), ap (λ (r : RequestData). r.snapshot) is)
 
--- whether two objects are seen as the same, part by part
+-- whether two objects are alike, part by part
 abbrev pub same_parts : Object → Object → Bool
-same_parts a b = (((sameb the_type a.state b.state && option_eq nat_eq a.buffer b.buffer) && pointwise eq-value.it a.pairs.items b.pairs.items) && pointwise (option_eq int_eq) a.applied.items b.applied.items)
-    && pointwise int_eq (snapshot_seen a.state a.values.items) (snapshot_seen b.state b.values.items)
+same_parts a b = ((sameb the_type a.state b.state && option_eq nat_eq a.buffer b.buffer) && pointwise eq-value.it a.pairs.items b.pairs.items) && pointwise int_eq (snapshot_seen a.state a.values.items) (snapshot_seen b.state b.values.items)
 
 pub same_decides : (a b : Object) → Decides (same_parts a b) (Same a b)
 same_decides a b =
     Decides-and _ _
-    (Decides-and _ _ (Decides-and _ _ (Decides-and _ _ (states a.state b.state _ refl) (numbers a.buffer b.buffer _ refl)) (pairs a.pairs.items b.pairs.items _ refl)) (some_values a.applied.items b.applied.items _ refl))
+    (Decides-and _ _ (Decides-and _ _ (states a.state b.state _ refl) (numbers a.buffer b.buffer _ refl)) (pairs a.pairs.items b.pairs.items _ refl))
     (values (snapshot_seen a.state a.values.items) (snapshot_seen b.state b.values.items) _ refl)
 
 -- the request at a place is that of the entry there
@@ -69,18 +67,27 @@ at_place n slots (e ∷ es) (suc i) kept =
     let first = first_in n slots e (requests_in slots es) kept.0 in
     ap (λ (rs : List RequestData). slice_get rs (suc i)) first.2 ∙ at_place n slots es i kept.2
 
--- lists of one length that have the same at each place are the same
-pub same_lists : {X : Type 0} (xs ys : List X) → length xs ≡ length ys → ((i : ℕ) → i < length xs → slice_get xs i ≡ slice_get ys i) → xs ≡ ys
-same_lists [] [] many each = refl
-same_lists [] (y ∷ ys) many each = absurd (omega (arith, many))
-same_lists (x ∷ xs) [] many each = absurd (omega (arith, many))
-same_lists (x ∷ xs) (y ∷ ys) many each =
-    ap (λ (z : _). z ∷ xs) (same x y (each 0 (omega arith))) ∙ ap (λ (zs : List _). y ∷ zs) (same_lists xs ys (omega (arith, many)) (λ i within. each (suc i) (omega (arith, within))))
+-- as many requests that are alike at each place
+pub alike_lists : (xs ys : List RequestData) → length xs ≡ length ys → ((i : ℕ) → i < length xs → option_map compared (slice_get xs i) ≡ option_map compared (slice_get ys i)) → map compared xs ≡ map compared ys
+alike_lists [] [] many each = refl
+alike_lists [] (y ∷ ys) many each = absurd (omega (arith, many))
+alike_lists (x ∷ xs) [] many each = absurd (omega (arith, many))
+alike_lists (x ∷ xs) (y ∷ ys) many each =
+    ap (λ (z : RequestData). z ∷ map compared xs) (same (compared x) (compared y) (each 0 (omega arith)))
+    ∙ ap (λ (zs : List RequestData). compared y ∷ zs) (alike_lists xs ys (omega (arith, many)) (λ i within. each (suc i) (omega (arith, within))))
   where
-    same : {Y : Type 0} (a b : Y) → Some a ≡ Some b → a ≡ b
+    same : (a b : RequestData) → Some a ≡ Some b → a ≡ b
     same a b h = cc
 
--- stores for as many controls, with the same requests, are the same
-pub same_stores : (a b : RequestsData) → a.controls ≡ b.controls → length a.all ≡ length b.all → ((place : ℕ) → place < length a.all → slice_get a.all place ≡ slice_get b.all place) → a ≡ b
-same_stores a b controls many each =
-    ap {B = RequestsData} (λ (n : ℕ). record { controls = n; all = a.all }) controls ∙ ap {B = RequestsData} (λ (rs : List RequestData). record { controls = b.controls; all = rs }) (same_lists a.all b.all many each)
+-- stores for as many controls, with as many requests that are alike at each place, are alike
+pub alike_stores : (a b : RequestsData) → a.controls ≡ b.controls → length a.all ≡ length b.all
+    → ((place : ℕ) → place < length a.all → option_map compared (slice_get a.all place) ≡ option_map compared (slice_get b.all place)) → AreLike a b
+alike_stores a b controls many each = record { controls = controls; requests = alike_lists a.all b.all many each }
+
+-- and what is alike at a place, where the stores are
+pub alike_at : (a b : RequestsData) (place : ℕ) → AreLike a b → option_map compared (slice_get a.all place) ≡ option_map compared (slice_get b.all place)
+alike_at a b place alike = sym (slice_get-map compared a.all place) ∙ ap (λ (rs : List RequestData). slice_get rs place) alike.requests ∙ slice_get-map compared b.all place
+
+-- there are as many then
+pub alike_many : (a b : RequestsData) → AreLike a b → length a.all ≡ length b.all
+alike_many a b alike = sym (length-map a.all compared) ∙ ap length alike.requests ∙ length-map b.all compared

@@ -1,5 +1,5 @@
 -- Requests under keys, which ids name: what is found, and what is left once an object is put in, changed or taken out.
-use Rattle.std.proofs.Common.{◌≡◌, ◌≢◌, ℕ, suc, ◌∙◌, ◌||◌, ◌==◌, ◌⊎◌, Bool, true, false, cond, inl, inr, List, [], ◌∷◌, ◌++◌, length, Option, None, Some, Result, Ok, Err, IsOk, OnOk, IsSome, IfSome, Bor, option_copied, nat_eq, eq-eqb, refl, sym, ap, subst}
+use Rattle.std.proofs.Common.{◌≡◌, ◌≢◌, ℕ, suc, ◌+◌, ◌<◌, arith, length-append, is_some, ◌∙◌, ◌||◌, ◌==◌, ◌⊎◌, Bool, true, false, cond, inl, inr, List, [], ◌∷◌, ◌++◌, length, Option, None, Some, Result, Ok, Err, IsOk, OnOk, IsSome, IfSome, Bor, option_copied, nat_eq, eq-eqb, refl, sym, ap, subst}
 use Rattle.std.specs.List.{cons_option, list_any}
 use Rattle.std.specs.Option.{option_map, option_and_then}
 use Rattle.std.specs.Map.{lookup, remove_entry, values_of}
@@ -7,15 +7,16 @@ use Rattle.std.proofs.lemmas.Bool.{or_from, or_parts}
 use Rattle.std.proofs.lemmas.Bool.Decides.{eqb_tells}
 use Rattle.std.proofs.lemmas.List.Folds.{list_any-append}
 use Rattle.std.proofs.Math.Path.{ap₂}
-use Rattle.slab.specs.Slab.{Slab, get, Updates, with_value}
-use Rattle.slab.proofs.SlabLemmas.{Updates-with_value}
+use Rattle.slab.specs.Slab.{Slab, get, slab_len, Updates, with_value}
+use Rattle.slab.proofs.SlabLemmas.{ContainsKey-within, Updates-with_value}
+use Rattle.std.proofs.lemmas.List.Sums.{sum_by-set}
 use Rattle.indexmap.specs.IndexMap.{insert_entry}
 use Rattle.req_book.specs.declared.object.Object.{Object}
 use Rattle.ctrl_types.specs.Values.{CtrlValue}
 use Rattle.req_book.specs.declared.state.RequestState.{RequestState}
 use Rattle.req_book.specs.declared.state.RequestState.TheVariants.{Idle, Queued, Running, Complete}
 use Rattle.req_book.specs.Requests.{RequestData, RequestsData, find, with_request, changed, without, fresh, is_pending, is_held}
-use Rattle.req_book.specs.Objects.{request_at, request_in, requests_in, is_shared, HasRoom, IsObject, AreKept, held_by}
+use Rattle.req_book.specs.Objects.{request_at, request_in, requests_in, is_shared, HasRoom, IsObject, AreKept, IsKept, held_by}
 
 -- what a comparison of two numbers tells
 abbrev pub Tells : ℕ → ℕ → Type 0
@@ -350,13 +351,37 @@ is_there n slots es id key kept named = by (get slots key) (object_of n slots es
 pub is_fresh : (id : ℕ) (o : Object) → o.state ≡ Idle → o.buffer ≡ None → o.pairs.items ≡ [] → o.applied.items ≡ [] → request_at id o ≡ fresh id
 is_fresh id o state buffer pairs applied = rw (state, buffer, pairs, applied) refl
 
+-- an object that is written over another leaves as many
+same_count : (slots : Slab Object) (key : ℕ) (before o : Object) → Some before ≡ get slots key → slab_len (with_value slots key o) ≡ slab_len slots
+same_count slots key before o there =
+    let within : key < length slots.slots = ContainsKey-within slots key (subst IsSome there some_there) in
+    let counted = sum_by-set (λ (x : Option Object). cond (is_some x) 1 0) slots.slots key (Some o) None within in
+    omega (arith, counted, ap {B = ℕ} (λ (x : Option Object). cond (is_some x) 1 0) there)
+  where
+    some_there : IsSome (Some before)
+    some_there = refl
+
+-- an entry less, where an id is there
+pub one_less : (es : List (ℕ × ℕ)) (id key : ℕ) → lookup (nat_eq id) es ≡ Some key → length (remove_entry (nat_eq id) es) + 1 ≡ length es
+one_less [] id key there = cc
+one_less (e ∷ es) id key there = by (nat_eq id e.0) there (one_less es id key)
+  where
+    by : (b : Bool) → cond b (Some e.1) (lookup (nat_eq id) es) ≡ Some key → (lookup (nat_eq id) es ≡ Some key → length (remove_entry (nat_eq id) es) + 1 ≡ length es)
+        → length (cond b es (e ∷ remove_entry (nat_eq id) es)) + 1 ≡ length (e ∷ es)
+    by true is rest = omega arith
+    by false is rest = omega (arith, rest is)
+
+-- an entry more, where an id is new
+pub one_more : (es : List (ℕ × ℕ)) (id key : ℕ) → lookup (nat_eq id) es ≡ None → length (insert_entry nat_eq es id key) ≡ length es + 1
+one_more es id key none = ap length (insert_last es id key none) ∙ omega (arith, length-append es ((id, key) ∷ []))
+
 -- a request is changed, in a store that is seen as this
 pub done : (n : ℕ) (slots : Slab Object) (es : List (ℕ × ℕ)) (now : RequestsData) (id key : ℕ) (before o : Object) (f : RequestData → RequestData) → ◌≡◌ {A = RequestsData} (record { controls = n; all = requests_in slots es }) now
-    → AreKept n slots es → Some key ≡ lookup (nat_eq id) es → Some before ≡ get slots key → (IsObject n (Some before) → IsObject n (Some o)) → request_at id o ≡ f (request_at id before)
-    → AreKept n (with_value slots key o) es × (◌≡◌ {A = RequestsData} (record { controls = n; all = requests_in (with_value slots key o) es }) (changed now id f))
+    → IsKept n slots es → Some key ≡ lookup (nat_eq id) es → Some before ≡ get slots key → (IsObject n (Some before) → IsObject n (Some o)) → request_at id o ≡ f (request_at id before)
+    → IsKept n (with_value slots key o) es × (◌≡◌ {A = RequestsData} (record { controls = n; all = requests_in (with_value slots key o) es }) (changed now id f))
 done n slots es now id key before o f seen kept named there sized changes =
-    let made = written n slots es id key before o f kept named there sized changes in
-    (made.0, ap (whole n) made.1 ∙ ap (λ (r : RequestsData). changed r id f) seen)
+    let made = written n slots es id key before o f kept.named named there sized changes in
+    (record { named = made.0; counted = same_count slots key before o there ∙ kept.counted }, ap (whole n) made.1 ∙ ap (λ (r : RequestsData). changed r id f) seen)
   where
     whole : ℕ → List RequestData → RequestsData
     whole n rs = record { controls = n; all = rs }

@@ -1,3 +1,4 @@
 pub mod Requests
 pub mod Refusals
 pub mod Objects
+pub mod Alike

@@ -2,7 +2,7 @@
 use Rattle.std.specs.Prelude.{◌≡◌, ℕ, Bool, false, not, ◌&&◌, ◌||◌, List, [], ◌∷◌, length, filter_map, Option, None, Some, nat_eq}
 use Rattle.std.specs.List.{list_any}
 use Rattle.std.specs.Option.{option_map}
-use Rattle.slab.specs.Slab.{Slab, get}
+use Rattle.slab.specs.Slab.{Slab, get, slab_len}
 use Rattle.ctrl_types.specs.Values.{CtrlValue}
 use Rattle.req_book.specs.declared.object.Object.{Object}
 use Rattle.req_book.specs.declared.state.RequestState.{RequestState}
@@ -45,7 +45,12 @@ abbrev pub IsObject : ℕ → Option Object → Type 0
 IsObject controls None = ⊥
 IsObject controls (Some o) = HasRoom controls o.state o.applied.items o.values.items
 
--- each entry has an object, and no two have an id or a key in common
+-- Each entry has an object, and no two have an id or a key in common
 abbrev pub AreKept : ℕ → Slab Object → List (ℕ × ℕ) → Type 0
 AreKept controls slots [] = Unit {0}
 AreKept controls slots (e ∷ es) = IsObject controls (get slots e.1) × (is_shared e es ≡ false) × AreKept controls slots es
+
+-- and no object is there that no entry names: there are as many
+pub record IsKept (controls : ℕ) (slots : Slab Object) (es : List (ℕ × ℕ)) : Type 0 where
+  pub named : AreKept controls slots es
+  pub counted : slab_len slots ≡ length es

@@ -2,6 +2,7 @@ ghost use Rattle.std.specs.Prelude.{◌≡◌, ◌&&◌, ◌<◌, ◌↔◌, IsT
 ghost use Rattle.ctrl_types.specs.declared.errno.Errno.TheVariants.{EACCES, EBUSY};
 ghost use Rattle.req_book.specs.Refusals.{store_refusal, queue_refusal, clear_refusal, snapshot_answer};
 ghost use Rattle.req_book.specs.Objects.{request_at, snapshot_seen};
+ghost use Rattle.req_book.specs.Alike.{compared};
 ghost use Rattle.req_book.specs.Requests.{is_number, is_idle, is_complete, value_in};
 ghost use Rattle.req_book.specs.declared.state.RequestState.TheVariants as states;
 
@@ -40,34 +41,24 @@ impl Object {
         }
     }
 
-    /// Whether it is seen as another is: what its frame had counts where it is complete. It takes no memory.
+    /// Whether it is seen as another is, but for what its begin applied: what its frame had counts where it is complete. It takes no memory.
     pub(crate) fn is_like(&self, other: &Object) -> bool
-        ensures { IsTrue result ↔ (request_at 0 self.now ≡ request_at 0 other.now) }
+        ensures { IsTrue result ↔ (compared (request_at 0 self.now) ≡ compared (request_at 0 other.now)) }
     {
         self.seen() == other.seen()
     }
 
-    // Its parts, as they are seen.
-    fn seen(
-        &self,
-    ) -> (
-        RequestState,
-        Option<u32>,
-        &[Pair],
-        &[Option<CtrlValue>],
-        &[CtrlValue],
-    )
+    // The parts that are compared, as they are seen.
+    fn seen(&self) -> (RequestState, Option<u32>, &[Pair], &[CtrlValue])
         ensures state { result.0 ≡ self.now.state }
         ensures buffer { result.1 ≡ self.now.buffer }
         ensures pairs { result.2.now ≡ self.now.pairs.items }
-        ensures applied { result.3.now ≡ self.now.applied.items }
-        ensures values { result.4.now ≡ snapshot_seen self.now.state self.now.values.items }
+        ensures values { result.3.now ≡ snapshot_seen self.now.state self.now.values.items }
     {
         (
             self.state,
             self.buffer,
             self.pairs.as_slice(),
-            self.applied.as_slice(),
             self.seen_values(),
         )
     }

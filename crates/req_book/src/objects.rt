@@ -5,6 +5,7 @@ ghost use Rattle.std.specs.List.{list_any};
 ghost use Rattle.indexmap.specs.IndexMap.{values};
 ghost use Rattle.slab.specs.Slab.{get};
 ghost use Rattle.req_book.specs.Objects.{request_at, held_by, HasRoom};
+ghost use Rattle.req_book.specs.Alike.{AreLike, compared};
 ghost use Rattle.req_book.specs.declared.state.RequestState.TheVariants as states;
 
 use crate::object::Object;
@@ -26,13 +27,13 @@ pub(crate) struct Objects {
 
 impl Model for Objects {
     ghost use Rattle.req_book.specs.Requests.{RequestsData};
-    ghost use Rattle.req_book.specs.Objects.{requests_in, AreKept};
+    ghost use Rattle.req_book.specs.Objects.{requests_in, IsKept};
 
     ghost Value = { RequestsData };
 
     ghost view = { λ o. record { controls = o.controls; all = requests_in o.slots o.ids.entries } };
 
-    ghost invariant = { λ o. AreKept o.controls o.slots o.ids.entries };
+    ghost invariant = { λ o. IsKept o.controls o.slots o.ids.entries };
 }
 
 impl Objects {
@@ -85,9 +86,9 @@ impl Objects {
         }
     }
 
-    // Whether the requests at a place are seen as the same, or there is none on either side.
+    // Whether the requests at a place are alike, or there is none on either side.
     fn is_like_at(&self, other: &Objects, place: usize) -> bool
-        ensures { IsTrue result ↔ (slice_get self.now.all place ≡ slice_get other.now.all place) }
+        ensures { IsTrue result ↔ (option_map compared (slice_get self.now.all place) ≡ option_map compared (slice_get other.now.all place)) }
     {
         match (self.entry(place), other.entry(place)) {
             (Some((own_id, own)), Some((id, object))) => own_id == id && own.is_like(object),
@@ -96,9 +97,9 @@ impl Objects {
         }
     }
 
-    // Whether the requests at the first places are seen as the same.
+    // Whether the requests at the first places are alike.
     fn is_like_below(&self, other: &Objects, count: usize) -> bool
-        ensures { IsTrue result ↔ ((place : ℕ) → place < count → slice_get self.now.all place ≡ slice_get other.now.all place) }
+        ensures { IsTrue result ↔ ((place : ℕ) → place < count → option_map compared (slice_get self.now.all place) ≡ option_map compared (slice_get other.now.all place)) }
     {
         for place in 0..count {
             if !self.is_like_at(other, place) {
@@ -108,9 +109,10 @@ impl Objects {
         true
     }
 
-    /// Whether another store has the same requests in the same order, and is for as many controls. It takes no memory.
+    /// Whether another store has the same requests in the same order, whatever their begins applied, and is for as many controls. It takes no
+    /// memory.
     pub(crate) fn is_like(&self, other: &Objects) -> bool
-        ensures { IsTrue result ↔ (self.now ≡ other.now) }
+        ensures { IsTrue result ↔ AreLike self.now other.now }
     {
         if self.controls() != other.controls() {
             return false;

@@ -3,6 +3,7 @@ ghost use Rattle.std.specs.List.{All};
 ghost use Rattle.req_book.specs.declared.state.RequestState.TheVariants as states;
 ghost use Rattle.req_book.specs.Requests.{find, changed, with_pairs, with_buffer, cleared, queued, begun, completed, is_pending, is_held, without, fresh};
 ghost use Rattle.req_book.specs.Refusals.{alloc_refusal, store_refusal, buffer_refusal, queue_refusal, clear_refusal, state_answer, buffer_answer, asked_answer, snapshot_answer, value_answer, IsRefusedBy, answered, unless};
+ghost use Rattle.req_book.specs.Alike.{AreLike};
 
 use crate::limits::MAX_REQUESTS;
 use crate::objects::Objects;
@@ -30,7 +31,10 @@ impl Model for Requests {
 }
 
 impl Requests {
-    /// No request is there. `controls` is the number of the device's controls. It takes no memory; other calls take theirs from `alloc`.
+    /// No request is there (of this project: a media device is made without any). It takes no memory and refuses nothing.
+    ///
+    /// - `alloc`: where `alloc`, `store` and `mark_queued` take theirs.
+    /// - `controls`: the number of the device's controls, any `u32`; those that are stored have numbers below it.
     pub fn new(alloc: Global, controls: u32) -> Requests
         ensures { result ≡ record { controls = controls; all = [] } }
     {
@@ -40,29 +44,33 @@ impl Requests {
         }
     }
 
-    /// The number of the device's controls.
+    /// The number of the device's controls, as it was given to `new` (of this project). It takes no memory and refuses nothing.
     pub fn controls(&self) -> u32
         ensures { result ≡ self.now.controls }
     {
         self.objects.controls()
     }
 
-    /// How many requests there are.
+    /// How many requests there are, at most 64 (of this project). It takes no memory and refuses nothing.
     pub fn count(&self) -> usize
         ensures { result ≡ length self.now.all }
     {
         self.objects.count()
     }
 
-    /// Whether another store has the same requests in the same order, with state, buffer, what they ask for and what their frames had, and
-    /// is for as many controls. It takes no memory.
+    /// Whether another store has the same requests in the same order, with state, buffer, what they ask for and, of complete ones, what their
+    /// frames had, and is for as many controls (of this project). What a begin applied doesn't count. It takes no memory and refuses nothing.
+    ///
+    /// - `other`: any store.
     pub fn is_like(&self, other: &Requests) -> bool
-        ensures { IsTrue result ↔ (self.now ≡ other.now) }
+        ensures { IsTrue result ↔ AreLike self.now other.now }
     {
         self.objects.is_like(&other.objects)
     }
 
-    /// A request's state. Refused by check 19 (EINVAL, 22).
+    /// A request's state (Linux userspace API, "Request API"). Refused by check 19 (EINVAL, 22). It takes no memory.
+    ///
+    /// - `id`: any request, there or not.
     pub fn state_of(&self, id: RequestId) -> Result<RequestState, Errno>
         ensures { result ≡ state_answer (find self.now.all id.0) }
     {
@@ -72,7 +80,10 @@ impl Requests {
         }
     }
 
-    /// The number of the buffer that a request holds, where it has one. Refused by check 19 (EINVAL, 22).
+    /// The number of the buffer that a request was given, where it was given one since it was made, or made as new; a complete one keeps it (Linux
+    /// userspace API, "Request API"; that it has one is of this project). Refused by check 19 (EINVAL, 22). It takes no memory.
+    ///
+    /// - `id`: any request, there or not.
     pub fn buffer_of(&self, id: RequestId) -> Result<Option<u32>, Errno>
         ensures { result ≡ buffer_answer (find self.now.all id.0) }
     {
@@ -82,14 +93,19 @@ impl Requests {
         }
     }
 
-    /// Whether a request that isn't complete holds a buffer number.
+    /// Whether a request that isn't complete holds a buffer number (of this project). It takes no memory and refuses nothing.
+    ///
+    /// - `number`: any number.
     pub fn is_held(&self, number: u32) -> bool
         ensures { result ≡ is_held self.now.all number }
     {
         self.objects.is_held(number)
     }
 
-    /// What a request asks for: of each control the last stored pair, in order of control numbers. Refused by check 19 (EINVAL, 22).
+    /// What a request asks for (Linux userspace API, "Request API"): of each control the last stored pair, in order of control numbers. Refused by
+    /// check 19 (EINVAL, 22). It takes no memory.
+    ///
+    /// - `id`: any request, there or not.
     pub fn asked(&self, id: RequestId) -> Result<&[Pair], Errno>
         ensures { MatchResult result (λ pairs. asked_answer (find self.now.all id.0) ≡ Ok pairs.now) (λ errno. asked_answer (find self.now.all id.0) ≡ Err errno) }
     {
@@ -99,7 +115,10 @@ impl Requests {
         }
     }
 
-    /// The value of each control that the frame of a complete request had. Refused by check 19 (EINVAL, 22) or 30 (EACCES, 13).
+    /// The value of each control that the frame of a complete request had, in the order of their numbers (Linux userspace API, "Request API": its
+    /// controls are read once it is complete). Refused by check 19 (EINVAL, 22) or 30 (EACCES, 13). It takes no memory.
+    ///
+    /// - `id`: any request, there or not.
     pub fn snapshot_values(&self, id: RequestId) -> Result<&[CtrlValue], Errno>
         ensures { MatchResult result (λ values. snapshot_answer (find self.now.all id.0) ≡ Ok values.now) (λ errno. snapshot_answer (find self.now.all id.0) ≡ Err errno) }
     {
@@ -109,7 +128,8 @@ impl Requests {
         }
     }
 
-    /// Why no further request is made: check 18 (ENOSPC, 28).
+    /// Why no further request is made: check 18 (ENOSPC, 28), the limit of 64 (of this project); none where nothing but want of memory refuses it. It
+    /// takes no memory.
     pub fn alloc_refusal(&self) -> Option<Errno>
         ensures { result ≡ alloc_refusal self.now.all }
     {
@@ -120,7 +140,10 @@ impl Requests {
         }
     }
 
-    /// Why a request takes no settings: check 19 (EINVAL, 22) or 20 (EBUSY, 16).
+    /// Why a request takes no settings (Linux userspace API, "Request API": a queued one can't be changed): check 19 (EINVAL, 22) or 20 (EBUSY, 16);
+    /// none where nothing but want of memory refuses them. It takes no memory.
+    ///
+    /// - `id`: any request, there or not.
     pub fn store_refusal(&self, id: RequestId) -> Option<Errno>
         ensures { result ≡ store_refusal (find self.now.all id.0) }
     {
@@ -130,7 +153,11 @@ impl Requests {
         }
     }
 
-    /// Why a request takes no buffer: check 19 (EINVAL, 22), or one of 20 to 22 (EBUSY, 16).
+    /// Why a request takes no buffer (Linux userspace API, "Request API"; that it has one, that no two hold a number, and the order are of this
+    /// project): check 19 (EINVAL, 22), or one of 20 to 22 (EBUSY, 16); none where it takes it. It takes no memory.
+    ///
+    /// - `id`: any request, there or not.
+    /// - `number`: any number.
     pub fn buffer_refusal(&self, id: RequestId, number: u32) -> Option<Errno>
         ensures { result ≡ buffer_refusal self.now.all number (find self.now.all id.0) }
     {
@@ -140,7 +167,10 @@ impl Requests {
         }
     }
 
-    /// Why a request isn't queued: check 19 (EINVAL, 22), 20 (EBUSY, 16) or 23 (ENOENT, 2).
+    /// Why a request isn't queued (Linux userspace API, "ioctl MEDIA_REQUEST_IOC_QUEUE"; the order is of this project): check 19 (EINVAL, 22), 20
+    /// (EBUSY, 16) or 23 (ENOENT, 2); none where nothing but want of memory refuses it. It takes no memory.
+    ///
+    /// - `id`: any request, there or not.
     pub fn queue_refusal(&self, id: RequestId) -> Option<Errno>
         ensures { result ≡ queue_refusal (find self.now.all id.0) }
     {
@@ -150,7 +180,10 @@ impl Requests {
         }
     }
 
-    /// Why a request is neither made as new nor freed: check 19 (EINVAL, 22) or 29 (EBUSY, 16).
+    /// Why a request is neither made as new nor let go (Linux userspace API, "ioctl MEDIA_REQUEST_IOC_REINIT"; that a queued or running one isn't let go is of
+    /// this project): check 19 (EINVAL, 22) or 29 (EBUSY, 16); none where nothing refuses it. It takes no memory.
+    ///
+    /// - `id`: any request, there or not.
     pub fn clear_refusal(&self, id: RequestId) -> Option<Errno>
         ensures { result ≡ clear_refusal (find self.now.all id.0) }
     {
@@ -160,11 +193,13 @@ impl Requests {
         }
     }
 
-    /// The value of a control that the frame of a complete request had.
+    /// The value of a control that the frame of a complete request had (Linux userspace API, "Request API": its controls are read once it is complete):
+    /// of one that its begin applied that value, of any other the value in force at the completion.
     ///
-    /// - `control`: the number of a control.
+    /// - `id`: any request, there or not.
+    /// - `control`: any number, of a control or not.
     ///
-    /// Refused by check 19 or 13 (EINVAL, 22), or 30 (EACCES, 13).
+    /// Refused by check 19 or 13 (EINVAL, 22), or 30 (EACCES, 13). It takes no memory.
     pub fn snapshot(&self, id: RequestId, control: u32) -> Result<CtrlValue, Errno>
         ensures { result ≡ value_answer self.now.controls control (find self.now.all id.0) }
     {
@@ -174,8 +209,11 @@ impl Requests {
         }
     }
 
-    /// Makes a request: idle, without a buffer, and with nothing asked (`MEDIA_IOC_REQUEST_ALLOC`). The caller owes an `id` that no request
-    /// has. Refused by check 18 (ENOSPC, 28) or 34 (ENOMEM, 12), which changes nothing.
+    /// Makes a request, the last: idle, without a buffer, and with nothing asked (Linux userspace API, "ioctl MEDIA_IOC_REQUEST_ALLOC").
+    ///
+    /// - `id`: its number; the caller owes one that no request has.
+    ///
+    /// Refused by check 18 (ENOSPC, 28) or 34 (ENOMEM, 12), which changes nothing.
     pub fn alloc(&mut self, id: RequestId) -> Result<(), Errno>
         requires { find self.old.all id.0 ≡ None }
         ensures ok { OnOk result ((alloc_refusal self.old.all ≡ None) × (self.new ≡ record self.old { all = self.old.all ++ fresh id.0 ∷ [] })) }
@@ -190,9 +228,10 @@ impl Requests {
         }
     }
 
-    /// Stores values that a request asks for (`VIDIOC_S_EXT_CTRLS` with `V4L2_CTRL_WHICH_REQUEST_VAL`): of each control the last stored pair
-    /// counts.
+    /// Stores values that a request asks for (Linux userspace API, "Request API"; `VIDIOC_S_EXT_CTRLS` with `V4L2_CTRL_WHICH_REQUEST_VAL`): of each
+    /// control the last stored pair counts.
     ///
+    /// - `id`: any request, there or not.
     /// - `pairs`: any number, a control any number of times; the caller owes numbers of controls.
     ///
     /// Refused by check 19 (EINVAL, 22), 20 (EBUSY, 16) or 34 (ENOMEM, 12), which changes nothing.
@@ -210,8 +249,13 @@ impl Requests {
         }
     }
 
-    /// Gives a request the buffer with a number (`VIDIOC_QBUF` with `request_fd`; that it has one, and that no two hold a number, is of this
-    /// project). Refused by check 19 (EINVAL, 22), or one of 20 to 22 (EBUSY, 16), which changes nothing. It takes no memory.
+    /// Gives a request the buffer with a number (Linux userspace API, "Request API"; `VIDIOC_QBUF` with `request_fd`; that it has one, and that no two
+    /// hold a number, is of this project).
+    ///
+    /// - `id`: any request, there or not.
+    /// - `number`: any number.
+    ///
+    /// Refused by check 19 (EINVAL, 22), or one of 20 to 22 (EBUSY, 16), which changes nothing. It takes no memory.
     pub fn add_buffer(&mut self, id: RequestId, number: u32) -> Result<(), Errno>
         ensures answer { result ≡ answered (buffer_refusal self.old.all number (find self.old.all id.0)) }
         ensures requests { self.new ≡ unless (buffer_refusal self.old.all number (find self.old.all id.0)) self.old (changed self.old id.0 (with_buffer number)) }
@@ -225,8 +269,12 @@ impl Requests {
         }
     }
 
-    /// Makes a request as new (`MEDIA_REQUEST_IOC_REINIT`). Refused by check 19 (EINVAL, 22) or 29 (EBUSY, 16), which changes nothing. It
-    /// takes no memory.
+    /// Makes a request as new (Linux userspace API, "ioctl MEDIA_REQUEST_IOC_REINIT"): idle, without a buffer, and with nothing asked; it keeps its place
+    /// among the others.
+    ///
+    /// - `id`: any request, there or not.
+    ///
+    /// Refused by check 19 (EINVAL, 22) or 29 (EBUSY, 16), which changes nothing. It takes no memory.
     pub fn reinit(&mut self, id: RequestId) -> Result<(), Errno>
         ensures answer { result ≡ answered (clear_refusal (find self.old.all id.0)) }
         ensures requests { self.new ≡ unless (clear_refusal (find self.old.all id.0)) self.old (changed self.old id.0 cleared) }
@@ -240,8 +288,11 @@ impl Requests {
         }
     }
 
-    /// Lets a request go (`close` of its descriptor; that a queued or running one is refused is of this project). Refused by check 19 (EINVAL,
-    /// 22) or 29 (EBUSY, 16), which changes nothing. It takes no memory.
+    /// Lets a request go: its id names nothing then (Linux userspace API, "request close()"; that a queued or running one is refused is of this project).
+    ///
+    /// - `id`: any request, there or not.
+    ///
+    /// Refused by check 19 (EINVAL, 22) or 29 (EBUSY, 16), which changes nothing. It takes no memory.
     pub fn free(&mut self, id: RequestId) -> Result<(), Errno>
         ensures answer { result ≡ answered (clear_refusal (find self.old.all id.0)) }
         ensures requests { self.new ≡ unless (clear_refusal (find self.old.all id.0)) self.old (record self.old { all = without id.0 self.old.all }) }
@@ -255,8 +306,12 @@ impl Requests {
         }
     }
 
-    /// Marks a request as one that waits for its frame (`MEDIA_REQUEST_IOC_QUEUE`), and makes room for what its frame will have. For the
-    /// queue of frames alone. Refused by check 19 (EINVAL, 22), 20 (EBUSY, 16), 23 (ENOENT, 2) or 34 (ENOMEM, 12), which changes nothing.
+    /// Marks a request as one that waits for its frame (Linux userspace API, "ioctl MEDIA_REQUEST_IOC_QUEUE"), and makes room for what its frame will
+    /// have. For the queue of frames alone.
+    ///
+    /// - `id`: any request, there or not.
+    ///
+    /// Refused by check 19 (EINVAL, 22), 20 (EBUSY, 16), 23 (ENOENT, 2) or 34 (ENOMEM, 12), which changes nothing.
     pub fn mark_queued(&mut self, id: RequestId) -> Result<(), Errno>
         ensures ok { OnOk result ((queue_refusal (find self.old.all id.0) ≡ None) × (self.new ≡ changed self.old id.0 (queued self.old.controls))) }
         ensures err { IfErr result (λ errno. IsRefusedBy (queue_refusal (find self.old.all id.0)) errno × (self.new ≡ self.old)) }
@@ -277,9 +332,9 @@ impl Requests {
         }
     }
 
-    /// Marks a request as the one whose frame is being made, in which controls got values. For the queue of frames alone. The caller owes a
-    /// queued one.
+    /// Marks a request as the one whose frame is being made, in which controls got values (of this project). For the queue of frames alone.
     ///
+    /// - `id`: the request; the caller owes a queued one, or one that isn't there, of which nothing is changed.
     /// - `applied`: the values that controls got; the last pair of a control counts.
     ///
     /// It takes no memory and refuses nothing.
@@ -290,9 +345,10 @@ impl Requests {
         self.objects.begin(id.0, applied);
     }
 
-    /// Marks a request as complete, whose frame has the values that it got at its begin, and else those that are handed in. For the queue of
-    /// frames alone. The caller owes a queued or a running one.
+    /// Marks a request as complete, whose frame has the values that it got at its begin, and else those that are handed in (Linux userspace API,
+    /// "Request API": it is complete once its frame is done). For the queue of frames alone.
     ///
+    /// - `id`: the request; the caller owes a queued or a running one, or one that isn't there, of which nothing is changed.
     /// - `values`: the present values; the caller owes one for each control, in the order of their numbers.
     ///
     /// It takes no memory and refuses nothing.

@@ -82,6 +82,17 @@ const PASTS: &[Past] = &[
             Call::Begin(&[]),
         ],
     ),
+    // what a begin applied doesn't count, but in a snapshot that it makes another
+    (
+        13,
+        CONTROLS,
+        &[
+            Call::Alloc(0),
+            Call::Buffer(0, 5),
+            Call::Queue(0),
+            Call::Begin(FIRST),
+        ],
+    ),
     (
         14,
         CONTROLS,
@@ -90,6 +101,28 @@ const PASTS: &[Past] = &[
             Call::Buffer(0, 5),
             Call::Queue(0),
             Call::Begin(FIRST),
+            Call::Complete(7),
+        ],
+    ),
+    (
+        20,
+        CONTROLS,
+        &[
+            Call::Alloc(0),
+            Call::Buffer(0, 5),
+            Call::Queue(0),
+            Call::Begin(FIRST),
+            Call::Complete(1),
+        ],
+    ),
+    (
+        20,
+        CONTROLS,
+        &[
+            Call::Alloc(0),
+            Call::Buffer(0, 5),
+            Call::Queue(0),
+            Call::Cancel(0, 1),
         ],
     ),
     (

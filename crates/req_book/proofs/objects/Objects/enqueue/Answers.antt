@@ -8,16 +8,16 @@ use Rattle.ctrl_types.specs.Values.{CtrlValue}
 use Rattle.slab.specs.Slab.{with_value}
 use Rattle.req_book.specs.declared.object.Object.{Object}
 use Rattle.req_book.specs.declared.state.RequestState.TheVariants.{Idle, Queued}
-use Rattle.req_book.specs.Objects.{requests_in, snapshot_seen, AreKept}
+use Rattle.req_book.specs.Objects.{requests_in, snapshot_seen, IsKept}
 
 abbrev object : goal.After-drop-object-in-Some-get_mut → Object
 object c = record c.in-Some-get_mut.object.now { state = Queued; applied = c.args.applied; values = c.args.values }
 
-made : (c : goal.After-drop-object-in-Some-get_mut) → AreKept c.self.inside.controls (with_value c.self.inside.slots c.in-Some.key.now (object c)) c.self.inside.ids.entries
+made : (c : goal.After-drop-object-in-Some-get_mut) → IsKept c.self.inside.controls (with_value c.self.inside.slots c.in-Some.key.now (object c)) c.self.inside.ids.entries
     × (◌≡◌ {A = RequestsData} (record { controls = c.self.inside.controls; all = requests_in (with_value c.self.inside.slots c.in-Some.key.now (object c)) c.self.inside.ids.entries }) (changed c.args.self.now c.args.id (queued c.args.self.now.controls)))
 made c =
     let before = c.in-Some-get_mut.object.now in
-    let state : before.state ≡ Idle = owed c.self.inside.controls c.self.inside.slots c.self.inside.ids.entries c.args.self.now c.args.id c.in-Some.key.now before (λ r. r.state ≡ Idle) c.self.view_is c.self.invariant c.in-Some.ensures.value c.in-Some-get_mut.ensures.value c.requires.state in
+    let state : before.state ≡ Idle = owed c.self.inside.controls c.self.inside.slots c.self.inside.ids.entries c.args.self.now c.args.id c.in-Some.key.now before (λ r. r.state ≡ Idle) c.self.view_is c.self.invariant.named c.in-Some.ensures.value c.in-Some-get_mut.ensures.value c.requires.state in
     let same : c.args.self.now.controls ≡ c.self.inside.controls = ap (λ (r : RequestsData). r.controls) (sym c.self.view_is) in
     let seen : List (Option CtrlValue) → List CtrlValue → RequestData = λ a s. record { id = c.args.id; state = Queued; buffer = before.buffer; pairs = before.pairs.items; applied = a; snapshot = s } in
     done c.self.inside.controls c.self.inside.slots c.self.inside.ids.entries c.args.self.now c.args.id c.in-Some.key.now before (object c) (queued c.args.self.now.controls)
@@ -32,7 +32,7 @@ pub returns-in-Some-get_mut : goal.returns-in-Some-get_mut
 returns-in-Some-get_mut c = (made c).1
 
 pub returns-in_default-get_mut : goal.returns-in_default-get_mut
-returns-in_default-get_mut c = absurd (never_empty c.self.inside.controls c.self.inside.slots c.self.inside.ids.entries c.args.id c.in-Some.key.now c.self.invariant c.in-Some.ensures.value c.in_default-get_mut.ensures.value)
+returns-in_default-get_mut c = absurd (never_empty c.self.inside.controls c.self.inside.slots c.self.inside.ids.entries c.args.id c.in-Some.key.now c.self.invariant.named c.in-Some.ensures.value c.in_default-get_mut.ensures.value)
 
 pub returns-in_default : goal.returns-in_default
-returns-in_default c = undone c.self.inside.controls c.self.inside.slots c.self.inside.ids.entries c.args.self.now c.args.id (queued c.args.self.now.controls) c.self.view_is c.self.invariant c.in_default.ensures.value
+returns-in_default c = undone c.self.inside.controls c.self.inside.slots c.self.inside.ids.entries c.args.self.now c.args.id (queued c.args.self.now.controls) c.self.view_is c.self.invariant.named c.in_default.ensures.value

@@ -10,7 +10,7 @@ returns-in-Some-get c =
     let o = c.self.inside in
     rw (← c.self.view_is)
     (sym
-    (at_place o.controls o.slots o.ids.entries c.args.place c.self.invariant ∙ ap (λ (e : Option (ℕ × ℕ)). option_and_then (request_in o.slots) e) (sym c.in-Some.ensures.entry)
+    (at_place o.controls o.slots o.ids.entries c.args.place c.self.invariant.named ∙ ap (λ (e : Option (ℕ × ℕ)). option_and_then (request_in o.slots) e) (sym c.in-Some.ensures.entry)
     ∙ ap (λ (x : Option Object). option_map (request_at c.in-Some.id.now) x) (sym c.in-Some-get.ensures)))
 
 pub returns-in-None-get : goal.returns-in-None-get
@@ -18,11 +18,11 @@ returns-in-None-get c =
     let o = c.self.inside in
     rw (← c.self.view_is)
     (sym
-    (at_place o.controls o.slots o.ids.entries c.args.place c.self.invariant ∙ ap (λ (e : Option (ℕ × ℕ)). option_and_then (request_in o.slots) e) (sym c.in-Some.ensures.entry)
+    (at_place o.controls o.slots o.ids.entries c.args.place c.self.invariant.named ∙ ap (λ (e : Option (ℕ × ℕ)). option_and_then (request_in o.slots) e) (sym c.in-Some.ensures.entry)
     ∙ ap (λ (x : Option Object). option_map (request_at c.in-Some.id.now) x) (sym c.in-None-get.ensures)))
 
 pub returns-in-None : goal.returns-in-None
 returns-in-None c =
     let o = c.self.inside in
     rw (← c.self.view_is)
-    (sym (at_place o.controls o.slots o.ids.entries c.args.place c.self.invariant ∙ ap (λ (e : Option (ℕ × ℕ)). option_and_then (request_in o.slots) e) (sym c.in-None.ensures.entry)))
+    (sym (at_place o.controls o.slots o.ids.entries c.args.place c.self.invariant.named ∙ ap (λ (e : Option (ℕ × ℕ)). option_and_then (request_in o.slots) e) (sym c.in-None.ensures.entry)))

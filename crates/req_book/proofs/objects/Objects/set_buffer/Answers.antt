@@ -4,12 +4,12 @@ use Rattle.req_book.proofs.ObjectLemmas.{done, undone, never_empty}
 use Rattle.req_book.proofs.objects.Objects.set_buffer.Goals as goal
 use Rattle.slab.specs.Slab.{with_value}
 use Rattle.req_book.specs.declared.object.Object.{Object}
-use Rattle.req_book.specs.Objects.{requests_in, AreKept}
+use Rattle.req_book.specs.Objects.{requests_in, IsKept}
 
 abbrev object : goal.After-self-in-Some-get_mut-1 → Object
 object c = record c.in-Some-get_mut.object.now { buffer = Some c.args.number }
 
-made : (c : goal.After-self-in-Some-get_mut-1) → AreKept c.self.inside.controls (with_value c.self.inside.slots c.in-Some.key.now (object c)) c.self.inside.ids.entries
+made : (c : goal.After-self-in-Some-get_mut-1) → IsKept c.self.inside.controls (with_value c.self.inside.slots c.in-Some.key.now (object c)) c.self.inside.ids.entries
     × (◌≡◌ {A = RequestsData} (record { controls = c.self.inside.controls; all = requests_in (with_value c.self.inside.slots c.in-Some.key.now (object c)) c.self.inside.ids.entries }) (changed c.args.self.now c.args.id (with_buffer c.args.number)))
 made c =
     done c.self.inside.controls c.self.inside.slots c.self.inside.ids.entries c.args.self.now c.args.id c.in-Some.key.now c.in-Some-get_mut.object.now (object c) (with_buffer c.args.number)
@@ -22,7 +22,7 @@ pub returns-in-Some-get_mut : goal.returns-in-Some-get_mut
 returns-in-Some-get_mut c = (made c).1
 
 pub returns-in_default-get_mut : goal.returns-in_default-get_mut
-returns-in_default-get_mut c = absurd (never_empty c.self.inside.controls c.self.inside.slots c.self.inside.ids.entries c.args.id c.in-Some.key.now c.self.invariant c.in-Some.ensures.value c.in_default-get_mut.ensures.value)
+returns-in_default-get_mut c = absurd (never_empty c.self.inside.controls c.self.inside.slots c.self.inside.ids.entries c.args.id c.in-Some.key.now c.self.invariant.named c.in-Some.ensures.value c.in_default-get_mut.ensures.value)
 
 pub returns-in_default : goal.returns-in_default
-returns-in_default c = undone c.self.inside.controls c.self.inside.slots c.self.inside.ids.entries c.args.self.now c.args.id (with_buffer c.args.number) c.self.view_is c.self.invariant c.in_default.ensures.value
+returns-in_default c = undone c.self.inside.controls c.self.inside.slots c.self.inside.ids.entries c.args.self.now c.args.id (with_buffer c.args.number) c.self.view_is c.self.invariant.named c.in_default.ensures.value
