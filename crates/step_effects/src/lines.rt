@@ -73,9 +73,9 @@ pub fn change_kept<D: Driver>(
             take_frames(plan, values, grabs, step, board, work);
             Ok(())
         }
-        Err(_) => {
+        Err(error) => {
             unqueue_frame(plan, values, grabs, step, board, work);
-            Err(AllocError)
+            Err(error)
         }
     }
 }

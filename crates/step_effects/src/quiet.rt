@@ -21,6 +21,7 @@ use ctrl_raises::{Moment, initial_changes, payload_at};
 use ctrl_types::{CtrlValue, Errno, FhId, RequestId, SubFlags};
 use device_history::Step;
 use frame_queue::Frames;
+use std::alloc::AllocError;
 
 /// Changes the requests, the queue and the events as a step does that leaves file handles, grabs and values (Linux userspace API, "Request API",
 /// "ioctl VIDIOC_SUBSCRIBE_EVENT, VIDIOC_UNSUBSCRIBE_EVENT", "ioctl VIDIOC_DQEVENT").
@@ -33,7 +34,7 @@ use frame_queue::Frames;
 /// - `events`: the events of file handles; the caller owes that the number of each one's next event is at most 4294967295 less the number of
 ///   controls.
 ///
-/// The error is that a growth was refused, ENOMEM (12); nothing was changed then.
+/// The error is that a growth was refused; nothing was changed then.
 pub fn change_quiet<D: Driver>(
     plan: &Plan<D>,
     values: &[CtrlValue],
@@ -42,7 +43,7 @@ pub fn change_quiet<D: Driver>(
     step: &Step,
     frames: &mut Frames,
     events: &mut Events,
-) -> Result<(), Errno>
+) -> Result<(), AllocError>
     requires quiet { is_quiet step.now ≡ true }
     requires fits { FitsIn number step.now frames.old }
     requires known { NamesKnown (length plan.now.controls) step.now }
@@ -73,8 +74,26 @@ pub fn change_quiet<D: Driver>(
     }
 }
 
-// Changes the requests and the queue, as a step about them does.
+// Changes the requests and the queue, as a step about them does. The error is that a growth was refused.
 fn change_frames(
+    frames: &mut Frames,
+    values: &[CtrlValue],
+    number: u32,
+    step: &Step,
+) -> Result<(), AllocError>
+    requires fits { FitsIn number step.now frames.old }
+    requires values { length values.now ≡ frames.old.requests.controls }
+    ensures ok { OnOk result (frames.new ≡ frames_changed values.now [] number step.now frames.old) }
+    ensures err { OnErr result (frames.new ≡ frames.old) }
+{
+    match ask_frames(frames, values, number, step) {
+        Ok(()) => Ok(()),
+        Err(_) => Err(AllocError),
+    }
+}
+
+// The same, with the errno that the requests answer; a step that may follow the history is only refused where memory is wanting.
+fn ask_frames(
     frames: &mut Frames,
     values: &[CtrlValue],
     number: u32,
@@ -117,7 +136,7 @@ fn subscribe<D: Driver>(
     control: u32,
     flags: SubFlags,
     events: &mut Events,
-) -> Result<(), Errno>
+) -> Result<(), AllocError>
     requires known { control < length plan.now.controls }
     requires values { length at.now.values ≡ length plan.now.controls }
     requires grabs { length at.now.grabs ≡ length plan.now.controls }
@@ -128,7 +147,10 @@ fn subscribe<D: Driver>(
 {
     let payload = payload_at(plan, at, control);
     let changes = initial_changes(plan, control);
-    events.subscribe(fh, control, flags, changes, &payload)
+    match events.subscribe(fh, control, flags, changes, &payload) {
+        Ok(()) => Ok(()),
+        Err(_) => Err(AllocError),
+    }
 }
 
 // Ends the subscription of a file handle, where a control is named.

@@ -27,6 +27,7 @@ use ctrl_raises::Moment;
 use ctrl_types::{CtrlValue, Errno, Fault, FhId, Pair, RequestId, Which};
 use device_history::{PairList, Reply, Step};
 use history::Entry;
+use std::alloc::AllocError;
 use step_effects::{clusters_of, copied_values, raise_step};
 
 impl<D: Driver> Device<D> {
@@ -372,7 +373,7 @@ impl<D: Driver> Device<D> {
         Ok(touch)
     }
 
-    // Gives the clusters that a list touches their rows, after the refusals.
+    // Gives the clusters that a list touches their rows, after the refusals. The error is that a growth was refused.
     fn accept_list(
         &mut self,
         seat: u32,
@@ -381,7 +382,7 @@ impl<D: Driver> Device<D> {
         request: Option<RequestId>,
         list: &ControlList,
         touch: Touched,
-    ) -> Result<ControlList, Errno>
+    ) -> Result<ControlList, AllocError>
         requires settable { IsSettable D.verdict self.old.plan (past self.old.steps) fh which request list.now touch }
         requires present { meant (which_or (which_of which)) request ≡ None }
         requires fresh { self.old.work.told ≡ 0 }
@@ -389,12 +390,8 @@ impl<D: Driver> Device<D> {
         ensures ok { OnOk result (SetsAll D.verdict D.told self.old self.new seat fh touch) }
         ensures err { OnErr result (self.new ≡ self.old) }
     {
-        let Ok(values) = copied_values(self.alloc, self.values.as_slice()) else {
-            return Err(Errno::ENOMEM);
-        };
-        let Ok(clusters) = clusters_of(self.alloc, touch.rows()) else {
-            return Err(Errno::ENOMEM);
-        };
+        let values = copied_values(self.alloc, self.values.as_slice())?;
+        let clusters = clusters_of(self.alloc, touch.rows())?;
         self.write_list(seat, fh, which, request, list, touch, values, clusters)
     }
 
@@ -409,7 +406,7 @@ impl<D: Driver> Device<D> {
         touch: Touched,
         mut values: Vec<CtrlValue>,
         clusters: Vec<u32>,
-    ) -> Result<ControlList, Errno>
+    ) -> Result<ControlList, AllocError>
         requires settable { IsSettable D.verdict self.old.plan (past self.old.steps) fh which request list.now touch }
         requires present { meant (which_or (which_of which)) request ≡ None }
         requires fresh { self.old.work.told ≡ 0 }
@@ -419,9 +416,7 @@ impl<D: Driver> Device<D> {
         ensures ok { OnOk result (SetsAll D.verdict D.told self.old self.new seat fh touch) }
         ensures err { OnErr result (self.new ≡ self.old) }
     {
-        if self.steps.reserve(1).is_err() {
-            return Err(Errno::ENOMEM);
-        }
+        self.steps.reserve(1)?;
         notify_changed(
             &self.plan,
             self.values.as_slice(),
@@ -461,7 +456,7 @@ impl<D: Driver> Device<D> {
         Ok(controls)
     }
 
-    // Sets a list, or stores its pairs in the request that it speaks of, after the refusals.
+    // Sets a list, or stores its pairs in the request that it speaks of, after the refusals. The error is that a growth was refused.
     fn accept_set(
         &mut self,
         seat: u32,
@@ -470,7 +465,7 @@ impl<D: Driver> Device<D> {
         request: Option<RequestId>,
         list: &ControlList,
         touch: Touched,
-    ) -> Result<ControlList, Errno>
+    ) -> Result<ControlList, AllocError>
         requires settable { IsSettable D.verdict self.old.plan (past self.old.steps) fh which request list.now touch }
         requires fresh { self.old.work.told ≡ 0 }
         ensures answers { IfOk result (λ controls. controls ≡ touch.answers) }
@@ -483,7 +478,7 @@ impl<D: Driver> Device<D> {
         }
     }
 
-    // Stores the pairs of a list in a request, after the refusals.
+    // Stores the pairs of a list in a request, after the refusals. The error is that a growth was refused.
     fn accept_store(
         &mut self,
         seat: u32,
@@ -493,7 +488,7 @@ impl<D: Driver> Device<D> {
         stored: RequestId,
         list: &ControlList,
         touch: Touched,
-    ) -> Result<ControlList, Errno>
+    ) -> Result<ControlList, AllocError>
         requires settable { IsSettable D.verdict self.old.plan (past self.old.steps) fh which request list.now touch }
         requires through { meant (which_or (which_of which)) request ≡ Some stored }
         ensures answers { IfOk result (λ controls. controls ≡ touch.answers) }

@@ -21,6 +21,7 @@ use ctrl_types::{CtrlValue, Errno, Fault, Pair, RequestId};
 use device_history::{Ask, Reply, Step};
 use frame_queue::RequestState;
 use history::Entry;
+use std::alloc::AllocError;
 use step_effects::change_kept;
 
 impl<D: Driver> Device<D> {
@@ -184,8 +185,8 @@ impl<D: Driver> Device<D> {
         }
     }
 
-    // Adds such a step, after the refusals.
-    pub(super) fn accept(&mut self, seat: u32, step: Step) -> Result<(), Errno>
+    // Adds such a step, after the refusals. The error is that a growth was refused.
+    pub(super) fn accept(&mut self, seat: u32, step: Step) -> Result<(), AllocError>
         requires quiet { is_quiet step ≡ true }
         requires follows { MayFollow D.verdict self.old.plan (past self.old.steps) step }
         requires room { is_full (past self.old.steps) ≡ false }
@@ -197,9 +198,7 @@ impl<D: Driver> Device<D> {
         ensures told { self.new.work.told ≡ self.old.work.told }
     {
         let number = self.steps.len() as u32;
-        if self.steps.reserve(1).is_err() {
-            return Err(Errno::ENOMEM);
-        }
+        self.steps.reserve(1)?;
         let mut work = Work::new();
         let changed = change_kept(
             &self.plan,
@@ -218,7 +217,7 @@ impl<D: Driver> Device<D> {
                 self.steps.push_reserved(Entry { seat, step });
                 Ok(())
             }
-            Err(_) => Err(Errno::ENOMEM),
+            Err(error) => Err(error),
         }
     }
 }

@@ -86,7 +86,7 @@ impl<'a, D: Driver> Replay<'a, D> {
         ensures err { OnErr result (self.new ≡ self.old) }
     {
         let number = self.count as u32;
-        let changed = change_quiet(
+        change_quiet(
             self.plan,
             self.values.as_slice(),
             self.grabs.as_slice(),
@@ -94,13 +94,8 @@ impl<'a, D: Driver> Replay<'a, D> {
             &entry.step,
             &mut self.frames,
             &mut self.events,
-        );
-        match changed {
-            Ok(()) => {
-                self.count += 1;
-                Ok(())
-            }
-            Err(_) => Err(AllocError),
-        }
+        )?;
+        self.count += 1;
+        Ok(())
     }
 }

@@ -1,5 +1,4 @@
 use Rattle.std.proofs.Common.{◌∙◌, ap}
-use Rattle.std.proofs.lemmas.Result.{on_ok_weaker}
 use Rattle.ctrl_types.specs.declared.changes.Changes.{Changes}
 use Rattle.ctrl_events.specs.declared.event.Payload.{Payload}
 use Rattle.ctrl_events.specs.Events.{after_subscribe, events_of, only_at}
@@ -9,11 +8,9 @@ use Rattle.step_effects.proofs.RaisedLemmas.{subscribed_step}
 use Rattle.step_effects.proofs.quiet.subscribe.Goals as goal
 
 -- the file handle is subscribed, and told where it asks for it
-pub returns-clause-ok : goal.returns-clause-ok
-returns-clause-ok g c = on_ok_weaker c.subscribe.result
-    (λ made verdicts e older is v gs j.
-    made j.0
+pub returns-in-Ok-clause-ok : goal.returns-in-Ok-clause-ok
+returns-in-Ok-clause-ok g c verdicts e older is v gs j =
+    c.in-Ok.ensures.ok j.0
     ∙ ap (λ (x : Changes). only_at c.args.fh.0 (after_subscribe c.args.control c.args.flags x c.payload_at-payload.result) j.0 (events_of c.args.events.now j.0)) c.initial_changes-changes.ensures
     ∙ ap (λ (x : Payload). only_at c.args.fh.0 (after_subscribe c.args.control c.args.flags (initial_changes (control c.args.plan.now c.args.control)) x) j.0 (events_of c.args.events.now j.0)) c.payload_at-payload.ensures
-    ∙ subscribed_step verdicts c.args.plan.now e older c.args.at.now c.args.fh c.args.control c.args.flags j (events_of c.args.events.now j.0) is v gs)
-    c.subscribe.ensures.ok
+    ∙ subscribed_step verdicts c.args.plan.now e older c.args.at.now c.args.fh c.args.control c.args.flags j (events_of c.args.events.now j.0) is v gs
