@@ -1,6 +1,7 @@
-ghost use Rattle.std.specs.Prelude.{◌≡◌, position};
+ghost use Rattle.std.specs.Prelude.{◌≡◌, position, slice_get};
+ghost use Rattle.std.specs.Option.{option_map};
 ghost use Rattle.std.specs.Str.{bytes_eq};
-ghost use Rattle.sample_device.specs.Words.{sample_id as sample_id_of, sample_number as sample_number_of};
+ghost use Rattle.sample_device.specs.Words.{sample_id as sample_id_of, sample_number as sample_number_of, sample_words};
 
 use ctrl_types::CtrlId;
 
@@ -49,6 +50,13 @@ pub fn sample_number(word: &[u8]) -> Option<u32>
         Some(place) => Some(place as u32),
         None => None,
     }
+}
+
+/// The word of a control of the sample device, by its number; none for another number.
+pub fn sample_word(number: u32) -> Option<&'static [u8]>
+    ensures { option_map (λ word. word.now) result ≡ slice_get sample_words number }
+{
+    WORDS.get(number as usize).copied()
 }
 
 /// The first of some words that is this one, by its place; none where it isn't among them.

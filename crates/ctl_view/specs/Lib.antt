@@ -1,0 +1,1 @@
+pub use Rattle.ctl_view.specs.Marks

@@ -1,0 +1,18 @@
+-- How a control fares in a queued frame (of this project).
+use Rattle.std.specs.Prelude.{Bool, if◌then◌else◌, not, ◌&&◌, is_some}
+use Rattle.std.specs.Ordering.{int_eq, bool_eq}
+use Rattle.ctl_view.specs.declared.cell.Cell.{Cell}
+use Rattle.ctl_view.specs.declared.cell.Look.{Look}
+use Rattle.ctl_view.specs.declared.cell.Mark.{Mark}
+use Rattle.ctl_view.specs.declared.cell.Mark.TheVariants as marks
+
+-- the same value, and INACTIVE in both or in neither
+abbrev pub is_same : Look → Look → Bool
+is_same before behind = int_eq before.value behind.value && bool_eq before.is_inactive behind.is_inactive
+
+-- a value that is asked for in vain comes first: the control is as before then
+abbrev pub mark : Cell → Mark
+mark cell =
+    if cell.is_refused && is_some cell.asked then marks.Refused
+    else if is_same cell.before cell.behind then marks.Stays
+    else marks.Changes

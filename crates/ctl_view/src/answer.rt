@@ -1,0 +1,49 @@
+//! What a line of a script is answered.
+
+ghost use Rattle.std.specs.Prelude.{◌≤◌, length};
+
+use ctl_script::{Binding, Bindings, ask_of, audit_of};
+use ctrl_calls::Driver;
+use ctrl_types::Fault;
+use device_state::{Ask, Device, Reply};
+use script_lines::{LineFault, read_line};
+use script_replies::Audited;
+use std::alloc::Global;
+
+// The seat at which the commands are asked.
+const SEAT: u32 = 0;
+
+/// What a line came to.
+#[derive(Drop)]
+pub enum Said {
+    /// It is skipped.
+    Nothing,
+    /// An audit was made.
+    Audit(Audited),
+    /// The device was asked.
+    Answer(Ask, Result<Reply, Fault>),
+}
+
+/// Asks what a line says, as `run_script` of `ctl_script` does, and binds its names. All that it needs of memory is taken before the device is asked.
+pub fn answer_line<D: Driver>(
+    alloc: Global,
+    device: &mut Device<D>,
+    names: &mut Bindings,
+    line: &[u8],
+) -> Result<Said, LineFault>
+    requires { length line.now ≤ 1048576 }
+{
+    let Some(command) = read_line(alloc, line)? else {
+        return Ok(Said::Nothing);
+    };
+    let binding = Binding::of(&command);
+    if binding.enter(names).is_err() {
+        return Err(LineFault::Memory);
+    }
+    let Some(ask) = ask_of(command, names) else {
+        return Ok(Said::Audit(audit_of(alloc, device)));
+    };
+    let answer = device.handle(SEAT, &ask);
+    binding.bind(names, &answer);
+    Ok(Said::Answer(ask, answer))
+}
