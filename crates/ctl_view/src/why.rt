@@ -1,7 +1,6 @@
 //! Why an ask was refused, in words.
 
 use crate::reply::wanted_by;
-
 use crate::words::{control_of, members_beside, put_name, word_of};
 use ask_reasons::{Check, Reason};
 use ctrl_calls::Driver;
