@@ -1,1 +1,1 @@
-pub use Rattle.ctl_view.specs.Marks
+pub mod Marks

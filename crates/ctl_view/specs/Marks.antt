@@ -1,6 +1,6 @@
 -- How a control fares in a queued frame (of this project).
 use Rattle.std.specs.Prelude.{Bool, if◌then◌else◌, not, ◌&&◌, is_some}
-use Rattle.std.specs.Ordering.{int_eq, bool_eq}
+use Rattle.std.specs.Ordering.{int_eq}
 use Rattle.ctl_view.specs.declared.cell.Cell.{Cell}
 use Rattle.ctl_view.specs.declared.cell.Look.{Look}
 use Rattle.ctl_view.specs.declared.cell.Mark.{Mark}
@@ -8,7 +8,7 @@ use Rattle.ctl_view.specs.declared.cell.Mark.TheVariants as marks
 
 -- the same value, and INACTIVE in both or in neither
 abbrev pub is_same : Look → Look → Bool
-is_same before behind = int_eq before.value behind.value && bool_eq before.is_inactive behind.is_inactive
+is_same before behind = int_eq before.value behind.value && (if before.is_inactive then behind.is_inactive else not behind.is_inactive)
 
 -- a value that is asked for in vain comes first: the control is as before then
 abbrev pub mark : Cell → Mark

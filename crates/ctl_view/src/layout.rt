@@ -23,7 +23,7 @@ pub struct Ink {
     pub good: &'static str,
     /// Before what is beside the point.
     pub faint: &'static str,
-    /// Behind each of them, and before what has no colour.
+    /// Behind each of them.
     pub plain: &'static str,
 }
 
@@ -84,7 +84,8 @@ pub fn put_command<W: Write>(
         put_folded(out, margin, line.text, "", "")?;
         put_spaces(out, REPLIES)?;
     }
-    put_folded(out, REPLIES, said, colour, ink.plain)
+    let behind = if colour.is_empty() { "" } else { ink.plain };
+    put_folded(out, REPLIES, said, colour, behind)
 }
 
 /// Writes a line of a script that is no command with its number.

@@ -108,6 +108,7 @@ fn put_event<D: Driver, W: Write>(out: &mut W, plan: &Plan<D>, event: Event) -> 
 }
 
 fn put_changes<W: Write>(out: &mut W, changes: Changes) -> io::Result<()> {
+    write!(out, " changes")?;
     if changes.contains(Changes::CH_VALUE) {
         write!(out, " CH_VALUE")?;
     }

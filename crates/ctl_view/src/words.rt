@@ -69,8 +69,12 @@ pub fn members_beside<D: Driver>(plan: &Plan<D>, id: CtrlId) -> &[u32] {
     }
 }
 
-/// Writes the names of flags, each behind a space.
+/// Writes the names of flags; nothing where there are none.
 pub fn put_flags<W: Write>(out: &mut W, flags: Flags) -> io::Result<()> {
+    if flags.is_empty() {
+        return Ok(());
+    }
+    write!(out, " flags")?;
     for flag in Flags::flags() {
         if flags.contains(*flag.value()) {
             let name = flag.name();
