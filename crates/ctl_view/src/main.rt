@@ -2,8 +2,6 @@
 #![tactic(auto)]
 
 mod answer;
-mod cell;
-mod layout;
 mod reply;
 mod script;
 mod table;
@@ -14,7 +12,6 @@ mod words;
 ghost use Rattle.std.specs.Prelude.{◌≤◌, vec_len, IfOk};
 ghost use Rattle.ctrl_calls.specs.Meanings.{JudgesBy, TellsBy};
 
-use crate::layout::Ink;
 use crate::script::{View, show_script};
 use crate::wanted::{How, Wanted};
 use ctl_script::{
@@ -30,6 +27,7 @@ use std::io::IsTerminal;
 use std::process::ExitCode;
 use std::rt::{Env, Files};
 use std::{env, io};
+use view_layout::Ink;
 
 const USAGE: &str = "usage: ctl_view [--queue | --why] [FILE]";
 

@@ -9,6 +9,7 @@ use device_state::{Ask, CtrlInfo, Plan, Reply};
 use script_replies::{ReplyLine, write_answer};
 use std::io;
 use std::io::Write;
+use view_layout::put_wanted;
 
 /// Writes what an accepted ask was answered: its reply line, with the names of controls and flags. A line feed may stand at its end.
 ///
@@ -66,14 +67,6 @@ fn put_controls<D: Driver, W: Write>(
         }
     }
     Ok(())
-}
-
-/// Writes what was asked for, where another value came of it.
-pub fn put_wanted<W: Write>(out: &mut W, value: i64, asked: i64) -> io::Result<()> {
-    if asked == value {
-        return Ok(());
-    }
-    write!(out, " (for {asked})")
 }
 
 // A frame that was begun, and the clusters that keep their values.

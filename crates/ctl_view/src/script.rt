@@ -3,7 +3,6 @@
 ghost use Rattle.std.specs.Prelude.{◌≤◌, length};
 
 use crate::answer::{Said, answer_line};
-use crate::layout::{INDENT, Ink, Line, put_command, put_folded, put_skipped, put_spaces};
 use crate::reply::put_reply;
 use crate::table::put_table;
 use crate::wanted::How;
@@ -19,6 +18,7 @@ use script_replies::{Audited, Outcome, ReplyLine, write_answer, write_audit};
 use std::alloc::{AllocError, Global};
 use std::io;
 use std::io::Write;
+use view_layout::{INDENT, Ink, Line, put_command, put_folded, put_skipped, put_spaces};
 
 /// What is kept from line to line.
 #[derive(Drop)]

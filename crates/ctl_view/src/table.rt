@@ -2,8 +2,6 @@
 
 ghost use Rattle.std.specs.Prelude.{◌<◌, length};
 
-use crate::cell::{Cell, Look, Mark, put_cell, put_look};
-use crate::layout::{INDENT, Ink, WIDTH, put_folded, put_spaces};
 use crate::words::{put_cluster, word_of};
 use ctrl_calls::Driver;
 use ctrl_clusters::inactive;
@@ -12,6 +10,7 @@ use device_state::{Device, Plan};
 use std::alloc::{AllocError, Global};
 use std::io;
 use std::io::Write;
+use view_layout::{Cell, INDENT, Ink, Look, Mark, WIDTH, put_cell, put_folded, put_look, put_spaces};
 
 // How wide the columns are that have the names of controls and their present values.
 const NAMES: usize = 12;

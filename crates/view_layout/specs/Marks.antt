@@ -1,10 +1,10 @@
 -- How a control fares in a queued frame (of this project).
 use Rattle.std.specs.Prelude.{Bool, if◌then◌else◌, not, ◌&&◌, is_some}
 use Rattle.std.specs.Ordering.{int_eq}
-use Rattle.ctl_view.specs.declared.cell.Cell.{Cell}
-use Rattle.ctl_view.specs.declared.cell.Look.{Look}
-use Rattle.ctl_view.specs.declared.cell.Mark.{Mark}
-use Rattle.ctl_view.specs.declared.cell.Mark.TheVariants as marks
+use Rattle.view_layout.specs.declared.cell.Cell.{Cell}
+use Rattle.view_layout.specs.declared.cell.Look.{Look}
+use Rattle.view_layout.specs.declared.cell.Mark.{Mark}
+use Rattle.view_layout.specs.declared.cell.Mark.TheVariants as marks
 
 -- the same value, and INACTIVE in both or in neither
 abbrev pub is_same : Look → Look → Bool

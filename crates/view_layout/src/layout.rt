@@ -136,9 +136,9 @@ pub fn put_folded<W: Write>(
     writeln!(out)
 }
 
-/// What of a text goes on a line of this width, and what is left: behind the last space that the line has room for, or where it has none in the middle of
-/// a word, though not of a character. The space may stand behind the end of the line.
-pub fn folded(text: &[u8], width: usize) -> (&[u8], &[u8])
+// What of a text goes on a line of this width, and what is left: behind the last space that the line has room for, or where it has none in the middle of
+// a word, though not of a character. The space may stand behind the end of the line.
+fn folded(text: &[u8], width: usize) -> (&[u8], &[u8])
     requires some { 0 < width }
     ensures parts { text.now ≡ result.0.now ++ result.1.now }
     ensures within { length result.0.now ≤ width + 1 }

@@ -1,9 +1,8 @@
 //! What the table says of a control in a frame.
 
 ghost use Rattle.std.specs.Prelude.{◌≡◌};
-ghost use Rattle.ctl_view.specs.Marks.{mark as mark_of};
+ghost use Rattle.view_layout.specs.Marks.{mark as mark_of};
 
-use crate::reply::put_wanted;
 use std::io;
 use std::io::Write;
 
@@ -68,6 +67,14 @@ pub fn put_cell<W: Write>(out: &mut W, cell: Cell) -> io::Result<()> {
             put_wanted(out, value, asked)
         }
     }
+}
+
+/// Writes what was asked for, where another value came of it.
+pub fn put_wanted<W: Write>(out: &mut W, value: i64, asked: i64) -> io::Result<()> {
+    if asked == value {
+        return Ok(());
+    }
+    write!(out, " (for {asked})")
 }
 
 /// Writes what a control is now.
