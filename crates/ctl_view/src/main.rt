@@ -2,9 +2,13 @@
 #![tactic(auto)]
 
 mod answer;
+mod frame;
 mod reply;
 mod script;
+mod shown;
 mod table;
+mod told;
+mod view;
 mod wanted;
 mod why;
 mod words;
@@ -12,8 +16,9 @@ mod words;
 ghost use Rattle.std.specs.Prelude.{◌≤◌, vec_len, IfOk};
 ghost use Rattle.ctrl_calls.specs.Meanings.{JudgesBy, TellsBy};
 
-use crate::script::{View, show_script};
-use crate::wanted::{How, Wanted};
+use crate::script::show_script;
+use crate::view::View;
+use crate::wanted::Wanted;
 use ctl_script::{
     BALANCE_LIMIT, BRIGHTNESS_WORDS, BUTTON_WORDS, GAIN_LIMIT, InputFault, Outcome, PAIR_WORDS,
     Sample, balance_verdict, brightness_word, button_word, gain_verdict, pair_word, read_input,

@@ -1,16 +1,13 @@
 //! What the queued frames will have, as a table.
 
-ghost use Rattle.std.specs.Prelude.{◌<◌, length};
-
+use crate::frame::{cell_at, frame_at, look_at, stays, widest};
 use crate::words::{put_cluster, word_of};
 use ctrl_calls::Driver;
-use ctrl_clusters::inactive;
-use ctrl_types::{Pair, last_value};
-use device_state::{Device, Plan};
-use std::alloc::{AllocError, Global};
+use device_state::Device;
+use std::alloc::Global;
 use std::io;
 use std::io::Write;
-use view_layout::{Cell, INDENT, Ink, Look, Mark, WIDTH, put_cell, put_folded, put_look, put_spaces};
+use view_layout::{Cell, INDENT, Ink, Mark, WIDTH, put_cell, put_folded, put_look, put_spaces};
 
 // How wide the columns are that have the names of controls and their present values.
 const NAMES: usize = 12;
@@ -39,102 +36,6 @@ pub fn put_table<D: Driver, W: Write>(
     }
     put_refusals(out, alloc, device, ink)?;
     put_legend(out, device, ink)
-}
-
-// A queued frame: the values before it, those that it will have, what its request asks for, and the clusters that will be refused.
-#[derive(Clone, Copy)]
-struct Frame<'a> {
-    buffer: u32,
-    before: &'a [i64],
-    behind: &'a [i64],
-    asked: &'a [Pair],
-    refused: &'a [u32],
-}
-
-fn frame_at<D: Driver>(device: &Device<D>, place: usize) -> Frame<'_> {
-    let before = match place.checked_sub(1) {
-        Some(last) => match device.row(last) {
-            Some(row) => row.values,
-            None => device.values(),
-        },
-        None => device.values(),
-    };
-    let asked: &[Pair] = match device.queued(place) {
-        Some(request) => device.asked(request).unwrap_or(&[]),
-        None => &[],
-    };
-    match device.row(place) {
-        Some(row) => Frame {
-            buffer: row.buffer,
-            before,
-            behind: row.values,
-            asked,
-            refused: row.refused,
-        },
-        None => Frame {
-            buffer: 0,
-            before,
-            behind: before,
-            asked,
-            refused: &[],
-        },
-    }
-}
-
-// What a control is under values.
-fn look_at<D: Driver>(plan: &Plan<D>, values: &[i64], control: u32) -> Look
-    requires { control < length plan.now.controls }
-{
-    let is_whole = values.len() == plan.control_count() as usize;
-    Look {
-        value: values.get(control as usize).copied().unwrap_or(0),
-        is_inactive: is_whole && inactive(plan, values, control),
-    }
-}
-
-fn cell_at<D: Driver>(plan: &Plan<D>, frame: Frame<'_>, control: u32) -> Cell
-    requires { control < length plan.now.controls }
-{
-    Cell {
-        before: look_at(plan, frame.before, control),
-        behind: look_at(plan, frame.behind, control),
-        asked: last_value(frame.asked, control),
-        is_refused: frame.refused.contains(&plan.cluster_of(control)),
-    }
-}
-
-// Whether a control is in each queued frame what it is now, and nothing is asked of it in vain.
-fn stays<D: Driver>(device: &Device<D>, control: u32) -> bool
-    requires { control < length device.now.plan.controls }
-{
-    for place in 0..device.queued_count() {
-        if cell_at(device.plan(), frame_at(device, place), control).mark() != Mark::Stays {
-            return false;
-        }
-    }
-    true
-}
-
-// How many bytes the longest text in a frame's column has.
-fn widest<D: Driver>(alloc: Global, device: &Device<D>) -> io::Result<usize> {
-    let mut widest = 0;
-    for place in 0..device.queued_count() {
-        widest = widest.max(widest_of(alloc, device.plan(), frame_at(device, place))?);
-    }
-    Ok(widest)
-}
-
-fn widest_of<D: Driver>(alloc: Global, plan: &Plan<D>, frame: Frame<'_>) -> io::Result<usize> {
-    let mut text: Vec<u8> = Vec::new(alloc);
-    let buffer = frame.buffer;
-    write!(text, "buffer {buffer}")?;
-    let mut widest = text.len();
-    for control in 0..plan.control_count() {
-        text.clear();
-        put_cell(&mut text, cell_at(plan, frame, control))?;
-        widest = widest.max(text.len());
-    }
-    Ok(widest)
 }
 
 // The two lines above a block: the numbers of its frames, and their buffers.

@@ -1,0 +1,114 @@
+//! The queued frames, as the table shows them.
+
+ghost use Rattle.std.specs.Prelude.{◌<◌, length};
+
+use ctrl_calls::Driver;
+use ctrl_clusters::inactive;
+use ctrl_types::{Pair, last_value};
+use device_state::{Device, Plan};
+use std::alloc::Global;
+use std::io;
+use std::io::Write;
+use view_layout::{Cell, Look, Mark, put_cell};
+
+/// A queued frame.
+#[derive(Clone, Copy)]
+pub struct Frame<'a> {
+    /// The number of its buffer.
+    pub buffer: u32,
+    /// The clusters that will be refused.
+    pub refused: &'a [u32],
+    // the values before it, and those that it will have
+    before: &'a [i64],
+    behind: &'a [i64],
+    // what its request asks for
+    asked: &'a [Pair],
+}
+
+/// The queued frame at a place; where none is queued there, one that changes nothing.
+pub fn frame_at<D: Driver>(device: &Device<D>, place: usize) -> Frame<'_> {
+    let before = match place.checked_sub(1) {
+        Some(last) => match device.row(last) {
+            Some(row) => row.values,
+            None => device.values(),
+        },
+        None => device.values(),
+    };
+    let asked: &[Pair] = match device.queued(place) {
+        Some(request) => device.asked(request).unwrap_or(&[]),
+        None => &[],
+    };
+    match device.row(place) {
+        Some(row) => Frame {
+            buffer: row.buffer,
+            before,
+            behind: row.values,
+            asked,
+            refused: row.refused,
+        },
+        None => Frame {
+            buffer: 0,
+            before,
+            behind: before,
+            asked,
+            refused: &[],
+        },
+    }
+}
+
+/// What a control is under values.
+pub fn look_at<D: Driver>(plan: &Plan<D>, values: &[i64], control: u32) -> Look
+    requires { control < length plan.now.controls }
+{
+    let is_whole = values.len() == plan.control_count() as usize;
+    Look {
+        value: values.get(control as usize).copied().unwrap_or(0),
+        is_inactive: is_whole && inactive(plan, values, control),
+    }
+}
+
+/// What the table has of a control in a frame.
+pub fn cell_at<D: Driver>(plan: &Plan<D>, frame: Frame<'_>, control: u32) -> Cell
+    requires { control < length plan.now.controls }
+{
+    Cell {
+        before: look_at(plan, frame.before, control),
+        behind: look_at(plan, frame.behind, control),
+        asked: last_value(frame.asked, control),
+        is_refused: frame.refused.contains(&plan.cluster_of(control)),
+    }
+}
+
+/// Whether a control is in each queued frame what it is now, and nothing is asked of it in vain.
+pub fn stays<D: Driver>(device: &Device<D>, control: u32) -> bool
+    requires { control < length device.now.plan.controls }
+{
+    for place in 0..device.queued_count() {
+        if cell_at(device.plan(), frame_at(device, place), control).mark() != Mark::Stays {
+            return false;
+        }
+    }
+    true
+}
+
+/// How many bytes the longest text in a frame's column has.
+pub fn widest<D: Driver>(alloc: Global, device: &Device<D>) -> io::Result<usize> {
+    let mut widest = 0;
+    for place in 0..device.queued_count() {
+        widest = widest.max(widest_of(alloc, device.plan(), frame_at(device, place))?);
+    }
+    Ok(widest)
+}
+
+fn widest_of<D: Driver>(alloc: Global, plan: &Plan<D>, frame: Frame<'_>) -> io::Result<usize> {
+    let mut text: Vec<u8> = Vec::new(alloc);
+    let buffer = frame.buffer;
+    write!(text, "buffer {buffer}")?;
+    let mut widest = text.len();
+    for control in 0..plan.control_count() {
+        text.clear();
+        put_cell(&mut text, cell_at(plan, frame, control))?;
+        widest = widest.max(text.len());
+    }
+    Ok(widest)
+}

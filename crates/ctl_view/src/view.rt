@@ -1,0 +1,58 @@
+//! What is kept while a script is shown.
+
+use crate::wanted::How;
+use ctl_script::Bindings;
+use ctrl_calls::Driver;
+use device_state::{Ask, Device};
+use script_replies::ReplyLine;
+use std::alloc::{AllocError, Global};
+use view_layout::Ink;
+
+/// What is kept from line to line.
+#[derive(Drop)]
+pub struct View {
+    /// Where a reply line is put together.
+    pub line: ReplyLine,
+    /// How the script is shown.
+    pub how: How,
+    /// With which colours.
+    pub ink: Ink,
+    /// What the names of the script stand for.
+    pub names: Bindings,
+    /// How many commands were shown.
+    pub commands: u32,
+    /// How many of them were refused.
+    pub refused: u32,
+    /// With how many steps the last table was shown.
+    pub shown_at: Option<usize>,
+}
+
+impl View {
+    /// No line was read. The error is that a growth was refused.
+    pub fn new(alloc: Global, how: How, ink: Ink) -> Result<View, AllocError> {
+        let line = ReplyLine::new(alloc)?;
+        Ok(View {
+            line,
+            how,
+            ink,
+            names: Bindings::new(alloc),
+            commands: 0,
+            refused: 0,
+            shown_at: None,
+        })
+    }
+
+    /// Whether the queue is shown behind an ask that was accepted: behind a row, where no step was taken since it was shown, and where it is wanted behind
+    /// what changes the queue, or the values and the grabs that it is made of.
+    pub fn shows_queue<D: Driver>(&self, device: &Device<D>, ask: &Ask) -> bool {
+        let is_wanted = self.how == How::WithQueue;
+        match ask {
+            Ask::Forecast { .. } => self.shown_at != Some(device.steps().len()),
+            Ask::Queue { .. } | Ask::Begin | Ask::Cancel { .. } | Ask::StreamOff => is_wanted,
+            Ask::SetCtrls { request: None, .. } | Ask::Grab { .. } => {
+                is_wanted && device.queued_count() > 0
+            }
+            _ => false,
+        }
+    }
+}
