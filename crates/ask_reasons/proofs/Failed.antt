@@ -128,3 +128,9 @@ pub has_room : (t : Bool) (reason last answer : Option Reason) → t ≡ false �
 has_room true reason last answer e h = cc
 has_room false None last answer e h = h
 has_room false (Some r) last answer e h = h
+
+-- where no other check fails and there is no room, it does
+pub lacks_room : (t : Bool) (reason last answer : Option Reason) → is_none reason ≡ true → t ≡ true → or_behind reason (if t then last else None) ≡ answer → last ≡ answer
+lacks_room true None last answer n e h = h
+lacks_room true (Some r) last answer n e h = cc
+lacks_room false reason last answer n e h = cc
