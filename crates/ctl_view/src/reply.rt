@@ -123,6 +123,9 @@ fn put_info<D: Driver, W: Write>(out: &mut W, plan: &Plan<D>, info: CtrlInfo) ->
     let kind = kind_name(info.kind);
     write!(out, "ok ")?;
     put_name(out, plan, info.id)?;
-    write!(out, " {kind} {minimum}..{maximum} step {step} default {default_value}")?;
+    write!(
+        out,
+        " {kind} {minimum}..{maximum} step {step} default {default_value}"
+    )?;
     put_flags(out, info.flags)
 }

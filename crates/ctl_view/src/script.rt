@@ -63,4 +63,3 @@ fn show_line<D: Driver, R: AllocGlobal + Eprint, W: Write>(
         Err(LineFault::NotACommand) => Err(show_stray(rt.alloc(), view.ink, line, writer)),
     }
 }
-

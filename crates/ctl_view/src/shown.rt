@@ -124,7 +124,14 @@ fn put_stray(
     line: Line<'_>,
     complaint: Option<Complaint>,
 ) -> io::Result<()> {
-    put_skipped(page, line, Ink { faint: ink.bad, ..ink })?;
+    put_skipped(
+        page,
+        line,
+        Ink {
+            faint: ink.bad,
+            ..ink
+        },
+    )?;
     let Some(Complaint { word, reason }) = complaint else {
         return Ok(());
     };
@@ -164,7 +171,10 @@ fn put_end<D: Driver>(
     }
     let commands = view.commands;
     let refused = view.refused;
-    writeln!(page, "{commands} commands, {refused} refused; {steps} steps")
+    writeln!(
+        page,
+        "{commands} commands, {refused} refused; {steps} steps"
+    )
 }
 
 // Writes what was put together. The error is that the writer fails.

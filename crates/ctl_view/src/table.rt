@@ -11,6 +11,7 @@ use view_layout::{Cell, INDENT, Ink, Mark, WIDTH, put_cell, put_folded, put_look
 
 // How wide the columns are that have the names of controls and their present values.
 const NAMES: usize = 12;
+
 const NOW: usize = 8;
 
 // How wide the column of a frame is at least.
@@ -148,11 +149,7 @@ fn put_refusals<D: Driver, W: Write>(
 }
 
 // What the marks mean, and how many controls have no row.
-fn put_legend<D: Driver, W: Write>(
-    out: &mut W,
-    device: &Device<D>,
-    ink: Ink,
-) -> io::Result<()> {
+fn put_legend<D: Driver, W: Write>(out: &mut W, device: &Device<D>, ink: Ink) -> io::Result<()> {
     let mut staying = 0u32;
     for control in 0..device.plan().control_count() {
         if stays(device, control) {
@@ -161,5 +158,8 @@ fn put_legend<D: Driver, W: Write>(
     }
     let Ink { faint, plain, .. } = ink;
     put_spaces(out, INDENT)?;
-    write!(out, "{faint}* changes   ! asked, and refused   ~ INACTIVE   . as before; {staying} other controls stay{plain}\n\n")
+    write!(
+        out,
+        "{faint}* changes   ! asked, and refused   ~ INACTIVE   . as before; {staying} other controls stay{plain}\n\n"
+    )
 }
