@@ -125,7 +125,7 @@ pub fn put_folded<W: Write>(
     for _ in 0..text.len() {
         let (piece, more) = folded(rest, width);
         write!(out, "{before}")?;
-        out.write_all(piece.trim_ascii_end())?;
+        put_plain(out, piece.trim_ascii_end())?;
         writeln!(out, "{behind}")?;
         if more.is_empty() {
             return Ok(());
@@ -134,6 +134,15 @@ pub fn put_folded<W: Write>(
         rest = more;
     }
     writeln!(out)
+}
+
+// Writes a text, and a space in place of each tab or other control character, which would move what stands behind it.
+fn put_plain<W: Write>(out: &mut W, text: &[u8]) -> io::Result<()> {
+    for byte in text {
+        let shown = if byte.is_ascii_control() { b' ' } else { *byte };
+        out.write_all(&[shown])?;
+    }
+    Ok(())
 }
 
 // What of a text goes on a line of this width, and what is left: behind the last space that the line has room for, or where it has none in the middle of
