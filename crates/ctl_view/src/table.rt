@@ -18,7 +18,7 @@ const NOW: usize = 8;
 const FRAME: usize = 12;
 
 /// Writes what the queued frames will have: a row for each control that one of them changes, or asks for in vain, a column for each frame, in blocks of as
-/// many frames as a line has room for; and which clusters will be refused.
+/// many frames as a line has room for; and which clusters will be refused. Where none is queued, it says so.
 pub fn put_table<D: Driver, W: Write>(
     out: &mut W,
     alloc: Global,
@@ -26,6 +26,10 @@ pub fn put_table<D: Driver, W: Write>(
     ink: Ink,
 ) -> io::Result<()> {
     let count = device.queued_count();
+    if count == 0 {
+        put_spaces(out, INDENT)?;
+        return write!(out, "no frames are queued\n\n");
+    }
     let width = widest(alloc, device)?.saturating_add(2).max(FRAME);
     let room = (WIDTH - INDENT - NAMES - NOW) / width;
     let room = room.max(1);
@@ -90,7 +94,12 @@ fn put_rows<D: Driver, W: Write>(
         for place in first..end {
             let cell = cell_at(device.plan(), frame_at(device, place), control);
             text.clear();
-            put_cell(&mut text, cell)?;
+            // the column before the first one stands in the block before, so that "as before" would be read as the value of now
+            if place == first && first > 0 && cell.mark() == Mark::Stays {
+                put_look(&mut text, cell.behind)?;
+            } else {
+                put_cell(&mut text, cell)?;
+            }
             put_right(out, text.as_slice(), width, colour_of(cell, ink), ink.plain)?;
         }
         writeln!(out)?;

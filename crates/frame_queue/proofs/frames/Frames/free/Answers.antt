@@ -1,4 +1,4 @@
-use Rattle.std.proofs.Common.{arith, vec_capacity, ap, sym, subst}
+use Rattle.std.proofs.Common.{vec_capacity, ap, sym, subst}
 use Rattle.req_book.specs.Requests.{RequestsData, find, without}
 use Rattle.req_book.specs.Refusals.{clear_refusal}
 use Rattle.frame_queue.specs.Frames.{FramesData}
