@@ -3,10 +3,9 @@
 ghost use Rattle.std.specs.Prelude.{◌≡◌, ◌≢◌, ◌≤◌, ◌+◌, length, None, Some, IfOk};
 ghost use Rattle.ctrl_types.specs.declared.errno.Errno.TheVariants.{EINVAL};
 ghost use Rattle.ctrl_clusters.specs.Rows.{AreControlsOf};
-ghost use Rattle.ctrl_lists.specs.View.{pairs_of};
 ghost use Rattle.ctrl_lists.specs.Checks.{memory_refusal};
 ghost use Rattle.ctrl_lists.specs.Failed.{failed_read, failed_write};
-ghost use Rattle.ctrl_lists.specs.Touched.{touched};
+ghost use Rattle.ctrl_lists.specs.Touched.{list_asks};
 
 use crate::checks::{first_unreadable, first_unwritable, is_long, is_of_no_class};
 use crate::control_list::ControlList;
@@ -83,7 +82,8 @@ pub fn failed_read<D: Driver>(
 
 /// The first of the checks 4 to 8 in docs/RULES.md that a list that writes doesn't meet, with its errno and the place of its entry, of a
 /// cluster that of its first one; none where it meets all of them. `plan_set` and `try_list` refuse the list by it, memory aside. Nothing
-/// is changed, and nobody is told; each validator of the clusters that the list touches may be asked once.
+/// is changed, and nobody is told; where the checks 4 to 7 are met each validator of the clusters that the list touches may be asked once, and else
+/// none is.
 ///
 /// - `alloc`: where pairs and rows lie for the moment.
 /// - `plan`: what the device is built of.
@@ -107,7 +107,7 @@ pub fn failed_write<D: Driver>(
     requires values { length view.now.values ≡ length plan.now.controls }
     requires grabs { length view.now.grabs ≡ length plan.now.controls }
     ensures failed { IfOk result (λ failed. failed ≡ failed_write D.verdict plan.now view.now is_set list.now) }
-    ensures at_most { work.new.asked ≤ work.old.asked + length (touched plan.now (pairs_of plan.now view.now.handler view.now.which list.now)) }
+    ensures at_most { work.new.asked ≤ work.old.asked + list_asks plan.now view.now is_set list.now }
     ensures told { work.new.told ≡ work.old.told }
 {
     if is_long(list) {

@@ -245,7 +245,7 @@ impl<D: Driver> Device<D> {
     /// - `CloseFh` closes one for good (of this project): 12 (EBADF, 9).
     /// - `Grab` grabs a control, whatever its flags, or lets it go (Linux driver API, `v4l2_ctrl_grab`): 13 (EINVAL). As long as it is grabbed it
     ///   has GRABBED and a set of it is refused. A grab that holds already is accepted, and is a step. It asks at most one validator for each
-    ///   frame that is queued, whose forecast follows.
+    ///   queued frame that names the control's cluster, as its forecast follows.
     ///
     /// Media requests (Linux userspace API, "Request API"; limits, buffers, begins, cancellations and freeing are of this project):
     ///
@@ -258,7 +258,7 @@ impl<D: Driver> Device<D> {
     ///   the reply names it. Each other cluster with a changed member is told its new row once. It asks no validator, as its forecast did.
     /// - `Complete` ends the frame that is being made: 26 (ENOENT).
     /// - `Cancel` takes a request from the queue, without its frame being made: 19 (EINVAL), 27 (EBUSY), 28 (EINVAL). For
-    ///   each frame behind it at most one validator is asked for each cluster that it names.
+    ///   each frame behind it at most one validator is asked for each cluster that both the cancelled request and that frame name.
     /// - `StreamOff` completes the request whose frame is being made and all that wait; the present values stay.
     /// - `Reinit` makes a request as new, `Free` lets it go for good: 19 (EINVAL), 29 (EBUSY).
     /// - `StateOf` reads a request's state: 19 (EINVAL). It takes no memory.
