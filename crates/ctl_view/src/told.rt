@@ -33,9 +33,12 @@ pub fn explain<D: Driver, R: AllocGlobal + Eprint, W: Write>(
     }
     if let Said::Answer(ask, Err(fault)) = said {
         let mut text: Vec<u8> = Vec::new(rt.alloc());
-        // nothing else depends on it, so want of memory is let pass
-        if put_why(&mut text, rt.alloc(), device, view, ask, *fault).is_ok() {
-            tell(rt, number, text.as_slice());
+        // nothing else depends on it, so the script goes on where memory is wanting
+        match put_why(&mut text, rt.alloc(), device, view, ask, *fault) {
+            Ok(()) => tell(rt, number, text.as_slice()),
+            Err(_) => {
+                let _ = eprintln!(rt; "line {number}: no memory to find out why");
+            }
         }
     }
     Ok(())
