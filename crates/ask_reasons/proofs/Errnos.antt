@@ -5,7 +5,7 @@ use Rattle.ctrl_types.specs.declared.errno.Errno.{Errno}
 use Rattle.ctrl_types.specs.declared.errno.Errno.TheVariants.{EBADF, EBUSY, EINVAL, ENOENT, ENOSPC}
 use Rattle.ctrl_types.specs.declared.ids.CtrlId.{CtrlId}
 use Rattle.ctrl_types.specs.declared.ids.FhId.{FhId}
-use Rattle.req_book.specs.Requests.{RequestData, is_idle, is_held, is_pending}
+use Rattle.req_book.specs.Requests.{RequestData, is_idle, is_number_held, is_pending}
 use Rattle.req_book.specs.Refusals.{buffer_refusal, queue_refusal, clear_refusal}
 use Rattle.req_book.specs.declared.limits.TheConstants.{MAX_REQUESTS}
 use Rattle.req_book.specs.declared.state.RequestState.{RequestState}
@@ -71,7 +71,7 @@ stepped_so past (Some check) None reply h = elim h [ ]
 buffer_so : (rs : List RequestData) (number : ℕ) (r : Option RequestData) → Fits (buffer_check rs number r) (buffer_refusal rs number r)
 buffer_so rs number None = refl
 buffer_so rs number (Some r) =
-    either_fits (not (is_idle r.state)) _ _ _ _ refl (either_fits (is_some r.buffer) _ _ _ _ refl (either_fits (is_held rs number) _ _ _ _ refl tt))
+    either_fits (not (is_idle r.state)) _ _ _ _ refl (either_fits (is_some r.buffer) _ _ _ _ refl (either_fits (is_number_held rs number) _ _ _ _ refl tt))
 
 queue_so : (r : Option RequestData) → Fits (queue_check r) (queue_refusal r)
 queue_so None = refl

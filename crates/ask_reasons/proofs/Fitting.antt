@@ -25,7 +25,7 @@ use Rattle.ctrl_handlers.specs.Plan.{PlanData, control, control_in}
 use Rattle.ctrl_clusters.specs.Rows.{is_grabbed}
 use Rattle.ctrl_lists.specs.declared.refusal.Refusal.{Refusal}
 use Rattle.ctrl_lists.specs.View.{ViewData, named, pairs_of}
-use Rattle.ctrl_lists.specs.Checks.{at_first, first_from, first_refusal, found_at, is_long, is_of_no_class, judging_refusal, laid_pairs, naming_refusal, read_checks, reading_refusal, refused_if, write_checks, writing_refusal}
+use Rattle.ctrl_lists.specs.Checks.{at_first, first_from, first_refusal, found_at, is_long, is_of_no_class, judging_refusal, pairs_judged, naming_refusal, read_checks, reading_refusal, refused_if, write_checks, writing_refusal}
 use Rattle.ctrl_lists.specs.Checks as list_checks
 use Rattle.ctrl_lists.specs.Answers.{answered}
 use Rattle.ctrl_lists.specs.Failed.{first_failed, read_names, write_names}
@@ -178,8 +178,8 @@ write_fits verdicts plan view is_set list = (
       (
         first_fits writing_part (writing_refusal plan view is_set) 0 (pairs_of plan view.handler view.which list) (writing_own plan view is_set),
         (
-          first_fits (only checks.ClusterTakes) (judging_refusal verdicts plan view (laid_pairs plan view list)) 0 (pairs_of plan view.handler view.which list)
-              (λ p. any_own (judging_refusal verdicts plan view (laid_pairs plan view list) p)),
+          first_fits (only checks.ClusterTakes) (judging_refusal verdicts plan view (pairs_judged plan view list)) 0 (pairs_of plan view.handler view.which list)
+              (λ p. any_own (judging_refusal verdicts plan view (pairs_judged plan view list) p)),
           tt,
         ),
       ),

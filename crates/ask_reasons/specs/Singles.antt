@@ -6,7 +6,7 @@ use Rattle.ctrl_types.specs.declared.ids.CtrlId.{CtrlId}
 use Rattle.ctrl_types.specs.declared.ids.FhId.{FhId}
 use Rattle.ctrl_events.specs.Events.{event_at}
 use Rattle.req_book.specs.declared.limits.TheConstants.{MAX_REQUESTS}
-use Rattle.req_book.specs.Requests.{RequestData, is_idle, is_held, is_pending}
+use Rattle.req_book.specs.Requests.{RequestData, is_idle, is_number_held, is_pending}
 use Rattle.frame_queue.specs.Frames.{is_queued, is_running}
 use Rattle.ctrl_calls.specs.Meanings.{Verdicts}
 use Rattle.ctrl_handlers.specs.Plan.{PlanData, menu_item}
@@ -57,7 +57,7 @@ buffer_check rs number None = Some checks.SuchRequest
 buffer_check rs number (Some r) =
     if not (is_idle r.state) then Some checks.IsIdle
     else if is_some r.buffer then Some checks.NoBuffer
-    else if is_held rs number then Some checks.BufferFree
+    else if is_number_held rs number then Some checks.BufferFree
     else None
 
 abbrev pub queue_check : Option RequestData → Option Check

@@ -9,7 +9,7 @@ use Rattle.std.proofs.lemmas.List.FromFn.{length-map-range_with_len, get_or-map-
 use Rattle.ctrl_types.specs.Values.{CtrlValue}
 use Rattle.ctrl_handlers.specs.Plan.{PlanData, IsPlan, cluster_of, members, names_twice}
 use Rattle.ctrl_handlers.proofs.ClusterLemmas.{or_false, or_false_right}
-use Rattle.ctrl_clusters.specs.Rows.{Values, value_at, value_in}
+use Rattle.ctrl_clusters.specs.Rows.{Values, value_at, member_value}
 use Rattle.ctrl_clusters.specs.NewRows.{clusters_of, row_among, value_among, AreNewRows, value_written, written, with_row}
 use Rattle.ctrl_clusters.specs.declared.new_row.NewRow.{NewRow}
 
@@ -37,7 +37,7 @@ not_equal d c other = by (eqb_tells d c)
     by (inr h) = h.0
 
 -- a row gives nothing to a control that isn't among the members
-pub value_in_none : (cs : List ℕ) (row : List CtrlValue) (d : ℕ) → list_any (nat_eq d) cs ≡ false → value_in cs row d ≡ None
+pub value_in_none : (cs : List ℕ) (row : List CtrlValue) (d : ℕ) → list_any (nat_eq d) cs ≡ false → member_value cs row d ≡ None
 value_in_none [] row d apart = refl
 value_in_none (c ∷ cs) [] d apart = refl
 value_in_none (c ∷ cs) (v ∷ vs) d apart =
@@ -46,7 +46,7 @@ value_in_none (c ∷ cs) (v ∷ vs) d apart =
 
 -- the value of a control once its members have those of a row
 pub with_row_at : (values : Values) (cs : List ℕ) (row : List CtrlValue) (d : ℕ) → names_twice cs ≡ false → All (λ c. c < length values) cs → length row ≡ length cs
-    → value_at (with_row values cs row) d ≡ unwrap_or (value_in cs row d) (value_at values d)
+    → value_at (with_row values cs row) d ≡ unwrap_or (member_value cs row d) (value_at values d)
 with_row_at values [] row d differ known long = refl
 with_row_at values (c ∷ cs) [] d differ known long = absurd (omega (arith, long))
 with_row_at values (c ∷ cs) (v ∷ vs) d differ known long =
@@ -56,7 +56,7 @@ with_row_at values (c ∷ cs) (v ∷ vs) d differ known long =
     there = All-weaker (λ d. d < length values) (λ d. d < length (slice_set values c v)) (λ d lt. omega (arith, lt, length-set values c v)) cs (All-tail (λ d. d < length values) c cs known)
 
     by : ((c == d) ≡ true × (c ≡ d)) ⊎ ((c == d) ≡ false × (c ≢ d))
-        → unwrap_or (value_in cs vs d) (value_at (slice_set values c v) d) ≡ unwrap_or (value_in (c ∷ cs) (v ∷ vs) d) (value_at values d)
+        → unwrap_or (member_value cs vs d) (value_at (slice_set values c v) d) ≡ unwrap_or (member_value (c ∷ cs) (v ∷ vs) d) (value_at values d)
     by (inl h) =
         let own : list_any (nat_eq d) cs ≡ false = subst (λ (x : ℕ). list_any (nat_eq x) cs ≡ false) h.1 (or_false (list_any (nat_eq c) cs) (names_twice cs) differ) in
         let has : value_at (slice_set values c v) d ≡ v = subst (λ (x : ℕ). value_at (slice_set values c v) x ≡ v) h.1 (get_or-set_same values c v (pos 0) (All-head (λ d. d < length values) c cs known)) in
@@ -150,7 +150,7 @@ written_push plan values rows r is many within long new =
     same_values (with_row before (members plan r.cluster) r.row) (written plan values (rows ++ r ∷ [])) (length_with_row before (members plan r.cluster) r.row ∙ length_written plan values rows ∙ sym (length_written plan values (rows ++ r ∷ [])))
     (λ i lt. let less : i < length values = omega (arith, lt, length_with_row before (members plan r.cluster) r.row, length_written plan values rows) in
     with_row_at before (members plan r.cluster) r.row i (is.members_differ r.cluster) known long
-    ∙ ap (unwrap_or (value_in (members plan r.cluster) r.row i)) (written_at plan values rows i less)
+    ∙ ap (unwrap_or (member_value (members plan r.cluster) r.row i)) (written_at plan values rows i less)
     ∙ by i (cluster_of plan i) refl
     ∙ sym (written_at plan values (rows ++ r ∷ []) i less))
   where
@@ -177,18 +177,18 @@ written_push plan values rows r is many within long new =
     or_none None = refl
     or_none (Some x) = refl
 
-    by : (i : ℕ) (o : Option ℕ) → cluster_of plan i ≡ o → unwrap_or (value_in (members plan r.cluster) r.row i) (unwrap_or (value_among plan rows o i) (value_at values i)) ≡ unwrap_or (value_among plan (rows ++ r ∷ []) o i) (value_at values i)
+    by : (i : ℕ) (o : Option ℕ) → cluster_of plan i ≡ o → unwrap_or (member_value (members plan r.cluster) r.row i) (unwrap_or (value_among plan rows o i) (value_at values i)) ≡ unwrap_or (value_among plan (rows ++ r ∷ []) o i) (value_at values i)
     by i None found = rw (value_in_none (members plan r.cluster) r.row i (member_apart plan i r.cluster None is within found (none_some r.cluster))) refl
     by i (Some k) found = at (eqb_tells r.cluster k)
       where
         at : ((r.cluster == k) ≡ true × (r.cluster ≡ k)) ⊎ ((r.cluster == k) ≡ false × (r.cluster ≢ k))
-            → unwrap_or (value_in (members plan r.cluster) r.row i) (unwrap_or (value_among plan rows (Some k) i) (value_at values i)) ≡ unwrap_or (value_among plan (rows ++ r ∷ []) (Some k) i) (value_at values i)
+            → unwrap_or (member_value (members plan r.cluster) r.row i) (unwrap_or (value_among plan rows (Some k) i) (value_at values i)) ≡ unwrap_or (value_among plan (rows ++ r ∷ []) (Some k) i) (value_at values i)
         at (inl h) =
             let none : row_among rows k ≡ None = subst (λ (j : ℕ). row_among rows j ≡ None) h.1 new in
-            let own : value_in (members plan r.cluster) r.row i ≡ value_in (members plan k) r.row i = ap (λ (j : ℕ). value_in (members plan j) r.row i) h.1 in
-            rw (row_among_push rows r k, h.0, none, own) (nested (value_in (members plan k) r.row i) (value_at values i))
+            let own : member_value (members plan r.cluster) r.row i ≡ member_value (members plan k) r.row i = ap (λ (j : ℕ). member_value (members plan j) r.row i) h.1 in
+            rw (row_among_push rows r k, h.0, none, own) (nested (member_value (members plan k) r.row i) (value_at values i))
         at (inr h) =
-            let apart : value_in (members plan r.cluster) r.row i ≡ None = value_in_none (members plan r.cluster) r.row i (member_apart plan i r.cluster (Some k) is within found (λ e. h.1 (sym (some_same k r.cluster e)))) in
+            let apart : member_value (members plan r.cluster) r.row i ≡ None = value_in_none (members plan r.cluster) r.row i (member_apart plan i r.cluster (Some k) is within found (λ e. h.1 (sym (some_same k r.cluster e)))) in
             rw (row_among_push rows r k, h.0, apart, or_none (row_among rows k)) refl
 
 -- the clusters of rows so far don't have that of the next

@@ -20,7 +20,7 @@ use Rattle.ctrl_clusters.specs.Rows.{Values, value_at, row_of}
 use Rattle.ctrl_clusters.specs.Overlay.{is_among}
 use Rattle.ctrl_clusters.specs.NewRows.{row_among}
 use Rattle.ctrl_clusters.specs.Changes.{is_changed, row_changes, cluster_changes, members_change}
-use Rattle.ctrl_clusters.specs.Notified.{MaySay, HasWord, HaveWords, AreRenewed, IsRenewed, notified_count, after_change}
+use Rattle.ctrl_clusters.specs.Notified.{MaySay, HasWord, HaveWords, AreNotified, IsNotified, notified_count, after_change}
 use Rattle.ctrl_clusters.specs.declared.new_row.NewRow.{NewRow}
 
 -- what isn't changed has its value already
@@ -65,7 +65,7 @@ renewed_start says plan changed rows words = record {
 
 -- one more cluster is notified where it changed
 pub renewed_next : (says : Words) (plan : PlanData) (changed : ℕ → Bool) (rows : ℕ → List CtrlValue) (n : ℕ) (old words new : List ℕ) → AreRenewedBelow says plan changed rows n old words
-    → IsRenewed says plan n (changed n) (rows n) words new → AreRenewedBelow says plan changed rows (n + 1) old new
+    → IsNotified says plan n (changed n) (rows n) words new → AreRenewedBelow says plan changed rows (n + 1) old new
 renewed_next says plan changed rows n old words new before is = record {
   each = is.each ∙ before.each;
   own = λ k lt ch. own k lt ch (eqb_tells k n);
@@ -81,7 +81,7 @@ renewed_next says plan changed rows n old words new before is = record {
         below k n lt other = omega (arith, lt, other)
 
 -- a cluster that doesn't change isn't notified
-pub renewed_not : (says : Words) (plan : PlanData) (k : ℕ) (changed : Bool) (row : List CtrlValue) (words : List ℕ) → changed ≡ false → IsRenewed says plan k changed row words words
+pub renewed_not : (says : Words) (plan : PlanData) (k : ℕ) (changed : Bool) (row : List CtrlValue) (words : List ℕ) → changed ≡ false → IsNotified says plan k changed row words words
 renewed_not says plan k changed row words same = record {
   each = refl;
   own = λ ch. absurd (differ (sym same ∙ ch));
@@ -163,7 +163,7 @@ word_next says plan values words new n word long before last is =
 
 -- once the clusters with a changed member were notified, each word is one of the values afterwards
 pub words_between : (says : Words) (plan : PlanData) (before after : Values) (pairs : List Pair) (words new : List ℕ) → HaveWords says plan before words
-    → AreRenewed says plan (members_change plan before after pairs) (λ k. row_of after (members plan k)) words new → HaveWords says plan after new
+    → AreNotified says plan (members_change plan before after pairs) (λ k. row_of after (members plan k)) words new → HaveWords says plan after new
 words_between says plan before after pairs words new have is = record {
   each = is.each ∙ have.each;
   allowed = λ k lt. by k lt (members_change plan before after pairs k) refl;

@@ -21,9 +21,9 @@ use Rattle.ctrl_settle.specs.Control.{Control}
 use Rattle.ctrl_settle.specs.Settle.{settle}
 use Rattle.ctrl_handlers.specs.Plan.{PlanData, IsPlan, cluster_of, members, names_twice, calls_of, control_in}
 use Rattle.ctrl_handlers.proofs.ClusterLemmas.{or_false, or_false_right}
-use Rattle.ctrl_clusters.specs.Rows.{Values, value_at, row_of, value_in, Grabs, is_grabbed, overwritten, settle_row, settled_before}
-use Rattle.ctrl_clusters.specs.Judging.{asks, becomes, judge, judge_by, judge_settled, judged, takes_row}
-use Rattle.ctrl_clusters.specs.Overlay.{is_among, is_touched, is_held, row_after, given_by, given_in, value_after, overlay, refused_clusters}
+use Rattle.ctrl_clusters.specs.Rows.{Values, value_at, row_of, member_value, Grabs, is_grabbed, overwritten, settle_row, settled_before}
+use Rattle.ctrl_clusters.specs.Judging.{asks_validator, validated_row, judge, judge_by, judge_settled, judged, takes_row}
+use Rattle.ctrl_clusters.specs.Overlay.{is_among, is_touched, names_grabbed, row_after, result_value, result_value_in, value_after, overlay, refused_clusters}
 use Rattle.ctrl_clusters.specs.NewRows.{clusters_of, row_among, value_among, written}
 use Rattle.ctrl_clusters.specs.declared.new_row.NewRow.{NewRow}
 use Rattle.ctrl_clusters.proofs.RowLemmas.{takes_length}
@@ -58,25 +58,25 @@ apart_of c d cs none among = not_equal c d (λ e. absurd (clash (subst (λ (x : 
     clash h = cc
 
 -- a row gives the members its values
-pub row_read : (cs : List ℕ) (row : List CtrlValue) (f : ℕ → CtrlValue) → names_twice cs ≡ false → length row ≡ length cs → map (λ c. unwrap_or (value_in cs row c) (f c)) cs ≡ row
+pub row_read : (cs : List ℕ) (row : List CtrlValue) (f : ℕ → CtrlValue) → names_twice cs ≡ false → length row ≡ length cs → map (λ c. unwrap_or (member_value cs row c) (f c)) cs ≡ row
 row_read [] [] f differ long = refl
 row_read [] (v ∷ vs) f differ long = absurd (omega (arith, long))
 row_read (c ∷ cs) [] f differ long = absurd (omega (arith, long))
 row_read (c ∷ cs) (v ∷ vs) f differ long =
     let own : nat_eq c c ≡ true = eq-eqb c c refl in
-    let rest : map (λ d. unwrap_or (value_in (c ∷ cs) (v ∷ vs) d) (f d)) cs ≡ vs =
-    same_each (λ d. unwrap_or (value_in (c ∷ cs) (v ∷ vs) d) (f d)) (λ d. unwrap_or (value_in cs vs d) (f d)) cs
+    let rest : map (λ d. unwrap_or (member_value (c ∷ cs) (v ∷ vs) d) (f d)) cs ≡ vs =
+    same_each (λ d. unwrap_or (member_value (c ∷ cs) (v ∷ vs) d) (f d)) (λ d. unwrap_or (member_value cs vs d) (f d)) cs
     (λ d among. let other : nat_eq c d ≡ false = apart_of c d cs (or_false (list_any (nat_eq c) cs) (names_twice cs) differ) among in rw other refl)
     ∙ row_read cs vs f (or_false_right (list_any (nat_eq c) cs) (names_twice cs) differ) (omega (arith, long)) in
     rw (own, rest) refl
 
 -- the present row gives each control its own value
-pub value_own : (values : Values) (cs : List ℕ) (c : ℕ) → unwrap_or (value_in cs (row_of values cs) c) (value_at values c) ≡ value_at values c
+pub value_own : (values : Values) (cs : List ℕ) (c : ℕ) → unwrap_or (member_value cs (row_of values cs) c) (value_at values c) ≡ value_at values c
 value_own values [] c = refl
 value_own values (m ∷ ms) c = by (value_own values ms c) (eqb_tells m c)
   where
-    by : unwrap_or (value_in ms (row_of values ms) c) (value_at values c) ≡ value_at values c → ((m == c) ≡ true × (m ≡ c)) ⊎ ((m == c) ≡ false × (m ≢ c))
-        → unwrap_or (value_in (m ∷ ms) (row_of values (m ∷ ms)) c) (value_at values c) ≡ value_at values c
+    by : unwrap_or (member_value ms (row_of values ms) c) (value_at values c) ≡ value_at values c → ((m == c) ≡ true × (m ≡ c)) ⊎ ((m == c) ≡ false × (m ≢ c))
+        → unwrap_or (member_value (m ∷ ms) (row_of values (m ∷ ms)) c) (value_at values c) ≡ value_at values c
     by rest (inl h) = rw h.0 (ap (value_at values) h.1)
     by rest (inr h) = rw h.0 rest
 
@@ -115,8 +115,8 @@ judged_long controls ms (Accept answer) row h = by (takes_row controls ms answer
     by false takes e = cc
 
 -- and what a cluster's row becomes
-pub becomes_long : (verdicts : Verdicts) (plan : PlanData) (controls : List Control) (values : Values) (pairs : List Pair) (k : ℕ) (row : List CtrlValue) → becomes verdicts plan controls values pairs k ≡ Ok row → length row ≡ length (members plan k)
-unfolding becomes judge
+pub becomes_long : (verdicts : Verdicts) (plan : PlanData) (controls : List Control) (values : Values) (pairs : List Pair) (k : ℕ) (row : List CtrlValue) → validated_row verdicts plan controls values pairs k ≡ Ok row → length row ≡ length (members plan k)
+unfolding validated_row judge
 becomes_long verdicts plan controls values pairs k row h = by (settle_row controls (members plan k) (overwritten values pairs (members plan k))) refl h
   where
     judging : (o : Option Relation) (settled : List CtrlValue) → length settled ≡ length (members plan k) → judge_by verdicts controls (members plan k) o settled ≡ Ok row → length row ≡ length (members plan k)
@@ -131,9 +131,9 @@ becomes_long verdicts plan controls values pairs k row h = by (settle_row contro
 -- the row of a cluster afterwards has a value for each member
 pub row_after_long : (verdicts : Verdicts) (plan : PlanData) (controls : List Control) (values : Values) (grabs : Grabs) (pairs : List Pair) (k : ℕ) (row : List CtrlValue)
     → row_after verdicts plan controls values grabs pairs k ≡ Ok row → length row ≡ length (members plan k)
-row_after_long verdicts plan controls values grabs pairs k row h = by (is_touched pairs (members plan k)) (is_held grabs pairs (members plan k)) h
+row_after_long verdicts plan controls values grabs pairs k row h = by (is_touched pairs (members plan k)) (names_grabbed grabs pairs (members plan k)) h
   where
-    by : (b held : Bool) → cond (not b) (Ok (row_of values (members plan k))) (cond held (Err EBUSY) (becomes verdicts plan controls values pairs k)) ≡ Ok row → length row ≡ length (members plan k)
+    by : (b held : Bool) → cond (not b) (Ok (row_of values (members plan k))) (cond held (Err EBUSY) (validated_row verdicts plan controls values pairs k)) ≡ Ok row → length row ≡ length (members plan k)
     by false held e = let same : row_of values (members plan k) ≡ row = same_ok (row_of values (members plan k)) row e in sym (ap length same) ∙ length-map (members plan k) (value_at values)
     by true true e = cc
     by true false e = becomes_long verdicts plan controls values pairs k row e
@@ -163,17 +163,17 @@ member_there plan values k c is many among = omega (arith, many, each_of (length
 -- the value of a member afterwards
 pub member_after : (verdicts : Verdicts) (plan : PlanData) (controls : List Control) (values : Values) (grabs : Grabs) (pairs : List Pair) (k c : ℕ) → IsPlan plan → length values ≡ length plan.controls → k < length plan.clusters
     → list_any (nat_eq c) (members plan k) ≡ true
-    → value_at (overlay verdicts plan controls values grabs pairs) c ≡ unwrap_or (given_by (members plan k) (row_after verdicts plan controls values grabs pairs k) c) (value_at values c)
+    → value_at (overlay verdicts plan controls values grabs pairs) c ≡ unwrap_or (result_value (members plan k) (row_after verdicts plan controls values grabs pairs k) c) (value_at values c)
 member_after verdicts plan controls values grabs pairs k c is many lt among =
     overlay_at verdicts plan controls values grabs pairs c (member_there plan values k c is many among)
-    ∙ ap (λ (o : Option ℕ). unwrap_or (given_in plan (row_after verdicts plan controls values grabs pairs) o c) (value_at values c)) (is.members_apart k c lt among)
+    ∙ ap (λ (o : Option ℕ). unwrap_or (result_value_in plan (row_after verdicts plan controls values grabs pairs) o c) (value_at values c)) (is.members_apart k c lt among)
 
 -- a cluster has the row that it has after the pairs
 pub overlaid_row : (verdicts : Verdicts) (plan : PlanData) (controls : List Control) (values : Values) (grabs : Grabs) (pairs : List Pair) (k : ℕ) (row : List CtrlValue) → IsPlan plan → length values ≡ length plan.controls → k < length plan.clusters
     → row_after verdicts plan controls values grabs pairs k ≡ Ok row → row_of (overlay verdicts plan controls values grabs pairs) (members plan k) ≡ row
 overlaid_row verdicts plan controls values grabs pairs k row is many lt after =
-    same_each (value_at (overlay verdicts plan controls values grabs pairs)) (λ c. unwrap_or (value_in (members plan k) row c) (value_at values c)) (members plan k)
-    (λ c among. member_after verdicts plan controls values grabs pairs k c is many lt among ∙ ap (λ (r : Result (List CtrlValue) Errno). unwrap_or (given_by (members plan k) r c) (value_at values c)) after)
+    same_each (value_at (overlay verdicts plan controls values grabs pairs)) (λ c. unwrap_or (member_value (members plan k) row c) (value_at values c)) (members plan k)
+    (λ c among. member_after verdicts plan controls values grabs pairs k c is many lt among ∙ ap (λ (r : Result (List CtrlValue) Errno). unwrap_or (result_value (members plan k) r c) (value_at values c)) after)
     ∙ row_read (members plan k) row (value_at values) (is.members_differ k) (row_after_long verdicts plan controls values grabs pairs k row after)
 
 -- a refused one keeps its own
@@ -181,7 +181,7 @@ pub refused_row : (verdicts : Verdicts) (plan : PlanData) (controls : List Contr
     → row_after verdicts plan controls values grabs pairs k ≡ Err errno → row_of (overlay verdicts plan controls values grabs pairs) (members plan k) ≡ row_of values (members plan k)
 refused_row verdicts plan controls values grabs pairs k errno is many lt after =
     same_each (value_at (overlay verdicts plan controls values grabs pairs)) (value_at values) (members plan k)
-    (λ c among. member_after verdicts plan controls values grabs pairs k c is many lt among ∙ ap (λ (r : Result (List CtrlValue) Errno). unwrap_or (given_by (members plan k) r c) (value_at values c)) after)
+    (λ c among. member_after verdicts plan controls values grabs pairs k c is many lt among ∙ ap (λ (r : Result (List CtrlValue) Errno). unwrap_or (result_value (members plan k) r c) (value_at values c)) after)
 
 -- a number within a range is among its numbers
 among_range : (k a n : ℕ) → a ≤ k → k < a + n → list_any (nat_eq k) (range_with_len a n) ≡ true
@@ -262,8 +262,8 @@ alike_judge verdicts controls others cs (Some relation) row all = by (verdicts r
 
 -- whether a validator is asked hangs on the values of the cluster's members alone
 pub asks_alike : (plan : PlanData) (controls : List Control) (values elsewhere : Values) (pairs : List Pair) (k : ℕ) → All (λ c. value_at values c ≡ value_at elsewhere c) (members plan k)
-    → asks plan controls values pairs k ≡ asks plan controls elsewhere pairs k
-unfolding asks
+    → asks_validator plan controls values pairs k ≡ asks_validator plan controls elsewhere pairs k
+unfolding asks_validator
 asks_alike plan controls values elsewhere pairs k all =
     ap (λ (row : List CtrlValue). is_some (calls_of plan k).validator && is_ok (settle_row controls (members plan k) row)) over
   where
@@ -276,7 +276,7 @@ asks_alike plan controls values elsewhere pairs k all =
 pub separate : (verdicts : Verdicts) (plan : PlanData) (controls others : List Control) (values elsewhere : Values) (grabs held : Grabs) (pairs more : List Pair) (k : ℕ)
     → All (λ c. (control_in controls c ≡ control_in others c) × (value_at values c ≡ value_at elsewhere c) × (is_grabbed grabs c ≡ is_grabbed held c) × (last_value pairs c ≡ last_value more c)) (members plan k)
     → row_after verdicts plan controls values grabs pairs k ≡ row_after verdicts plan others elsewhere held more k
-unfolding becomes judge Alike
+unfolding validated_row judge Alike
 separate verdicts plan controls others values elsewhere grabs held pairs more k all =
     rw (touched, holds, own, becoming) refl
   where
@@ -292,7 +292,7 @@ separate verdicts plan controls others values elsewhere grabs held pairs more k 
     touched : is_touched pairs cs ≡ is_touched more cs
     touched = alike_any (is_among pairs) (is_among more) P cs among all
 
-    holds : is_held grabs pairs cs ≡ is_held held more cs
+    holds : names_grabbed grabs pairs cs ≡ names_grabbed held more cs
     holds = alike_any (λ c. is_among pairs c && is_grabbed grabs c) (λ c. is_among more c && is_grabbed held c) P cs (λ c h. rw (among c h, h.2) refl) all
 
     own : row_of values cs ≡ row_of elsewhere cs
@@ -308,7 +308,7 @@ separate verdicts plan controls others values elsewhere grabs held pairs more k 
     settled (Err errno) = refl
     settled (Ok row) = alike_judge verdicts controls others cs (calls_of plan k).validator row same
 
-    becoming : becomes verdicts plan controls values pairs k ≡ becomes verdicts plan others elsewhere more k
+    becoming : validated_row verdicts plan controls values pairs k ≡ validated_row verdicts plan others elsewhere more k
     becoming =
         ap (λ (row : List CtrlValue). judge_settled verdicts plan controls k (settle_row controls cs row)) over
         ∙ ap (judge_settled verdicts plan controls k) (alike_settle controls others cs (overwritten elsewhere more cs) same)
@@ -330,30 +330,30 @@ asked_free grabs (p ∷ pairs) c free = by (asked_free grabs pairs c (or_false_r
     by others (inl h) = and_right (is_among (p ∷ pairs) c) (is_grabbed grabs c) (ap (is_grabbed grabs) (sym h.1) ∙ first)
     by others (inr h) = rw h.0 others
 
-pub held_none : (grabs : Grabs) (pairs : List Pair) (cs : List ℕ) → list_any (λ p. is_grabbed grabs p.control) pairs ≡ false → is_held grabs pairs cs ≡ false
+pub held_none : (grabs : Grabs) (pairs : List Pair) (cs : List ℕ) → list_any (λ p. is_grabbed grabs p.control) pairs ≡ false → names_grabbed grabs pairs cs ≡ false
 held_none grabs pairs cs free = none_any (λ c. is_among pairs c && is_grabbed grabs c) cs (λ c among. asked_free grabs pairs c free)
 
 -- pairs of which no control is grabbed, laid over values, are the rows that the touched clusters become, written
 pub overlay_written : (verdicts : Verdicts) (plan : PlanData) (controls : List Control) (values : Values) (grabs : Grabs) (pairs : List Pair) (rows : List NewRow)
     → list_any (λ p. is_grabbed grabs p.control) pairs ≡ false → ((c k : ℕ) → cluster_of plan c ≡ Some k → is_touched pairs (members plan k) ≡ list_any (nat_eq k) (clusters_of rows))
-    → All (λ r. becomes verdicts plan controls values pairs r.cluster ≡ Ok r.row) rows → overlay verdicts plan controls values grabs pairs ≡ written plan values rows
+    → All (λ r. validated_row verdicts plan controls values pairs r.cluster ≡ Ok r.row) rows → overlay verdicts plan controls values grabs pairs ≡ written plan values rows
 overlay_written verdicts plan controls values grabs pairs rows free touched become =
     same_values (overlay verdicts plan controls values grabs pairs) (written plan values rows) (length_overlay verdicts plan controls values grabs pairs ∙ sym (length_written plan values rows))
     (λ i lt. let less : i < length values = omega (arith, lt, length_overlay verdicts plan controls values grabs pairs) in
     overlay_at verdicts plan controls values grabs pairs i less ∙ by i (cluster_of plan i) refl ∙ sym (written_at plan values rows i less))
   where
     at : (i k : ℕ) (o : Option (List CtrlValue)) → cluster_of plan i ≡ Some k → row_among rows k ≡ o
-        → unwrap_or (given_by (members plan k) (row_after verdicts plan controls values grabs pairs k) i) (value_at values i) ≡ unwrap_or (option_and_then (λ row. value_in (members plan k) row i) o) (value_at values i)
+        → unwrap_or (result_value (members plan k) (row_after verdicts plan controls values grabs pairs k) i) (value_at values i) ≡ unwrap_or (option_and_then (λ row. member_value (members plan k) row i) o) (value_at values i)
     at i k None is found =
         let none : is_touched pairs (members plan k) ≡ false = touched i k is ∙ has_row rows k ∙ ap is_some found in
         rw none (value_own values (members plan k) i)
     at i k (Some row) is found =
         let some : is_touched pairs (members plan k) ≡ true = touched i k is ∙ has_row rows k ∙ ap is_some found in
-        let becoming : becomes verdicts plan controls values pairs k ≡ Ok row = row_met (λ (j : ℕ) (x : List CtrlValue). becomes verdicts plan controls values pairs j ≡ Ok x) rows k row become found in
+        let becoming : validated_row verdicts plan controls values pairs k ≡ Ok row = row_met (λ (j : ℕ) (x : List CtrlValue). validated_row verdicts plan controls values pairs j ≡ Ok x) rows k row become found in
         rw (some, held_none grabs pairs (members plan k) free, becoming) refl
 
     by : (i : ℕ) (o : Option ℕ) → cluster_of plan i ≡ o
-        → unwrap_or (given_in plan (row_after verdicts plan controls values grabs pairs) o i) (value_at values i) ≡ unwrap_or (value_among plan rows o i) (value_at values i)
+        → unwrap_or (result_value_in plan (row_after verdicts plan controls values grabs pairs) o i) (value_at values i) ≡ unwrap_or (value_among plan rows o i) (value_at values i)
     by i None is = refl
     by i (Some k) is = at i k (row_among rows k) is refl
 
@@ -368,11 +368,11 @@ any_of f (d ∷ cs) c among passes = by (λ h. any_of f cs c h passes) (eqb_tell
 
 -- a cluster with a member among the pairs that isn't held has the row that it becomes
 pub row_after_free : (verdicts : Verdicts) (plan : PlanData) (controls : List Control) (values : Values) (grabs : Grabs) (pairs : List Pair) (k : ℕ) → is_touched pairs (members plan k) ≡ true
-    → is_held grabs pairs (members plan k) ≡ false → row_after verdicts plan controls values grabs pairs k ≡ becomes verdicts plan controls values pairs k
+    → names_grabbed grabs pairs (members plan k) ≡ false → row_after verdicts plan controls values grabs pairs k ≡ validated_row verdicts plan controls values pairs k
 row_after_free verdicts plan controls values grabs pairs k touched free = rw (touched, free) refl
 
 -- where nothing is grabbed no cluster is held
-pub held_not : (pairs : List Pair) (cs : List ℕ) → is_held [] pairs cs ≡ false
+pub held_not : (pairs : List Pair) (cs : List ℕ) → names_grabbed [] pairs cs ≡ false
 held_not pairs cs = none_any (λ c. is_among pairs c && is_grabbed [] c) cs (λ c among. and_false (is_among pairs c))
   where
     and_false : (a : Bool) → (a && false) ≡ false

@@ -10,7 +10,7 @@ use Rattle.ctrl_settle.specs.Control.{Control}
 use Rattle.ctrl_settle.specs.Settle.{settle}
 use Rattle.ctrl_handlers.specs.Plan.{PlanData, control_in}
 use Rattle.ctrl_clusters.specs.Changes.{is_changed, row_changes}
-use Rattle.ctrl_clusters.specs.Rows.{Values, value_at, settle_row, settled_before, value_in}
+use Rattle.ctrl_clusters.specs.Rows.{Values, value_at, settle_row, settled_before, member_value}
 use Rattle.ctrl_clusters.specs.Judging.{after_judging, is_value, takes_row, with_call}
 
 -- values that are settled, before what the others settle to
@@ -65,14 +65,14 @@ takes_next controls members row i within there = rw (drop_more members i 0 withi
 
 -- the next member is the control, or another is
 pub given_next : (members : List ℕ) (row : List ℤ) (c i : ℕ) → i < length members → i < length row
-    → value_in (drop i members) (drop i row) c ≡ (if get_or members i 0 == c then Some (value_at row i) else value_in (drop (i + 1) members) (drop (i + 1) row) c)
+    → member_value (drop i members) (drop i row) c ≡ (if get_or members i 0 == c then Some (value_at row i) else member_value (drop (i + 1) members) (drop (i + 1) row) c)
 given_next members row c i within there = rw (drop_more members i 0 within, drop_more row i (pos 0) there) refl
 
 -- the control is the next member
 pub given_here : (members : List ℕ) (row : List ℤ) (c i : ℕ) (v : ℤ) → i < length members → i < length row → get_or members i 0 ≡ c → slice_get row i ≡ Some v
-    → value_in (drop i members) (drop i row) c ≡ value_in members row c → Some v ≡ value_in members row c
+    → member_value (drop i members) (drop i row) c ≡ member_value members row c → Some v ≡ member_value members row c
 given_here members row c i v within there is has left =
-    let found : value_in (drop i members) (drop i row) c ≡ Some v =
+    let found : member_value (drop i members) (drop i row) c ≡ Some v =
     given_next members row c i within there ∙ rw (eq-eqb (get_or members i 0) c is) (ap Some (get_or_from_slice_get row i v (pos 0) has)) in
     sym found ∙ left
 

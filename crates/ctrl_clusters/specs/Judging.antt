@@ -62,13 +62,13 @@ judge_settled verdicts plan controls k (Ok row) = judge verdicts plan controls k
 
 -- What the row of a cluster becomes where these pairs are laid over these values: it is overwritten by the pairs, settles in member order,
 -- and is judged.
-unfoldable pub becomes : Verdicts → PlanData → List Control → Values → List Pair → ℕ → Result (List CtrlValue) Errno
-becomes verdicts plan controls values pairs k =
+unfoldable pub validated_row : Verdicts → PlanData → List Control → Values → List Pair → ℕ → Result (List CtrlValue) Errno
+validated_row verdicts plan controls values pairs k =
     judge_settled verdicts plan controls k (settle_row controls (members plan k) (overwritten values pairs (members plan k)))
 
 -- Whether a validator is asked where the row of a cluster becomes what these pairs make of it: its members settle, and it has one.
-unfoldable pub asks : PlanData → List Control → Values → List Pair → ℕ → Bool
-asks plan controls values pairs k =
+unfoldable pub asks_validator : PlanData → List Control → Values → List Pair → ℕ → Bool
+asks_validator plan controls values pairs k =
     is_some (calls_of plan k).validator && is_ok (settle_row controls (members plan k) (overwritten values pairs (members plan k)))
 
 -- a count with one call more, where there is a call

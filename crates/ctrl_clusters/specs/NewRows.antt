@@ -4,7 +4,7 @@ use Rattle.std.specs.List.{All, range_with_len}
 use Rattle.std.specs.Option.{option_and_then}
 use Rattle.ctrl_types.specs.Values.{CtrlValue}
 use Rattle.ctrl_handlers.specs.Plan.{PlanData, cluster_of, members, names_twice}
-use Rattle.ctrl_clusters.specs.Rows.{Values, value_at, value_in}
+use Rattle.ctrl_clusters.specs.Rows.{Values, value_at, member_value}
 use Rattle.ctrl_clusters.specs.declared.new_row.NewRow.{NewRow}
 
 -- the clusters that get rows
@@ -19,7 +19,7 @@ row_among (r ∷ rows) k = if r.cluster == k then Some r.row else row_among rows
 -- the value that rows give a control in this cluster, where it is one of the cluster's members
 abbrev pub value_among : PlanData → List NewRow → Option ℕ → ℕ → Option CtrlValue
 value_among plan rows None c = None
-value_among plan rows (Some k) c = option_and_then (λ row. value_in (members plan k) row c) (row_among rows k)
+value_among plan rows (Some k) c = option_and_then (λ row. member_value (members plan k) row c) (row_among rows k)
 
 -- The rows are of clusters that are there, each once, with a value for each member.
 pub record AreNewRows (plan : PlanData) (rows : List NewRow) : Type 0 where
@@ -36,8 +36,8 @@ unfoldable pub written : PlanData → Values → List NewRow → Values
 written plan values rows = map (value_written plan values rows) (range_with_len 0 (length values))
 
 -- the row that a cluster gets; an empty one where it gets none
-abbrev pub row_given : List NewRow → ℕ → List CtrlValue
-row_given rows k = unwrap_or (row_among rows k) []
+abbrev pub row_or_empty : List NewRow → ℕ → List CtrlValue
+row_or_empty rows k = unwrap_or (row_among rows k) []
 
 -- the values, where members have those of a row
 abbrev pub with_row : Values → List ℕ → List CtrlValue → Values

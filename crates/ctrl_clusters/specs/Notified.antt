@@ -25,7 +25,7 @@ pub record HaveWords (says : Words) (plan : PlanData) (values : Values) (words :
 
 -- What the words are once each changed cluster was notified of its new row: its word is one that the notifier may say of that row, and every
 -- other word stays.
-pub record AreRenewed (says : Words) (plan : PlanData) (changed : ℕ → Bool) (rows : ℕ → List CtrlValue) (old new : List ℕ) : Type 0 where
+pub record AreNotified (says : Words) (plan : PlanData) (changed : ℕ → Bool) (rows : ℕ → List CtrlValue) (old new : List ℕ) : Type 0 where
   pub each : length new ≡ length old
   pub own : (k : ℕ) → k < length plan.clusters → changed k ≡ true → MaySay says (calls_of plan k).notifier (rows k) (slice_index new k)
   pub others : (k : ℕ) → (k < length plan.clusters → changed k ≡ false) → slice_index new k ≡ slice_index old k
@@ -40,7 +40,7 @@ notifier_count plan = notified_count plan (λ k. true)
 
 -- What the words are after one cluster got a row, where it changed or not: a changed cluster has a word that its notifier may say of the row,
 -- and every other word stays.
-pub record IsRenewed (says : Words) (plan : PlanData) (k : ℕ) (changed : Bool) (row : List CtrlValue) (old new : List ℕ) : Type 0 where
+pub record IsNotified (says : Words) (plan : PlanData) (k : ℕ) (changed : Bool) (row : List CtrlValue) (old new : List ℕ) : Type 0 where
   pub each : length new ≡ length old
   pub own : changed ≡ true → MaySay says (calls_of plan k).notifier row (slice_index new k)
   pub others : (j : ℕ) → (j ≡ k → changed ≡ false) → slice_index new j ≡ slice_index old j

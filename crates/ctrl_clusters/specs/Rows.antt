@@ -55,7 +55,7 @@ settle_row controls (c ∷ cs) [] = Err EINVAL
 settle_row controls (c ∷ cs) (v ∷ vs) = settled_before (settle (control_in controls c) v) (settle_row controls cs vs)
 
 -- the value that a row gives one of the members
-abbrev pub value_in : List ℕ → List CtrlValue → ℕ → Option CtrlValue
-value_in [] row c = None
-value_in (m ∷ ms) [] c = None
-value_in (m ∷ ms) (v ∷ vs) c = if m == c then Some v else value_in ms vs c
+abbrev pub member_value : List ℕ → List CtrlValue → ℕ → Option CtrlValue
+member_value [] row c = None
+member_value (m ∷ ms) [] c = None
+member_value (m ∷ ms) (v ∷ vs) c = if m == c then Some v else member_value ms vs c

@@ -2,7 +2,7 @@ ghost use Rattle.std.specs.Prelude.{◌≡◌, ◌<◌, ◌≤◌, ◌+◌, leng
 ghost use Rattle.std.specs.List.{All};
 ghost use Rattle.ctrl_handlers.specs.Plan.{members, calls_of};
 ghost use Rattle.ctrl_clusters.specs.Rows.{AreControlsOf};
-ghost use Rattle.ctrl_clusters.specs.Judging.{refusal_of, judged, judge, becomes, asks, after_judging, with_call};
+ghost use Rattle.ctrl_clusters.specs.Judging.{refusal_of, judged, judge, validated_row, asks_validator, after_judging, with_call};
 
 use crate::rows::{overwritten, settle_row, takes_row};
 use ctrl_calls::{ClusterRow, Driver, Verdict, Work, ask};
@@ -57,8 +57,8 @@ pub fn judge<D: Driver>(
 ///
 /// Refused by the checks 51 (ERANGE, 34) and 52 (EINVAL, 22) of docs/RULES.md for the first member that doesn't settle, and then as `judge`
 /// refuses. It takes no memory.
-#[tactic(auto, unfolding(crate::specs::Judging::becomes))]
-pub fn becomes<D: Driver>(
+#[tactic(auto, unfolding(crate::specs::Judging::validated_row))]
+pub fn validated_row<D: Driver>(
     plan: &Plan<D>,
     controls: &[Ctrl],
     cluster: u32,
@@ -69,12 +69,12 @@ pub fn becomes<D: Driver>(
     requires controls { AreControlsOf plan.now controls.now }
     requires cluster { cluster < length plan.now.clusters }
     requires values { length values.now ≡ length plan.now.controls }
-    ensures row { result ≡ becomes D.verdict plan.now controls.now values.now pairs.now cluster }
+    ensures row { result ≡ validated_row D.verdict plan.now controls.now values.now pairs.now cluster }
     ensures long { IfOk result (λ taken. length taken ≡ length (members plan.now cluster)) }
     ensures at_most_once { work.new.asked ≤ work.old.asked + 1 }
     ensures asked { OnOk result (work.new.asked ≡ after_judging (calls_of plan.now cluster).validator work.old.asked) }
     ensures told { work.new.told ≡ work.old.told }
-    ensures counted { work.new ≡ record work.old { asked = with_call (asks plan.now controls.now values.now pairs.now cluster) work.old.asked } }
+    ensures counted { work.new ≡ record work.old { asked = with_call (asks_validator plan.now controls.now values.now pairs.now cluster) work.old.asked } }
 {
     let members = plan.members(cluster);
     let row = overwritten(values, pairs, members);

@@ -10,7 +10,7 @@ ghost use Rattle.ctrl_calls.specs.Meanings.{Verdicts};
 ghost use Rattle.ctrl_settle.specs.Control.{Control};
 ghost use Rattle.ctrl_handlers.specs.Plan.{PlanData, IsPlan, control_in, cluster_of, members};
 ghost use Rattle.ctrl_clusters.specs.Rows.{Values, value_at, row_of, Grabs, is_grabbed};
-ghost use Rattle.ctrl_clusters.specs.Judging.{becomes};
+ghost use Rattle.ctrl_clusters.specs.Judging.{validated_row};
 ghost use Rattle.ctrl_clusters.specs.Overlay.{is_touched, row_after, overlay, refused_clusters};
 ghost use Rattle.ctrl_clusters.specs.NewRows.{clusters_of, written};
 ghost use Rattle.ctrl_clusters.specs.declared.new_row.NewRow.{NewRow};
@@ -41,7 +41,7 @@ pub fn written_overlays()
     ensures { (verdicts : Verdicts) (plan : PlanData) (controls : List Control) (values : Values) (grabs : Grabs) (pairs : List Pair) (rows : List NewRow)
         → list_any (λ p. is_grabbed grabs p.control) pairs ≡ false
         → ((c k : ℕ) → cluster_of plan c ≡ Some k → is_touched pairs (members plan k) ≡ list_any (nat_eq k) (clusters_of rows))
-        → All (λ r. becomes verdicts plan controls values pairs r.cluster ≡ Ok r.row) rows
+        → All (λ r. validated_row verdicts plan controls values pairs r.cluster ≡ Ok r.row) rows
         → overlay verdicts plan controls values grabs pairs ≡ written plan values rows }
 {}
 

@@ -17,11 +17,11 @@ mod writing;
 
 pub use auto_clusters::inactive;
 pub use changes::{is_among, is_changed};
-pub use judging::{becomes, judge};
+pub use judging::{validated_row, judge};
 pub use new_row::NewRow;
 pub use new_rows::NewRows;
 pub use notifying::{first_words, notify_between, notify_changed};
 pub use present_flags::flags_under;
-pub use rows::value_in;
+pub use rows::member_value;
 pub use start::{default_values, no_grabs};
 pub use writing::{present_row, write_rows};

@@ -3,9 +3,9 @@
 ghost use Rattle.std.specs.Prelude.{◌≡◌, ◌<◌, length, IfOk, OnOk, OnErr};
 ghost use Rattle.ctrl_handlers.specs.Plan.{calls_of, members};
 ghost use Rattle.ctrl_clusters.specs.Rows.{row_of};
-ghost use Rattle.ctrl_clusters.specs.NewRows.{AreNewRows, row_given};
+ghost use Rattle.ctrl_clusters.specs.NewRows.{AreNewRows, row_or_empty};
 ghost use Rattle.ctrl_clusters.specs.Changes.{row_changes, cluster_changes, members_change};
-ghost use Rattle.ctrl_clusters.specs.Notified.{MaySay, HaveWords, AreRenewed, IsRenewed, notified_count, notifier_count, after_notifying, after_change};
+ghost use Rattle.ctrl_clusters.specs.Notified.{MaySay, HaveWords, AreNotified, IsNotified, notified_count, notifier_count, after_notifying, after_change};
 
 use crate::changes::row_changes;
 use crate::new_rows::NewRows;
@@ -38,7 +38,7 @@ pub fn notify_changed<D: Driver>(
     requires words { length words.old.items ≡ length plan.now.clusters }
     requires rows { AreNewRows plan.now rows.now.rows }
     requires fresh { work.old.told ≡ 0 }
-    ensures words { AreRenewed D.told plan.now (cluster_changes plan.now values.now pairs.now rows.now.rows) (row_given rows.now.rows) words.old.items words.new.items }
+    ensures words { AreNotified D.told plan.now (cluster_changes plan.now values.now pairs.now rows.now.rows) (row_or_empty rows.now.rows) words.old.items words.new.items }
     ensures work { work.new ≡ record work.old { told = notified_count plan.now (cluster_changes plan.now values.now pairs.now rows.now.rows) } }
 {
     for cluster in 0..plan.cluster_count() {
@@ -60,7 +60,7 @@ fn notify_touched<D: Driver>(
     requires values { length values.now ≡ length plan.now.controls }
     requires words { length words.old.items ≡ length plan.now.clusters }
     requires rows { AreNewRows plan.now rows.now.rows }
-    ensures words { IsRenewed D.told plan.now cluster (cluster_changes plan.now values.now pairs.now rows.now.rows cluster) (row_given rows.now.rows cluster) words.old.items words.new.items }
+    ensures words { IsNotified D.told plan.now cluster (cluster_changes plan.now values.now pairs.now rows.now.rows cluster) (row_or_empty rows.now.rows cluster) words.old.items words.new.items }
     ensures work { work.new ≡ record work.old { told = after_change plan.now cluster (cluster_changes plan.now values.now pairs.now rows.now.rows cluster) work.old.told } }
 {
     if let Some(row) = rows.among(cluster) {
@@ -92,7 +92,7 @@ pub fn notify_between<D: Driver>(
     requires after { length after.now ≡ length plan.now.controls }
     requires words { length words.old.items ≡ length plan.now.clusters }
     requires fresh { work.old.told ≡ 0 }
-    ensures words { AreRenewed D.told plan.now (members_change plan.now before.now after.now pairs.now) (λ k. row_of after.now (members plan.now k)) words.old.items words.new.items }
+    ensures words { AreNotified D.told plan.now (members_change plan.now before.now after.now pairs.now) (λ k. row_of after.now (members plan.now k)) words.old.items words.new.items }
     ensures work { work.new ≡ record work.old { told = notified_count plan.now (members_change plan.now before.now after.now pairs.now) } }
 {
     for cluster in 0..plan.cluster_count() {
@@ -114,7 +114,7 @@ fn notify_moved<D: Driver>(
     requires before { length before.now ≡ length plan.now.controls }
     requires after { length after.now ≡ length plan.now.controls }
     requires words { length words.old.items ≡ length plan.now.clusters }
-    ensures words { IsRenewed D.told plan.now cluster (members_change plan.now before.now after.now pairs.now cluster) (row_of after.now (members plan.now cluster)) words.old.items words.new.items }
+    ensures words { IsNotified D.told plan.now cluster (members_change plan.now before.now after.now pairs.now cluster) (row_of after.now (members plan.now cluster)) words.old.items words.new.items }
     ensures work { work.new ≡ record work.old { told = after_change plan.now cluster (members_change plan.now before.now after.now pairs.now cluster) work.old.told } }
 {
     let row = present_row(after, plan.members(cluster));
@@ -135,7 +135,7 @@ fn notify_of<D: Driver>(
     requires values { length values.now ≡ length plan.now.controls }
     requires row { length row.now ≡ length (members plan.now cluster) }
     requires words { length words.old.items ≡ length plan.now.clusters }
-    ensures words { IsRenewed D.told plan.now cluster (row_changes plan.now values.now pairs.now (members plan.now cluster) row.now) row.now words.old.items words.new.items }
+    ensures words { IsNotified D.told plan.now cluster (row_changes plan.now values.now pairs.now (members plan.now cluster) row.now) row.now words.old.items words.new.items }
     ensures work { work.new ≡ record work.old { told = after_change plan.now cluster (row_changes plan.now values.now pairs.now (members plan.now cluster) row.now) work.old.told } }
 {
     let members = plan.members(cluster);
@@ -154,7 +154,7 @@ fn notify_where<D: Driver>(
 )
     requires known { cluster < length plan.now.clusters }
     requires each { length words.old.items ≡ length plan.now.clusters }
-    ensures words { IsRenewed D.told plan.now cluster changed row.now words.old.items words.new.items }
+    ensures words { IsNotified D.told plan.now cluster changed row.now words.old.items words.new.items }
     ensures work { work.new ≡ record work.old { told = after_change plan.now cluster changed work.old.told } }
 {
     if changed {

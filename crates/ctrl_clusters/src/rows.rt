@@ -6,7 +6,7 @@ ghost use Rattle.ctrl_calls.specs.declared.row.TheConstants.{MAX_MEMBERS};
 ghost use Rattle.ctrl_settle.specs.Settle.{settle};
 ghost use Rattle.ctrl_handlers.specs.Plan.{control_in};
 ghost use Rattle.ctrl_types.specs.Pairs.{last_value};
-ghost use Rattle.ctrl_clusters.specs.Rows.{value_at, overwritten, settle_row, value_in};
+ghost use Rattle.ctrl_clusters.specs.Rows.{value_at, overwritten, settle_row, member_value};
 ghost use Rattle.ctrl_clusters.specs.Judging.{is_value, takes_row};
 
 use ctrl_calls::{ClusterRow, MAX_MEMBERS};
@@ -104,9 +104,9 @@ fn takes_at(controls: &[Ctrl], member: u32, row: &ClusterRow, place: usize) -> b
 ///
 /// It takes no memory and refuses nothing.
 #[tactic(auto, using(crate::proofs::RowLemmas::given_next))]
-pub fn value_in(members: &[u32], row: &ClusterRow, control: u32) -> Option<CtrlValue>
+pub fn member_value(members: &[u32], row: &ClusterRow, control: u32) -> Option<CtrlValue>
     requires { length row.now ≡ length members.now }
-    ensures { result ≡ value_in members.now row.now control }
+    ensures { result ≡ member_value members.now row.now control }
 {
     for (place, &member) in members.iter().enumerate() {
         if member == control {

@@ -7,7 +7,7 @@ use Rattle.ctrl_types.specs.declared.sub_flags.SubFlags.{SubFlags}
 use Rattle.ctrl_types.specs.Events.{joined, sends_initial}
 use Rattle.ctrl_events.specs.declared.event.Payload.{Payload}
 use Rattle.ctrl_events.specs.declared.event.Event.{Event}
-use Rattle.ctrl_events.specs.Events.{Subscription, Waiting, FileEvents, flags_in, changes_in, other_events, is_waiting, raised, with_subscription, after_subscribe, after_unsubscribe, behind_first, after_take, event_of, event_at, is_from, reaches, after_raise, AreSubscribed, IsKept}
+use Rattle.ctrl_events.specs.Events.{Subscription, Waiting, FileEvents, flags_in, changes_in, other_events, is_waiting, raised, with_subscription, after_subscribe, after_unsubscribe, behind_first, after_take, event_of, event_at, is_from, reaches, after_raise, AreSubscribed, WaitsForSubscribed}
 
 -- what a comparison of two numbers tells
 abbrev pub Tells : ℕ → ℕ → Type 0
@@ -77,7 +77,7 @@ kept_last ss (v ∷ ws) w kept none there =
     let parts = or_parts (nat_eq w.control v.control) (is_waiting ws w.control) none in
     (kept.0, unwaiting_last ws w v.control kept.1 (turned w.control v.control parts.0), kept_last ss ws w kept.2 parts.1 there)
 
-pub kept_raised : (c : ℕ) (changes : Changes) (payload : Payload) (f : FileEvents) → is_some (flags_in f.subscribed c) ≡ true → IsKept f → IsKept (raised c changes payload f)
+pub kept_raised : (c : ℕ) (changes : Changes) (payload : Payload) (f : FileEvents) → is_some (flags_in f.subscribed c) ≡ true → WaitsForSubscribed f → WaitsForSubscribed (raised c changes payload f)
 kept_raised c changes payload f there kept =
     kept_last f.subscribed (other_events c f.waiting) (record { control = c; changes = joined (changes_in f.waiting c) changes; payload = payload; sequence = f.next }) (kept_others f.subscribed c f.waiting kept) (none_among_others c f.waiting) there
 
@@ -102,13 +102,13 @@ pub kept_more : (ss : List Subscription) (s : Subscription) (ws : List Waiting) 
 kept_more ss s [] kept = tt
 kept_more ss s (w ∷ ws) kept = (still_there ss s w.control kept.0, kept.1, kept_more ss s ws kept.2)
 
-pub kept_subscribe : (c : ℕ) (flags : SubFlags) (changes : Changes) (payload : Payload) (f : FileEvents) → IsKept f → IsKept (after_subscribe c flags changes payload f)
+pub kept_subscribe : (c : ℕ) (flags : SubFlags) (changes : Changes) (payload : Payload) (f : FileEvents) → WaitsForSubscribed f → WaitsForSubscribed (after_subscribe c flags changes payload f)
 kept_subscribe c flags changes payload f kept = by (is_some (flags_in f.subscribed c)) (sends_initial flags)
   where
     more : FileEvents
     more = with_subscription c flags f
 
-    by : (there initial : Bool) → IsKept (cond there f (cond initial (raised c changes payload (with_subscription c flags f)) (with_subscription c flags f)))
+    by : (there initial : Bool) → WaitsForSubscribed (cond there f (cond initial (raised c changes payload (with_subscription c flags f)) (with_subscription c flags f)))
     by true initial = kept
     by false true = kept_raised c changes payload (with_subscription c flags f) (now_there f.subscribed c flags) (kept_more f.subscribed (record { control = c; flags = flags }) f.waiting kept)
     by false false = kept_more f.subscribed (record { control = c; flags = flags }) f.waiting kept
@@ -132,14 +132,14 @@ kept_without c ss (w ∷ ws) kept = by (eqb_tells c w.control) (kept_without c s
     by (inl same) rest = rw same.0 rest
     by (inr other) rest = rw other.0 (ap is_some (flags_without c w.control ss other.0) ∙ kept.0, unwaiting_others c w.control ws kept.1, rest)
 
-pub kept_unsubscribe : (c : ℕ) (f : FileEvents) → IsKept f → IsKept (after_unsubscribe c f)
+pub kept_unsubscribe : (c : ℕ) (f : FileEvents) → WaitsForSubscribed f → WaitsForSubscribed (after_unsubscribe c f)
 kept_unsubscribe c f kept = kept_without c f.subscribed f.waiting kept
 
 pub kept_behind : (ss : List Subscription) (ws : List Waiting) → AreSubscribed ss ws → AreSubscribed ss (behind_first ws)
 kept_behind ss [] kept = tt
 kept_behind ss (w ∷ ws) kept = kept.2
 
-pub kept_take : (f : FileEvents) → IsKept f → IsKept (after_take f)
+pub kept_take : (f : FileEvents) → WaitsForSubscribed f → WaitsForSubscribed (after_take f)
 kept_take f kept = kept_behind f.subscribed f.waiting kept
 
 -- what a raise reaches is subscribed
@@ -147,10 +147,10 @@ pub reached_there : (own : Bool) (o : Option SubFlags) → reaches own o ≡ tru
 reached_there own None reached = cc
 reached_there own (Some flags) reached = refl
 
-pub kept_raise : (c : ℕ) (changes : Changes) (payload : Payload) (from : Option ℕ) (fh : ℕ) (f : FileEvents) → IsKept f → IsKept (after_raise c changes payload from fh f)
+pub kept_raise : (c : ℕ) (changes : Changes) (payload : Payload) (from : Option ℕ) (fh : ℕ) (f : FileEvents) → WaitsForSubscribed f → WaitsForSubscribed (after_raise c changes payload from fh f)
 kept_raise c changes payload from fh f kept = by (reaches (is_from from fh) (flags_in f.subscribed c)) refl
   where
-    by : (b : Bool) → reaches (is_from from fh) (flags_in f.subscribed c) ≡ b → IsKept (cond b (raised c changes payload f) f)
+    by : (b : Bool) → reaches (is_from from fh) (flags_in f.subscribed c) ≡ b → WaitsForSubscribed (cond b (raised c changes payload f) f)
     by true is = kept_raised c changes payload f (reached_there (is_from from fh) (flags_in f.subscribed c) is) kept
     by false is = kept
 

@@ -8,7 +8,7 @@ use Rattle.ctrl_types.specs.declared.changes.Changes.{Changes}
 use Rattle.ctrl_types.specs.declared.sub_flags.SubFlags.{SubFlags}
 use Rattle.ctrl_events.specs.declared.event.Payload.{Payload}
 use Rattle.ctrl_events.specs.Events.{Waiting, FileEvents, no_events, other_events, changes_in, behind_first, raised, with_subscription, after_unsubscribe, after_take}
-use Rattle.ctrl_events.specs.Pending.{Happening, raise, gone, raises, AreNumbered, raise_in, since_gone, fresh, all_changes, waiting_of, pending, IsWhatHappened}
+use Rattle.ctrl_events.specs.Pending.{Happening, raise, withdrawn, raises, AreNumbered, raise_of, since_withdrawn, raises_since, all_changes, waiting_of, pending, IsWhatHappened}
 
 -- whether two numbers are the same, with what `==` says of them
 abbrev Tells : ℕ → ℕ → Type 0
@@ -28,18 +28,18 @@ each_last P [] w each own = (own, tt)
 each_last P (v ∷ ws) w each own = (each.0, each_last P ws w each.1 own)
 
 -- the raises of a control once what waits of one is gone
-fresh_gone : (c d : ℕ) (hs : List Happening) → fresh d (gone c ∷ hs) ≡ cond (nat_eq c d) [] (fresh d hs)
-unfolding fresh since_gone
+fresh_gone : (c d : ℕ) (hs : List Happening) → raises_since d (withdrawn c ∷ hs) ≡ cond (nat_eq c d) [] (raises_since d hs)
+unfolding raises_since since_withdrawn
 fresh_gone c d hs = by (nat_eq c d)
   where
-    by : (b : Bool) → filter (λ (w : Waiting). nat_eq w.control d) (filter_map raise_in (cond b [] (gone c ∷ since_gone d hs)))
-        ≡ cond b [] (filter (λ (w : Waiting). nat_eq w.control d) (filter_map raise_in (since_gone d hs)))
+    by : (b : Bool) → filter (λ (w : Waiting). nat_eq w.control d) (filter_map raise_of (cond b [] (withdrawn c ∷ since_withdrawn d hs)))
+        ≡ cond b [] (filter (λ (w : Waiting). nat_eq w.control d) (filter_map raise_of (since_withdrawn d hs)))
     by true = refl
     by false = refl
 
 -- the same, once one more is raised
-fresh_raise : (w : Waiting) (d : ℕ) (hs : List Happening) → fresh d (raise w ∷ hs) ≡ cond (nat_eq w.control d) (w ∷ fresh d hs) (fresh d hs)
-unfolding fresh since_gone
+fresh_raise : (w : Waiting) (d : ℕ) (hs : List Happening) → raises_since d (raise w ∷ hs) ≡ cond (nat_eq w.control d) (w ∷ raises_since d hs) (raises_since d hs)
+unfolding raises_since since_withdrawn
 fresh_raise w d hs = refl
 
 -- a raise that isn't picked any longer where it is of a control
@@ -65,14 +65,14 @@ left_out c g f [] each = refl
 left_out c g f (w ∷ ws) each = ap (λ o. cons_option o (filter_map f ws)) each.0 ∙ one_left c w (g w.control) (filter_map f ws) (filter_map (λ v. waiting_of (g v.control) v) ws) (left_out c g f ws each.1)
 
 -- what is gone of a control waits no longer
-pub pending_gone : (hs : List Happening) (c : ℕ) → pending (gone c ∷ hs) ≡ other_events c (pending hs)
+pub pending_gone : (hs : List Happening) (c : ℕ) → pending (withdrawn c ∷ hs) ≡ other_events c (pending hs)
 unfolding pending raises
-pending_gone hs c = left_out c (λ d. fresh d hs) (λ w. waiting_of (fresh w.control (gone c ∷ hs)) w) (raises hs) (every _ each (raises hs))
+pending_gone hs c = left_out c (λ d. raises_since d hs) (λ w. waiting_of (raises_since w.control (withdrawn c ∷ hs)) w) (raises hs) (every _ each (raises hs))
   where
-    each : (w : Waiting) → waiting_of (fresh w.control (gone c ∷ hs)) w ≡ cond (nat_eq c w.control) None (waiting_of (fresh w.control hs) w)
+    each : (w : Waiting) → waiting_of (raises_since w.control (withdrawn c ∷ hs)) w ≡ cond (nat_eq c w.control) None (waiting_of (raises_since w.control hs) w)
     each w = ap (λ own. waiting_of own w) (fresh_gone c w.control hs) ∙ by (nat_eq c w.control)
       where
-        by : (b : Bool) → waiting_of (cond b [] (fresh w.control hs)) w ≡ cond b None (waiting_of (fresh w.control hs) w)
+        by : (b : Bool) → waiting_of (cond b [] (raises_since w.control hs)) w ≡ cond b None (waiting_of (raises_since w.control hs) w)
         by true = refl
         by false = refl
 
@@ -80,7 +80,7 @@ pending_gone hs c = left_out c (λ d. fresh d hs) (λ w. waiting_of (fresh w.con
 below : (hs : List Happening) → AreNumbered hs → Each (λ w. w.sequence < length (raises hs)) (raises hs)
 unfolding raises AreNumbered
 below [] numbered = tt
-below (gone c ∷ hs) numbered = below hs numbered
+below (withdrawn c ∷ hs) numbered = below hs numbered
 below (raise w ∷ hs) numbered =
     each_last (λ v. v.sequence < length (raises hs ++ w ∷ [])) (raises hs) w
     (weaker (λ v. v.sequence < length (raises hs)) _ (λ v less. omega (arith, less, length-append (raises hs) (w ∷ []))) (raises hs) (below hs numbered.1))
@@ -88,27 +88,27 @@ below (raise w ∷ hs) numbered =
 
 -- a raise takes the place of the others of its control, and is the last
 raised_last : (hs : List Happening) (w : Waiting) → AreNumbered (raise w ∷ hs)
-    → pending (raise w ∷ hs) ≡ other_events w.control (pending hs) ++ record w { changes = joined (all_changes (fresh w.control hs)) w.changes } ∷ []
+    → pending (raise w ∷ hs) ≡ other_events w.control (pending hs) ++ record w { changes = joined (all_changes (raises_since w.control hs)) w.changes } ∷ []
 unfolding pending raises AreNumbered
 raised_last hs w numbered =
     filter_map-append f (raises hs) (w ∷ [])
-    ∙ ap (λ ws. ws ++ filter_map f (w ∷ [])) (left_out w.control (λ d. fresh d hs) f (raises hs) (weaker _ _ each (raises hs) (below hs numbered.1)))
+    ∙ ap (λ ws. ws ++ filter_map f (w ∷ [])) (left_out w.control (λ d. raises_since d hs) f (raises hs) (weaker _ _ each (raises hs) (below hs numbered.1)))
     ∙ ap (λ o. other_events w.control (pending hs) ++ cons_option o []) own
   where
     f : Waiting → Option Waiting
-    f v = waiting_of (fresh v.control (raise w ∷ hs)) v
+    f v = waiting_of (raises_since v.control (raise w ∷ hs)) v
 
-    each : (v : Waiting) → v.sequence < length (raises hs) → f v ≡ cond (nat_eq w.control v.control) None (waiting_of (fresh v.control hs) v)
+    each : (v : Waiting) → v.sequence < length (raises hs) → f v ≡ cond (nat_eq w.control v.control) None (waiting_of (raises_since v.control hs) v)
     each v less = ap (λ own. waiting_of own v) (fresh_raise w v.control hs) ∙ by (nat_eq w.control v.control)
       where
-        by : (b : Bool) → waiting_of (cond b (w ∷ fresh v.control hs) (fresh v.control hs)) v ≡ cond b None (waiting_of (fresh v.control hs) v)
-        by true = ap (λ b. cond b (Some (record v { changes = all_changes (w ∷ fresh v.control hs) })) None) (ne_eqb w.sequence v.sequence (λ e. omega (arith, e, less, numbered.0)))
+        by : (b : Bool) → waiting_of (cond b (w ∷ raises_since v.control hs) (raises_since v.control hs)) v ≡ cond b None (waiting_of (raises_since v.control hs) v)
+        by true = ap (λ b. cond b (Some (record v { changes = all_changes (w ∷ raises_since v.control hs) })) None) (ne_eqb w.sequence v.sequence (λ e. omega (arith, e, less, numbered.0)))
         by false = refl
 
-    own : f w ≡ Some (record w { changes = joined (all_changes (fresh w.control hs)) w.changes })
+    own : f w ≡ Some (record w { changes = joined (all_changes (raises_since w.control hs)) w.changes })
     own = ap (λ own. waiting_of own w) (fresh_raise w w.control hs)
-        ∙ ap (λ b. waiting_of (cond b (w ∷ fresh w.control hs) (fresh w.control hs)) w) (eq-eqb w.control w.control refl)
-        ∙ ap (λ b. cond b (Some (record w { changes = joined (all_changes (fresh w.control hs)) w.changes })) None) (eq-eqb w.sequence w.sequence refl)
+        ∙ ap (λ b. waiting_of (cond b (w ∷ raises_since w.control hs) (raises_since w.control hs)) w) (eq-eqb w.control w.control refl)
+        ∙ ap (λ b. cond b (Some (record w { changes = joined (all_changes (raises_since w.control hs)) w.changes })) None) (eq-eqb w.sequence w.sequence refl)
 
 -- what waits of a control once what waits of one is left out
 changes_left : (d c : ℕ) (ws : List Waiting) → changes_in (other_events d ws) c ≡ cond (nat_eq d c) no_changes (changes_in ws c)
@@ -153,26 +153,26 @@ changes_behind (w ∷ ws) v c = by (eqb_tells v.control w.control) (eqb_tells c 
     by (inr apart) (inr off) (inr other) rest = rw (apart.0, off.0) rest
 
 -- what waits of a control says what all its raises say that changed
-none_changed : (d : ℕ) → changes_in (pending []) d ≡ all_changes (fresh d [])
-unfolding pending raises fresh since_gone
+none_changed : (d : ℕ) → changes_in (pending []) d ≡ all_changes (raises_since d [])
+unfolding pending raises raises_since since_withdrawn
 none_changed d = refl
 
-changes_pending : (hs : List Happening) → AreNumbered hs → (c : ℕ) → changes_in (pending hs) c ≡ all_changes (fresh c hs)
+changes_pending : (hs : List Happening) → AreNumbered hs → (c : ℕ) → changes_in (pending hs) c ≡ all_changes (raises_since c hs)
 unfolding AreNumbered
 changes_pending [] numbered c = none_changed c
-changes_pending (gone d ∷ hs) numbered c =
+changes_pending (withdrawn d ∷ hs) numbered c =
     ap (λ ws. changes_in ws c) (pending_gone hs d) ∙ changes_left d c (pending hs) ∙ by (nat_eq d c) (changes_pending hs numbered c) ∙ ap all_changes (sym (fresh_gone d c hs))
   where
-    by : (b : Bool) → changes_in (pending hs) c ≡ all_changes (fresh c hs) → cond b no_changes (changes_in (pending hs) c) ≡ all_changes (cond b [] (fresh c hs))
+    by : (b : Bool) → changes_in (pending hs) c ≡ all_changes (raises_since c hs) → cond b no_changes (changes_in (pending hs) c) ≡ all_changes (cond b [] (raises_since c hs))
     by true is = refl
     by false is = is
 changes_pending (raise w ∷ hs) numbered c =
-    ap (λ ws. changes_in ws c) (raised_last hs w numbered) ∙ changes_behind (pending hs) (record w { changes = joined (all_changes (fresh w.control hs)) w.changes }) c
+    ap (λ ws. changes_in ws c) (raised_last hs w numbered) ∙ changes_behind (pending hs) (record w { changes = joined (all_changes (raises_since w.control hs)) w.changes }) c
     ∙ by (eqb_tells w.control c) (changes_pending hs numbered.1 c) ∙ ap all_changes (sym (fresh_raise w c hs))
   where
-    by : Tells w.control c → changes_in (pending hs) c ≡ all_changes (fresh c hs)
-        → cond (nat_eq w.control c) (joined (all_changes (fresh w.control hs)) w.changes) (changes_in (pending hs) c) ≡ all_changes (cond (nat_eq w.control c) (w ∷ fresh c hs) (fresh c hs))
-    by (inl same) is = rw same.0 (ap (λ d. joined (all_changes (fresh d hs)) w.changes) same.1)
+    by : Tells w.control c → changes_in (pending hs) c ≡ all_changes (raises_since c hs)
+        → cond (nat_eq w.control c) (joined (all_changes (raises_since w.control hs)) w.changes) (changes_in (pending hs) c) ≡ all_changes (cond (nat_eq w.control c) (w ∷ raises_since c hs) (raises_since c hs))
+    by (inl same) is = rw same.0 (ap (λ d. joined (all_changes (raises_since d hs)) w.changes) same.1)
     by (inr other) is = rw other.0 is
 
 -- A raise takes the place of what waits of its control: the changes of both are joined, and it is the last.
@@ -232,7 +232,7 @@ nothing_twice = tt
 once_pending : (hs : List Happening) → AreNumbered hs → AreOnce (pending hs)
 unfolding AreNumbered
 once_pending [] numbered = nothing_twice
-once_pending (gone c ∷ hs) numbered = subst AreOnce (sym (pending_gone hs c)) (once_left c (pending hs) (once_pending hs numbered))
+once_pending (withdrawn c ∷ hs) numbered = subst AreOnce (sym (pending_gone hs c)) (once_left c (pending hs) (once_pending hs numbered))
 once_pending (raise w ∷ hs) numbered =
     subst AreOnce (sym (raised_last hs w numbered))
     (once_last (other_events w.control (pending hs)) _ (once_left w.control (pending hs) (once_pending hs numbered.1)) (none_left w.control (pending hs)))
@@ -243,7 +243,7 @@ all_left c [] others = refl
 all_left c (w ∷ ws) others = rw (others.0, all_left c ws others.1) refl
 
 -- Once the first that waits is taken, those behind it wait.
-pub pending_taken : (hs : List Happening) (w : Waiting) (ws : List Waiting) → AreNumbered hs → pending hs ≡ w ∷ ws → pending (gone w.control ∷ hs) ≡ ws
+pub pending_taken : (hs : List Happening) (w : Waiting) (ws : List Waiting) → AreNumbered hs → pending hs ≡ w ∷ ws → pending (withdrawn w.control ∷ hs) ≡ ws
 unfolding AreOnce
 pending_taken hs w ws numbered is =
     let once : AreOnce (w ∷ ws) = subst AreOnce is (once_pending hs numbered) in
@@ -275,12 +275,12 @@ kept_raised hs f c changes payload kept =
     w = record { control = c; changes = changes; payload = payload; sequence = f.next }
 
 -- the end of a subscription
-pub kept_unsubscribed : (hs : List Happening) (f : FileEvents) (c : ℕ) → IsWhatHappened hs f → IsWhatHappened (gone c ∷ hs) (after_unsubscribe c f)
+pub kept_unsubscribed : (hs : List Happening) (f : FileEvents) (c : ℕ) → IsWhatHappened hs f → IsWhatHappened (withdrawn c ∷ hs) (after_unsubscribe c f)
 unfolding raises AreNumbered
 kept_unsubscribed hs f c kept = record { numbered = kept.numbered; waiting = ap (other_events c) kept.waiting ∙ sym (pending_gone hs c); next = kept.next }
 
 -- a take
-pub kept_taken : (hs : List Happening) (f : FileEvents) (w : Waiting) (ws : List Waiting) → IsWhatHappened hs f → f.waiting ≡ w ∷ ws → IsWhatHappened (gone w.control ∷ hs) (after_take f)
+pub kept_taken : (hs : List Happening) (f : FileEvents) (w : Waiting) (ws : List Waiting) → IsWhatHappened hs f → f.waiting ≡ w ∷ ws → IsWhatHappened (withdrawn w.control ∷ hs) (after_take f)
 unfolding raises AreNumbered
 kept_taken hs f w ws kept is = record { numbered = kept.numbered; waiting = ap behind_first is ∙ sym (pending_taken hs w ws kept.numbered (sym kept.waiting ∙ is)); next = kept.next }
 

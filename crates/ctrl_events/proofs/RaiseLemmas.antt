@@ -11,7 +11,7 @@ use Rattle.indexmap.specs.IndexMap.{set_value_at}
 use Rattle.ctrl_types.specs.declared.changes.Changes.{Changes}
 use Rattle.ctrl_events.specs.declared.event.Payload.{Payload}
 use Rattle.ctrl_events.specs.Events.{FileEvents, EventsData, no_events, events_of, flags_in, is_from, reaches, raised, after_raise}
-use Rattle.ctrl_events.specs.Files.{raise_in, changed_at, changed_below}
+use Rattle.ctrl_events.specs.Files.{raised_in_entry, changed_at, changed_below}
 use Rattle.ctrl_events.proofs.KeptLemmas.{Tells}
 
 same : {X : Type 0} (a b : X) → Some a ≡ Some b → a ≡ b
@@ -19,7 +19,7 @@ same a b h = cc
 
 -- a raise for the file handle at a place
 pub raised_at : (es : List (ℕ × FileEvents)) (i : ℕ) (f g : FileEvents) (own : Bool) (c : ℕ) (changes : Changes) (payload : Payload) (from : Option ℕ) → Some f ≡ slice_get (values_of es) i
-    → IfSome (slice_get es i) (λ e. own ≡ is_from from e.0) → g ≡ (if reaches own (flags_in f.subscribed c) then raised c changes payload f else f) → set_value_at es i g ≡ changed_at i (raise_in c changes payload from) es
+    → IfSome (slice_get es i) (λ e. own ≡ is_from from e.0) → g ≡ (if reaches own (flags_in f.subscribed c) then raised c changes payload f else f) → set_value_at es i g ≡ changed_at i (raised_in_entry c changes payload from) es
 raised_at [] i f g own c changes payload from there is made = refl
 raised_at (e ∷ es) zero f g own c changes payload from there is made =
     ap (λ (x : FileEvents). (e.0, x) ∷ es) (made ∙ ap₂ (λ (o : Bool) (x : FileEvents). if reaches o (flags_in x.subscribed c) then raised c changes payload x else x) is (same f e.1 there))
@@ -52,20 +52,20 @@ next_unchanged (e ∷ es) (suc i) change = next_unchanged es i change
 
 -- at last all are changed
 raised_all : (es : List (ℕ × FileEvents)) (c : ℕ) (changes : Changes) (payload : Payload) (from : Option ℕ) (j : ℕ)
-    → lookup (nat_eq j) (changed_below (length es) (raise_in c changes payload from) es) ≡ option_map (after_raise c changes payload from j) (lookup (nat_eq j) es)
+    → lookup (nat_eq j) (changed_below (length es) (raised_in_entry c changes payload from) es) ≡ option_map (after_raise c changes payload from j) (lookup (nat_eq j) es)
 raised_all [] c changes payload from j = refl
 raised_all (e ∷ es) c changes payload from j = by (eqb_tells j e.0) (raised_all es c changes payload from j)
   where
-    by : Tells j e.0 → lookup (nat_eq j) (changed_below (length es) (raise_in c changes payload from) es) ≡ option_map (after_raise c changes payload from j) (lookup (nat_eq j) es)
-        → lookup (nat_eq j) (changed_below (length (e ∷ es)) (raise_in c changes payload from) (e ∷ es)) ≡ option_map (after_raise c changes payload from j) (lookup (nat_eq j) (e ∷ es))
+    by : Tells j e.0 → lookup (nat_eq j) (changed_below (length es) (raised_in_entry c changes payload from) es) ≡ option_map (after_raise c changes payload from j) (lookup (nat_eq j) es)
+        → lookup (nat_eq j) (changed_below (length (e ∷ es)) (raised_in_entry c changes payload from) (e ∷ es)) ≡ option_map (after_raise c changes payload from j) (lookup (nat_eq j) (e ∷ es))
     by (inl here) rest = rw here.0 (ap (λ (n : ℕ). Some (after_raise c changes payload from n e.1)) (sym here.1))
     by (inr other) rest = rw other.0 rest
 
-pub raised_for : (old new : EventsData) (n : ℕ) (c : ℕ) (changes : Changes) (payload : Payload) (from : Option ℕ) → n ≡ length old.files → new.files ≡ changed_below n (raise_in c changes payload from) old.files
+pub raised_for : (old new : EventsData) (n : ℕ) (c : ℕ) (changes : Changes) (payload : Payload) (from : Option ℕ) → n ≡ length old.files → new.files ≡ changed_below n (raised_in_entry c changes payload from) old.files
     → (j : ℕ) → events_of new j ≡ after_raise c changes payload from j (events_of old j)
 unfolding events_of
 raised_for old new n c changes payload from many made j =
-    ap (λ (es : List (ℕ × FileEvents)). unwrap_or (lookup (nat_eq j) es) no_events) (made ∙ ap (λ (m : ℕ). changed_below m (raise_in c changes payload from) old.files) many)
+    ap (λ (es : List (ℕ × FileEvents)). unwrap_or (lookup (nat_eq j) es) no_events) (made ∙ ap (λ (m : ℕ). changed_below m (raised_in_entry c changes payload from) old.files) many)
     ∙ ap (λ (o : Option FileEvents). unwrap_or o no_events) (raised_all old.files c changes payload from j) ∙ by (lookup (nat_eq j) old.files)
   where
     by : (o : Option FileEvents) → unwrap_or (option_map (after_raise c changes payload from j) o) no_events ≡ after_raise c changes payload from j (unwrap_or o no_events)

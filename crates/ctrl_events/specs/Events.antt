@@ -120,8 +120,8 @@ AreSubscribed ss [] = Unit {0}
 AreSubscribed ss (w ∷ ws) = (is_some (flags_in ss w.control) ≡ true) × (is_waiting ws w.control ≡ false) × AreSubscribed ss ws
 
 -- the same of a file handle
-abbrev pub IsKept : FileEvents → Type 0
-IsKept f = AreSubscribed f.subscribed f.waiting
+abbrev pub WaitsForSubscribed : FileEvents → Type 0
+WaitsForSubscribed f = AreSubscribed f.subscribed f.waiting
 
 -- the same events wait for two file handles, in the same order, and the next has the same number
 abbrev pub IsLike : FileEvents → FileEvents → Type 0

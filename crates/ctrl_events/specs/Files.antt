@@ -5,8 +5,8 @@ use Rattle.ctrl_events.specs.Events.{FileEvents, after_raise}
 use Rattle.ctrl_events.specs.declared.event.Payload.{Payload}
 
 -- the entry after a raise of a control's event
-abbrev pub raise_in : ℕ → Changes → Payload → Option ℕ → ℕ × FileEvents → ℕ × FileEvents
-raise_in c changes payload from e = (e.0, after_raise c changes payload from e.0 e.1)
+abbrev pub raised_in_entry : ℕ → Changes → Payload → Option ℕ → ℕ × FileEvents → ℕ × FileEvents
+raised_in_entry c changes payload from e = (e.0, after_raise c changes payload from e.0 e.1)
 
 -- the entries, where the one at a place is changed
 abbrev pub changed_at : ℕ → (ℕ × FileEvents → ℕ × FileEvents) → List (ℕ × FileEvents) → List (ℕ × FileEvents)

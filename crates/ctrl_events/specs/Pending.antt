@@ -9,38 +9,38 @@ use Rattle.ctrl_events.specs.Events.{Waiting, FileEvents}
 -- control is gone, since it was taken or the subscription ended.
 pub data Happening : Type 0 where
   raise : Waiting → Happening
-  gone : ℕ → Happening
+  withdrawn : ℕ → Happening
 
 -- the raise, where it is one
-abbrev pub raise_in : Happening → Option Waiting
-raise_in (raise w) = Some w
-raise_in (gone c) = None
+abbrev pub raise_of : Happening → Option Waiting
+raise_of (raise w) = Some w
+raise_of (withdrawn c) = None
 
 -- the raises of what happened, which is given newest first; oldest first
 unfoldable pub raises : List Happening → List Waiting
 raises [] = []
 raises (raise w ∷ older) = raises older ++ w ∷ []
-raises (gone c ∷ older) = raises older
+raises (withdrawn c ∷ older) = raises older
 
 -- the number of each raise is its place among the raises, from 0
 unfoldable pub AreNumbered : List Happening → Type 0
 AreNumbered [] = Unit {0}
 AreNumbered (raise w ∷ older) = (w.sequence ≡ length (raises older)) × AreNumbered older
-AreNumbered (gone c ∷ older) = AreNumbered older
+AreNumbered (withdrawn c ∷ older) = AreNumbered older
 
 -- what waits of a control is gone
-abbrev pub is_gone : ℕ → Happening → Bool
-is_gone c (raise w) = false
-is_gone c (gone d) = nat_eq d c
+abbrev pub is_withdrawn : ℕ → Happening → Bool
+is_withdrawn c (raise w) = false
+is_withdrawn c (withdrawn d) = nat_eq d c
 
 -- what happened since it was gone last
-unfoldable pub since_gone : ℕ → List Happening → List Happening
-since_gone c [] = []
-since_gone c (h ∷ older) = cond (is_gone c h) [] (h ∷ since_gone c older)
+unfoldable pub since_withdrawn : ℕ → List Happening → List Happening
+since_withdrawn c [] = []
+since_withdrawn c (h ∷ older) = cond (is_withdrawn c h) [] (h ∷ since_withdrawn c older)
 
 -- the raises of a control since what waited of it was gone last, newest first
-unfoldable pub fresh : ℕ → List Happening → List Waiting
-fresh c hs = filter (λ w. nat_eq w.control c) (filter_map raise_in (since_gone c hs))
+unfoldable pub raises_since : ℕ → List Happening → List Waiting
+raises_since c hs = filter (λ w. nat_eq w.control c) (filter_map raise_of (since_withdrawn c hs))
 
 -- the changes of all of some raises
 abbrev pub all_changes : List Waiting → Changes
@@ -55,7 +55,7 @@ waiting_of (last ∷ others) w = cond (nat_eq last.sequence w.sequence) (Some (r
 -- The events that wait, in the order of their numbers: of each control that was raised since what waited of it was gone, the last raise, with
 -- the changes of all.
 unfoldable pub pending : List Happening → List Waiting
-pending hs = filter_map (λ w. waiting_of (fresh w.control hs) w) (raises hs)
+pending hs = filter_map (λ w. waiting_of (raises_since w.control hs) w) (raises hs)
 
 -- What is kept of a file handle is what happened to its events: the events that wait, and the number of the next raise.
 pub record IsWhatHappened (hs : List Happening) (f : FileEvents) : Type 0 where

@@ -3,8 +3,8 @@ ghost use Rattle.std.specs.Option.{option_map};
 ghost use Rattle.std.specs.List.{IsDistinct};
 ghost use Rattle.std.specs.Map.{keys_of};
 ghost use Rattle.ctrl_types.specs.declared.errno.Errno.TheVariants.{ENOMEM};
-ghost use Rattle.ctrl_events.specs.Events.{events_of, only_at, no_events, flags_in, event_at, after_subscribe, after_unsubscribe, take_answer, after_take, after_raise, is_from, IsKept, IsLike};
-ghost use Rattle.ctrl_events.specs.Files.{changed_at, raise_in};
+ghost use Rattle.ctrl_events.specs.Events.{events_of, only_at, no_events, flags_in, event_at, after_subscribe, after_unsubscribe, take_answer, after_take, after_raise, is_from, WaitsForSubscribed, IsLike};
+ghost use Rattle.ctrl_events.specs.Files.{changed_at, raised_in_entry};
 
 use crate::event::{Event, Payload, Waiting};
 use crate::queue::Queue;
@@ -62,7 +62,7 @@ impl Events {
     /// How many events wait for a file handle. They are of controls to which it is subscribed, and no control has two.
     pub fn pending_len(&self, fh: FhId) -> usize
         ensures pending { result ≡ length (events_of self.now fh.0).waiting }
-        ensures kept { IsKept (events_of self.now fh.0) }
+        ensures kept { WaitsForSubscribed (events_of self.now fh.0) }
     {
         self.waiting_for(fh).len()
     }
@@ -91,7 +91,7 @@ impl Events {
     // The events that wait for a file handle.
     fn waiting_for(&self, fh: FhId) -> &[Waiting]
         ensures waiting { result.now ≡ (events_of self.now fh.0).waiting }
-        ensures kept { IsKept (events_of self.now fh.0) }
+        ensures kept { WaitsForSubscribed (events_of self.now fh.0) }
     {
         match self.files.get(&fh.0) {
             Some(queue) => queue.waiting(),
@@ -222,7 +222,7 @@ impl Events {
         from: Option<FhId>,
     )
         requires { IfSome (slice_get self.old.files place) (λ e. e.1.next < 4294967295) }
-        ensures { self.new.files ≡ changed_at place (raise_in control changes payload.now (option_map (λ fh. fh.0) from)) self.old.files }
+        ensures { self.new.files ≡ changed_at place (raised_in_entry control changes payload.now (option_map (λ fh. fh.0) from)) self.old.files }
     {
         let is_own = self.is_at(place, from);
         if let Some(queue) = self.files.get_index_mut(place) {

@@ -5,36 +5,36 @@ ghost use Rattle.ctrl_types.specs.Events.{joined};
 ghost use Rattle.ctrl_types.specs.declared.changes.Changes.{Changes};
 ghost use Rattle.ctrl_types.specs.declared.sub_flags.SubFlags.{SubFlags};
 ghost use Rattle.ctrl_events.specs.declared.event.Payload.{Payload};
-ghost use Rattle.ctrl_events.specs.Events.{FileEvents, Waiting, no_events, other_events, changes_in, raised, with_subscription, after_subscribe, after_unsubscribe, after_take, after_raise, IsKept};
-ghost use Rattle.ctrl_events.specs.Pending.{Happening, raise, gone, AreNumbered, IsWhatHappened, pending};
+ghost use Rattle.ctrl_events.specs.Events.{FileEvents, Waiting, no_events, other_events, changes_in, raised, with_subscription, after_subscribe, after_unsubscribe, after_take, after_raise, WaitsForSubscribed};
+ghost use Rattle.ctrl_events.specs.Pending.{Happening, raise, withdrawn, AreNumbered, IsWhatHappened, pending};
 
 /// Nothing waits at first.
 pub fn starts_kept()
-    ensures { IsKept no_events }
+    ensures { WaitsForSubscribed no_events }
 {}
 
 /// After a subscription what waits is of controls that are subscribed, and no control waits twice.
 #[tactic(auto, using(crate::proofs::KeptLemmas::kept_subscribe))]
 pub fn subscribe_keeps()
-    ensures { (c : ℕ) (flags : SubFlags) (changes : Changes) (payload : Payload) (f : FileEvents) → IsKept f → IsKept (after_subscribe c flags changes payload f) }
+    ensures { (c : ℕ) (flags : SubFlags) (changes : Changes) (payload : Payload) (f : FileEvents) → WaitsForSubscribed f → WaitsForSubscribed (after_subscribe c flags changes payload f) }
 {}
 
 /// The same after the end of one.
 #[tactic(auto, using(crate::proofs::KeptLemmas::kept_unsubscribe))]
 pub fn unsubscribe_keeps()
-    ensures { (c : ℕ) (f : FileEvents) → IsKept f → IsKept (after_unsubscribe c f) }
+    ensures { (c : ℕ) (f : FileEvents) → WaitsForSubscribed f → WaitsForSubscribed (after_unsubscribe c f) }
 {}
 
 /// The same after an event is taken.
 #[tactic(auto, using(crate::proofs::KeptLemmas::kept_take))]
 pub fn take_keeps()
-    ensures { (f : FileEvents) → IsKept f → IsKept (after_take f) }
+    ensures { (f : FileEvents) → WaitsForSubscribed f → WaitsForSubscribed (after_take f) }
 {}
 
 /// The same after a raise.
 #[tactic(auto, using(crate::proofs::KeptLemmas::kept_raise))]
 pub fn raise_keeps()
-    ensures { (c : ℕ) (changes : Changes) (payload : Payload) (from : Option ℕ) (fh : ℕ) (f : FileEvents) → IsKept f → IsKept (after_raise c changes payload from fh f) }
+    ensures { (c : ℕ) (changes : Changes) (payload : Payload) (from : Option ℕ) (fh : ℕ) (f : FileEvents) → WaitsForSubscribed f → WaitsForSubscribed (after_raise c changes payload from fh f) }
 {}
 
 /// A subscription raises at most one event for a file handle.
@@ -53,9 +53,9 @@ pub fn raise_counts()
 /// joined, and it is the last. Once the first is taken, those behind it wait.
 pub fn pending_events()
     ensures start { pending [] ≡ [] }
-    ensures gone { (hs : List Happening) (c : ℕ) → pending (gone c ∷ hs) ≡ other_events c (pending hs) }
+    ensures withdrawn { (hs : List Happening) (c : ℕ) → pending (withdrawn c ∷ hs) ≡ other_events c (pending hs) }
     ensures raised { (hs : List Happening) (w : Waiting) → AreNumbered (raise w ∷ hs) → pending (raise w ∷ hs) ≡ other_events w.control (pending hs) ++ record w { changes = joined (changes_in (pending hs) w.control) w.changes } ∷ [] }
-    ensures taken { (hs : List Happening) (w : Waiting) (ws : List Waiting) → AreNumbered hs → pending hs ≡ w ∷ ws → pending (gone w.control ∷ hs) ≡ ws }
+    ensures taken { (hs : List Happening) (w : Waiting) (ws : List Waiting) → AreNumbered hs → pending hs ≡ w ∷ ws → pending (withdrawn w.control ∷ hs) ≡ ws }
 {}
 
 /// What is kept of a file handle is what happened to its events, also after a raise, a subscription, its end and a take.
@@ -65,6 +65,6 @@ pub fn happened_events()
     ensures raised { (hs : List Happening) (f : FileEvents) (c : ℕ) (changes : Changes) (payload : Payload) → IsWhatHappened hs f
         → IsWhatHappened (raise (record { control = c; changes = changes; payload = payload; sequence = f.next }) ∷ hs) (raised c changes payload f) }
     ensures subscribed { (hs : List Happening) (f : FileEvents) (c : ℕ) (flags : SubFlags) → IsWhatHappened hs f → IsWhatHappened hs (with_subscription c flags f) }
-    ensures unsubscribed { (hs : List Happening) (f : FileEvents) (c : ℕ) → IsWhatHappened hs f → IsWhatHappened (gone c ∷ hs) (after_unsubscribe c f) }
-    ensures taken { (hs : List Happening) (f : FileEvents) (w : Waiting) (ws : List Waiting) → IsWhatHappened hs f → f.waiting ≡ w ∷ ws → IsWhatHappened (gone w.control ∷ hs) (after_take f) }
+    ensures unsubscribed { (hs : List Happening) (f : FileEvents) (c : ℕ) → IsWhatHappened hs f → IsWhatHappened (withdrawn c ∷ hs) (after_unsubscribe c f) }
+    ensures taken { (hs : List Happening) (f : FileEvents) (w : Waiting) (ws : List Waiting) → IsWhatHappened hs f → f.waiting ≡ w ∷ ws → IsWhatHappened (withdrawn w.control ∷ hs) (after_take f) }
 {}

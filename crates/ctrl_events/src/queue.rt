@@ -1,7 +1,7 @@
 ghost use Rattle.std.specs.Prelude.{◌≡◌, ◌<◌, ◌≤◌, true, [], length, is_some, filter, not, nat_eq, IsTrue, OnOk, OnErr, if◌then◌else◌};
 ghost use Rattle.std.specs.List.{list_any};
 ghost use Rattle.std.specs.Prelude.{vec_capacity};
-ghost use Rattle.ctrl_events.specs.Events.{no_events, flags_in, changes_in, other_events, event_of, event_at, raised, with_subscription, after_subscribe, after_unsubscribe, take_answer, after_take, reaches, IsKept};
+ghost use Rattle.ctrl_events.specs.Events.{no_events, flags_in, changes_in, other_events, event_of, event_at, raised, with_subscription, after_subscribe, after_unsubscribe, take_answer, after_take, reaches, WaitsForSubscribed};
 
 use crate::event::{Event, Payload, Subscription, Waiting};
 use bitflags::Flags;
@@ -52,7 +52,7 @@ impl Queue {
     /// The events that wait.
     pub(crate) fn waiting(&self) -> &[Waiting]
         ensures waiting { result.now ≡ self.now.waiting }
-        ensures kept { IsKept self.now }
+        ensures kept { WaitsForSubscribed self.now }
     {
         self.waiting.as_slice()
     }

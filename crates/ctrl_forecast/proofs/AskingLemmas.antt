@@ -10,14 +10,14 @@ use Rattle.ctrl_calls.specs.Meanings.{Verdicts}
 use Rattle.ctrl_settle.specs.Control.{Control}
 use Rattle.ctrl_handlers.specs.Plan.{PlanData, IsPlan, members}
 use Rattle.ctrl_clusters.specs.Rows.{Values, Grabs, row_of}
-use Rattle.ctrl_clusters.specs.Judging.{asks, with_call, with_calls}
-use Rattle.ctrl_clusters.specs.Overlay.{is_touched, is_held, overlay}
+use Rattle.ctrl_clusters.specs.Judging.{asks_validator, with_call, with_calls}
+use Rattle.ctrl_clusters.specs.Overlay.{is_touched, names_grabbed, overlay}
 use Rattle.ctrl_clusters.proofs.OverlayLemmas.{asks_alike}
 use Rattle.ctrl_forecast.specs.declared.board.Forecast.{Forecast}
 use Rattle.ctrl_forecast.specs.Forecasts.{QueuedData, forecast_over, forecasts, values_behind, naming_count, named_by_frames}
 use Rattle.ctrl_forecast.specs.Boards.{asked_at, named_clusters}
 use Rattle.ctrl_forecast.specs.Asking.{asks_row, asked_count, values_after, asks_at, asked_from, renewing_count}
-use Rattle.ctrl_forecast.specs.Frames.{FrameData, Setting, no_frame, frame_at, queued_of, base_at, outcome, row_or, row_over, IsRightAt, IsRenewed}
+use Rattle.ctrl_forecast.specs.Frames.{FrameData, Setting, no_frame, frame_at, queued_of, base_at, row_result, row_or, row_over, IsRightAt, IsClusterRenewed}
 use Rattle.ctrl_forecast.proofs.BoardLemmas.{forecasts_more}
 use Rattle.ctrl_forecast.proofs.FrameLemmas.{behind_long}
 use Rattle.ctrl_forecast.proofs.RightLemmas.{rows_alike, outcome_alike, overlay_row}
@@ -76,7 +76,7 @@ pub asked_all : (plan : PlanData) (controls : List Control) (values : Values) (g
 asked_all plan controls values grabs pairs ks i count asked named all is =
     is ∙ ap (λ (l : List ℕ). with_calls (count_by (asks_row plan controls values grabs pairs) l) count) (take_all i ks all ∙ named)
     ∙ ap (λ (n : ℕ). with_calls n count)
-    (counted_among (λ k. is_touched pairs (members plan k)) (λ k. not (is_held grabs pairs (members plan k)) && asks plan controls values pairs k) (range_with_len 0 (length plan.clusters)))
+    (counted_among (λ k. is_touched pairs (members plan k)) (λ k. not (names_grabbed grabs pairs (members plan k)) && asks_validator plan controls values pairs k) (range_with_len 0 (length plan.clusters)))
 
 -- the values of the last of some frames
 behind_last : (values : Values) (rows : List Forecast) (row : Forecast) → values_behind values (rows ++ row ∷ []) ≡ row.values
@@ -101,14 +101,14 @@ kept_asked fs p lt = ap (λ (q : QueuedData). q.asked) (sym (get_or-map queued_o
 -- where the rows before agree in a cluster, so does what pairs make of it
 over_alike : (s : Setting) (base values : Values) (pairs : List Pair) (k : ℕ) → row_of base (members s.plan k) ≡ row_of values (members s.plan k) → row_over s base pairs k ≡ row_over s values pairs k
 over_alike s base values pairs k same =
-    ap (λ (r : List CtrlValue). row_or r (outcome s base pairs k)) same
+    ap (λ (r : List CtrlValue). row_or r (row_result s base pairs k)) same
     ∙ ap (row_or (row_of values (members s.plan k))) (outcome_alike s.verdicts s.plan s.controls base values s.grabs s.grabs pairs k same (grabs_agree s (members s.plan k)))
 
 -- and whether its validator is asked
 row_alike : (s : Setting) (base values : Values) (pairs : List Pair) (k : ℕ) → row_of base (members s.plan k) ≡ row_of values (members s.plan k)
     → asks_row s.plan s.controls base s.grabs pairs k ≡ asks_row s.plan s.controls values s.grabs pairs k
 row_alike s base values pairs k same =
-    ap (λ (b : Bool). is_touched pairs (members s.plan k) && (not (is_held s.grabs pairs (members s.plan k)) && b)) (asks_alike s.plan s.controls base values pairs k (rows_alike base values (members s.plan k) same))
+    ap (λ (b : Bool). is_touched pairs (members s.plan k) && (not (names_grabbed s.grabs pairs (members s.plan k)) && b)) (asks_alike s.plan s.controls base values pairs k (rows_alike base values (members s.plan k) same))
 
 -- Before a place up to which a cluster is right, the kept values have the row that the frames before leave.
 based_right : (s : Setting) (fs : List FrameData) (k p : ℕ) → IsPlan s.plan → length s.values ≡ length s.plan.controls → k < length s.plan.clusters → p ≤ length fs
@@ -141,7 +141,7 @@ counted_more p a n = ap (count_by p) (range_more a n) ∙ sum_by_push (λ (k : �
 
 -- the cluster is renewed in one more frame
 pub renewed_count : (s : Setting) (old fs : List FrameData) (from k p count asked new : ℕ) → IsPlan s.plan → length s.values ≡ length s.plan.controls → k < length s.plan.clusters → from ≤ p → p < length fs
-    → IsRenewed s k p old fs
+    → IsClusterRenewed s k p old fs
     → asked ≡ with_calls (count_by (asks_at s.verdicts s.plan s.controls s.grabs s.values (map queued_of old) k) (range_with_len from (p - from))) count
     → new ≡ with_call (asks_row s.plan s.controls (base_at s fs p) s.grabs (frame_at fs p).asked k) asked
     → new ≡ with_calls (count_by (asks_at s.verdicts s.plan s.controls s.grabs s.values (map queued_of old) k) (range_with_len from (p + 1 - from))) count

@@ -12,7 +12,7 @@ use Rattle.ctrl_clusters.proofs.OverlayLemmas.{length_overlay, refused_are}
 use Rattle.ctrl_forecast.specs.declared.board.Forecast.{Forecast}
 use Rattle.ctrl_forecast.specs.Forecasts.{QueuedData, forecasts}
 use Rattle.ctrl_forecast.specs.Boards.{board_of, named_clusters}
-use Rattle.ctrl_forecast.specs.Frames.{FrameData, no_frame, queued_of, forecast_of, board_seen, Setting, setting, IsFrame, AreFrames, IsRightAt, AreReady, IsRenewed}
+use Rattle.ctrl_forecast.specs.Frames.{FrameData, no_frame, queued_of, forecast_of, board_seen, Setting, setting, IsKeptFrame, AreKeptFrames, IsRightAt, AreReady, IsClusterRenewed}
 use Rattle.ctrl_forecast.proofs.RisingLemmas.{among_passing, passing_same}
 use Rattle.ctrl_forecast.proofs.RightLemmas.{overlay_row, overlay_of_rows, refused_touched}
 
@@ -71,23 +71,23 @@ abbrev names_of : PlanData → List FrameData → Type 0
 names_of plan fs = map (λ (f : FrameData). f.named) fs ≡ map (λ (q : QueuedData). named_clusters plan q.asked) (map queued_of fs)
 
 -- a first frame and others
-pub frames_cons : (plan : PlanData) (f : FrameData) (fs : List FrameData) → IsFrame plan f → AreFrames plan fs → AreFrames plan (f ∷ fs)
-unfolding AreFrames
+pub frames_cons : (plan : PlanData) (f : FrameData) (fs : List FrameData) → IsKeptFrame plan f → AreKeptFrames plan fs → AreKeptFrames plan (f ∷ fs)
+unfolding AreKeptFrames
 frames_cons plan f fs is are zero lt = is
 frames_cons plan f fs is are (suc i) lt = are i (omega (arith, lt))
 
-pub frames_tail : (plan : PlanData) (f : FrameData) (fs : List FrameData) → AreFrames plan (f ∷ fs) → AreFrames plan fs
-unfolding AreFrames
+pub frames_tail : (plan : PlanData) (f : FrameData) (fs : List FrameData) → AreKeptFrames plan (f ∷ fs) → AreKeptFrames plan fs
+unfolding AreKeptFrames
 frames_tail plan f fs are i lt = are (suc i) (omega (arith, lt))
 
-pub frames_head : (plan : PlanData) (f : FrameData) (fs : List FrameData) → AreFrames plan (f ∷ fs) → IsFrame plan f
-unfolding AreFrames
+pub frames_head : (plan : PlanData) (f : FrameData) (fs : List FrameData) → AreKeptFrames plan (f ∷ fs) → IsKeptFrame plan f
+unfolding AreKeptFrames
 frames_head plan f fs are = are 0 (omega arith)
 
 -- kept frames are frames
 pub rows_frames : (verdicts : Verdicts) (plan : PlanData) (controls : List Control) (grabs : Grabs) (values : Values) (fs : List FrameData) → length values ≡ length plan.controls
-    → names_of plan fs → map forecast_of fs ≡ forecasts verdicts plan controls grabs values (map queued_of fs) → AreFrames plan fs
-unfolding AreFrames refused_clusters
+    → names_of plan fs → map forecast_of fs ≡ forecasts verdicts plan controls grabs values (map queued_of fs) → AreKeptFrames plan fs
+unfolding AreKeptFrames refused_clusters
 rows_frames verdicts plan controls grabs values [] many names is = λ i lt. absurd (omega (arith, lt))
 rows_frames verdicts plan controls grabs values (f ∷ fs) many names is = frames_cons plan f fs first (rows_frames verdicts plan controls grabs f.values fs long (ap (drop 1) names) (tail_rows verdicts plan controls grabs values f fs is))
   where
@@ -97,7 +97,7 @@ rows_frames verdicts plan controls grabs values (f ∷ fs) many names is = frame
     long : length f.values ≡ length plan.controls
     long = ap length (head_values verdicts plan controls grabs values f fs is) ∙ length_overlay verdicts plan controls values grabs f.asked ∙ many
 
-    first : IsFrame plan f
+    first : IsKeptFrame plan f
     first = record {
       long = long;
       rising = (λ k. is_err (row_after verdicts plan controls values grabs f.asked k), gone);
@@ -106,7 +106,7 @@ rows_frames verdicts plan controls grabs values (f ∷ fs) many names is = frame
     }
 
 -- frames of which each cluster is right are kept as they should be
-pub right_rows : (verdicts : Verdicts) (plan : PlanData) (controls : List Control) (grabs : Grabs) (values : Values) (fs : List FrameData) → IsFinished plan → length values ≡ length plan.controls → AreFrames plan fs
+pub right_rows : (verdicts : Verdicts) (plan : PlanData) (controls : List Control) (grabs : Grabs) (values : Values) (fs : List FrameData) → IsFinished plan → length values ≡ length plan.controls → AreKeptFrames plan fs
     → ((k i : ℕ) → k < length plan.clusters → i < length fs → IsRightAt (setting verdicts plan controls grabs values) fs k i) → map forecast_of fs ≡ forecasts verdicts plan controls grabs values (map queued_of fs)
 unfolding forecasts refused_clusters
 right_rows verdicts plan controls grabs values [] done many are right = refl
@@ -115,7 +115,7 @@ right_rows verdicts plan controls grabs values (f ∷ fs) done many are right =
     (right_rows verdicts plan controls grabs f.values fs done first.long (frames_tail plan f fs are) (λ k i lt less. right_ahead verdicts plan controls grabs values f fs k i (right k (suc i) lt (omega (arith, less))))
     ∙ ap (λ (v : Values). forecasts verdicts plan controls grabs v (map queued_of fs)) own)
   where
-    first : IsFrame plan f
+    first : IsKeptFrame plan f
     first = frames_head plan f fs are
 
     own : f.values ≡ overlay verdicts plan controls values grabs f.asked
@@ -134,7 +134,7 @@ right_rows verdicts plan controls grabs values (f ∷ fs) done many are right =
         → map forecast_of (f ∷ fs) ≡ forecasts verdicts plan controls grabs values (map queued_of (f ∷ fs))
     row_on rest = λ i. (record { request = f.request; buffer = f.buffer; values = own i; refused = gone i }) ∷ rest i
 
-right_names : (plan : PlanData) (fs : List FrameData) → AreFrames plan fs → names_of plan fs
+right_names : (plan : PlanData) (fs : List FrameData) → AreKeptFrames plan fs → names_of plan fs
 right_names plan [] are = refl
 right_names plan (f ∷ fs) are = λ i. (frames_head plan f fs are).names i ∷ right_names plan fs (frames_tail plan f fs are) i
 
@@ -149,7 +149,7 @@ ready_kept verdicts plan controls grabs values from fs done many ready =
     }
 
 -- one cluster fewer has to be renewed
-pub ready_next : (s : Setting) (from c : ℕ) (left : List ℕ) (fs gs : List FrameData) → AreReady s from (c ∷ left) fs → IsRenewed s c (length gs) fs gs → AreReady s from left gs
+pub ready_next : (s : Setting) (from c : ℕ) (left : List ℕ) (fs gs : List FrameData) → AreReady s from (c ∷ left) fs → IsClusterRenewed s c (length gs) fs gs → AreReady s from left gs
 ready_next s from c left fs gs ready done = record {
   frames_ok = done.frames_ok;
   before = λ k i lt early less. by k (eqb_tells k c) i lt less (λ other. ready.before k i lt early (omega (arith, less, long)));

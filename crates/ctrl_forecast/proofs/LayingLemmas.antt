@@ -13,8 +13,8 @@ use Rattle.ctrl_types.specs.declared.ids.Pair.{Pair}
 use Rattle.ctrl_calls.specs.Meanings.{Verdicts}
 use Rattle.ctrl_settle.specs.Control.{Control}
 use Rattle.ctrl_handlers.proofs.ClusterLemmas.{cluster_of_within}
-use Rattle.ctrl_clusters.specs.Rows.{Values, Grabs, value_at, value_in, row_of}
-use Rattle.ctrl_clusters.specs.Overlay.{given_by, given_in, row_after, value_after, overlay}
+use Rattle.ctrl_clusters.specs.Rows.{Values, Grabs, value_at, member_value, row_of}
+use Rattle.ctrl_clusters.specs.Overlay.{result_value, result_value_in, row_after, value_after, overlay}
 use Rattle.ctrl_clusters.specs.NewRows.{value_among, written}
 use Rattle.ctrl_clusters.specs.declared.new_row.NewRow.{NewRow}
 use Rattle.ctrl_clusters.proofs.NewRowLemmas.{same_values, written_at, length_written}
@@ -28,7 +28,7 @@ is_cluster (Some j) k = nat_eq j k
 -- the value that one of the first clusters gives a control of it
 pub given_below : PlanData → (ℕ → Result (List CtrlValue) Errno) → ℕ → Option ℕ → ℕ → Option CtrlValue
 given_below plan outcome zero o c = None
-given_below plan outcome (suc n) o c = if is_cluster o n then given_by (members plan n) (outcome n) c else given_below plan outcome n o c
+given_below plan outcome (suc n) o c = if is_cluster o n then result_value (members plan n) (outcome n) c else given_below plan outcome n o c
 
 -- the value of a control once the first clusters have their rows
 abbrev pub value_below : PlanData → (ℕ → Result (List CtrlValue) Errno) → Values → ℕ → ℕ → CtrlValue
@@ -61,14 +61,14 @@ not_below plan outcome (suc n) j c le = by (eqb_tells j n) (not_below plan outco
     by (inr other) rest = rw other.0 rest
 
 -- an earlier one has given what it gives
-is_below : (plan : PlanData) (outcome : ℕ → Result (List CtrlValue) Errno) (n j c : ℕ) → j < n → given_below plan outcome n (Some j) c ≡ given_by (members plan j) (outcome j) c
+is_below : (plan : PlanData) (outcome : ℕ → Result (List CtrlValue) Errno) (n j c : ℕ) → j < n → given_below plan outcome n (Some j) c ≡ result_value (members plan j) (outcome j) c
 unfolding given_below
 is_below plan outcome zero j c lt = absurd (omega (arith, lt))
 is_below plan outcome (suc n) j c lt = by (eqb_tells j n) (λ further. is_below plan outcome n j c further)
   where
-    by : ((j == n) ≡ true × (j ≡ n)) ⊎ ((j == n) ≡ false × (j ≢ n)) → (j < n → given_below plan outcome n (Some j) c ≡ given_by (members plan j) (outcome j) c)
-        → given_below plan outcome (suc n) (Some j) c ≡ given_by (members plan j) (outcome j) c
-    by (inl same) rest = rw same.0 (ap (λ k. given_by (members plan k) (outcome k) c) (sym same.1))
+    by : ((j == n) ≡ true × (j ≡ n)) ⊎ ((j == n) ≡ false × (j ≢ n)) → (j < n → given_below plan outcome n (Some j) c ≡ result_value (members plan j) (outcome j) c)
+        → given_below plan outcome (suc n) (Some j) c ≡ result_value (members plan j) (outcome j) c
+    by (inl same) rest = rw same.0 (ap (λ k. result_value (members plan k) (outcome k) c) (sym same.1))
     by (inr other) rest = rw other.0 (rest (omega (arith, lt, other.1)))
 
 -- the row that a cluster gets
@@ -103,7 +103,7 @@ below_ok plan outcome values k row is =
         at : ((k == j) ≡ true × (k ≡ j)) ⊎ ((k == j) ≡ false × (k ≢ j)) → ((j == k) ≡ true × (j ≡ k)) ⊎ ((j == k) ≡ false × (j ≢ k))
             → unwrap_or (value_among plan (r ∷ []) (Some j) i) (unwrap_or (given_below plan outcome k (Some j) i) (value_at values i)) ≡ unwrap_or (given_below plan outcome (suc k) (Some j) i) (value_at values i)
         at (inl same) (inl own) =
-            let own_row : given_by (members plan k) (outcome k) i ≡ value_in (members plan j) row i = ap (λ (o : Result (List CtrlValue) Errno). given_by (members plan k) o i) is ∙ ap (λ (m : ℕ). value_in (members plan m) row i) same.1 in
+            let own_row : result_value (members plan k) (outcome k) i ≡ member_value (members plan j) row i = ap (λ (o : Result (List CtrlValue) Errno). result_value (members plan k) o i) is ∙ ap (λ (m : ℕ). member_value (members plan m) row i) same.1 in
             rw (same.0, own.0, not_below plan outcome k j i (omega (arith, own.1)), own_row) refl
         at (inl same) (inr off) = absurd (off.1 (sym same.1))
         at (inr other) (inl own) = absurd (other.1 (sym own.1))
@@ -122,7 +122,7 @@ below_err plan outcome values k errno is =
     by i (Some j) = at (eqb_tells j k)
       where
         at : ((j == k) ≡ true × (j ≡ k)) ⊎ ((j == k) ≡ false × (j ≢ k)) → given_below plan outcome k (Some j) i ≡ given_below plan outcome (suc k) (Some j) i
-        at (inl own) = not_below plan outcome k j i (omega (arith, own.1)) ∙ sym (rw own.0 (ap (λ (o : Result (List CtrlValue) Errno). given_by (members plan k) o i) is))
+        at (inl own) = not_below plan outcome k j i (omega (arith, own.1)) ∙ sym (rw own.0 (ap (λ (o : Result (List CtrlValue) Errno). result_value (members plan k) o i) is))
         at (inr off) = sym (rw off.0 refl)
 
 -- one that gets the row that it has gives nothing new
@@ -139,7 +139,7 @@ below_own plan outcome values k is =
       where
         at : ((j == k) ≡ true × (j ≡ k)) ⊎ ((j == k) ≡ false × (j ≢ k)) → unwrap_or (given_below plan outcome k (Some j) i) (value_at values i) ≡ unwrap_or (given_below plan outcome (suc k) (Some j) i) (value_at values i)
         at (inl own) =
-            let given : given_by (members plan k) (outcome k) i ≡ value_in (members plan k) (row_of values (members plan k)) i = ap (λ (o : Result (List CtrlValue) Errno). given_by (members plan k) o i) is in
+            let given : result_value (members plan k) (outcome k) i ≡ member_value (members plan k) (row_of values (members plan k)) i = ap (λ (o : Result (List CtrlValue) Errno). result_value (members plan k) o i) is in
             rw (own.0, not_below plan outcome k j i (omega (arith, own.1)), given) (sym (value_own values (members plan k) i))
         at (inr off) = rw off.0 refl
 
@@ -156,7 +156,7 @@ below_end verdicts plan controls values grabs pairs = same_map (range_with_len 0
     none zero c = refl
     none (suc n) c = none n c
 
-    by : (c : ℕ) (o : Option ℕ) → cluster_of plan c ≡ o → given_below plan outcome (length plan.clusters) o c ≡ given_in plan outcome o c
+    by : (c : ℕ) (o : Option ℕ) → cluster_of plan c ≡ o → given_below plan outcome (length plan.clusters) o c ≡ result_value_in plan outcome o c
     by c None found = none (length plan.clusters) c
     by c (Some j) found = is_below plan outcome (length plan.clusters) j c (cluster_of_within plan c j found)
 

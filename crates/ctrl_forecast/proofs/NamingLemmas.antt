@@ -12,7 +12,7 @@ use Rattle.ctrl_clusters.specs.Overlay.{is_among, is_touched}
 use Rattle.ctrl_clusters.proofs.NewRowLemmas.{member_apart}
 use Rattle.ctrl_clusters.proofs.OverlayLemmas.{or_true_right}
 use Rattle.ctrl_forecast.specs.Boards.{named_clusters}
-use Rattle.ctrl_forecast.specs.Frames.{others, marked}
+use Rattle.ctrl_forecast.specs.Frames.{others, with_or_without}
 use Rattle.ctrl_forecast.proofs.RisingLemmas.{passing, passing_more, passing_same, with_at, marked_passing}
 
 or_false : (a b : Bool) → b ≡ false → (a || b) ≡ a
@@ -47,7 +47,7 @@ named_none plan = sym (none (length plan.clusters))
         ∙ ap (λ (ks : List ℕ). ks ++ []) (none n)
 
 -- one more names its cluster besides
-pub named_more : (plan : PlanData) (pairs : List Pair) (p : Pair) (k : ℕ) → IsPlan plan → cluster_of plan p.control ≡ Some k → named_clusters plan (pairs ++ p ∷ []) ≡ marked k true (named_clusters plan pairs)
+pub named_more : (plan : PlanData) (pairs : List Pair) (p : Pair) (k : ℕ) → IsPlan plan → cluster_of plan p.control ≡ Some k → named_clusters plan (pairs ++ p ∷ []) ≡ with_or_without k true (named_clusters plan pairs)
 named_more plan pairs p k is found =
     passing_same (λ j. is_touched (pairs ++ p ∷ []) (members plan j)) (with_at old k true) (length plan.clusters) (λ j lt. touched_more pairs p (members plan j) ∙ by j lt (eqb_tells k j))
     ∙ sym (marked_passing old k (length plan.clusters) true (cluster_of_within plan p.control k found))
@@ -80,7 +80,7 @@ named_unknown plan pairs p is past =
     none j = list_any_none (nat_eq p.control) (members plan j) (λ i d at. apart (get_or (members plan j) i d) (is.members_known j i d at) (eqb_tells p.control (get_or (members plan j) i d)))
 
 -- a cluster that is put among others needs room for one more at most
-pub length_marked : (k : ℕ) (ks : List ℕ) → length (marked k true ks) ≤ length ks + 1
+pub length_marked : (k : ℕ) (ks : List ℕ) → length (with_or_without k true ks) ≤ length ks + 1
 length_marked k ks =
     let place : count_by (λ j. nat_lt j k) (others k ks) ≤ length (others k ks) = count_by-le-length (λ j. nat_lt j k) (others k ks) in
     omega (arith, length-insert (others k ks) (count_by (λ j. nat_lt j k) (others k ks)) k place, fewer)

@@ -16,7 +16,7 @@ use Rattle.ctrl_clusters.specs.Overlay.{is_touched}
 use Rattle.ctrl_clusters.proofs.OverlayLemmas.{or_true, or_true_right, same_each}
 use Rattle.ctrl_forecast.specs.Forecasts.{QueuedData, forecasts}
 use Rattle.ctrl_forecast.specs.Boards.{BoardData, DifferOnlyIn, board_of, is_in_one_of, named_clusters}
-use Rattle.ctrl_forecast.specs.Frames.{FrameData, no_frame, frame_at, queued_of, forecast_of, board_seen, setting, values_before, IsFrame, AreFrames, IsRightAt, AreReady}
+use Rattle.ctrl_forecast.specs.Frames.{FrameData, no_frame, frame_at, queued_of, forecast_of, board_seen, setting, values_before, IsKeptFrame, AreKeptFrames, IsRightAt, AreReady}
 use Rattle.ctrl_forecast.proofs.RisingLemmas.{among_passing}
 use Rattle.ctrl_forecast.proofs.RightLemmas.{right_moves, untouched_row}
 use Rattle.ctrl_forecast.proofs.RenewLemmas.{grabs_agree}
@@ -83,7 +83,7 @@ removed_late plan values fs p k (suc i) lt le same = by (eqb_tells p (suc i))
 -- kept frames, of which one is taken out
 pub ready_removed : (verdicts : Verdicts) (plan : PlanData) (controls : List Control) (grabs : Grabs) (values : Values) (p : ℕ) (fs : List FrameData) → IsPlan plan → length values ≡ length plan.controls → p < length fs
     → board_seen fs ≡ board_of verdicts plan controls grabs values (map queued_of fs) → AreReady (setting verdicts plan controls grabs values) p (frame_at fs p).named (remove fs p)
-unfolding AreFrames
+unfolding AreKeptFrames
 ready_removed verdicts plan controls grabs values p fs is many lt kept = record {
   frames_ok = λ i less. by_frame i (split i) less;
   before = λ k i within early less. below k i within early less;
@@ -93,7 +93,7 @@ ready_removed verdicts plan controls grabs values p fs is many lt kept = record 
     rows : map forecast_of fs ≡ forecasts verdicts plan controls grabs values (map queued_of fs)
     rows = ap (λ (b : BoardData). b.rows) kept
 
-    are : AreFrames plan fs
+    are : AreKeptFrames plan fs
     are = rows_frames verdicts plan controls grabs values fs many (ap (λ (b : BoardData). b.named) kept) rows
 
     right : (k i : ℕ) → k < length plan.clusters → i < length fs → IsRightAt (setting verdicts plan controls grabs values) fs k i
@@ -108,9 +108,9 @@ ready_removed verdicts plan controls grabs values p fs is many lt kept = record 
     late : (i : ℕ) → p ≤ i → frame_at (remove fs p) i ≡ frame_at fs (suc i)
     late i le = get_or-remove_above fs p no_frame i le lt ∙ ap (frame_at fs) (add-one i)
 
-    by_frame : (i : ℕ) → (i < p) ⊎ (p ≤ i) → i < length (remove fs p) → IsFrame plan (frame_at (remove fs p) i)
-    by_frame i (inl early) less = subst (IsFrame plan) (sym (get_or-remove_below fs p no_frame i early lt)) (are i (omega (arith, less, long)))
-    by_frame i (inr le) less = subst (IsFrame plan) (sym (late i le)) (are (suc i) (omega (arith, less, long)))
+    by_frame : (i : ℕ) → (i < p) ⊎ (p ≤ i) → i < length (remove fs p) → IsKeptFrame plan (frame_at (remove fs p) i)
+    by_frame i (inl early) less = subst (IsKeptFrame plan) (sym (get_or-remove_below fs p no_frame i early lt)) (are i (omega (arith, less, long)))
+    by_frame i (inr le) less = subst (IsKeptFrame plan) (sym (late i le)) (are (suc i) (omega (arith, less, long)))
 
     below : (k i : ℕ) → k < length plan.clusters → i < p → i < length (remove fs p) → IsRightAt (setting verdicts plan controls grabs values) (remove fs p) k i
     below k i within early less =
@@ -147,7 +147,7 @@ named_within plan pairs =
 -- what a kept frame names is what its pairs do
 pub kept_named : (verdicts : Verdicts) (plan : PlanData) (controls : List Control) (grabs : Grabs) (values : Values) (fs : List FrameData) (p : ℕ) → length values ≡ length plan.controls → p < length fs
     → (qs : List QueuedData) → board_seen fs ≡ board_of verdicts plan controls grabs values qs → (frame_at fs p).named ≡ named_clusters plan (frame_at fs p).asked
-unfolding AreFrames
+unfolding AreKeptFrames
 kept_named verdicts plan controls grabs values fs p many lt qs kept =
     (rows_frames verdicts plan controls grabs values fs many (ap (λ (b : BoardData). b.named) whole) (ap (λ (b : BoardData). b.rows) whole) p lt).names
   where

@@ -14,13 +14,13 @@ use Rattle.ctrl_calls.specs.Meanings.{Verdicts}
 use Rattle.ctrl_settle.specs.Control.{Control}
 use Rattle.ctrl_handlers.specs.Plan.{PlanData, IsPlan, IsFinished, cluster_of, members, control_in}
 use Rattle.ctrl_handlers.proofs.ClusterLemmas.{cluster_of_within, cluster_of_member}
-use Rattle.ctrl_clusters.specs.Rows.{Values, value_at, value_in, row_of, Grabs, is_grabbed}
-use Rattle.ctrl_clusters.specs.Judging.{becomes}
-use Rattle.ctrl_clusters.specs.Overlay.{is_touched, is_held, row_after, overlay}
+use Rattle.ctrl_clusters.specs.Rows.{Values, value_at, member_value, row_of, Grabs, is_grabbed}
+use Rattle.ctrl_clusters.specs.Judging.{validated_row}
+use Rattle.ctrl_clusters.specs.Overlay.{is_touched, names_grabbed, row_after, overlay}
 use Rattle.ctrl_clusters.specs.NewRows.{value_among, written}
 use Rattle.ctrl_clusters.proofs.NewRowLemmas.{same_values, not_equal, written_at}
 use Rattle.ctrl_clusters.proofs.OverlayLemmas.{same_each, row_read, row_after_long, length_overlay, overlaid_row, refused_row, separate}
-use Rattle.ctrl_forecast.specs.Frames.{FrameData, frame_at, Setting, setting, outcome, row_or, row_over, values_before, IsRightAt}
+use Rattle.ctrl_forecast.specs.Frames.{FrameData, frame_at, Setting, setting, row_result, row_or, row_over, values_before, IsRightAt}
 use Rattle.ctrl_forecast.proofs.LayingLemmas.{new_row}
 
 -- what holds of each of some numbers holds of one of them
@@ -74,21 +74,21 @@ right_moves verdicts plan controls held grabs before values fs gs k i j based al
 
 -- the row of an outcome has a value for each member
 pub over_long : (s : Setting) (base : Values) (pairs : List Pair) (k : ℕ) → length (row_over s base pairs k) ≡ length (members s.plan k)
-over_long s base pairs k = by (outcome s base pairs k) refl
+over_long s base pairs k = by (row_result s base pairs k) refl
   where
-    by : (r : Result (List CtrlValue) Errno) → outcome s base pairs k ≡ r → length (row_or (row_of base (members s.plan k)) r) ≡ length (members s.plan k)
+    by : (r : Result (List CtrlValue) Errno) → row_result s base pairs k ≡ r → length (row_or (row_of base (members s.plan k)) r) ≡ length (members s.plan k)
     by (Ok row) e = row_after_long s.verdicts s.plan s.controls base s.grabs pairs k row e
     by (Err errno) e = length-map (members s.plan k) (value_at base)
 
 -- only a cluster with a member among the pairs is refused
-pub refused_touched : (s : Setting) (base : Values) (pairs : List Pair) (k : ℕ) → is_err (outcome s base pairs k) ≡ true → is_touched pairs (members s.plan k) ≡ true
+pub refused_touched : (s : Setting) (base : Values) (pairs : List Pair) (k : ℕ) → is_err (row_result s base pairs k) ≡ true → is_touched pairs (members s.plan k) ≡ true
 refused_touched s base pairs k fails = by (is_touched pairs (members s.plan k)) fails
   where
     clash : false ≡ true → ⊥
     clash h = cc
 
     by : (b : Bool)
-        → is_err (cond (not b) (Ok (row_of base (members s.plan k))) (cond (is_held s.grabs pairs (members s.plan k)) (Err EBUSY) (becomes s.verdicts s.plan s.controls base pairs k))) ≡ true
+        → is_err (cond (not b) (Ok (row_of base (members s.plan k))) (cond (names_grabbed s.grabs pairs (members s.plan k)) (Err EBUSY) (validated_row s.verdicts s.plan s.controls base pairs k))) ≡ true
         → b ≡ true
     by true e = refl
     by false e = absurd (clash e)
@@ -100,9 +100,9 @@ untouched_row s base pairs k none = rw none refl
 -- pairs laid over values give each cluster its row
 pub overlay_row : (s : Setting) (base : Values) (pairs : List Pair) (k : ℕ) → IsPlan s.plan → length base ≡ length s.plan.controls → k < length s.plan.clusters
     → row_of (overlay s.verdicts s.plan s.controls base s.grabs pairs) (members s.plan k) ≡ row_over s base pairs k
-overlay_row s base pairs k is many lt = by (outcome s base pairs k) refl
+overlay_row s base pairs k is many lt = by (row_result s base pairs k) refl
   where
-    by : (r : Result (List CtrlValue) Errno) → outcome s base pairs k ≡ r → row_of (overlay s.verdicts s.plan s.controls base s.grabs pairs) (members s.plan k) ≡ row_or (row_of base (members s.plan k)) r
+    by : (r : Result (List CtrlValue) Errno) → row_result s base pairs k ≡ r → row_of (overlay s.verdicts s.plan s.controls base s.grabs pairs) (members s.plan k) ≡ row_or (row_of base (members s.plan k)) r
     by (Ok row) e = overlaid_row s.verdicts s.plan s.controls base s.grabs pairs k row is many lt e
     by (Err errno) e = refused_row s.verdicts s.plan s.controls base s.grabs pairs k errno is many lt e
 
@@ -128,10 +128,10 @@ overlay_of_rows s base values pairs done many long rows =
 pub written_row : (plan : PlanData) (values : Values) (k : ℕ) (row : List CtrlValue) → IsPlan plan → length values ≡ length plan.controls → k < length plan.clusters → length row ≡ length (members plan k)
     → row_of (written plan values (new_row k row ∷ [])) (members plan k) ≡ row
 written_row plan values k row is many lt long =
-    same_each (value_at (written plan values (new_row k row ∷ []))) (λ c. unwrap_or (value_in (members plan k) row c) (value_at values c)) (members plan k)
+    same_each (value_at (written plan values (new_row k row ∷ []))) (λ c. unwrap_or (member_value (members plan k) row c) (value_at values c)) (members plan k)
     (λ c among. written_at plan values (new_row k row ∷ []) c (omega (arith, many, each_in (λ d. d < length plan.controls) (members plan k) c (is.members_known k) among))
     ∙ ap (λ (o : Option ℕ). unwrap_or (value_among plan (new_row k row ∷ []) o c) (value_at values c)) (is.members_apart k c lt among)
-    ∙ ap (λ (b : Bool). unwrap_or (option_and_then (λ (r : List CtrlValue). value_in (members plan k) r c) (cond b (Some row) None)) (value_at values c)) (eq-eqb k k refl))
+    ∙ ap (λ (b : Bool). unwrap_or (option_and_then (λ (r : List CtrlValue). member_value (members plan k) r c) (cond b (Some row) None)) (value_at values c)) (eq-eqb k k refl))
     ∙ row_read (members plan k) row (value_at values) (is.members_differ k) long
 
 -- every other cluster keeps its own
@@ -141,4 +141,4 @@ written_apart plan values k j row is many lt other =
     same_each (value_at (written plan values (new_row k row ∷ []))) (value_at values) (members plan j)
     (λ c among. written_at plan values (new_row k row ∷ []) c (omega (arith, many, each_in (λ d. d < length plan.controls) (members plan j) c (is.members_known j) among))
     ∙ ap (λ (o : Option ℕ). unwrap_or (value_among plan (new_row k row ∷ []) o c) (value_at values c)) (is.members_apart j c lt among)
-    ∙ ap (λ (b : Bool). unwrap_or (option_and_then (λ (r : List CtrlValue). value_in (members plan j) r c) (cond b (Some row) None)) (value_at values c)) (not_equal k j other))
+    ∙ ap (λ (b : Bool). unwrap_or (option_and_then (λ (r : List CtrlValue). member_value (members plan j) r c) (cond b (Some row) None)) (value_at values c)) (not_equal k j other))

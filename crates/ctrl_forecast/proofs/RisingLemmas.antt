@@ -9,7 +9,7 @@ use Rattle.std.proofs.lemmas.List.Sums.{length-filter, sum_by-append, sum_by-con
 use Rattle.std.proofs.lemmas.Map.Views.{any-filter_same}
 use Rattle.ctrl_clusters.proofs.NewRowLemmas.{not_equal}
 use Rattle.ctrl_clusters.proofs.OverlayLemmas.{or_true, or_true_right}
-use Rattle.ctrl_forecast.specs.Frames.{others, marked}
+use Rattle.ctrl_forecast.specs.Frames.{others, with_or_without}
 use Rattle.ctrl_forecast.proofs.LayingLemmas.{filter_next, count_next}
 
 -- the numbers below another at which a test passes
@@ -157,7 +157,7 @@ put q k (suc m) lt out = by (eqb_tells k m) (λ less. put q k m less out)
         ∙ sym (passing_more (with_at q k true) m ∙ ap (λ (b : Bool). passing (with_at q k true) m ++ cond b (m ∷ []) []) (ap (λ (b : Bool). cond b true (q m)) e.0))
 
 -- rising numbers, where one is put among them or taken out
-pub marked_passing : (p : ℕ → Bool) (k n : ℕ) (b : Bool) → k < n → marked k b (passing p n) ≡ passing (with_at p k b) n
+pub marked_passing : (p : ℕ → Bool) (k n : ℕ) (b : Bool) → k < n → with_or_without k b (passing p n) ≡ passing (with_at p k b) n
 marked_passing p k n false lt = others_pass p k n
 marked_passing p k n true lt =
     ap (λ (ks : List ℕ). insert ks (count_by (λ j. nat_lt j k) ks) k) (others_pass p k n)

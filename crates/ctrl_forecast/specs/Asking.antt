@@ -6,8 +6,8 @@ use Rattle.ctrl_calls.specs.Meanings.{Verdicts}
 use Rattle.ctrl_settle.specs.Control.{Control}
 use Rattle.ctrl_handlers.specs.Plan.{PlanData, members}
 use Rattle.ctrl_clusters.specs.Rows.{Values, Grabs}
-use Rattle.ctrl_clusters.specs.Judging.{asks}
-use Rattle.ctrl_clusters.specs.Overlay.{is_touched, is_held}
+use Rattle.ctrl_clusters.specs.Judging.{asks_validator}
+use Rattle.ctrl_clusters.specs.Overlay.{is_touched, names_grabbed}
 use Rattle.ctrl_forecast.specs.Forecasts.{QueuedData, forecasts, values_behind}
 use Rattle.ctrl_forecast.specs.Boards.{asked_at}
 
@@ -15,7 +15,7 @@ use Rattle.ctrl_forecast.specs.Boards.{asked_at}
 -- members settle, and there is a validator.
 abbrev pub asks_row : PlanData → List Control → Values → Grabs → List Pair → ℕ → Bool
 asks_row plan controls values grabs pairs k =
-    is_touched pairs (members plan k) && (not (is_held grabs pairs (members plan k)) && asks plan controls values pairs k)
+    is_touched pairs (members plan k) && (not (names_grabbed grabs pairs (members plan k)) && asks_validator plan controls values pairs k)
 
 -- how many validators are asked then
 abbrev pub asked_count : PlanData → List Control → Values → Grabs → List Pair → ℕ

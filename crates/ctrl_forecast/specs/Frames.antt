@@ -67,8 +67,8 @@ abbrev pub setting : Verdicts → PlanData → List Control → Grabs → Values
 setting verdicts plan controls grabs values = record { verdicts = verdicts; plan = plan; controls = controls; grabs = grabs; values = values }
 
 -- what pairs make of a cluster over some values
-abbrev pub outcome : Setting → Values → List Pair → ℕ → Result (List CtrlValue) Errno
-outcome s base pairs k = row_after s.verdicts s.plan s.controls base s.grabs pairs k
+abbrev pub row_result : Setting → Values → List Pair → ℕ → Result (List CtrlValue) Errno
+row_result s base pairs k = row_after s.verdicts s.plan s.controls base s.grabs pairs k
 
 -- the row of an outcome; a refused cluster keeps its own
 abbrev pub row_or : List CtrlValue → Result (List CtrlValue) Errno → List CtrlValue
@@ -77,7 +77,7 @@ row_or own (Err errno) = own
 
 -- the row that a cluster has then
 abbrev pub row_over : Setting → Values → List Pair → ℕ → List CtrlValue
-row_over s base pairs k = row_or (row_of base (members s.plan k)) (outcome s base pairs k)
+row_over s base pairs k = row_or (row_of base (members s.plan k)) (row_result s base pairs k)
 
 -- the values before the frame at a place, where these stand before the first
 abbrev pub values_before : Values → List FrameData → ℕ → Values
@@ -92,49 +92,49 @@ abbrev pub others : ℕ → List ℕ → List ℕ
 others k ks = filter (λ j. not (nat_eq k j)) ks
 
 -- a number is put among rising ones, in its place, or is taken out
-abbrev pub marked : ℕ → Bool → List ℕ → List ℕ
-marked k b ks = if b then insert (others k ks) (count_by (λ j. nat_lt j k) (others k ks)) k else others k ks
+abbrev pub with_or_without : ℕ → Bool → List ℕ → List ℕ
+with_or_without k b ks = if b then insert (others k ks) (count_by (λ j. nat_lt j k) (others k ks)) k else others k ks
 
 -- a frame where one cluster has a row, and is refused or isn't
-abbrev pub with_outcome : PlanData → ℕ → List CtrlValue → Bool → FrameData → FrameData
-with_outcome plan k row is_refused frame = record frame { values = written plan frame.values (record { cluster = k; row = row } ∷ []); refused = marked k is_refused frame.refused }
+abbrev pub with_row_result : PlanData → ℕ → List CtrlValue → Bool → FrameData → FrameData
+with_row_result plan k row is_refused frame = record frame { values = written plan frame.values (record { cluster = k; row = row } ∷ []); refused = with_or_without k is_refused frame.refused }
 
 -- a frame where one cluster is as its pairs make it over these values
 abbrev pub renewed : Setting → Values → ℕ → FrameData → FrameData
-renewed s base k frame = with_outcome s.plan k (row_over s base frame.asked k) (is_err (outcome s base frame.asked k)) frame
+renewed s base k frame = with_row_result s.plan k (row_over s base frame.asked k) (is_err (row_result s base frame.asked k)) frame
 
 -- frames of which the one at a place is renewed
 abbrev pub renewed_at : Setting → ℕ → ℕ → List FrameData → List FrameData
 renewed_at s k i frames = slice_set frames i (renewed s (base_at s frames i) k (frame_at frames i))
 
 -- some of the numbers below another, rising
-abbrev pub IsRising : ℕ → List ℕ → Type 0
-IsRising n ks = (p : ℕ → Bool) × (ks ≡ filter p (range_with_len 0 n))
+abbrev pub AreRisingBelow : ℕ → List ℕ → Type 0
+AreRisingBelow n ks = (p : ℕ → Bool) × (ks ≡ filter p (range_with_len 0 n))
 
 -- What holds of every frame, whatever its values are: it has one for each control, and each refused cluster is one that its pairs name.
-pub record IsFrame (plan : PlanData) (frame : FrameData) : Type 0 where
+pub record IsKeptFrame (plan : PlanData) (frame : FrameData) : Type 0 where
   pub long : length frame.values ≡ length plan.controls
-  pub rising : IsRising (length plan.clusters) frame.refused
+  pub rising : AreRisingBelow (length plan.clusters) frame.refused
   pub names : frame.named ≡ named_clusters plan frame.asked
   pub touched : (k : ℕ) → k < length plan.clusters → list_any (nat_eq k) frame.refused ≡ true → is_touched frame.asked (members plan k) ≡ true
 
-unfoldable pub AreFrames : PlanData → List FrameData → Type 0
-AreFrames plan frames = (i : ℕ) → i < length frames → IsFrame plan (frame_at frames i)
+unfoldable pub AreKeptFrames : PlanData → List FrameData → Type 0
+AreKeptFrames plan frames = (i : ℕ) → i < length frames → IsKeptFrame plan (frame_at frames i)
 
 -- one cluster of the frame at a place is as its pairs make it over the values before it
 pub record IsRightAt (s : Setting) (frames : List FrameData) (k i : ℕ) : Type 0 where
   pub row : row_of (frame_at frames i).values (members s.plan k) ≡ row_over s (base_at s frames i) (frame_at frames i).asked k
-  pub refused : list_any (nat_eq k) (frame_at frames i).refused ≡ is_err (outcome s (base_at s frames i) (frame_at frames i).asked k)
+  pub refused : list_any (nat_eq k) (frame_at frames i).refused ≡ is_err (row_result s (base_at s frames i) (frame_at frames i).asked k)
 
 -- Frames are right but for some clusters from a place on.
 pub record AreReady (s : Setting) (from : ℕ) (left : List ℕ) (frames : List FrameData) : Type 0 where
-  pub frames_ok : AreFrames s.plan frames
+  pub frames_ok : AreKeptFrames s.plan frames
   pub before : (k i : ℕ) → k < length s.plan.clusters → i < from → i < length frames → IsRightAt s frames k i
   pub apart : (k i : ℕ) → k < length s.plan.clusters → list_any (nat_eq k) left ≡ false → i < length frames → IsRightAt s frames k i
 
 -- One cluster is renewed in the frames below a place: it is right there, and no other cluster is less right than before.
-pub record IsRenewed (s : Setting) (k below : ℕ) (old new : List FrameData) : Type 0 where
-  pub frames_ok : AreFrames s.plan new
+pub record IsClusterRenewed (s : Setting) (k below : ℕ) (old new : List FrameData) : Type 0 where
+  pub frames_ok : AreKeptFrames s.plan new
   pub queued : map queued_of new ≡ map queued_of old
   pub here : (i : ℕ) → i < below → i < length new → IsRightAt s new k i
   pub stay : (j i : ℕ) → j < length s.plan.clusters → j ≢ k → i < length new → IsRightAt s old j i → IsRightAt s new j i

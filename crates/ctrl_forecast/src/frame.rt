@@ -5,7 +5,7 @@ ghost use Rattle.ctrl_handlers.specs.Plan.{members};
 ghost use Rattle.ctrl_clusters.specs.Rows.{AreControlsOf};
 ghost use Rattle.ctrl_clusters.specs.Judging.{with_calls};
 ghost use Rattle.ctrl_forecast.specs.Asking.{asked_count};
-ghost use Rattle.ctrl_forecast.specs.Frames.{forecast_of, frame_over, marked, with_outcome};
+ghost use Rattle.ctrl_forecast.specs.Frames.{forecast_of, frame_over, with_or_without, with_row_result};
 ghost use Rattle.ctrl_forecast.specs.Touched.{touched_count};
 
 use crate::board::Forecast;
@@ -177,7 +177,7 @@ impl Frame {
     }
 
     // Gives a cluster a row, and has it refused or not. It takes no memory.
-    pub(crate) fn set_outcome<D: Driver>(
+    pub(crate) fn set_row_result<D: Driver>(
         &mut self,
         plan: &Plan<D>,
         cluster: u32,
@@ -187,8 +187,8 @@ impl Frame {
         requires values { length self.old.values ≡ length plan.now.controls }
         requires cluster { cluster < length plan.now.clusters }
         requires row { length row ≡ length (members plan.now cluster) }
-        requires room { length (marked cluster is_refused self.old.refused) ≤ length self.old.named }
-        ensures { self.new ≡ with_outcome plan.now cluster row is_refused self.old }
+        requires room { length (with_or_without cluster is_refused self.old.refused) ≤ length self.old.named }
+        ensures { self.new ≡ with_row_result plan.now cluster row is_refused self.old }
     {
         write_rows(plan, &mut self.values, &[NewRow { cluster, row }]);
         mark(&mut self.refused, cluster, is_refused);

@@ -2,7 +2,7 @@ ghost use Rattle.std.specs.Prelude.{◌≡◌, ◌<◌, ◌≤◌, ◌+◌, ◌&
 ghost use Rattle.std.specs.List.{list_any};
 ghost use Rattle.ctrl_handlers.specs.Plan.{members};
 ghost use Rattle.ctrl_clusters.specs.Rows.{AreControlsOf, is_grabbed};
-ghost use Rattle.ctrl_clusters.specs.Overlay.{is_touched, is_held, row_after, overlay, refused_clusters};
+ghost use Rattle.ctrl_clusters.specs.Overlay.{is_touched, names_grabbed, row_after, overlay, refused_clusters};
 ghost use Rattle.ctrl_clusters.specs.Judging.{with_call, with_calls};
 ghost use Rattle.ctrl_forecast.specs.Asking.{asked_count, asks_row};
 ghost use Rattle.ctrl_forecast.specs.Boards.{named_clusters};
@@ -11,7 +11,7 @@ ghost use Rattle.ctrl_forecast.specs.Touched.{touched_count};
 use crate::lists::{ClusterList, ValueRow};
 use crate::rising::named_clusters;
 use ctrl_calls::{ClusterRow, Driver, Work};
-use ctrl_clusters::{NewRow, becomes, is_among, present_row, write_rows};
+use ctrl_clusters::{NewRow, validated_row, is_among, present_row, write_rows};
 use ctrl_handlers::Plan;
 use ctrl_settle::Ctrl;
 use ctrl_types::{CtrlValue, Errno, Pair};
@@ -148,10 +148,10 @@ fn touched_row<D: Driver>(
     ensures long { IfOk result (λ row. length row ≡ length (members plan.now cluster)) }
     ensures counted { work.new ≡ record work.old { asked = with_call (asks_row plan.now controls.now values.now grabs.now pairs.now cluster) work.old.asked } }
 {
-    if is_held(grabs, pairs, plan.members(cluster)) {
+    if names_grabbed(grabs, pairs, plan.members(cluster)) {
         return Err(Errno::EBUSY);
     }
-    becomes(plan, controls, cluster, values, pairs, work)
+    validated_row(plan, controls, cluster, values, pairs, work)
 }
 
 // Whether some member is among the pairs.
@@ -162,8 +162,8 @@ fn is_touched(pairs: &[Pair], members: &[u32]) -> bool
 }
 
 // Whether some member that is among the pairs is grabbed.
-fn is_held(grabs: &[bool], pairs: &[Pair], members: &[u32]) -> bool
-    ensures { result ≡ is_held grabs.now pairs.now members.now }
+fn names_grabbed(grabs: &[bool], pairs: &[Pair], members: &[u32]) -> bool
+    ensures { result ≡ names_grabbed grabs.now pairs.now members.now }
 {
     members.iter().any(|member| is_among(pairs, *member) && is_grabbed(grabs, *member))
 }

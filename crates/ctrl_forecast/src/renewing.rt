@@ -8,7 +8,7 @@ ghost use Rattle.ctrl_clusters.specs.Overlay.{row_after};
 ghost use Rattle.ctrl_clusters.specs.Judging.{with_call, with_calls};
 ghost use Rattle.ctrl_forecast.specs.Asking.{asked_from, asks_row, renewing_count};
 ghost use Rattle.ctrl_forecast.specs.Boards.{board_of};
-ghost use Rattle.ctrl_forecast.specs.Frames.{AreFrames, AreReady, IsRenewed, IsRightAt, board_seen, frame_at, queued_of, renewed_at, row_or, setting, values_before};
+ghost use Rattle.ctrl_forecast.specs.Frames.{AreKeptFrames, AreReady, IsClusterRenewed, IsRightAt, board_seen, frame_at, queued_of, renewed_at, row_or, setting, values_before};
 
 use crate::frame::Frame;
 use crate::laying::row_after;
@@ -61,9 +61,9 @@ fn renew_cluster<D: Driver>(
     requires values { length values.now ≡ length plan.now.controls }
     requires cluster { cluster < length plan.now.clusters }
     requires from { from ≤ length frames.old.items }
-    requires frames { AreFrames plan.now frames.old.items }
+    requires frames { AreKeptFrames plan.now frames.old.items }
     requires before { (i : ℕ) → i < from → i < length frames.old.items → IsRightAt (setting D.verdict plan.now controls.now grabs.now values.now) frames.old.items cluster i }
-    ensures renewed { IsRenewed (setting D.verdict plan.now controls.now grabs.now values.now) cluster (length frames.new.items) frames.old.items frames.new.items }
+    ensures renewed { IsClusterRenewed (setting D.verdict plan.now controls.now grabs.now values.now) cluster (length frames.new.items) frames.old.items frames.new.items }
     ensures counted { work.new.asked ≡ with_calls (asked_from D.verdict plan.now controls.now grabs.now values.now (map queued_of frames.old.items) from cluster) work.old.asked }
     ensures told { work.new.told ≡ work.old.told }
 {
@@ -89,7 +89,7 @@ fn renew_at<D: Driver>(
     requires controls { AreControlsOf plan.now controls.now }
     requires values { length values.now ≡ length plan.now.controls }
     requires cluster { cluster < length plan.now.clusters }
-    requires frames { AreFrames plan.now frames.old.items }
+    requires frames { AreKeptFrames plan.now frames.old.items }
     requires place { place < length frames.old.items }
     ensures frames { frames.new.items ≡ renewed_at (setting D.verdict plan.now controls.now grabs.now values.now) cluster place frames.old.items }
     ensures counted { work.new ≡ record work.old { asked = with_call (asks_row plan.now controls.now (values_before values.now frames.old.items place) grabs.now (frame_at frames.old.items place).asked cluster) work.old.asked } }
@@ -98,7 +98,7 @@ fn renew_at<D: Driver>(
     let asked = frames[place].asked();
     let (row, is_refused) = row_over(plan, controls, base, grabs, asked, cluster, work);
     let frame = &mut frames[place];
-    frame.set_outcome(plan, cluster, row, is_refused);
+    frame.set_row_result(plan, cluster, row, is_refused);
 }
 
 // The values before the frame at a place.

@@ -2,7 +2,7 @@
 
 ghost use Rattle.std.specs.Prelude.{◌≡◌, ◌≤◌, length, count_by, nat_lt, IfOk, vec_capacity};
 ghost use Rattle.ctrl_forecast.specs.Boards.{named_clusters};
-ghost use Rattle.ctrl_forecast.specs.Frames.{marked, others};
+ghost use Rattle.ctrl_forecast.specs.Frames.{with_or_without, others};
 
 use ctrl_calls::Driver;
 use ctrl_handlers::Plan;
@@ -31,8 +31,8 @@ pub(crate) fn named_clusters<D: Driver>(
 
 // Puts a cluster among rising ones, in its place, or takes it out. There is room for it.
 pub(crate) fn mark(clusters: &mut Vec<u32>, cluster: u32, is_in: bool)
-    requires room { length (marked cluster is_in clusters.old.items) ≤ vec_capacity clusters.old }
-    ensures clusters { clusters.new.items ≡ marked cluster is_in clusters.old.items }
+    requires room { length (with_or_without cluster is_in clusters.old.items) ≤ vec_capacity clusters.old }
+    ensures clusters { clusters.new.items ≡ with_or_without cluster is_in clusters.old.items }
     ensures room { vec_capacity clusters.old ≤ vec_capacity clusters.new }
 {
     leave_out(clusters, cluster);

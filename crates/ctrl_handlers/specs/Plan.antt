@@ -70,8 +70,8 @@ abbrev pub cluster_of : PlanData → ℕ → Option ℕ
 cluster_of plan c = position (has_member c) plan.clusters
 
 -- a table of clusters: at the number of each control, the cluster that it is in
-abbrev pub HasPlaces : PlanData → List ℕ → Type 0
-HasPlaces plan places = (length places ≡ length plan.controls) × ((c : ℕ) → c < length plan.controls → cluster_of plan c ≡ Some (slice_index places c))
+abbrev pub HasClusterTable : PlanData → List ℕ → Type 0
+HasClusterTable plan places = (length places ≡ length plan.controls) × ((c : ℕ) → c < length plan.controls → cluster_of plan c ≡ Some (slice_index places c))
 
 -- no closures
 abbrev pub no_calls : Relations

@@ -32,14 +32,14 @@ pub struct Plan<D: Driver> {
 
 impl<D: Driver> Model for Plan<D> {
     ghost use Rattle.std.specs.Prelude.{◌≡◌, length};
-    ghost use Rattle.ctrl_handlers.specs.Plan.{PlanData, IsFinished, HasCalls, HasPlaces};
+    ghost use Rattle.ctrl_handlers.specs.Plan.{PlanData, IsFinished, HasCalls, HasClusterTable};
     ghost use Rattle.ctrl_handlers.specs.Visible.{shown_below, AreIndexed};
 
     ghost Value = { PlanData };
 
     ghost view = { λ p. p.outline };
 
-    ghost invariant = { λ p. IsFinished p.outline × HasCalls p.outline p.calls.items × (p.shown.items ≡ shown_below p.outline (length p.outline.handlers)) × AreIndexed p.outline.controls p.shown.items p.index.items × HasPlaces p.outline p.clusters.items };
+    ghost invariant = { λ p. IsFinished p.outline × HasCalls p.outline p.calls.items × (p.shown.items ≡ shown_below p.outline (length p.outline.handlers)) × AreIndexed p.outline.controls p.shown.items p.index.items × HasClusterTable p.outline p.clusters.items };
 }
 
 impl<D: Driver> Drop for Plan<D> {
@@ -55,7 +55,7 @@ impl<D: Driver> Drop for Plan<D> {
 }
 
 impl<D: Driver> Plan<D> {
-    ghost use Rattle.ctrl_handlers.specs.Plan.{HasCalls, HasPlaces};
+    ghost use Rattle.ctrl_handlers.specs.Plan.{HasCalls, HasClusterTable};
     ghost use Rattle.ctrl_handlers.specs.Visible.{shown_below, AreIndexed};
 
     /// The plan of these parts.
@@ -70,7 +70,7 @@ impl<D: Driver> Plan<D> {
         requires calls { HasCalls outline calls.items }
         requires shown { shown.items ≡ shown_below outline (length outline.handlers) }
         requires index { AreIndexed outline.controls shown.items index.items }
-        requires clusters { HasPlaces outline clusters.items }
+        requires clusters { HasClusterTable outline clusters.items }
         ensures { result ≡ outline }
     {
         Plan {

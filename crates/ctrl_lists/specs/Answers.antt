@@ -15,7 +15,7 @@ use Rattle.ctrl_clusters.specs.Rows.{Values, value_at}
 use Rattle.ctrl_clusters.specs.Overlay.{value_after, no_grabs}
 use Rattle.ctrl_lists.specs.declared.refusal.Refusal.{Refusal}
 use Rattle.ctrl_lists.specs.View.{ViewData, pairs_of}
-use Rattle.ctrl_lists.specs.Checks.{first_refusal, is_long, laid_pairs, read_checks, write_checks}
+use Rattle.ctrl_lists.specs.Checks.{first_refusal, is_long, pairs_judged, read_checks, write_checks}
 
 -- what a list is answered: its entries with their values, or a fault
 abbrev pub ListAnswer : Type 0
@@ -61,7 +61,7 @@ entry_judged verdicts plan view pairs p = record { id = (control plan p.control)
 
 -- the entries that a list that writes is answered
 abbrev pub entries_judged : Verdicts → PlanData → ViewData → List ExtControl → List ExtControl
-entries_judged verdicts plan view list = map (entry_judged verdicts plan view (laid_pairs plan view list)) (pairs_of plan view.handler view.which list)
+entries_judged verdicts plan view list = map (entry_judged verdicts plan view (pairs_judged plan view list)) (pairs_of plan view.handler view.which list)
 
 -- What a set is answered whose file handle and `which` are good, memory and the limit of steps aside.
 unfoldable pub set_answer : Verdicts → PlanData → ViewData → List ExtControl → ListAnswer

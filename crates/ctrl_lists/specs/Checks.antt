@@ -51,9 +51,9 @@ first_refusal (None ∷ checks) = first_refusal checks
 first_refusal (Some refusal ∷ checks) = Some refusal
 
 -- the errno of what failed
-abbrev pub errno_of : {X : Type 0} → Result X Errno → Option Errno
-errno_of (Ok x) = None
-errno_of (Err errno) = Some errno
+abbrev pub errno_if_refused : {X : Type 0} → Result X Errno → Option Errno
+errno_if_refused (Ok x) = None
+errno_if_refused (Err errno) = Some errno
 
 -- more entries than a list may have
 abbrev pub is_long : List ExtControl → Bool
@@ -82,21 +82,21 @@ abbrev pub writing_refusal : PlanData → ViewData → Bool → Pair → Option 
 writing_refusal plan view is_set p =
     if contains (control plan p.control).flags READ_ONLY then Some EACCES
     else if is_set && is_grabbed view.grabs p.control then Some EBUSY
-    else errno_of (settle (control_in view.controls p.control) p.value)
+    else errno_if_refused (settle (control_in view.controls p.control) p.value)
 
 -- the pairs that are laid over the values: those from before, and then the list's
-abbrev pub laid_pairs : PlanData → ViewData → List ExtControl → List Pair
-laid_pairs plan view list = view.asked ++ pairs_of plan view.handler view.which list
+abbrev pub pairs_judged : PlanData → ViewData → List ExtControl → List Pair
+pairs_judged plan view list = view.asked ++ pairs_of plan view.handler view.which list
 
 -- The row of a cluster once pairs are laid over the values. Grabs refuse entries before, one by one, and pairs from before are laid whatever
 -- is grabbed. A control that is in no cluster, as none of a finished plan is, can't be judged.
-abbrev pub row_laid : Verdicts → PlanData → ViewData → List Pair → Option ℕ → Result (List CtrlValue) Errno
-row_laid verdicts plan view pairs None = Err EINVAL
-row_laid verdicts plan view pairs (Some k) = row_after verdicts plan view.controls view.values no_grabs pairs k
+abbrev pub row_judged : Verdicts → PlanData → ViewData → List Pair → Option ℕ → Result (List CtrlValue) Errno
+row_judged verdicts plan view pairs None = Err EINVAL
+row_judged verdicts plan view pairs (Some k) = row_after verdicts plan view.controls view.values no_grabs pairs k
 
 -- a control whose cluster is refused: a member doesn't settle, or judging refuses the row
 abbrev pub judging_refusal : Verdicts → PlanData → ViewData → List Pair → Pair → Option Errno
-judging_refusal verdicts plan view pairs p = errno_of (row_laid verdicts plan view pairs (cluster_of plan p.control))
+judging_refusal verdicts plan view pairs p = errno_if_refused (row_judged verdicts plan view pairs (cluster_of plan p.control))
 
 -- The checks of a list that reads, the first refusal first. Once each entry names a control, the places of the pairs are those of the
 -- entries.
@@ -132,5 +132,5 @@ write_checks verdicts plan view is_set list =
     entry_checks plan view is_set list
     -- the first control whose cluster is refused, which is that of the first entry of the first such cluster: the errno of the first member
     -- that doesn't settle, or else that of judging
-    ++ at_first (judging_refusal verdicts plan view (laid_pairs plan view list)) (pairs_of plan view.handler view.which list)
+    ++ at_first (judging_refusal verdicts plan view (pairs_judged plan view list)) (pairs_of plan view.handler view.which list)
     ∷ []

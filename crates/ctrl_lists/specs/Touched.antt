@@ -7,13 +7,13 @@ use Rattle.ctrl_calls.specs.Meanings.{Verdicts}
 use Rattle.ctrl_settle.specs.Control.{Control}
 use Rattle.ctrl_handlers.specs.Plan.{PlanData, control, cluster_of, calls_of, members}
 use Rattle.ctrl_clusters.specs.Rows.{Values}
-use Rattle.ctrl_clusters.specs.Judging.{becomes}
+use Rattle.ctrl_clusters.specs.Judging.{validated_row}
 pub use Rattle.ctrl_clusters.specs.Judging.{with_calls}
 use Rattle.ctrl_clusters.specs.NewRows.{clusters_of, value_written}
 use Rattle.ctrl_clusters.specs.declared.new_row.NewRow.{NewRow}
 use Rattle.ctrl_lists.specs.View.{ViewData, pairs_of}
 use Rattle.ctrl_lists.specs.declared.refusal.Refusal.{Refusal}
-use Rattle.ctrl_lists.specs.Checks.{entry_checks, first_refusal, laid_pairs}
+use Rattle.ctrl_lists.specs.Checks.{entry_checks, first_refusal, pairs_judged}
 
 -- these clusters, with one more where it isn't among them
 abbrev pub with_cluster : List ℕ → Option ℕ → List ℕ
@@ -31,7 +31,7 @@ entry_in plan values rows c = record { id = (control plan c).id; value = value_w
 
 -- each row is what its cluster's becomes
 abbrev pub AreRows : Verdicts → PlanData → List Control → Values → List Pair → List NewRow → Type 0
-AreRows verdicts plan controls values pairs rows = All (λ r. becomes verdicts plan controls values pairs r.cluster ≡ Ok r.row) rows
+AreRows verdicts plan controls values pairs rows = All (λ r. validated_row verdicts plan controls values pairs r.cluster ≡ Ok r.row) rows
 
 -- What a list makes of the clusters that it touches: their rows, in the order of the clusters' first entries; what the entries are
 -- answered; and the pairs of the list.
@@ -52,7 +52,7 @@ pub record AreJudged (verdicts : Verdicts) (plan : PlanData) (controls : List Co
 pub record IsTouched (verdicts : Verdicts) (plan : PlanData) (view : ViewData) (list : List ExtControl) (touch : TouchedData) : Type 0 where
   pub own_pairs : touch.pairs ≡ pairs_of plan view.handler view.which list
   pub known : All (λ p. p.control < length plan.controls) touch.pairs
-  pub judged : AreJudged verdicts plan view.controls view.values (laid_pairs plan view list) (pairs_of plan view.handler view.which list) touch.rows
+  pub judged : AreJudged verdicts plan view.controls view.values (pairs_judged plan view list) (pairs_of plan view.handler view.which list) touch.rows
 
 -- how many of some clusters have a validator
 abbrev pub judged_count : PlanData → List ℕ → ℕ

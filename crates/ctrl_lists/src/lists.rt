@@ -4,7 +4,7 @@ ghost use Rattle.ctrl_types.specs.declared.which.Which.TheVariants.{Defaults};
 ghost use Rattle.ctrl_clusters.specs.Rows.{AreControlsOf};
 ghost use Rattle.ctrl_clusters.specs.Overlay.{is_among};
 ghost use Rattle.ctrl_lists.specs.View.{pairs_of};
-ghost use Rattle.ctrl_lists.specs.Checks.{at_first, first_refusal, judging_refusal, read_checks, write_checks, laid_pairs, memory_refusal};
+ghost use Rattle.ctrl_lists.specs.Checks.{at_first, first_refusal, judging_refusal, read_checks, write_checks, pairs_judged, memory_refusal};
 ghost use Rattle.ctrl_lists.specs.Touched.{touched, AreJudged, IsTouched, judged_count, list_asks, with_calls};
 ghost use Rattle.ctrl_lists.specs.Answers.{value_read, entry_read, entry_judged, entries_judged, get_answer, set_answer, try_answer, may_lack, no_memory};
 ghost use Rattle.ctrl_lists.specs.declared.limits.TheConstants.{MAX_ENTRIES};

@@ -6,7 +6,7 @@ ghost use Rattle.ctrl_handlers.specs.Plan.{cluster_of, members};
 ghost use Rattle.ctrl_clusters.specs.Rows.{AreControlsOf};
 ghost use Rattle.ctrl_clusters.specs.Overlay.{is_among, is_touched};
 ghost use Rattle.ctrl_clusters.specs.NewRows.{clusters_of};
-ghost use Rattle.ctrl_lists.specs.Checks.{at_first, errno_of, row_laid, judging_refusal, memory_refusal};
+ghost use Rattle.ctrl_lists.specs.Checks.{at_first, errno_if_refused, row_judged, judging_refusal, memory_refusal};
 ghost use Rattle.ctrl_lists.specs.Touched.{with_cluster, touched, entry_in, AreRows, AreJudged, judged_count, with_calls};
 ghost use Rattle.ctrl_lists.specs.Answers.{entry_judged};
 ghost use Rattle.ctrl_lists.specs.declared.limits.TheConstants.{MAX_ENTRIES};
@@ -15,7 +15,7 @@ use crate::control_list::ControlList;
 use crate::refusal::Refusal;
 use crate::view::View;
 use ctrl_calls::{Driver, Work};
-use ctrl_clusters::{NewRow, NewRows, becomes, value_in};
+use ctrl_clusters::{NewRow, NewRows, validated_row, member_value};
 use ctrl_handlers::Plan;
 use ctrl_types::{CtrlValue, Errno, ExtControl, Pair};
 use std::alloc::{AllocError, Global};
@@ -73,8 +73,8 @@ fn judge_next<D: Driver>(
     requires rows { AreRows D.verdict plan.now view.now.controls view.now.values laid.now rows.old.rows }
     requires within { All (λ r. r.cluster < length plan.now.clusters) rows.old.rows }
     requires long { All (λ r. length r.row ≡ length (members plan.now r.cluster)) rows.old.rows }
-    ensures ok { OnOk result (errno_of (row_laid D.verdict plan.now view.now laid.now (cluster_of plan.now control)) ≡ None) }
-    ensures err { IfErr result (λ errno. errno_of (row_laid D.verdict plan.now view.now laid.now (cluster_of plan.now control)) ≡ Some errno) }
+    ensures ok { OnOk result (errno_if_refused (row_judged D.verdict plan.now view.now laid.now (cluster_of plan.now control)) ≡ None) }
+    ensures err { IfErr result (λ errno. errno_if_refused (row_judged D.verdict plan.now view.now laid.now (cluster_of plan.now control)) ≡ Some errno) }
     ensures each { OnOk result (clusters_of rows.new.rows ≡ with_cluster (clusters_of rows.old.rows) (cluster_of plan.now control)) }
     ensures rows { OnOk result (AreRows D.verdict plan.now view.now.controls view.now.values laid.now rows.new.rows) }
     ensures within { OnOk result (All (λ r. r.cluster < length plan.now.clusters) rows.new.rows) }
@@ -90,7 +90,7 @@ fn judge_next<D: Driver>(
     if rows.among(cluster).is_some() {
         return Ok(());
     }
-    match becomes(plan, view.controls, cluster, view.values, laid, work) {
+    match validated_row(plan, view.controls, cluster, view.values, laid, work) {
         Ok(row) => {
             rows.push_reserved(NewRow { cluster, row });
             Ok(())
@@ -140,7 +140,7 @@ fn entry_judged<D: Driver>(
     let cluster = plan.cluster_of(control);
     let before = values[control as usize];
     let value = match rows.among(cluster) {
-        Some(row) => value_in(plan.members(cluster), &row, control).unwrap_or(before),
+        Some(row) => member_value(plan.members(cluster), &row, control).unwrap_or(before),
         None => before,
     };
     ExtControl { id, value }

@@ -23,15 +23,15 @@ pub record MomentData : Type 0 where
   pub grabs : Grabs
 
 -- the value that is told of a control: 0 where it can't be read
-abbrev pub value_told : Control → CtrlValue → CtrlValue
-value_told ctrl value = cond (contains ctrl.flags WRITE_ONLY) (pos 0) value
+abbrev pub value_shown : Control → CtrlValue → CtrlValue
+value_shown ctrl value = cond (contains ctrl.flags WRITE_ONLY) (pos 0) value
 
 -- what is told of a control
-abbrev pub told_of : Control → CtrlValue → Flags → Payload
-told_of ctrl value flags = record {
+abbrev pub payload_of : Control → CtrlValue → Flags → Payload
+payload_of ctrl value flags = record {
   id = ctrl.id;
   kind = ctrl.kind;
-  value = value_told ctrl value;
+  value = value_shown ctrl value;
   flags = flags;
   minimum = ctrl.minimum;
   maximum = ctrl.maximum;
@@ -41,7 +41,7 @@ told_of ctrl value flags = record {
 
 -- the same, at a moment
 abbrev pub payload_at : PlanData → MomentData → ℕ → Payload
-payload_at plan m c = told_of (control plan c) (value_at m.values c) (flags_under plan m.values m.grabs c)
+payload_at plan m c = payload_of (control plan c) (value_at m.values c) (flags_under plan m.values m.grabs c)
 
 -- changes, where they are
 abbrev pub changes_where : Bool → Changes → Changes

@@ -19,7 +19,7 @@ use Rattle.ctrl_events.specs.declared.event.Payload.{Payload}
 use Rattle.ctrl_events.specs.declared.event.Subscription.{Subscription}
 use Rattle.ctrl_events.specs.declared.event.Waiting.{Waiting}
 use Rattle.ctrl_events.specs.Events.{FileEvents, no_events, flags_in, is_from, raised, reaches, with_subscription, after_subscribe, after_unsubscribe, after_take, after_raise}
-use Rattle.ctrl_events.specs.Pending.{IsWhatHappened, AreNumbered, Happening, gone, raise, pending as pending_in, raises as raises_in}
+use Rattle.ctrl_events.specs.Pending.{IsWhatHappened, AreNumbered, Happening, withdrawn, raise, pending as pending_in, raises as raises_in}
 use Rattle.ctrl_events.proofs.PendingLemmas.{kept_raised, kept_subscribed, kept_taken, kept_unsubscribed, pending_start}
 use Rattle.ctrl_handlers.specs.Plan.{IsPlan, PlanData, control, control_in}
 use Rattle.ctrl_handlers.specs.Visible.{find, first_with_id, visible}
@@ -30,13 +30,13 @@ use Rattle.device_history.specs.declared.ask.Step.TheVariants as steps
 use Rattle.device_history.specs.Steps.{History, Past}
 use Rattle.device_history.specs.Handles.{ever_opened, handler_of, opened, opened_after, shown}
 use Rattle.device_history.specs.Grabs.{grabbed, grabbed_after}
-use Rattle.device_history.specs.Values.{laid, now}
+use Rattle.device_history.specs.Values.{pairs_asked, now}
 use Rattle.device_history.specs.Flags.{flags_now}
-use Rattle.device_history.specs.Words.{acted}
+use Rattle.device_history.specs.Words.{pairs_applied}
 use Rattle.device_history.specs.Legal.{IsLegal, MayFollow}
 use Rattle.device_history.specs.Subscriptions.{first_flags, is_control, since_ended, subscribed, subscribed_after, subscribed_by}
-use Rattle.device_history.specs.Events.{changed, gone_of, happened, heard, hears, initially, next_sequence, payload, pending, raises, tells, told_by, with_gone, with_raises}
-use Rattle.device_history.specs.EventSteps.{AreEvents, ended_where, events_after, events_by, from_of, raised_by}
+use Rattle.device_history.specs.Events.{changed, withdrawn_if_named, happened, heard, hears, initially, next_sequence, payload, pending, raises, raised_for, all_raised_for, with_withdrawn, with_raises}
+use Rattle.device_history.specs.EventSteps.{AreEvents, unsubscribed_if_named, events_after, events_by, from_of, raised_by}
 use Rattle.ctrl_raises.specs.Raises.{initial_changes, raised_all}
 use Rattle.device_history.specs.EventAnswers.{first_control}
 use Rattle.device_history.proofs.AskingLemmas.{may_decided}
@@ -49,11 +49,11 @@ unfolding with_raises AreNumbered
 numbered_raises told [] hs numbered = numbered
 numbered_raises told (r ∷ rs) hs numbered = numbered_raises told rs _ (refl, numbered)
 
-numbered_gone : (fh : FhId) (step : Step) (hs : List Happening) → AreNumbered hs → AreNumbered (with_gone fh step hs)
+numbered_gone : (fh : FhId) (step : Step) (hs : List Happening) → AreNumbered hs → AreNumbered (with_withdrawn fh step hs)
 unfolding AreNumbered
 numbered_gone fh (steps.Unsubscribe f (Some c)) hs numbered = by (nat_eq f.0 fh.0)
   where
-    by : (b : Bool) → AreNumbered (cond b (gone c ∷ hs) hs)
+    by : (b : Bool) → AreNumbered (cond b (withdrawn c ∷ hs) hs)
     by true = numbered
     by false = numbered
 numbered_gone fh (steps.Unsubscribe f None) hs numbered = by (nat_eq f.0 fh.0)
@@ -63,7 +63,7 @@ numbered_gone fh (steps.Unsubscribe f None) hs numbered = by (nat_eq f.0 fh.0)
     by false = numbered
 numbered_gone fh (steps.Take f c) hs numbered = by (nat_eq f.0 fh.0)
   where
-    by : (b : Bool) → AreNumbered (cond b (gone c ∷ hs) hs)
+    by : (b : Bool) → AreNumbered (cond b (withdrawn c ∷ hs) hs)
     by true = numbered
     by false = numbered
 numbered_gone fh (steps.OpenFh handler) hs numbered = numbered
@@ -86,7 +86,7 @@ pub numbered_all : (verdicts : Verdicts) (plan : PlanData) (past : Past) (fh : F
 unfolding happened AreNumbered
 numbered_all verdicts plan [] fh = tt
 numbered_all verdicts plan (e ∷ older) fh =
-    numbered_raises (payload verdicts plan (e ∷ older)) (told_by verdicts plan e older fh) (with_gone fh e.step (happened verdicts plan older fh))
+    numbered_raises (payload verdicts plan (e ∷ older)) (all_raised_for verdicts plan e older fh) (with_withdrawn fh e.step (happened verdicts plan older fh))
     (numbered_gone fh e.step (happened verdicts plan older fh) (numbered_all verdicts plan older fh))
 
 -- what is kept of an open file handle is what happened
@@ -258,9 +258,9 @@ raises_kept verdicts plan e older fh (c ∷ cs) f hs kept subs = by (raises_kept
 
 -- a step that lays no pairs, applies none and leaves the grabs
 abbrev IsQuiet : Verdicts → PlanData → Past → Step → Type 0
-IsQuiet verdicts plan older step = (laid plan older step ≡ None) × (acted verdicts plan older step ≡ None) × (grabbed_after step (grabbed plan older) ≡ grabbed plan older)
+IsQuiet verdicts plan older step = (pairs_asked plan older step ≡ None) × (pairs_applied verdicts plan older step ≡ None) × (grabbed_after step (grabbed plan older) ≡ grabbed plan older)
 
-pub values_quiet : (verdicts : Verdicts) (plan : PlanData) (e : Entry Step) (older : Past) → laid plan older e.step ≡ None → now verdicts plan (e ∷ older) ≡ now verdicts plan older
+pub values_quiet : (verdicts : Verdicts) (plan : PlanData) (e : Entry Step) (older : Past) → pairs_asked plan older e.step ≡ None → now verdicts plan (e ∷ older) ≡ now verdicts plan older
 unfolding now
 values_quiet verdicts plan e older none = rw none refl
 
@@ -274,7 +274,7 @@ heard_nothing fh None step change c nothing = refl
 heard_nothing fh (Some flags) step change c nothing = rw nothing refl
 
 -- where a step doesn't subscribe, nothing is told at once
-told_heard : (verdicts : Verdicts) (plan : PlanData) (e : Entry Step) (older : Past) (fh : FhId) (c : ℕ) → subscribed_by fh c e.step ≡ None → tells verdicts plan e older fh c ≡ heard fh (subscribed older fh c) e.step (changed verdicts plan e older c) c
+told_heard : (verdicts : Verdicts) (plan : PlanData) (e : Entry Step) (older : Past) (fh : FhId) (c : ℕ) → subscribed_by fh c e.step ≡ None → raised_for verdicts plan e older fh c ≡ heard fh (subscribed older fh c) e.step (changed verdicts plan e older c) c
 told_heard verdicts plan e older fh c none =
     ap (λ (o : Option SubFlags). option_or (heard fh (subscribed older fh c) e.step (changed verdicts plan e older c) c) (initially (subscribed older fh c) o (control plan c))) none ∙ by (subscribed older fh c) _
   where
@@ -285,23 +285,23 @@ told_heard verdicts plan e older fh c none =
     by (Some flags) (Some change) = refl
 
 -- a file handle that isn't open is told nothing
-told_closed : (verdicts : Verdicts) (plan : PlanData) (e : Entry Step) (older : Past) (fh : FhId) → MayFollow verdicts plan older e.step → is_open older fh ≡ false → told_by verdicts plan e older fh ≡ []
+told_closed : (verdicts : Verdicts) (plan : PlanData) (e : Entry Step) (older : Past) (fh : FhId) → MayFollow verdicts plan older e.step → is_open older fh ≡ false → all_raised_for verdicts plan e older fh ≡ []
 told_closed verdicts plan e older fh may shut = none_picked _ (range_with_len 0 (length plan.controls)) none
   where
-    none : (c : ℕ) → option_map {U = ℕ × Changes} (λ change. (c, change)) (tells verdicts plan e older fh c) ≡ None
+    none : (c : ℕ) → option_map {U = ℕ × Changes} (λ change. (c, change)) (raised_for verdicts plan e older fh c) ≡ None
     none c = ap (option_map {U = ℕ × Changes} (λ change. (c, change)))
         (told_heard verdicts plan e older fh c (closed_by_none verdicts plan older fh c e.step may shut) ∙ ap (λ (b : Bool). heard fh (cond b (first_flags fh c (since_ended fh c older)) None) e.step (changed verdicts plan e older c) c) shut)
 
 -- nor does anything else happen to its events
-gone_closed : (verdicts : Verdicts) (plan : PlanData) (older : Past) (fh : FhId) (step : Step) (hs : List Happening) → MayFollow verdicts plan older step → is_open older fh ≡ false → with_gone fh step hs ≡ hs
+gone_closed : (verdicts : Verdicts) (plan : PlanData) (older : Past) (fh : FhId) (step : Step) (hs : List Happening) → MayFollow verdicts plan older step → is_open older fh ≡ false → with_withdrawn fh step hs ≡ hs
 gone_closed verdicts plan older fh (steps.Unsubscribe f c) hs may shut = by (nat_eq f.0 fh.0) refl
   where
-    by : (b : Bool) → nat_eq f.0 fh.0 ≡ b → cond b (gone_of c hs) hs ≡ hs
+    by : (b : Bool) → nat_eq f.0 fh.0 ≡ b → cond b (withdrawn_if_named c hs) hs ≡ hs
     by true is = absurd (true≢false (sym (unsubscribes_open verdicts plan older f c may) ∙ ap (λ (n : ℕ). is_open older (record { 0 = n })) (equal f.0 fh.0 is) ∙ shut))
     by false is = refl
 gone_closed verdicts plan older fh (steps.Take f c) hs may shut = by (nat_eq f.0 fh.0) refl
   where
-    by : (b : Bool) → nat_eq f.0 fh.0 ≡ b → cond b (gone c ∷ hs) hs ≡ hs
+    by : (b : Bool) → nat_eq f.0 fh.0 ≡ b → cond b (withdrawn c ∷ hs) hs ≡ hs
     by true is = absurd (true≢false (sym (takes_open verdicts plan older f c may) ∙ ap (λ (n : ℕ). is_open older (record { 0 = n })) (equal f.0 fh.0 is) ∙ shut))
     by false is = refl
 gone_closed verdicts plan older fh (steps.OpenFh handler) hs may shut = refl
@@ -321,7 +321,7 @@ gone_closed verdicts plan older fh (steps.Free r) hs may shut = refl
 gone_closed verdicts plan older fh (steps.Subscribe f c flags) hs may shut = refl
 
 -- what happened stays, where a step tells nothing and nothing is gone
-happened_same : (verdicts : Verdicts) (plan : PlanData) (e : Entry Step) (older : Past) (fh : FhId) → told_by verdicts plan e older fh ≡ [] → with_gone fh e.step (happened verdicts plan older fh) ≡ happened verdicts plan older fh
+happened_same : (verdicts : Verdicts) (plan : PlanData) (e : Entry Step) (older : Past) (fh : FhId) → all_raised_for verdicts plan e older fh ≡ [] → with_withdrawn fh e.step (happened verdicts plan older fh) ≡ happened verdicts plan older fh
     → happened verdicts plan (e ∷ older) fh ≡ happened verdicts plan older fh
 unfolding happened with_raises
 happened_same verdicts plan e older fh told none = rw (told, none) refl
@@ -395,7 +395,7 @@ closed_more verdicts plan e older fh f may shut none = by e.step refl
     by (steps.Take g c) is = other g _ (takes_open verdicts plan older g c (subst (MayFollow verdicts plan older) is may))
 
 -- what a step without a subscription and without changes makes of an open file handle's happenings
-told_quiet : (verdicts : Verdicts) (plan : PlanData) (e : Entry Step) (older : Past) (fh : FhId) → IsQuiet verdicts plan older e.step → ((c : ℕ) → subscribed_by fh c e.step ≡ None) → told_by verdicts plan e older fh ≡ []
+told_quiet : (verdicts : Verdicts) (plan : PlanData) (e : Entry Step) (older : Past) (fh : FhId) → IsQuiet verdicts plan older e.step → ((c : ℕ) → subscribed_by fh c e.step ≡ None) → all_raised_for verdicts plan e older fh ≡ []
 told_quiet verdicts plan e older fh is none =
     none_picked _ (range_with_len 0 (length plan.controls))
     (λ c. ap (option_map {U = ℕ × Changes} (λ change. (c, change))) (told_heard verdicts plan e older fh c (none c) ∙ heard_nothing fh (subscribed older fh c) e.step (changed verdicts plan e older c) c (quiet verdicts plan e older is c)))
@@ -413,14 +413,14 @@ stays_open verdicts plan e older fh f live still same subs are =
 
 -- a step that raises events
 raises_open : (verdicts : Verdicts) (plan : PlanData) (e : Entry Step) (older : Past) (fh : FhId) (f : FileEvents) → is_open older fh ≡ true → is_open (e ∷ older) fh ≡ true
-    → with_gone fh e.step (happened verdicts plan older fh) ≡ happened verdicts plan older fh → ((c : ℕ) → subscribed_by fh c e.step ≡ None) → ((c : ℕ) → subscribed (e ∷ older) fh c ≡ subscribed older fh c)
+    → with_withdrawn fh e.step (happened verdicts plan older fh) ≡ happened verdicts plan older fh → ((c : ℕ) → subscribed_by fh c e.step ≡ None) → ((c : ℕ) → subscribed (e ∷ older) fh c ≡ subscribed older fh c)
     → AreEvents verdicts plan older fh f → AreEvents verdicts plan (e ∷ older) fh (raised_by verdicts plan e older fh (range_with_len 0 (length plan.controls)) f)
 unfolding happened
 raises_open verdicts plan e older fh f live still stays none subs are =
     let heard_of : List (ℕ × Changes) = filter_map (λ c. option_map {U = ℕ × Changes} (λ change. (c, change)) (heard fh (subscribed older fh c) e.step (changed verdicts plan e older c) c)) (range_with_len 0 (length plan.controls)) in
     let all = raises_kept verdicts plan e older fh (range_with_len 0 (length plan.controls)) f (happened verdicts plan older fh) (opened_kept verdicts plan older fh f live are) are.subscribed in
     kept_opened verdicts plan (e ∷ older) fh _ still (λ c. all.1 c ∙ sym (subs c))
-    (subst (λ (rs : List (ℕ × Changes)). IsWhatHappened (with_raises (payload verdicts plan (e ∷ older)) rs (with_gone fh e.step (happened verdicts plan older fh))) (raised_by verdicts plan e older fh (range_with_len 0 (length plan.controls)) f))
+    (subst (λ (rs : List (ℕ × Changes)). IsWhatHappened (with_raises (payload verdicts plan (e ∷ older)) rs (with_withdrawn fh e.step (happened verdicts plan older fh))) (raised_by verdicts plan e older fh (range_with_len 0 (length plan.controls)) f))
     (sym (same_picked _ _ (range_with_len 0 (length plan.controls)) (λ c. ap (option_map {U = ℕ × Changes} (λ change. (c, change))) (told_heard verdicts plan e older fh c (none c)))))
     (subst (λ (hs : List Happening). IsWhatHappened (with_raises (payload verdicts plan (e ∷ older)) heard_of hs) (raised_by verdicts plan e older fh (range_with_len 0 (length plan.controls)) f)) (sym stays) all.0))
 
@@ -518,25 +518,25 @@ subscribes_own verdicts plan e older fh g c0 flags f plans legal may is own live
     none_asked None ctrl = refl
     none_asked (Some x) ctrl = refl
 
-    each : (c : ℕ) → tells verdicts plan e older fh c ≡ cond (nat_eq c0 c) (initially (subscribed older fh c0) (Some flags) (control plan c0)) None
+    each : (c : ℕ) → raised_for verdicts plan e older fh c ≡ cond (nat_eq c0 c) (initially (subscribed older fh c0) (Some flags) (control plan c0)) None
     each c =
         ap (λ (o : Option Changes). option_or o (initially (subscribed older fh c) (subscribed_by fh c e.step) (control plan c)))
-        (heard_nothing fh (subscribed older fh c) e.step (changed verdicts plan e older c) c (quiet verdicts plan e older (ap (laid plan older) is, ap (acted verdicts plan older) is, ap (λ (s : Step). grabbed_after s (grabbed plan older)) is) c))
+        (heard_nothing fh (subscribed older fh c) e.step (changed verdicts plan e older c) c (quiet verdicts plan e older (ap (pairs_asked plan older) is, ap (pairs_applied verdicts plan older) is, ap (λ (s : Step). grabbed_after s (grabbed plan older)) is) c))
         ∙ ap (λ (o : Option SubFlags). initially (subscribed older fh c) o (control plan c)) (asks c) ∙ at (nat_eq c0 c) refl
       where
         at : (b : Bool) → nat_eq c0 c ≡ b → initially (subscribed older fh c) (cond b (Some flags) None) (control plan c) ≡ cond b (initially (subscribed older fh c0) (Some flags) (control plan c0)) None
         at true same = ap (λ (n : ℕ). initially (subscribed older fh n) (Some flags) (control plan n)) (sym (equal c0 c same))
         at false other = none_asked (subscribed older fh c) (control plan c)
 
-    one_told : told_by verdicts plan e older fh ≡ cons_option (option_map (λ x. (c0, x)) (initially (subscribed older fh c0) (Some flags) (control plan c0))) []
+    one_told : all_raised_for verdicts plan e older fh ≡ cons_option (option_map (λ x. (c0, x)) (initially (subscribed older fh c0) (Some flags) (control plan c0))) []
     one_told =
         same_picked _ (pick c0 (initially (subscribed older fh c0) (Some flags) (control plan c0))) (range_with_len 0 (length plan.controls)) (λ c. ap (option_map {U = ℕ × Changes} (λ x. (c, x))) (each c))
         ∙ picks_one c0 _ 0 (length plan.controls) (omega arith) (omega (arith, subscribes_known verdicts plan older g c0 flags plans (subst (MayFollow verdicts plan older) is may)))
 
     now_happened : (o : Option SubFlags) → subscribed older fh c0 ≡ o → happened verdicts plan (e ∷ older) fh ≡ with_raises told (cons_option (option_map (λ x. (c0, x)) (initially o (Some flags) (control plan c0))) []) hs
     now_happened o known =
-        ap (λ (rs : List (ℕ × Changes)). with_raises told rs (with_gone fh e.step hs)) (one_told ∙ ap (λ (s : Option SubFlags). cons_option (option_map (λ x. (c0, x)) (initially s (Some flags) (control plan c0))) []) known)
-        ∙ ap (λ (s : Step). with_raises told (cons_option (option_map (λ x. (c0, x)) (initially o (Some flags) (control plan c0))) []) (with_gone fh s hs)) is
+        ap (λ (rs : List (ℕ × Changes)). with_raises told rs (with_withdrawn fh e.step hs)) (one_told ∙ ap (λ (s : Option SubFlags). cons_option (option_map (λ x. (c0, x)) (initially s (Some flags) (control plan c0))) []) known)
+        ∙ ap (λ (s : Step). with_raises told (cons_option (option_map (λ x. (c0, x)) (initially o (Some flags) (control plan c0))) []) (with_withdrawn fh s hs)) is
 
     subs : (c : ℕ) → subscribed (e ∷ older) fh c ≡ option_or (subscribed older fh c) (cond (nat_eq c0 c) (Some flags) None)
     subs c = subscribed_more verdicts plan e older fh c legal may ∙ ap (λ (s : Step). subscribed_after s fh c (subscribed older fh c)) is
@@ -587,7 +587,7 @@ subscribes_own verdicts plan e older fh g c0 flags f plans legal may is own live
 
 -- The end of a subscription of an open file handle.
 ends_own : (verdicts : Verdicts) (plan : PlanData) (e : Entry Step) (older : Past) (fh g : FhId) (d : Option ℕ) (f : FileEvents) → IsLegal verdicts plan older → MayFollow verdicts plan older e.step
-    → e.step ≡ steps.Unsubscribe g d → nat_eq g.0 fh.0 ≡ true → is_open older fh ≡ true → is_open (e ∷ older) fh ≡ true → AreEvents verdicts plan older fh f → AreEvents verdicts plan (e ∷ older) fh (ended_where d f)
+    → e.step ≡ steps.Unsubscribe g d → nat_eq g.0 fh.0 ≡ true → is_open older fh ≡ true → is_open (e ∷ older) fh ≡ true → AreEvents verdicts plan older fh f → AreEvents verdicts plan (e ∷ older) fh (unsubscribed_if_named d f)
 unfolding happened with_raises
 ends_own verdicts plan e older fh g d f legal may is own live still are = by d refl
   where
@@ -595,23 +595,23 @@ ends_own verdicts plan e older fh g d f legal may is own live still are = by d r
     hs = happened verdicts plan older fh
 
     calm : IsQuiet verdicts plan older e.step
-    calm = (ap (laid plan older) is, ap (acted verdicts plan older) is, ap (λ (s : Step). grabbed_after s (grabbed plan older)) is)
+    calm = (ap (pairs_asked plan older) is, ap (pairs_applied verdicts plan older) is, ap (λ (s : Step). grabbed_after s (grabbed plan older)) is)
 
-    now_happened : happened verdicts plan (e ∷ older) fh ≡ gone_of d hs
+    now_happened : happened verdicts plan (e ∷ older) fh ≡ withdrawn_if_named d hs
     now_happened =
-        ap (λ (rs : List (ℕ × Changes)). with_raises (payload verdicts plan (e ∷ older)) rs (with_gone fh e.step hs)) (told_quiet verdicts plan e older fh calm (λ c. ap (subscribed_by fh c) is))
-        ∙ ap (λ (s : Step). with_gone fh s hs) is ∙ ap (λ (b : Bool). cond b (gone_of d hs) hs) own
+        ap (λ (rs : List (ℕ × Changes)). with_raises (payload verdicts plan (e ∷ older)) rs (with_withdrawn fh e.step hs)) (told_quiet verdicts plan e older fh calm (λ c. ap (subscribed_by fh c) is))
+        ∙ ap (λ (s : Step). with_withdrawn fh s hs) is ∙ ap (λ (b : Bool). cond b (withdrawn_if_named d hs) hs) own
 
     subs : (c : ℕ) → subscribed (e ∷ older) fh c ≡ cond (is_control c d) None (subscribed older fh c)
     subs c = subscribed_more verdicts plan e older fh c legal may ∙ ap (λ (s : Step). subscribed_after s fh c (subscribed older fh c)) is
         ∙ ap (λ (b : Bool). cond (b && is_control c d) None (option_or (subscribed older fh c) None)) own ∙ ap (λ (o : Option SubFlags). cond (is_control c d) None o) (or_none (subscribed older fh c))
 
-    by : (o : Option ℕ) → d ≡ o → AreEvents verdicts plan (e ∷ older) fh (ended_where o f)
-    by None none = stays_open verdicts plan e older fh f live still (now_happened ∙ ap (λ (o : Option ℕ). gone_of o hs) none) (λ c. subs c ∙ ap (λ (o : Option ℕ). cond (is_control c o) None (subscribed older fh c)) none) are
+    by : (o : Option ℕ) → d ≡ o → AreEvents verdicts plan (e ∷ older) fh (unsubscribed_if_named o f)
+    by None none = stays_open verdicts plan e older fh f live still (now_happened ∙ ap (λ (o : Option ℕ). withdrawn_if_named o hs) none) (λ c. subs c ∙ ap (λ (o : Option ℕ). cond (is_control c o) None (subscribed older fh c)) none) are
     by (Some c0) some =
         kept_opened verdicts plan (e ∷ older) fh (after_unsubscribe c0 f) still
         (λ c. flags_left f.subscribed c0 c ∙ ap (λ (o : Option SubFlags). cond (nat_eq c0 c) None o) (are.subscribed c) ∙ sym (subs c ∙ ap (λ (o : Option ℕ). cond (is_control c o) None (subscribed older fh c)) some))
-        (subst (λ (k : List Happening). IsWhatHappened k (after_unsubscribe c0 f)) (sym (now_happened ∙ ap (λ (o : Option ℕ). gone_of o hs) some)) (kept_unsubscribed hs f c0 (opened_kept verdicts plan older fh f live are)))
+        (subst (λ (k : List Happening). IsWhatHappened k (after_unsubscribe c0 f)) (sym (now_happened ∙ ap (λ (o : Option ℕ). withdrawn_if_named o hs) some)) (kept_unsubscribed hs f c0 (opened_kept verdicts plan older fh f live are)))
 
 -- A take through an open file handle.
 takes_own : (verdicts : Verdicts) (plan : PlanData) (e : Entry Step) (older : Past) (fh g : FhId) (c0 : ℕ) (f : FileEvents) → IsLegal verdicts plan older → MayFollow verdicts plan older e.step
@@ -623,12 +623,12 @@ takes_own verdicts plan e older fh g c0 f legal may is own live still are = by f
     hs = happened verdicts plan older fh
 
     calm : IsQuiet verdicts plan older e.step
-    calm = (ap (laid plan older) is, ap (acted verdicts plan older) is, ap (λ (s : Step). grabbed_after s (grabbed plan older)) is)
+    calm = (ap (pairs_asked plan older) is, ap (pairs_applied verdicts plan older) is, ap (λ (s : Step). grabbed_after s (grabbed plan older)) is)
 
-    now_happened : happened verdicts plan (e ∷ older) fh ≡ gone c0 ∷ hs
+    now_happened : happened verdicts plan (e ∷ older) fh ≡ withdrawn c0 ∷ hs
     now_happened =
-        ap (λ (rs : List (ℕ × Changes)). with_raises (payload verdicts plan (e ∷ older)) rs (with_gone fh e.step hs)) (told_quiet verdicts plan e older fh calm (λ c. ap (subscribed_by fh c) is))
-        ∙ ap (λ (s : Step). with_gone fh s hs) is ∙ ap (λ (b : Bool). cond b (gone c0 ∷ hs) hs) own
+        ap (λ (rs : List (ℕ × Changes)). with_raises (payload verdicts plan (e ∷ older)) rs (with_withdrawn fh e.step hs)) (told_quiet verdicts plan e older fh calm (λ c. ap (subscribed_by fh c) is))
+        ∙ ap (λ (s : Step). with_withdrawn fh s hs) is ∙ ap (λ (b : Bool). cond b (withdrawn c0 ∷ hs) hs) own
 
     subs : (c : ℕ) → subscribed (e ∷ older) fh c ≡ subscribed older fh c
     subs c = subscribed_more verdicts plan e older fh c legal may ∙ ap (λ (s : Step). subscribed_after s fh c (subscribed older fh c)) is ∙ or_none (subscribed older fh c)
@@ -641,7 +641,7 @@ takes_own verdicts plan e older fh g c0 f legal may is own live still are = by f
     by (w ∷ ws) some h =
         let same : w.control ≡ c0 = cc in
         kept_opened verdicts plan (e ∷ older) fh (after_take f) still (λ c. are.subscribed c ∙ sym (subs c))
-        (subst (λ (k : List Happening). IsWhatHappened k (after_take f)) (ap (λ (n : ℕ). gone n ∷ hs) same ∙ sym now_happened) (kept_taken hs f w ws (opened_kept verdicts plan older fh f live are) some))
+        (subst (λ (k : List Happening). IsWhatHappened k (after_take f)) (ap (λ (n : ℕ). withdrawn n ∷ hs) same ∙ sym now_happened) (kept_taken hs f w ws (opened_kept verdicts plan older fh f live are) some))
 
 -- What is kept of a file handle that is open is what the history makes of it, also after one more entry.
 opened_more_events : (verdicts : Verdicts) (plan : PlanData) (e : Entry Step) (older : Past) (fh : FhId) (f : FileEvents) → IsPlan plan → IsLegal verdicts plan older → MayFollow verdicts plan older e.step → is_open older fh ≡ true
@@ -654,24 +654,24 @@ opened_more_events verdicts plan e older fh f plans legal may live are = by e.st
     still : (step : Step) → e.step ≡ step → opened_after (length older) step (opened older) ≡ opened older → is_open (e ∷ older) fh ≡ true
     still step is same = ap is_some (handler_more e older step fh is same) ∙ live
 
-    calm : (step : Step) → e.step ≡ step → is_open (e ∷ older) fh ≡ true → IsQuiet verdicts plan older step → ((c : ℕ) → subscribed_by fh c step ≡ None) → with_gone fh step (happened verdicts plan older fh) ≡ happened verdicts plan older fh
+    calm : (step : Step) → e.step ≡ step → is_open (e ∷ older) fh ≡ true → IsQuiet verdicts plan older step → ((c : ℕ) → subscribed_by fh c step ≡ None) → with_withdrawn fh step (happened verdicts plan older fh) ≡ happened verdicts plan older fh
         → ((c : ℕ) → subscribed_after step fh c (subscribed older fh c) ≡ subscribed older fh c) → AreEvents verdicts plan (e ∷ older) fh f
     calm step is stays rests none kept same =
         stays_open verdicts plan e older fh f live stays
         (happened_same verdicts plan e older fh
         (told_quiet verdicts plan e older fh (subst (IsQuiet verdicts plan older) (sym is) rests) (λ c. ap (subscribed_by fh c) is ∙ none c))
-        (ap (λ (s : Step). with_gone fh s (happened verdicts plan older fh)) is ∙ kept))
+        (ap (λ (s : Step). with_withdrawn fh s (happened verdicts plan older fh)) is ∙ kept))
         (λ c. subs step is c ∙ same c) are
 
     simple : (step : Step) → e.step ≡ step → opened_after (length older) step (opened older) ≡ opened older → IsQuiet verdicts plan older step → ((c : ℕ) → subscribed_by fh c step ≡ None)
-        → with_gone fh step (happened verdicts plan older fh) ≡ happened verdicts plan older fh → ((c : ℕ) → subscribed_after step fh c (subscribed older fh c) ≡ option_or (subscribed older fh c) None) → AreEvents verdicts plan (e ∷ older) fh f
+        → with_withdrawn fh step (happened verdicts plan older fh) ≡ happened verdicts plan older fh → ((c : ℕ) → subscribed_after step fh c (subscribed older fh c) ≡ option_or (subscribed older fh c) None) → AreEvents verdicts plan (e ∷ older) fh f
     simple step is same rests none kept ends = calm step is (still step is same) rests none kept (λ c. ends c ∙ or_none (subscribed older fh c))
 
     raises : (step : Step) → e.step ≡ step → opened_after (length older) step (opened older) ≡ opened older → ((c : ℕ) → subscribed_by fh c step ≡ None)
-        → with_gone fh step (happened verdicts plan older fh) ≡ happened verdicts plan older fh → ((c : ℕ) → subscribed_after step fh c (subscribed older fh c) ≡ option_or (subscribed older fh c) None)
+        → with_withdrawn fh step (happened verdicts plan older fh) ≡ happened verdicts plan older fh → ((c : ℕ) → subscribed_after step fh c (subscribed older fh c) ≡ option_or (subscribed older fh c) None)
         → AreEvents verdicts plan (e ∷ older) fh (raised_by verdicts plan e older fh (range_with_len 0 (length plan.controls)) f)
     raises step is same none kept ends =
-        raises_open verdicts plan e older fh f live (still step is same) (ap (λ (s : Step). with_gone fh s (happened verdicts plan older fh)) is ∙ kept) (λ c. ap (subscribed_by fh c) is ∙ none c)
+        raises_open verdicts plan e older fh f live (still step is same) (ap (λ (s : Step). with_withdrawn fh s (happened verdicts plan older fh)) is ∙ kept) (λ c. ap (subscribed_by fh c) is ∙ none c)
         (λ c. subs step is c ∙ ends c ∙ or_none (subscribed older fh c)) are
 
     opens : (handler : ℕ) → e.step ≡ steps.OpenFh handler → AreEvents verdicts plan (e ∷ older) fh f
@@ -692,15 +692,15 @@ opened_more_events verdicts plan e older fh f plans legal may live are = by e.st
         simple _ is refl (refl, refl, refl) (λ c. ap (λ (b : Bool). cond (b && nat_eq c0 c) (Some flags) None) other) refl
         (λ c. ap (λ (b : Bool). option_or (subscribed older fh c) (cond (b && nat_eq c0 c) (Some flags) None)) other)
 
-    ends : (g : FhId) (d : Option ℕ) → e.step ≡ steps.Unsubscribe g d → (b : Bool) → nat_eq g.0 fh.0 ≡ b → AreEvents verdicts plan (e ∷ older) fh (cond b (ended_where d f) f)
+    ends : (g : FhId) (d : Option ℕ) → e.step ≡ steps.Unsubscribe g d → (b : Bool) → nat_eq g.0 fh.0 ≡ b → AreEvents verdicts plan (e ∷ older) fh (cond b (unsubscribed_if_named d f) f)
     ends g d is true own = ends_own verdicts plan e older fh g d f legal may is own live (still _ is refl) are
     ends g d is false other =
-        simple _ is refl (refl, refl, refl) (λ c. refl) (ap (λ (b : Bool). cond b (gone_of d (happened verdicts plan older fh)) (happened verdicts plan older fh)) other)
+        simple _ is refl (refl, refl, refl) (λ c. refl) (ap (λ (b : Bool). cond b (withdrawn_if_named d (happened verdicts plan older fh)) (happened verdicts plan older fh)) other)
         (λ c. ap (λ (b : Bool). cond (b && is_control c d) None (option_or (subscribed older fh c) None)) other)
 
     takes : (g : FhId) (c0 : ℕ) → e.step ≡ steps.Take g c0 → (b : Bool) → nat_eq g.0 fh.0 ≡ b → AreEvents verdicts plan (e ∷ older) fh (cond b (after_take f) f)
     takes g c0 is true own = takes_own verdicts plan e older fh g c0 f legal may is own live (still _ is refl) are
-    takes g c0 is false other = simple _ is refl (refl, refl, refl) (λ c. refl) (ap (λ (b : Bool). cond b (gone c0 ∷ happened verdicts plan older fh) (happened verdicts plan older fh)) other) (λ c. refl)
+    takes g c0 is false other = simple _ is refl (refl, refl, refl) (λ c. refl) (ap (λ (b : Bool). cond b (withdrawn c0 ∷ happened verdicts plan older fh) (happened verdicts plan older fh)) other) (λ c. refl)
 
     by : (step : Step) → e.step ≡ step → AreEvents verdicts plan (e ∷ older) fh (events_by verdicts plan e older fh step f)
     by (steps.OpenFh handler) is = opens handler is
@@ -815,11 +815,11 @@ raises_few told (r ∷ rs) hs =
     omega (arith, rest, one)
 
 -- what is taken or ended leaves the raises
-pub raises_gone : (fh : FhId) (step : Step) (hs : List Happening) → raises_in (with_gone fh step hs) ≡ raises_in hs
+pub raises_gone : (fh : FhId) (step : Step) (hs : List Happening) → raises_in (with_withdrawn fh step hs) ≡ raises_in hs
 unfolding raises_in
 raises_gone fh (steps.Unsubscribe f (Some c)) hs = by (nat_eq f.0 fh.0)
   where
-    by : (b : Bool) → raises_in (cond b (gone c ∷ hs) hs) ≡ raises_in hs
+    by : (b : Bool) → raises_in (cond b (withdrawn c ∷ hs) hs) ≡ raises_in hs
     by true = refl
     by false = refl
 raises_gone fh (steps.Unsubscribe f None) hs = by (nat_eq f.0 fh.0)
@@ -829,7 +829,7 @@ raises_gone fh (steps.Unsubscribe f None) hs = by (nat_eq f.0 fh.0)
     by false = refl
 raises_gone fh (steps.Take f c) hs = by (nat_eq f.0 fh.0)
   where
-    by : (b : Bool) → raises_in (cond b (gone c ∷ hs) hs) ≡ raises_in hs
+    by : (b : Bool) → raises_in (cond b (withdrawn c ∷ hs) hs) ≡ raises_in hs
     by true = refl
     by false = refl
 raises_gone fh (steps.OpenFh handler) hs = refl
@@ -854,9 +854,9 @@ unfolding happened raises_in
 raised_bound verdicts plan [] fh = omega arith
 raised_bound verdicts plan (e ∷ older) fh =
     let before = raised_bound verdicts plan older fh in
-    let more = raises_few (payload verdicts plan (e ∷ older)) (told_by verdicts plan e older fh) (with_gone fh e.step (happened verdicts plan older fh)) in
-    let same : length (raises_in (with_gone fh e.step (happened verdicts plan older fh))) ≡ length (raises_in (happened verdicts plan older fh)) = ap length (raises_gone fh e.step (happened verdicts plan older fh)) in
-    let few = picked_few (λ c. option_map {U = ℕ × Changes} (λ change. (c, change)) (tells verdicts plan e older fh c)) (range_with_len 0 (length plan.controls)) in
+    let more = raises_few (payload verdicts plan (e ∷ older)) (all_raised_for verdicts plan e older fh) (with_withdrawn fh e.step (happened verdicts plan older fh)) in
+    let same : length (raises_in (with_withdrawn fh e.step (happened verdicts plan older fh))) ≡ length (raises_in (happened verdicts plan older fh)) = ap length (raises_gone fh e.step (happened verdicts plan older fh)) in
+    let few = picked_few (λ c. option_map {U = ℕ × Changes} (λ change. (c, change)) (raised_for verdicts plan e older fh c)) (range_with_len 0 (length plan.controls)) in
     let all = length-range_with_len 0 (length plan.controls) in
     let next : length plan.controls * suc (length older) ≡ length plan.controls * length older + length plan.controls = mul-suc (length plan.controls) (length older) in
     omega (arith, before, more, same, few, all, next)

@@ -13,7 +13,7 @@ use Rattle.history.proofs.Pasts.{past_add, length_past}
 use Rattle.ctrl_calls.specs.Meanings.{Verdicts}
 use Rattle.ctrl_handlers.specs.Plan.{PlanData}
 use Rattle.req_book.specs.Requests.{find}
-use Rattle.frame_queue.specs.Frames.{FramesData, AreFrames}
+use Rattle.frame_queue.specs.Frames.{FramesData, QueueFitsRequests}
 use Rattle.device_history.specs.declared.ask.Step.{Step}
 use Rattle.device_history.specs.Steps.{History, Past}
 use Rattle.device_history.specs.Legal.{IsLegal, MayFollow}
@@ -39,7 +39,7 @@ frames_add verdicts plan entries e legal may =
     (store.frames_more verdicts plan e (past entries) (all_fit verdicts plan (past entries) legal) (fits verdicts plan (past entries) e.step may)))
 
 -- the queue and the running frame of a legal history are those of a store
-pub frames_legal : (verdicts : Verdicts) (plan : PlanData) (past : Past) → IsLegal verdicts plan past → AreFrames (frames verdicts plan past)
+pub frames_legal : (verdicts : Verdicts) (plan : PlanData) (past : Past) → IsLegal verdicts plan past → QueueFitsRequests (frames verdicts plan past)
 frames_legal verdicts plan past legal = store.frames_kept verdicts plan past (all_fit verdicts plan past legal)
 
 -- the request with an id is the one that the store has

@@ -15,19 +15,19 @@ use Rattle.ctrl_handlers.specs.Plan.{PlanData}
 use Rattle.ctrl_clusters.specs.Rows.{Values}
 use Rattle.req_book.specs.declared.state.RequestState.{RequestState}
 use Rattle.req_book.specs.declared.state.RequestState.TheVariants as states
-use Rattle.req_book.specs.Requests.{RequestData, RequestsData, find, fresh, changed, with_pairs, with_buffer, cleared, queued, begun, completed, is_idle, is_number, without}
+use Rattle.req_book.specs.Requests.{RequestData, RequestsData, find, new_request, with_changed, with_pairs, with_buffer, cleared, queued, begun, completed, is_idle, is_number, without}
 use Rattle.req_book.specs.Refusals.{store_refusal, buffer_refusal, queue_refusal, clear_refusal}
-use Rattle.frame_queue.specs.Frames.{FramesData, AreFrames, AreOnce, is_in, is_queued, is_running, after_begin, after_complete, running_done, stopped, after_off, cancel_refusal, ended}
+use Rattle.frame_queue.specs.Frames.{FramesData, QueueFitsRequests, AreOnce, is_in, is_queued, is_running, after_begin, after_complete, running_done, stopped, after_off, cancel_refusal, ended}
 use Rattle.frame_queue.proofs.FrameLemmas.{queued_kept, begun_kept, ended_kept, completed_kept, cancelled_kept, state_kept, rests, cleared_kept, freed_kept, added_kept}
 use Rattle.device_history.specs.declared.ask.Step.{Step}
 use Rattle.device_history.specs.declared.ask.Step.TheVariants.{OpenFh, CloseFh, Set, Grab, Alloc, Store, Buffer, Queue, Begin, Complete, Cancel, StreamOff, Reinit, Free, Subscribe, Unsubscribe, Take}
 use Rattle.device_history.specs.Steps.{Past}
-use Rattle.device_history.specs.Requests.{made, ever_made, state, last_left, is_off_since}
-use Rattle.device_history.specs.Frames.{all_but, ever_queued, queue, queue_after, last_begun, running, running_after, unless_is, first_of}
+use Rattle.device_history.specs.Requests.{made, ever_made, state, last_state_left, is_off_since}
+use Rattle.device_history.specs.Frames.{all_but, ever_queued, queue, queue_after, last_begun, running, running_after, unless_equal, first_of}
 use Rattle.device_history.specs.Values.{now}
 use Rattle.device_history.specs.Snapshots.{request_in, request, requests, frames, begun_pairs}
 use Rattle.device_history.specs.FrameSteps.{frames_after, FitsFrames}
-use Rattle.device_history.specs.FrameSteps.{request_after, where_named, ended_request}
+use Rattle.device_history.specs.FrameSteps.{request_after, changed_if_named, ended_request}
 use Rattle.device_history.proofs.AllFit.{AllFit}
 use Rattle.device_history.proofs.RequestLemmas.{request_more}
 use Rattle.device_history.proofs.MadeLemmas.{AreNamed, made_once, next_not_made, find_listed, same_listed, same_but, changed_listed, freed_listed, still_named, ended_if, ended_listed, whole}
@@ -71,7 +71,7 @@ after_none verdicts plan older n (Take f c) r none = refl
 
 -- what was never made isn't there
 pub never_made : (verdicts : Verdicts) (plan : PlanData) (past : Past) (r : ℕ) → AllFit verdicts plan past → list_any (nat_eq r) (ever_made past) ≡ false → request verdicts plan past r ≡ None
-unfolding request ever_made AllFit is_off_since last_left
+unfolding request ever_made AllFit is_off_since last_state_left
 never_made verdicts plan [] r fit none = refl
 never_made verdicts plan (e ∷ older) r fit none =
     let parts = or_parts (list_any (nat_eq r) (ever_made older)) (list_any (nat_eq r) (made (length older) e.step)) (sym (list_any-append (nat_eq r) (ever_made older) (made (length older) e.step)) ∙ none) in
@@ -92,7 +92,7 @@ pub frames_start : (verdicts : Verdicts) (plan : PlanData) → frames verdicts p
 unfolding ever_made ever_queued last_begun
 frames_start verdicts plan = refl
 
-start_kept : (controls : ℕ) → AreFrames (record { requests = record { controls = controls; all = [] }; queue = []; running = None })
+start_kept : (controls : ℕ) → QueueFitsRequests (record { requests = record { controls = controls; all = [] }; queue = []; running = None })
 start_kept controls = record { once = tt; waits = λ id. refl; runs = λ id. refl; buffers = λ id r there waiting. none r there }
   where
     none : (r : RequestData) → None ≡ Some r → is_some r.buffer ≡ true
@@ -118,7 +118,7 @@ pub next_none : (verdicts : Verdicts) (plan : PlanData) (older : Past) → AllFi
 next_none verdicts plan older fit = never_made verdicts plan older (length older) fit (next_not_made older)
 
 -- an allocation makes the last request
-requests_made : (verdicts : Verdicts) (plan : PlanData) (e : Entry Step) (older : Past) → e.step ≡ Alloc → AllFit verdicts plan older → requests verdicts plan (e ∷ older) ≡ requests verdicts plan older ++ fresh (length older) ∷ []
+requests_made : (verdicts : Verdicts) (plan : PlanData) (e : Entry Step) (older : Past) → e.step ≡ Alloc → AllFit verdicts plan older → requests verdicts plan (e ∷ older) ≡ requests verdicts plan older ++ new_request (length older) ∷ []
 unfolding ever_made
 requests_made verdicts plan e older is fit =
     ap (λ ids. filter_map (request verdicts plan (e ∷ older)) (ever_made older ++ ids)) (ap (made (length older)) is)
@@ -127,18 +127,18 @@ requests_made verdicts plan e older is fit =
     ∙ ap (λ o. requests verdicts plan older ++ cons_option o []) own
   where
     others : (j : ℕ) → nat_eq (length older) j ≡ false → request verdicts plan (e ∷ older) j ≡ request verdicts plan older j
-    others j off = after_step verdicts plan e older Alloc is fit tt j ∙ ap (λ b. cond b (Some (fresh (length older))) (request verdicts plan older j)) off
+    others j off = after_step verdicts plan e older Alloc is fit tt j ∙ ap (λ b. cond b (Some (new_request (length older))) (request verdicts plan older j)) off
 
-    own : request verdicts plan (e ∷ older) (length older) ≡ Some (fresh (length older))
-    own = after_step verdicts plan e older Alloc is fit tt (length older) ∙ ap (λ b. cond b (Some (fresh (length older))) (request verdicts plan older (length older))) (eq-eqb (length older) (length older) refl)
+    own : request verdicts plan (e ∷ older) (length older) ≡ Some (new_request (length older))
+    own = after_step verdicts plan e older Alloc is fit tt (length older) ∙ ap (λ b. cond b (Some (new_request (length older))) (request verdicts plan older (length older))) (eq-eqb (length older) (length older) refl)
 
 -- a step that changes one request
 requests_changed : (verdicts : Verdicts) (plan : PlanData) (older : Past) (r : ℕ) (f : RequestData → RequestData)
-    → whole (length plan.controls) (filter_map (λ j. where_named r j f (request verdicts plan older j)) (ever_made older)) ≡ changed (whole (length plan.controls) (requests verdicts plan older)) r f
+    → whole (length plan.controls) (filter_map (λ j. changed_if_named r j f (request verdicts plan older j)) (ever_made older)) ≡ with_changed (whole (length plan.controls) (requests verdicts plan older)) r f
 requests_changed verdicts plan older r f = ap (whole (length plan.controls)) (changed_listed (request verdicts plan older) (ever_made older) r f (request_named verdicts plan older) (made_once older))
 
 -- the end of the stream completes the one that runs and all that wait
-requests_ended : (verdicts : Verdicts) (plan : PlanData) (older : Past) (values : Values) → AllFit verdicts plan older → AreFrames (frames verdicts plan older)
+requests_ended : (verdicts : Verdicts) (plan : PlanData) (older : Past) (values : Values) → AllFit verdicts plan older → QueueFitsRequests (frames verdicts plan older)
     → whole (length plan.controls) (filter_map (λ j. option_map (ended_request values) (request verdicts plan older j)) (ever_made older)) ≡ (after_off (frames verdicts plan older) values).requests
 requests_ended verdicts plan older values fit kept = by (running older) refl
   where
@@ -164,11 +164,11 @@ requests_ended verdicts plan older values fit kept = by (running older) refl
             clash h = cc
         state states.Complete is b wait run = rw (wait, is) refl
 
-    one : (o : Option RequestData) (r j : ℕ) (b : Bool) → b ≡ is_in is_queued o → nat_eq r j ≡ is_in is_running o → option_map (ended_request values) o ≡ option_map (ended_if values b) (where_named r j (completed values) o)
+    one : (o : Option RequestData) (r j : ℕ) (b : Bool) → b ≡ is_in is_queued o → nat_eq r j ≡ is_in is_running o → option_map (ended_request values) o ≡ option_map (ended_if values b) (changed_if_named r j (completed values) o)
     one None r j b wait run = rw run refl
     one (Some q) r j b wait run = state q.state refl b wait run
       where
-        state : (s : RequestState) → q.state ≡ s → (b : Bool) → b ≡ is_queued q.state → nat_eq r j ≡ is_running q.state → Some (ended_request values q) ≡ option_map (ended_if values b) (where_named r j (completed values) (Some q))
+        state : (s : RequestState) → q.state ≡ s → (b : Bool) → b ≡ is_queued q.state → nat_eq r j ≡ is_running q.state → Some (ended_request values q) ≡ option_map (ended_if values b) (changed_if_named r j (completed values) (Some q))
         state states.Idle is b wait run = rw (wait, run, is) refl
         state states.Queued is b wait run = rw (wait, run, is) refl
         state states.Running is b wait run = rw (wait, run, is) refl
@@ -181,9 +181,9 @@ requests_ended verdicts plan older values fit kept = by (running older) refl
         (λ j. none (g j) (list_any (nat_eq j) (queue older)) (waits j) (sym (ap (λ o. is_number o j) is) ∙ runs j)))
         ∙ sym (ended_listed values (queue older) (length plan.controls) g (ever_made older) (request_named verdicts plan older) (made_once older)))
     by (Some r) is = rw is
-        (ap (whole (length plan.controls)) (same_listed (λ j. option_map (ended_if values (list_any (nat_eq j) (queue older))) (where_named r j (completed values) (g j))) (λ j. option_map (ended_request values) (g j)) (ever_made older)
+        (ap (whole (length plan.controls)) (same_listed (λ j. option_map (ended_if values (list_any (nat_eq j) (queue older))) (changed_if_named r j (completed values) (g j))) (λ j. option_map (ended_request values) (g j)) (ever_made older)
         (λ j. one (g j) r j (list_any (nat_eq j) (queue older)) (waits j) (sym (ap (λ o. is_number o j) is) ∙ runs j)))
-        ∙ sym (ended_listed values (queue older) (length plan.controls) (λ j. where_named r j (completed values) (g j)) (ever_made older) (still_named g r (completed values) (λ q. refl) (request_named verdicts plan older)) (made_once older))
+        ∙ sym (ended_listed values (queue older) (length plan.controls) (λ j. changed_if_named r j (completed values) (g j)) (ever_made older) (still_named g r (completed values) (λ q. refl) (request_named verdicts plan older)) (made_once older))
         ∙ ap (λ qs. ended values (queue older) (whole (length plan.controls) qs)) (changed_listed g (ever_made older) r (completed values) (request_named verdicts plan older) (made_once older)))
 
 -- a number that isn't there leaves the others
@@ -197,7 +197,7 @@ stays r (j ∷ ids) none =
 tail_stays : (r : ℕ) (ids : List ℕ) → list_any (nat_eq r) ids ≡ false → all_but r (r ∷ ids) ≡ ids
 tail_stays r ids none = rw (eq-eqb r r refl) (stays r ids none)
 
-runs_on : (r : ℕ) (o : Option ℕ) → is_number o r ≡ false → unless_is r o ≡ o
+runs_on : (r : ℕ) (o : Option ℕ) → is_number o r ≡ false → unless_equal r o ≡ o
 runs_on r None off = refl
 runs_on r (Some k) off =
     let other : nat_eq r k ≡ false = grind (arith, nat_tests, off) in
@@ -279,11 +279,11 @@ first_waits (k ∷ rest) r is = (rest, ap (λ i. i ∷ rest) (same k r is))
 
 -- what is left of a begin, and of an end
 pub begin_is : (f : FramesData) (applied : List Pair) (id : ℕ) (ids : List ℕ) → f.running ≡ None → f.queue ≡ id ∷ ids
-    → after_begin f applied ≡ record { requests = changed f.requests id (begun f.requests.controls applied); queue = ids; running = Some id }
+    → after_begin f applied ≡ record { requests = with_changed f.requests id (begun f.requests.controls applied); queue = ids; running = Some id }
 begin_is f applied id ids none first = rw (none, first) refl
 
 pub complete_is : (f : FramesData) (values : List CtrlValue) (id : ℕ) → f.running ≡ Some id
-    → after_complete f values ≡ record { requests = changed f.requests id (completed values); queue = f.queue; running = None }
+    → after_complete f values ≡ record { requests = with_changed f.requests id (completed values); queue = f.queue; running = None }
 complete_is f values id runs = rw runs refl
 
 -- requests, a queue, and one that runs
@@ -302,20 +302,20 @@ off_is f values = by f.running
     by (Some id) = refl
 
 -- all that wait are complete
-stopped_kept : (values : List CtrlValue) (f : FramesData) (ids : List ℕ) → f.queue ≡ ids → AreFrames f → AreFrames (seen (ended values ids f.requests) [] f.running)
-stopped_kept values f [] is kept = subst (λ (q : List ℕ). AreFrames (seen f.requests q f.running)) is kept
-stopped_kept values f (id ∷ ids) is kept = stopped_kept values (record { requests = changed f.requests id (completed values); queue = ids; running = f.running }) ids refl (ended_kept f id ids values kept is)
+stopped_kept : (values : List CtrlValue) (f : FramesData) (ids : List ℕ) → f.queue ≡ ids → QueueFitsRequests f → QueueFitsRequests (seen (ended values ids f.requests) [] f.running)
+stopped_kept values f [] is kept = subst (λ (q : List ℕ). QueueFitsRequests (seen f.requests q f.running)) is kept
+stopped_kept values f (id ∷ ids) is kept = stopped_kept values (record { requests = with_changed f.requests id (completed values); queue = ids; running = f.running }) ids refl (ended_kept f id ids values kept is)
 
-off_kept : (values : List CtrlValue) (f : FramesData) → AreFrames f → AreFrames (after_off f values)
+off_kept : (values : List CtrlValue) (f : FramesData) → QueueFitsRequests f → QueueFitsRequests (after_off f values)
 off_kept values f kept = by f.running refl
   where
-    by : (o : Option ℕ) → f.running ≡ o → AreFrames (stopped values (running_done values f.requests f.queue o))
-    by None is = stopped_kept values (record { requests = f.requests; queue = f.queue; running = None }) f.queue refl (subst (λ (o : Option ℕ). AreFrames (seen f.requests f.queue o)) is kept)
-    by (Some id) is = stopped_kept values (record { requests = changed f.requests id (completed values); queue = f.queue; running = None }) f.queue refl (completed_kept f id values kept is)
+    by : (o : Option ℕ) → f.running ≡ o → QueueFitsRequests (stopped values (running_done values f.requests f.queue o))
+    by None is = stopped_kept values (record { requests = f.requests; queue = f.queue; running = None }) f.queue refl (subst (λ (o : Option ℕ). QueueFitsRequests (seen f.requests f.queue o)) is kept)
+    by (Some id) is = stopped_kept values (record { requests = with_changed f.requests id (completed values); queue = f.queue; running = None }) f.queue refl (completed_kept f id values kept is)
 
 -- a step that fits keeps the queue as it is to be
-after_kept : (verdicts : Verdicts) (plan : PlanData) (older : Past) (step : Step) → AllFit verdicts plan older → AreFrames (frames verdicts plan older) → FitsFrames verdicts plan older step
-    → AreFrames (frames_after verdicts plan older (length older) step (frames verdicts plan older))
+after_kept : (verdicts : Verdicts) (plan : PlanData) (older : Past) (step : Step) → AllFit verdicts plan older → QueueFitsRequests (frames verdicts plan older) → FitsFrames verdicts plan older step
+    → QueueFitsRequests (frames_after verdicts plan older (length older) step (frames verdicts plan older))
 after_kept verdicts plan older (OpenFh handler) fit kept fits = kept
 after_kept verdicts plan older (CloseFh fh) fit kept fits = kept
 after_kept verdicts plan older (Set fh pairs) fit kept fits = kept
@@ -326,8 +326,8 @@ after_kept verdicts plan older (Buffer r number) fit kept fits = state_kept (fra
 after_kept verdicts plan older (Queue r) fit kept fits = queued_kept (frames verdicts plan older) r.0 kept (ap queue_refusal (find_request verdicts plan older r.0 fit) ∙ fits)
 after_kept verdicts plan older (Begin r) fit kept fits =
     let first = first_waits (queue older) r.0 fits.1 in
-    subst AreFrames (sym (begin_is (frames verdicts plan older) (begun_pairs verdicts plan older r.0) r.0 first.0 fits.0 first.1)) (begun_kept (frames verdicts plan older) r.0 first.0 (begun_pairs verdicts plan older r.0) kept first.1 fits.0)
-after_kept verdicts plan older (Complete r) fit kept fits = subst AreFrames (sym (complete_is (frames verdicts plan older) (now verdicts plan older) r.0 fits)) (completed_kept (frames verdicts plan older) r.0 (now verdicts plan older) kept fits)
+    subst QueueFitsRequests (sym (begin_is (frames verdicts plan older) (begun_pairs verdicts plan older r.0) r.0 first.0 fits.0 first.1)) (begun_kept (frames verdicts plan older) r.0 first.0 (begun_pairs verdicts plan older r.0) kept first.1 fits.0)
+after_kept verdicts plan older (Complete r) fit kept fits = subst QueueFitsRequests (sym (complete_is (frames verdicts plan older) (now verdicts plan older) r.0 fits)) (completed_kept (frames verdicts plan older) r.0 (now verdicts plan older) kept fits)
 after_kept verdicts plan older (Cancel r) fit kept fits = cancelled_kept (frames verdicts plan older) r.0 (now verdicts plan older) kept (ap cancel_refusal (find_request verdicts plan older r.0 fit) ∙ fits)
 after_kept verdicts plan older StreamOff fit kept fits = off_kept (now verdicts plan older) (frames verdicts plan older) kept
 after_kept verdicts plan older (Reinit r) fit kept fits = cleared_kept (frames verdicts plan older) r.0 kept (ap clear_refusal (find_request verdicts plan older r.0 fit) ∙ fits)
@@ -337,7 +337,7 @@ after_kept verdicts plan older (Unsubscribe f c) fit kept fits = kept
 after_kept verdicts plan older (Take f c) fit kept fits = kept
 
 -- the requests, the queue and the running one after one more entry, where those before it are as they are to be
-frames_from : (verdicts : Verdicts) (plan : PlanData) (e : Entry Step) (older : Past) → AllFit verdicts plan older → AreFrames (frames verdicts plan older) → FitsFrames verdicts plan older e.step
+frames_from : (verdicts : Verdicts) (plan : PlanData) (e : Entry Step) (older : Past) → AllFit verdicts plan older → QueueFitsRequests (frames verdicts plan older) → FitsFrames verdicts plan older e.step
     → frames verdicts plan (e ∷ older) ≡ frames_after verdicts plan older (length older) e.step (frames verdicts plan older)
 frames_from verdicts plan e older fit kept fits = by e.step refl fits
   where
@@ -356,14 +356,14 @@ frames_from verdicts plan e older fit kept fits = by e.step refl fits
     line_stays : (r : ℕ) → is_in is_queued (request verdicts plan older r) ≡ false → all_but r (queue older) ≡ queue older
     line_stays r off = stays r (queue older) (kept.waits r ∙ ap (is_in is_queued) (find_request verdicts plan older r fit) ∙ off)
 
-    turn_stays : (r : ℕ) → is_in is_running (request verdicts plan older r) ≡ false → unless_is r (running older) ≡ running older
+    turn_stays : (r : ℕ) → is_in is_running (request verdicts plan older r) ≡ false → unless_equal r (running older) ≡ running older
     turn_stays r off = runs_on r (running older) (kept.runs r ∙ ap (is_in is_running) (find_request verdicts plan older r fit) ∙ off)
 
     one : (step : Step) → e.step ≡ step → FitsFrames verdicts plan older step → made (length older) step ≡ [] → (r : ℕ) (f : RequestData → RequestData)
-        → ((j : ℕ) → request_after verdicts plan older (length older) step j (request verdicts plan older j) ≡ where_named r j f (request verdicts plan older j))
-        → rs (requests verdicts plan (e ∷ older)) ≡ changed (rs (requests verdicts plan older)) r f
+        → ((j : ℕ) → request_after verdicts plan older (length older) step j (request verdicts plan older j) ≡ changed_if_named r j f (request verdicts plan older j))
+        → rs (requests verdicts plan (e ∷ older)) ≡ with_changed (rs (requests verdicts plan older)) r f
     one step is fits none r f same =
-        ap rs (requests_more verdicts plan e older step is fit fits none ∙ same_listed (λ j. where_named r j f (request verdicts plan older j)) (λ j. request_after verdicts plan older (length older) step j (request verdicts plan older j)) (ever_made older) same)
+        ap rs (requests_more verdicts plan e older step is fit fits none ∙ same_listed (λ j. changed_if_named r j f (request verdicts plan older j)) (λ j. request_after verdicts plan older (length older) step j (request verdicts plan older j)) (ever_made older) same)
         ∙ requests_changed verdicts plan older r f
 
     other : (step : Step) → e.step ≡ step → FitsFrames verdicts plan older step → made (length older) step ≡ []
@@ -376,11 +376,11 @@ frames_from verdicts plan e older fit kept fits = by e.step refl fits
         (line step is ∙ q) (turn step is ∙ b)
 
     resting : (step : Step) → e.step ≡ step → FitsFrames verdicts plan older step → made (length older) step ≡ [] → (r : ℕ) (f : RequestData → RequestData) → AtRest (request verdicts plan older r)
-        → ((j : ℕ) → request_after verdicts plan older (length older) step j (request verdicts plan older j) ≡ where_named r j f (request verdicts plan older j))
-        → queue_after (length older) step (queue older) ≡ all_but r (queue older) → running_after (length older) step (running older) ≡ unless_is r (running older)
-        → frames verdicts plan (e ∷ older) ≡ seen (changed (rs (requests verdicts plan older)) r f) (queue older) (running older)
+        → ((j : ℕ) → request_after verdicts plan older (length older) step j (request verdicts plan older j) ≡ changed_if_named r j f (request verdicts plan older j))
+        → queue_after (length older) step (queue older) ≡ all_but r (queue older) → running_after (length older) step (running older) ≡ unless_equal r (running older)
+        → frames verdicts plan (e ∷ older) ≡ seen (with_changed (rs (requests verdicts plan older)) r f) (queue older) (running older)
     resting step is fits none r f rest same q b =
-        seen_same (rs (requests verdicts plan (e ∷ older))) (changed (rs (requests verdicts plan older)) r f) (queue (e ∷ older)) (queue older) (running (e ∷ older)) (running older)
+        seen_same (rs (requests verdicts plan (e ∷ older))) (with_changed (rs (requests verdicts plan older)) r f) (queue (e ∷ older)) (queue older) (running (e ∷ older)) (running older)
         (one step is fits none r f same) (line step is ∙ q ∙ line_stays r rest.0) (turn step is ∙ b ∙ turn_stays r rest.1)
 
     by : (step : Step) → e.step ≡ step → FitsFrames verdicts plan older step → frames verdicts plan (e ∷ older) ≡ frames_after verdicts plan older (length older) step (frames verdicts plan older)
@@ -390,28 +390,28 @@ frames_from verdicts plan e older fit kept fits = by e.step refl fits
     by (Grab c on) is fits = other _ is fits refl (λ j. refl) refl refl
     by Alloc is fits =
         let none : request verdicts plan older (length older) ≡ None = next_none verdicts plan older fit in
-        seen_same (rs (requests verdicts plan (e ∷ older))) (rs (requests verdicts plan older ++ fresh (length older) ∷ [])) (queue (e ∷ older)) (queue older) (running (e ∷ older)) (running older)
+        seen_same (rs (requests verdicts plan (e ∷ older))) (rs (requests verdicts plan older ++ new_request (length older) ∷ [])) (queue (e ∷ older)) (queue older) (running (e ∷ older)) (running older)
         (ap rs (requests_made verdicts plan e older is fit)) (line Alloc is ∙ line_stays (length older) (ap (is_in is_queued) none)) (turn Alloc is ∙ turn_stays (length older) (ap (is_in is_running) none))
     by (Store r pairs) is fits = resting _ is fits refl r.0 (with_pairs (length plan.controls) pairs) (idle_rests (was r.0) (store_idle (was r.0) fits)) (λ j. refl) refl refl
     by (Buffer r number) is fits = resting _ is fits refl r.0 (with_buffer number) (idle_rests (was r.0) (buffer_idle (requests verdicts plan older) number (was r.0) fits)) (λ j. refl) refl refl
     by (Queue r) is fits =
         let rest = idle_rests (was r.0) (queue_idle (was r.0) fits) in
-        seen_same (rs (requests verdicts plan (e ∷ older))) (changed (rs (requests verdicts plan older)) r.0 (queued (length plan.controls))) (queue (e ∷ older)) (queue older ++ r.0 ∷ []) (running (e ∷ older)) (running older)
+        seen_same (rs (requests verdicts plan (e ∷ older))) (with_changed (rs (requests verdicts plan older)) r.0 (queued (length plan.controls))) (queue (e ∷ older)) (queue older ++ r.0 ∷ []) (running (e ∷ older)) (running older)
         (one _ is fits refl r.0 (queued (length plan.controls)) (λ j. refl)) (line _ is ∙ ap (λ ids. ids ++ r.0 ∷ []) (line_stays r.0 rest.0)) (turn _ is ∙ turn_stays r.0 rest.1)
     by (Begin r) is fits =
         let first = first_waits (queue older) r.0 fits.1 in
         let once : AreOnce (r.0 ∷ first.0) = subst AreOnce first.1 kept.once in
-        seen_same (rs (requests verdicts plan (e ∷ older))) (changed (rs (requests verdicts plan older)) r.0 (begun (length plan.controls) (begun_pairs verdicts plan older r.0))) (queue (e ∷ older)) first.0 (running (e ∷ older)) (Some r.0)
+        seen_same (rs (requests verdicts plan (e ∷ older))) (with_changed (rs (requests verdicts plan older)) r.0 (begun (length plan.controls) (begun_pairs verdicts plan older r.0))) (queue (e ∷ older)) first.0 (running (e ∷ older)) (Some r.0)
         (one _ is fits refl r.0 (begun (length plan.controls) (begun_pairs verdicts plan older r.0)) (λ j. refl)) (line _ is ∙ ap (all_but r.0) first.1 ∙ tail_stays r.0 first.0 once.0) (turn _ is)
         ∙ sym (begin_is (frames verdicts plan older) (begun_pairs verdicts plan older r.0) r.0 first.0 fits.0 first.1)
     by (Complete r) is fits =
         let run : is_in is_running (request verdicts plan older r.0) ≡ true = sym (ap (is_in is_running) (find_request verdicts plan older r.0 fit)) ∙ sym (kept.runs r.0) ∙ ap (λ o. is_number o r.0) fits ∙ eq-eqb r.0 r.0 refl in
-        let done : unless_is r.0 (running older) ≡ None = ap (unless_is r.0) fits ∙ ap (λ b. cond b None (Some r.0)) (eq-eqb r.0 r.0 refl) in
-        seen_same (rs (requests verdicts plan (e ∷ older))) (changed (rs (requests verdicts plan older)) r.0 (completed (now verdicts plan older))) (queue (e ∷ older)) (queue older) (running (e ∷ older)) None
+        let done : unless_equal r.0 (running older) ≡ None = ap (unless_equal r.0) fits ∙ ap (λ b. cond b None (Some r.0)) (eq-eqb r.0 r.0 refl) in
+        seen_same (rs (requests verdicts plan (e ∷ older))) (with_changed (rs (requests verdicts plan older)) r.0 (completed (now verdicts plan older))) (queue (e ∷ older)) (queue older) (running (e ∷ older)) None
         (one _ is fits refl r.0 (completed (now verdicts plan older)) (λ j. refl)) (line _ is ∙ line_stays r.0 (runs_only (was r.0) run)) (turn _ is ∙ done)
         ∙ sym (complete_is (frames verdicts plan older) (now verdicts plan older) r.0 fits)
     by (Cancel r) is fits =
-        seen_same (rs (requests verdicts plan (e ∷ older))) (changed (rs (requests verdicts plan older)) r.0 (completed (now verdicts plan older))) (queue (e ∷ older)) (all_but r.0 (queue older)) (running (e ∷ older)) (running older)
+        seen_same (rs (requests verdicts plan (e ∷ older))) (with_changed (rs (requests verdicts plan older)) r.0 (completed (now verdicts plan older))) (queue (e ∷ older)) (all_but r.0 (queue older)) (running (e ∷ older)) (running older)
         (one _ is fits refl r.0 (completed (now verdicts plan older)) (λ j. refl)) (line _ is) (turn _ is ∙ turn_stays r.0 (cancel_waits (was r.0) fits))
     by StreamOff is fits =
         seen_same (rs (requests verdicts plan (e ∷ older))) (after_off (frames verdicts plan older) (now verdicts plan older)).requests (queue (e ∷ older)) [] (running (e ∷ older)) None
@@ -428,12 +428,12 @@ frames_from verdicts plan e older fit kept fits = by e.step refl fits
     by (Take f c) is fits = other _ is fits refl (λ j. refl) refl refl
 
 -- the queue has exactly the requests that wait, and the running one runs, after each history whose steps fit
-pub frames_kept : (verdicts : Verdicts) (plan : PlanData) (past : Past) → AllFit verdicts plan past → AreFrames (frames verdicts plan past)
+pub frames_kept : (verdicts : Verdicts) (plan : PlanData) (past : Past) → AllFit verdicts plan past → QueueFitsRequests (frames verdicts plan past)
 unfolding AllFit
-frames_kept verdicts plan [] fit = subst AreFrames (sym (frames_start verdicts plan)) (start_kept (length plan.controls))
+frames_kept verdicts plan [] fit = subst QueueFitsRequests (sym (frames_start verdicts plan)) (start_kept (length plan.controls))
 frames_kept verdicts plan (e ∷ older) fit =
-    let kept : AreFrames (frames verdicts plan older) = frames_kept verdicts plan older fit.0 in
-    subst AreFrames (sym (frames_from verdicts plan e older fit.0 kept fit.1)) (after_kept verdicts plan older e.step fit.0 kept fit.1)
+    let kept : QueueFitsRequests (frames verdicts plan older) = frames_kept verdicts plan older fit.0 in
+    subst QueueFitsRequests (sym (frames_from verdicts plan e older fit.0 kept fit.1)) (after_kept verdicts plan older e.step fit.0 kept fit.1)
 
 -- the requests, the queue and the running one after one more entry that fits
 pub frames_more : (verdicts : Verdicts) (plan : PlanData) (e : Entry Step) (older : Past) → AllFit verdicts plan older → FitsFrames verdicts plan older e.step

@@ -15,7 +15,7 @@ use Rattle.ctrl_settle.specs.Settle.{settle}
 use Rattle.ctrl_handlers.specs.Plan.{PlanData, control, control_in}
 use Rattle.ctrl_lists.specs.declared.refusal.Refusal.{Refusal}
 use Rattle.ctrl_lists.specs.View.{ViewData, pairs_of}
-use Rattle.ctrl_lists.specs.Checks.{at_first, errno_of, first_from, first_refusal, found_at, is_long, is_of_no_class, laid_pairs, refused_if, judging_refusal, naming_refusal, writing_refusal, read_checks, write_checks}
+use Rattle.ctrl_lists.specs.Checks.{at_first, errno_if_refused, first_from, first_refusal, found_at, is_long, is_of_no_class, pairs_judged, refused_if, judging_refusal, naming_refusal, writing_refusal, read_checks, write_checks}
 use Rattle.ctrl_lists.specs.Answers.{answered, entries_judged, fault_at_count, get_answer, set_answer, try_answer}
 use Rattle.ctrl_clusters.specs.Rows.{is_grabbed}
 use Rattle.device_history.specs.declared.ask.Reply.TheVariants.{Controls}
@@ -170,7 +170,7 @@ free_from plan view n [] h = refl
 free_from plan view n (p ∷ pairs) h =
     let parts : (writing_refusal plan view true p ≡ None) × (first_from (writing_refusal plan view true) (n + 1) pairs ≡ None) = none_found n (writing_refusal plan view true p) (first_from (writing_refusal plan view true) (n + 1) pairs) h in
     let own : is_grabbed view.grabs p.control ≡ false =
-    not_grabbed (contains (control plan p.control).flags READ_ONLY) (is_grabbed view.grabs p.control) (errno_of (settle (control_in view.controls p.control) p.value)) parts.0 in
+    not_grabbed (contains (control plan p.control).flags READ_ONLY) (is_grabbed view.grabs p.control) (errno_if_refused (settle (control_in view.controls p.control) p.value)) parts.0 in
     rw own (free_from plan view (n + 1) pairs parts.1)
 
 -- no control of a set that is accepted is grabbed
@@ -182,4 +182,4 @@ accepted_free verdicts plan view list answers is =
     free_from plan view 0 (pairs_of plan view.handler view.which list)
     (fourth (refused_if (is_long list) EINVAL) (refused_if (is_of_no_class plan view list) EINVAL) (at_first (naming_refusal plan view) list)
     (at_first (writing_refusal plan view true) (pairs_of plan view.handler view.which list))
-    (at_first (judging_refusal verdicts plan view (laid_pairs plan view list)) (pairs_of plan view.handler view.which list)) all)
+    (at_first (judging_refusal verdicts plan view (pairs_judged plan view list)) (pairs_of plan view.handler view.which list)) all)

@@ -13,7 +13,7 @@ use Rattle.device_history.specs.declared.ask.Step.{Step}
 use Rattle.device_history.specs.declared.ask.Step.TheVariants.{OpenFh, CloseFh, Set, Grab, Alloc, Store, Buffer, Queue, Begin, Complete, Cancel, StreamOff, Reinit, Free, Subscribe, Unsubscribe, Take}
 use Rattle.device_history.specs.Steps.{Past}
 use Rattle.device_history.specs.Requests.{made, ever_made}
-use Rattle.device_history.specs.FrameSteps.{where_named}
+use Rattle.device_history.specs.FrameSteps.{changed_if_named}
 
 -- a number isn't another
 pub apart : (j k : ℕ) → k ≢ j → nat_eq j k ≡ false
@@ -146,15 +146,15 @@ same_but g h r (j ∷ ids) same none =
 
 -- the request with an id is changed
 pub changed_listed : (g : ℕ → Option RequestData) (ids : List ℕ) (r : ℕ) (f : RequestData → RequestData) → AreNamed g → AreOnce ids
-    → filter_map (λ j. where_named r j f (g j)) ids ≡ with_request r f (filter_map g ids)
+    → filter_map (λ j. changed_if_named r j f (g j)) ids ≡ with_request r f (filter_map g ids)
 changed_listed g [] r f named once = refl
 changed_listed g (j ∷ ids) r f named once = by (g j) refl (eqb_tells r j) (changed_listed g ids r f named once.1)
   where
     h : ℕ → Option RequestData
-    h k = where_named r k f (g k)
+    h k = changed_if_named r k f (g k)
 
     by : (o : Option RequestData) → g j ≡ o → Tells r j → filter_map h ids ≡ with_request r f (filter_map g ids)
-        → cons_option (where_named r j f o) (filter_map h ids) ≡ with_request r f (cons_option o (filter_map g ids))
+        → cons_option (changed_if_named r j f o) (filter_map h ids) ≡ with_request r f (cons_option o (filter_map g ids))
     by None is (inl same) rest = rw same.0 rest
     by None is (inr other) rest = rw other.0 rest
     by (Some q) is (inl same) rest =
@@ -193,7 +193,7 @@ abbrev pub whole : ℕ → List RequestData → RequestsData
 whole n rs = record { controls = n; all = rs }
 
 -- a change that keeps the id
-pub still_named : (g : ℕ → Option RequestData) (id : ℕ) (f : RequestData → RequestData) → ((q : RequestData) → (f q).id ≡ q.id) → AreNamed g → AreNamed (λ j. where_named id j f (g j))
+pub still_named : (g : ℕ → Option RequestData) (id : ℕ) (f : RequestData → RequestData) → ((q : RequestData) → (f q).id ≡ q.id) → AreNamed g → AreNamed (λ j. changed_if_named id j f (g j))
 still_named g id f keeps named j q is = by (g j) (nat_eq id j) refl is
   where
     same : (a b : RequestData) → Some a ≡ Some b → a ≡ b
@@ -215,10 +215,10 @@ ended_listed values [] controls g ids named once = ap (whole controls) (sym (sam
     as_is (Some q) = refl
 ended_listed values (id ∷ queue) controls g ids named once =
     ap (λ rs. ended values queue (whole controls rs)) (sym (changed_listed g ids id (completed values) named once))
-    ∙ ended_listed values queue controls (λ j. where_named id j (completed values) (g j)) ids (still_named g id (completed values) (λ q. refl) named) once
-    ∙ ap (whole controls) (same_listed (λ j. option_map (ended_if values (list_any (nat_eq j) (id ∷ queue))) (g j)) (λ j. option_map (ended_if values (list_any (nat_eq j) queue)) (where_named id j (completed values) (g j))) ids (λ j. both j (g j) (eqb_tells id j) (list_any (nat_eq j) queue)))
+    ∙ ended_listed values queue controls (λ j. changed_if_named id j (completed values) (g j)) ids (still_named g id (completed values) (λ q. refl) named) once
+    ∙ ap (whole controls) (same_listed (λ j. option_map (ended_if values (list_any (nat_eq j) (id ∷ queue))) (g j)) (λ j. option_map (ended_if values (list_any (nat_eq j) queue)) (changed_if_named id j (completed values) (g j))) ids (λ j. both j (g j) (eqb_tells id j) (list_any (nat_eq j) queue)))
   where
-    both : (j : ℕ) (o : Option RequestData) → Tells id j → (b : Bool) → option_map (ended_if values b) (where_named id j (completed values) o) ≡ option_map (ended_if values (nat_eq j id || b)) o
+    both : (j : ℕ) (o : Option RequestData) → Tells id j → (b : Bool) → option_map (ended_if values b) (changed_if_named id j (completed values) o) ≡ option_map (ended_if values (nat_eq j id || b)) o
     both j None (inl same) b = rw same.0 refl
     both j None (inr other) b = rw other.0 refl
     both j (Some q) (inl same) true = rw (same.0, eq-eqb j id (sym same.1)) refl

@@ -18,7 +18,7 @@ use Rattle.device_history.specs.Handles.{opening, ever_opened, closes, is_closed
 use Rattle.device_history.specs.Grabs.{grabbed, grabbed_after}
 use Rattle.ctrl_clusters.specs.PresentFlags.{flags_under}
 use Rattle.device_history.specs.Flags.{flags_now}
-use Rattle.device_history.specs.Values.{defaults, laid, now, now_after}
+use Rattle.device_history.specs.Values.{defaults, pairs_asked, now, now_after}
 use Rattle.device_history.proofs.GrabLemmas.{grabbed_start, grabbed_add}
 use Rattle.device_history.specs.Legal.{IsLegal, MayFollow}
 
@@ -36,7 +36,7 @@ unfolding IsLegal
 legal_start verdicts plan = tt
 
 -- the present values after one more entry
-pub now_add : (verdicts : Verdicts) (plan : PlanData) (steps : History) (e : Entry Step) → now verdicts plan (past (steps ++ e ∷ [])) ≡ now_after verdicts plan (grabbed plan (past steps)) (laid plan (past steps) e.step) (now verdicts plan (past steps))
+pub now_add : (verdicts : Verdicts) (plan : PlanData) (steps : History) (e : Entry Step) → now verdicts plan (past (steps ++ e ∷ [])) ≡ now_after verdicts plan (grabbed plan (past steps)) (pairs_asked plan (past steps) e.step) (now verdicts plan (past steps))
 unfolding now
 now_add verdicts plan steps e = rw (past_add steps e) refl
 
@@ -45,7 +45,7 @@ pub flags_start : (verdicts : Verdicts) (plan : PlanData) (c : ℕ) → flags_no
 flags_start verdicts plan c = rw (now_start verdicts plan, grabbed_start plan) refl
 
 pub flags_add : (verdicts : Verdicts) (plan : PlanData) (steps : History) (e : Entry Step) (c : ℕ) → flags_now verdicts plan (past (steps ++ e ∷ [])) c
-    ≡ flags_under plan (now_after verdicts plan (grabbed plan (past steps)) (laid plan (past steps) e.step) (now verdicts plan (past steps))) (grabbed_after e.step (grabbed plan (past steps))) c
+    ≡ flags_under plan (now_after verdicts plan (grabbed plan (past steps)) (pairs_asked plan (past steps) e.step) (now verdicts plan (past steps))) (grabbed_after e.step (grabbed plan (past steps))) c
 flags_add verdicts plan steps e c = rw (now_add verdicts plan steps e, grabbed_add plan steps e) refl
 
 -- what makes one more entry legal

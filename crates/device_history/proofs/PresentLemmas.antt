@@ -10,7 +10,7 @@ use Rattle.device_history.specs.Steps.{Past}
 use Rattle.ctrl_clusters.specs.Rows.{Grabs, Values}
 use Rattle.device_history.specs.Grabs.{grabbed}
 use Rattle.ctrl_clusters.proofs.OverlayLemmas.{length_overlay}
-use Rattle.device_history.specs.Values.{laid, now, now_after}
+use Rattle.device_history.specs.Values.{pairs_asked, now, now_after}
 
 -- pairs that are laid leave as many values
 length_now_after : (verdicts : Verdicts) (plan : PlanData) (grabs : Grabs) (pairs : Option (List Pair)) (values : Values) → length (now_after verdicts plan grabs pairs values) ≡ length values
@@ -21,7 +21,7 @@ length_now_after verdicts plan grabs (Some pairs) values = length_overlay verdic
 pub length_now : (verdicts : Verdicts) (plan : PlanData) (past : Past) → length (now verdicts plan past) ≡ length plan.controls
 unfolding now
 length_now verdicts plan [] = length-map plan.controls _
-length_now verdicts plan (e ∷ older) = length_now_after verdicts plan (grabbed plan older) (laid plan older e.step) (now verdicts plan older) ∙ length_now verdicts plan older
+length_now verdicts plan (e ∷ older) = length_now_after verdicts plan (grabbed plan older) (pairs_asked plan older e.step) (now verdicts plan older) ∙ length_now verdicts plan older
 
 -- for each control of the plan it is said whether it is grabbed
 pub length_grabbed : (plan : PlanData) (past : Past) → length (grabbed plan past) ≡ length plan.controls

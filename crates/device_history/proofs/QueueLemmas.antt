@@ -10,7 +10,7 @@ use Rattle.device_history.specs.declared.ask.Step.{Step}
 use Rattle.device_history.specs.declared.ask.Step.TheVariants.{OpenFh, CloseFh, Set, Grab, Alloc, Store, Buffer, Queue, Begin, Complete, Cancel, StreamOff, Reinit, Free, Subscribe, Unsubscribe, Take}
 use Rattle.device_history.specs.Steps.{Past}
 use Rattle.device_history.specs.Requests.{state, state_after, state_of_named, is_there, ended_state}
-use Rattle.device_history.specs.Frames.{all_but, with_last, queued_by, begun_by, ever_queued, queue, queue_after, last_begun, if_running, running, running_after, unless_is}
+use Rattle.device_history.specs.Frames.{all_but, with_last, queued_by, begun_by, ever_queued, queue, queue_after, last_begun, if_running, running, running_after, unless_equal}
 use Rattle.device_history.proofs.StateLemmas.{state_more}
 
 -- tests that agree keep the same
@@ -121,11 +121,11 @@ running_more e older = by e.step refl
     same None tests = refl
     same (Some k) tests = ap (λ b. cond b (Some k) None) (tests k)
 
-    left : (r : ℕ) (o : Option ℕ) → ((j : ℕ) → is_there is_running (state (e ∷ older) j) ≡ cond (nat_eq r j) false (is_there is_running (state older j))) → if_running (e ∷ older) o ≡ unless_is r (if_running older o)
+    left : (r : ℕ) (o : Option ℕ) → ((j : ℕ) → is_there is_running (state (e ∷ older) j) ≡ cond (nat_eq r j) false (is_there is_running (state older j))) → if_running (e ∷ older) o ≡ unless_equal r (if_running older o)
     left r None tests = refl
     left r (Some k) tests = ap (λ b. cond b (Some k) None) (tests k) ∙ both (nat_eq r k) (is_there is_running (state older k)) refl
       where
-        both : (a b : Bool) → nat_eq r k ≡ a → cond (cond a false b) (Some k) None ≡ unless_is r (cond b (Some k) None)
+        both : (a b : Bool) → nat_eq r k ≡ a → cond (cond a false b) (Some k) None ≡ unless_equal r (cond b (Some k) None)
         both true true is = rw is refl
         both true false is = refl
         both false true is = rw is refl
@@ -137,7 +137,7 @@ running_more e older = by e.step refl
 
     dropped : (step : Step) → e.step ≡ step → (r : ℕ) (state_left : Option RequestState) → is_there is_running state_left ≡ false
         → ((j : ℕ) → is_there is_running (state_after (length older) step j (state older j)) ≡ is_there is_running (unwrap_or (state_of_named j (Some (r, state_left))) (state older j)))
-        → if_running (e ∷ older) (last_begun older) ≡ unless_is r (running older)
+        → if_running (e ∷ older) (last_begun older) ≡ unless_equal r (running older)
     dropped step is r state_left none same_state =
         left r (last_begun older) (λ j. there_more is_running e older step is j ∙ same_state j ∙ named is_running false r state_left (state older j) j none)
 

@@ -20,17 +20,17 @@ use Rattle.ctrl_handlers.specs.Plan.{IsPlan, PlanData, control}
 use Rattle.ctrl_clusters.specs.Changes.{is_changed}
 use Rattle.ctrl_clusters.specs.PresentFlags.{flags_under}
 use Rattle.ctrl_clusters.specs.Rows.{Grabs, Values, value_at}
-use Rattle.ctrl_raises.specs.Raises.{MomentData, changed_between, changes_of, differ, needing_feedback, payload_at, raised_all, raised_one, told_of}
+use Rattle.ctrl_raises.specs.Raises.{MomentData, changed_between, changes_of, differ, needing_feedback, payload_at, raised_all, raised_one, payload_of}
 use Rattle.device_history.specs.declared.ask.Step.{Step}
 use Rattle.device_history.specs.declared.ask.Step.TheVariants as steps
 use Rattle.device_history.specs.declared.limits.TheConstants.{MAX_STEPS}
 use Rattle.device_history.specs.Steps.{History, Past}
 use Rattle.device_history.specs.Grabs.{grabbed}
-use Rattle.device_history.specs.Values.{laid, now}
+use Rattle.device_history.specs.Values.{pairs_asked, now}
 use Rattle.device_history.specs.Flags.{flags_now}
 use Rattle.device_history.specs.Snapshots.{begun_pairs}
-use Rattle.device_history.specs.Words.{acted, changes}
-use Rattle.device_history.specs.Events.{changed, happened, payload, raises, raises_from, told_by, value_differs, with_gone, with_raises}
+use Rattle.device_history.specs.Words.{pairs_applied, changes}
+use Rattle.device_history.specs.Events.{changed, happened, payload, raises, raises_from, all_raised_for, value_differs, with_withdrawn, with_raises}
 use Rattle.device_history.specs.EventSteps.{AreAround, AreEvents, from_of, raised_by}
 use Rattle.device_history.proofs.EventLemmas.{next_bound, raises_gone, values_quiet}
 
@@ -47,7 +47,7 @@ raised_same change change' told told' from from' fh (c ∷ cs) f one two three =
 
 payload_same : (verdicts : Verdicts) (plan : PlanData) (past : Past) (at : MomentData) → at.values ≡ now verdicts plan past → at.grabs ≡ grabbed plan past → (c : ℕ) → payload_at plan at c ≡ payload verdicts plan past c
 payload_same verdicts plan past at v g c =
-    ap (λ (vs : Values). told_of (control plan c) (value_at vs c) (flags_under plan vs at.grabs c)) v ∙ ap (λ (gs : Grabs). told_of (control plan c) (value_at (now verdicts plan past) c) (flags_under plan (now verdicts plan past) gs c)) g
+    ap (λ (vs : Values). payload_of (control plan c) (value_at vs c) (flags_under plan vs at.grabs c)) v ∙ ap (λ (gs : Grabs). payload_of (control plan c) (value_at (now verdicts plan past) c) (flags_under plan (now verdicts plan past) gs c)) g
 
 changed_same : (verdicts : Verdicts) (plan : PlanData) (e : Entry Step) (older : Past) (before after : MomentData) (pairs : List Pair) → AreAround verdicts plan e older before after → (c : ℕ)
     → is_changed plan (now verdicts plan older) pairs c (value_at (now verdicts plan (e ∷ older)) c) ≡ value_differs verdicts plan e older c → changed_between plan before after pairs c ≡ changed verdicts plan e older c
@@ -75,7 +75,7 @@ pub set_raises : (verdicts : Verdicts) (plan : PlanData) (e : Entry Step) (older
     → raised_all (changed_between plan before after pairs) (payload_at plan after) (λ c. needing_feedback (Some from.0) pairs (changed_between plan before after pairs c) c) fh.0 cs f ≡ raised_by verdicts plan e older fh cs f
 set_raises verdicts plan e older before after from pairs fh cs f is around =
     raised_around verdicts plan e older before after pairs (Some from.0) fh cs f around
-    (λ c. sym (ap (λ (s : Step). changes plan (now verdicts plan older) (now verdicts plan (e ∷ older)) (acted verdicts plan older s) c) is))
+    (λ c. sym (ap (λ (s : Step). changes plan (now verdicts plan older) (now verdicts plan (e ∷ older)) (pairs_applied verdicts plan older s) c) is))
     (λ change c. sym (ap (λ (s : Step). from_of s change c) is))
 
 -- The raises of the begin of a frame.
@@ -85,7 +85,7 @@ pub begin_raises : (verdicts : Verdicts) (plan : PlanData) (e : Entry Step) (old
     ≡ raised_by verdicts plan e older fh cs f
 begin_raises verdicts plan e older before after r fh cs f is around =
     raised_around verdicts plan e older before after (begun_pairs verdicts plan older r.0) None fh cs f around
-    (λ c. sym (ap (λ (s : Step). changes plan (now verdicts plan older) (now verdicts plan (e ∷ older)) (acted verdicts plan older s) c) is))
+    (λ c. sym (ap (λ (s : Step). changes plan (now verdicts plan older) (now verdicts plan (e ∷ older)) (pairs_applied verdicts plan older s) c) is))
     (λ change c. sym (ap (λ (s : Step). from_of s change c) is))
 
 -- what stays doesn't change where nothing was applied
@@ -103,8 +103,8 @@ pub grab_raises : (verdicts : Verdicts) (plan : PlanData) (e : Entry Step) (olde
     → raised_all (changed_between plan before after []) (payload_at plan after) (λ c. needing_feedback None [] (changed_between plan before after [] c) c) fh.0 cs f ≡ raised_by verdicts plan e older fh cs f
 grab_raises verdicts plan e older before after d on fh cs f is around =
     raised_around verdicts plan e older before after [] None fh cs f around
-    (λ c. ap (λ (vs : Values). is_changed plan (now verdicts plan older) [] c (value_at vs c)) (values_quiet verdicts plan e older (ap (laid plan older) is)) ∙ unchanged plan (now verdicts plan older) c
-    ∙ sym (ap (λ (s : Step). changes plan (now verdicts plan older) (now verdicts plan (e ∷ older)) (acted verdicts plan older s) c) is))
+    (λ c. ap (λ (vs : Values). is_changed plan (now verdicts plan older) [] c (value_at vs c)) (values_quiet verdicts plan e older (ap (pairs_asked plan older) is)) ∙ unchanged plan (now verdicts plan older) c
+    ∙ sym (ap (λ (s : Step). changes plan (now verdicts plan older) (now verdicts plan (e ∷ older)) (pairs_applied verdicts plan older s) c) is))
     (λ change c. sym (ap (λ (s : Step). from_of s change c) is))
 
 -- What a subscription tells at once.
@@ -136,12 +136,12 @@ unfolding happened raises_in
 raises_start verdicts plan fh = refl
 
 raises_more : (verdicts : Verdicts) (plan : PlanData) (e : Entry Step) (older : Past) (fh : FhId) → raises verdicts plan (e ∷ older) fh
-    ≡ raises verdicts plan older fh ++ raises_from (length (raises verdicts plan older fh)) (payload verdicts plan (e ∷ older)) (told_by verdicts plan e older fh)
+    ≡ raises verdicts plan older fh ++ raises_from (length (raises verdicts plan older fh)) (payload verdicts plan (e ∷ older)) (all_raised_for verdicts plan e older fh)
 unfolding happened
 raises_more verdicts plan e older fh =
-    raises_behind (payload verdicts plan (e ∷ older)) (told_by verdicts plan e older fh) (with_gone fh e.step (happened verdicts plan older fh))
-    ∙ ap (λ (ws : List Waiting). ws ++ raises_from (length ws) (payload verdicts plan (e ∷ older)) (told_by verdicts plan e older fh)) (raises_gone fh e.step (happened verdicts plan older fh))
+    raises_behind (payload verdicts plan (e ∷ older)) (all_raised_for verdicts plan e older fh) (with_withdrawn fh e.step (happened verdicts plan older fh))
+    ∙ ap (λ (ws : List Waiting). ws ++ raises_from (length ws) (payload verdicts plan (e ∷ older)) (all_raised_for verdicts plan e older fh)) (raises_gone fh e.step (happened verdicts plan older fh))
 
 pub raises_add : (verdicts : Verdicts) (plan : PlanData) (steps : History) (e : Entry Step) (fh : FhId) → raises verdicts plan (past (steps ++ e ∷ [])) fh
-    ≡ raises verdicts plan (past steps) fh ++ raises_from (length (raises verdicts plan (past steps) fh)) (payload verdicts plan (past (steps ++ e ∷ []))) (told_by verdicts plan e (past steps) fh)
+    ≡ raises verdicts plan (past steps) fh ++ raises_from (length (raises verdicts plan (past steps) fh)) (payload verdicts plan (past (steps ++ e ∷ []))) (all_raised_for verdicts plan e (past steps) fh)
 raises_add verdicts plan entries e fh = rw (past_add entries e) (raises_more verdicts plan e (past entries) fh)

@@ -10,7 +10,7 @@ use Rattle.ctrl_types.specs.declared.ids.Pair.{Pair}
 use Rattle.ctrl_types.specs.declared.ids.RequestId.{RequestId}
 use Rattle.req_book.specs.declared.state.RequestState.{RequestState}
 use Rattle.req_book.specs.declared.state.RequestState.TheVariants.{Idle, Queued, Running, Complete}
-use Rattle.req_book.specs.Requests.{RequestData, fresh, cleared, is_idle, is_complete, is_number, snapshot_of}
+use Rattle.req_book.specs.Requests.{RequestData, new_request, cleared, is_idle, is_complete, is_number, snapshot_of}
 use Rattle.req_book.specs.Refusals.{store_refusal, buffer_refusal, queue_refusal, clear_refusal}
 use Rattle.req_book.proofs.ObjectLemmas.{Tells}
 use Rattle.frame_queue.specs.Frames.{is_queued, is_running, cancel_refusal}
@@ -22,7 +22,7 @@ use Rattle.device_history.specs.Steps.{Past}
 use Rattle.device_history.specs.Requests.{ended_state, state, is_there, state_after, makes_new, asked, asked_after, buffer, buffer_after}
 use Rattle.device_history.specs.Frames.{begun_by, ever_queued, queue, last_begun, if_running, running, first_of}
 use Rattle.device_history.specs.Values.{now}
-use Rattle.device_history.specs.Snapshots.{before_begin, given, completes, before_completion, request_in, request, requests}
+use Rattle.device_history.specs.Snapshots.{before_begin, applied_by_begin, completes, before_completion, request_in, request, requests}
 use Rattle.device_history.specs.FrameSteps.{FitsFrames}
 use Rattle.device_history.proofs.StateLemmas.{state_more, asked_more, buffer_more, asked_same}
 use Rattle.device_history.specs.FrameSteps.{request_after}
@@ -44,7 +44,7 @@ begin_after older step j = cond (makes_new j (length older) step) None (cond (is
 
 -- for each control the value that it got at the begin
 abbrev pub applied_after : Verdicts → PlanData → Past → Step → ℕ → List (Option CtrlValue)
-applied_after verdicts plan older step j = map (last_value (given verdicts plan j (begin_after older step j))) (range_with_len 0 (length plan.controls))
+applied_after verdicts plan older step j = map (last_value (applied_by_begin verdicts plan j (begin_after older step j))) (range_with_len 0 (length plan.controls))
 
 -- the request in a state, after one more step
 abbrev pub after_in : Verdicts → PlanData → Past → Step → ℕ → RequestState → RequestData
@@ -192,7 +192,7 @@ made_request verdicts plan older j = by (eqb_tells (length older) j)
   where
     by : Tells (length older) j → fields_after verdicts plan older steps.Alloc j ≡ request_after verdicts plan older (length older) steps.Alloc j (request verdicts plan older j)
     by (inr other) = rw other.0 (same_fields verdicts plan older steps.Alloc j (λ s. rw (other.0, asked_same plan older j) refl))
-    by (inl same) = rw (same.0, same.0) (ap (λ (i : ℕ). Some (fresh i)) (sym same.1))
+    by (inl same) = rw (same.0, same.0) (ap (λ (i : ℕ). Some (new_request i)) (sym same.1))
 
 -- the stream is stopped
 pub off_request : (verdicts : Verdicts) (plan : PlanData) (older : Past) (j : ℕ)

@@ -13,15 +13,15 @@ use Rattle.req_book.proofs.SettingLemmas.{latest_again}
 use Rattle.ctrl_handlers.specs.Plan.{PlanData}
 use Rattle.device_history.specs.declared.ask.Step.{Step}
 use Rattle.device_history.specs.Steps.{History, Past}
-use Rattle.device_history.specs.Requests.{left, is_off, last_left, is_off_since, ended_where, state, state_after, makes_new, since, stored_by, stored, asked, asked_after, buffer_by, last_buffer, buffer, buffer_after}
+use Rattle.device_history.specs.Requests.{state_left, is_off, last_state_left, is_off_since, ended_if_off, state, state_after, makes_new, since, stored_by, stored, asked, asked_after, buffer_by, last_buffer, buffer, buffer_after}
 
 -- the state after one more entry
 pub state_more : (e : Entry Step) (older : Past) (r : ℕ) → state (e ∷ older) r ≡ state_after (length older) e.step r (state older r)
-unfolding last_left is_off_since
-state_more e older r = by (left r (length older) e.step) (is_off e.step) (is_off_since r older) (last_left r older)
+unfolding last_state_left is_off_since
+state_more e older r = by (state_left r (length older) e.step) (is_off e.step) (is_off_since r older) (last_state_left r older)
   where
     by : (named : Option (Option RequestState)) (off behind : Bool) (last : Option RequestState)
-        → ended_where (cond (is_some named) false (off || behind)) (unwrap_or named last) ≡ unwrap_or named (ended_where off (ended_where behind last))
+        → ended_if_off (cond (is_some named) false (off || behind)) (unwrap_or named last) ≡ unwrap_or named (ended_if_off off (ended_if_off behind last))
     by (Some s) off behind last = refl
     by None false behind last = refl
     by None true false last = refl
@@ -65,7 +65,7 @@ asked_same plan past r = latest_again (length plan.controls) (stored r (since r 
 
 -- before the first entry
 pub state_start : (r : ℕ) → state (past []) r ≡ None
-unfolding last_left is_off_since
+unfolding last_state_left is_off_since
 state_start r = refl
 
 pub asked_start : (plan : PlanData) (r : ℕ) → asked plan (past []) r ≡ []

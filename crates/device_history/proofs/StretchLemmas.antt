@@ -40,7 +40,7 @@ use Rattle.device_history.specs.Refusals.{refused, is_full, fault_of}
 use Rattle.device_history.specs.Grabs.{grabbed, grabbed_after}
 use Rattle.device_history.specs.Requests.{is_there, state, asked, asked_after, buffer, buffer_after}
 use Rattle.device_history.specs.Frames.{begun_by, ever_queued, queue, running}
-use Rattle.device_history.specs.Values.{laid, now, now_after}
+use Rattle.device_history.specs.Values.{pairs_asked, now, now_after}
 use Rattle.device_history.specs.Snapshots.{request, request_in, requests, frames, begun_refused, begun_pairs}
 use Rattle.device_history.specs.RequestAnswers.{begin_frame_answer, frame_answer}
 use Rattle.device_history.specs.Lists.{list_pairs, meant, pairs_step, which_or}
@@ -81,7 +81,7 @@ first_row verdicts plan older r ids is = ap (λ (js : List ℕ). forecasts verdi
 begun_now : (verdicts : Verdicts) (plan : PlanData) (e : Entry Step) (older : Past) (r : RequestId) → e.step ≡ steps.Begin r
     → now verdicts plan (e ∷ older) ≡ overlay verdicts plan plan.controls (now verdicts plan older) (grabbed plan older) (asked plan older r.0)
 unfolding now
-begun_now verdicts plan e older r is = ap (λ (s : Step). now_after verdicts plan (grabbed plan older) (laid plan older s) (now verdicts plan older)) is
+begun_now verdicts plan e older r is = ap (λ (s : Step). now_after verdicts plan (grabbed plan older) (pairs_asked plan older s) (now verdicts plan older)) is
 
 -- a row behind the first
 row_behind : (verdicts : Verdicts) (plan : PlanData) (controls : List Control) (grabs : Grabs) (values : Values) (q : QueuedData) (qs : List QueuedData) (i : ℕ)
@@ -96,18 +96,18 @@ unfolding now
 next_row verdicts plan e older i row fit fits on stood = by e.step refl fits on stood
   where
     stays : (step : Step) → e.step ≡ step → (added : List QueuedData) → waiting_after plan older step (queued_frames plan older) ≡ queued_frames plan older ++ added
-        → grabbed_after step (grabbed plan older) ≡ grabbed plan older → now_after verdicts plan (grabbed plan older) (laid plan older step) (now verdicts plan older) ≡ now verdicts plan older
+        → grabbed_after step (grabbed plan older) ≡ grabbed plan older → now_after verdicts plan (grabbed plan older) (pairs_asked plan older step) (now verdicts plan older) ≡ now verdicts plan older
         → slice_get (forecast verdicts plan older) i ≡ Some row → slice_get (forecast verdicts plan (e ∷ older)) i ≡ Some row
     stays step is added line grabs values stood =
         ap (λ (rows : List Forecast). slice_get rows i)
         (forecast_of verdicts plan (grabbed plan (e ∷ older)) (grabbed plan older) (now verdicts plan (e ∷ older)) (now verdicts plan older) (queued_frames plan (e ∷ older)) (queued_frames plan older ++ added)
         (grabbed_more plan e older ∙ ap (λ (s : Step). grabbed_after s (grabbed plan older)) is ∙ grabs)
-        (ap (λ (s : Step). now_after verdicts plan (grabbed plan older) (laid plan older s) (now verdicts plan older)) is ∙ values)
+        (ap (λ (s : Step). now_after verdicts plan (grabbed plan older) (pairs_asked plan older s) (now verdicts plan older)) is ∙ values)
         (frames_waiting verdicts plan e older fit fits ∙ ap (λ (s : Step). waiting_after plan older s (queued_frames plan older)) is ∙ line))
         ∙ row_stands verdicts plan plan.controls (grabbed plan older) (now verdicts plan older) (queued_frames plan older) added i row stood
 
     same : (step : Step) → e.step ≡ step → waiting_after plan older step (queued_frames plan older) ≡ queued_frames plan older
-        → grabbed_after step (grabbed plan older) ≡ grabbed plan older → now_after verdicts plan (grabbed plan older) (laid plan older step) (now verdicts plan older) ≡ now verdicts plan older
+        → grabbed_after step (grabbed plan older) ≡ grabbed plan older → now_after verdicts plan (grabbed plan older) (pairs_asked plan older step) (now verdicts plan older) ≡ now verdicts plan older
         → slice_get (forecast verdicts plan older) i ≡ Some row → slice_get (forecast verdicts plan (e ∷ older)) i ≡ Some row
     same step is line grabs values stood = stays step is [] (line ∙ sym (append-nil (queued_frames plan older))) grabs values stood
 

@@ -15,11 +15,11 @@ use Rattle.ctrl_settle.specs.Control.{Control}
 use Rattle.ctrl_handlers.specs.Plan.{PlanData, IsPlan, control, cluster_of, members}
 use Rattle.ctrl_handlers.proofs.ClusterLemmas.{cluster_of_member, cluster_of_within}
 use Rattle.ctrl_clusters.specs.Rows.{Grabs, is_grabbed, Values, value_at, row_of}
-use Rattle.ctrl_clusters.specs.Overlay.{is_touched, row_after, given_by, given_in, value_after, overlay, no_grabs}
+use Rattle.ctrl_clusters.specs.Overlay.{is_touched, row_after, result_value, result_value_in, value_after, overlay, no_grabs}
 use Rattle.ctrl_clusters.proofs.OverlayLemmas.{held_none, held_not, overlaid_row, member_after}
 use Rattle.ctrl_lists.specs.declared.refusal.Refusal.{Refusal}
 use Rattle.ctrl_lists.specs.View.{ViewData, pairs_of}
-use Rattle.ctrl_lists.specs.Checks.{at_first, errno_of, first_from, first_refusal, is_long, is_of_no_class, laid_pairs, refused_if, row_laid, judging_refusal, naming_refusal, writing_refusal, write_checks}
+use Rattle.ctrl_lists.specs.Checks.{at_first, errno_if_refused, first_from, first_refusal, is_long, is_of_no_class, pairs_judged, refused_if, row_judged, judging_refusal, naming_refusal, writing_refusal, write_checks}
 use Rattle.ctrl_lists.specs.Answers.{answered, entries_judged, entry_judged, fault_at_count, set_answer, value_judged}
 use Rattle.ctrl_lists.proofs.TouchedLemmas.{is_at, touched_members}
 use Rattle.device_history.specs.declared.ask.Reply.TheVariants.{Controls}
@@ -35,13 +35,13 @@ abbrev some_in : PlanData → List Pair → ℕ → Bool
 some_in plan pairs k = list_any (λ p. is_at (cluster_of plan p.control) k) pairs
 
 -- the cluster of a pair that passes judging isn't refused
-judged_here : (verdicts : Verdicts) (plan : PlanData) (view : ViewData) (over : List Pair) (o : Option ℕ) (k : ℕ) → errno_of (row_laid verdicts plan view over o) ≡ None → is_at o k ≡ true
-    → errno_of (row_laid verdicts plan view over (Some k)) ≡ None
+judged_here : (verdicts : Verdicts) (plan : PlanData) (view : ViewData) (over : List Pair) (o : Option ℕ) (k : ℕ) → errno_if_refused (row_judged verdicts plan view over o) ≡ None → is_at o k ≡ true
+    → errno_if_refused (row_judged verdicts plan view over (Some k)) ≡ None
 judged_here verdicts plan view over None k h at = cc
 judged_here verdicts plan view over (Some j) k h at = by (eqb_tells k j)
   where
-    by : ((k == j) ≡ true × (k ≡ j)) ⊎ ((k == j) ≡ false × (k ≢ j)) → errno_of (row_laid verdicts plan view over (Some k)) ≡ None
-    by (inl e) = subst (λ (i : ℕ). errno_of (row_laid verdicts plan view over (Some i)) ≡ None) (sym e.1) h
+    by : ((k == j) ≡ true × (k ≡ j)) ⊎ ((k == j) ≡ false × (k ≢ j)) → errno_if_refused (row_judged verdicts plan view over (Some k)) ≡ None
+    by (inl e) = subst (λ (i : ℕ). errno_if_refused (row_judged verdicts plan view over (Some i)) ≡ None) (sym e.1) h
     by (inr e) = absurd (clash (sym e.0 ∙ at))
       where
         clash : false ≡ true → ⊥
@@ -49,15 +49,15 @@ judged_here verdicts plan view over (Some j) k h at = by (eqb_tells k j)
 
 -- nor is any cluster with a control among pairs that pass
 judged_all : (verdicts : Verdicts) (plan : PlanData) (view : ViewData) (over : List Pair) (n : ℕ) (pairs : List Pair) (k : ℕ) → first_from (judging_refusal verdicts plan view over) n pairs ≡ None → some_in plan pairs k ≡ true
-    → errno_of (row_laid verdicts plan view over (Some k)) ≡ None
+    → errno_if_refused (row_judged verdicts plan view over (Some k)) ≡ None
 judged_all verdicts plan view over n [] k h some = cc
 judged_all verdicts plan view over n (p ∷ pairs) k h some =
     let parts : (judging_refusal verdicts plan view over p ≡ None) × (first_from (judging_refusal verdicts plan view over) (n + 1) pairs ≡ None) =
     none_found n (judging_refusal verdicts plan view over p) (first_from (judging_refusal verdicts plan view over) (n + 1) pairs) h in
     by (is_at (cluster_of plan p.control) k) refl parts.0 (λ more. judged_all verdicts plan view over (n + 1) pairs k parts.1 more) some
   where
-    by : (b : Bool) → is_at (cluster_of plan p.control) k ≡ b → judging_refusal verdicts plan view over p ≡ None → (some_in plan pairs k ≡ true → errno_of (row_laid verdicts plan view over (Some k)) ≡ None)
-        → (b || some_in plan pairs k) ≡ true → errno_of (row_laid verdicts plan view over (Some k)) ≡ None
+    by : (b : Bool) → is_at (cluster_of plan p.control) k ≡ b → judging_refusal verdicts plan view over p ≡ None → (some_in plan pairs k ≡ true → errno_if_refused (row_judged verdicts plan view over (Some k)) ≡ None)
+        → (b || some_in plan pairs k) ≡ true → errno_if_refused (row_judged verdicts plan view over (Some k)) ≡ None
     by true at own rest h = judged_here verdicts plan view over (cluster_of plan p.control) k own at
     by false at own rest h = rest h
 
@@ -68,11 +68,11 @@ same_ungrabbed verdicts plan controls values grabs pairs k free = rw (held_none 
 
 -- a row that isn't refused is the one that the cluster has then
 row_made : (verdicts : Verdicts) (plan : PlanData) (controls : List Control) (values : Values) (grabs : Grabs) (pairs : List Pair) (k : ℕ) → IsPlan plan → length values ≡ length plan.controls → k < length plan.clusters
-    → errno_of (row_after verdicts plan controls values grabs pairs k) ≡ None
+    → errno_if_refused (row_after verdicts plan controls values grabs pairs k) ≡ None
     → row_after verdicts plan controls values grabs pairs k ≡ Ok (row_of (overlay verdicts plan controls values grabs pairs) (members plan k))
 row_made verdicts plan controls values grabs pairs k is many lt fine = by (row_after verdicts plan controls values grabs pairs k) refl fine
   where
-    by : (r : Result (List CtrlValue) Errno) → row_after verdicts plan controls values grabs pairs k ≡ r → errno_of r ≡ None → r ≡ Ok (row_of (overlay verdicts plan controls values grabs pairs) (members plan k))
+    by : (r : Result (List CtrlValue) Errno) → row_after verdicts plan controls values grabs pairs k ≡ r → errno_if_refused r ≡ None → r ≡ Ok (row_of (overlay verdicts plan controls values grabs pairs) (members plan k))
     by (Ok row) e h = ap (λ (l : List CtrlValue). Ok l) (sym (overlaid_row verdicts plan controls values grabs pairs k row is many lt e))
     by (Err errno) e h = cc
 
@@ -93,13 +93,13 @@ fifth a b c d e h =
     last.0
 
 accepted_judged : (verdicts : Verdicts) (plan : PlanData) (view : ViewData) (list answers : List ExtControl) → set_answer verdicts plan view list ≡ Ok answers
-    → (at_first (judging_refusal verdicts plan view (laid_pairs plan view list)) (pairs_of plan view.handler view.which list) ≡ None) × (answers ≡ entries_judged verdicts plan view list)
+    → (at_first (judging_refusal verdicts plan view (pairs_judged plan view list)) (pairs_of plan view.handler view.which list) ≡ None) × (answers ≡ entries_judged verdicts plan view list)
 unfolding set_answer
 accepted_judged verdicts plan view list answers is =
     let all : first_refusal (write_checks verdicts plan view true list) ≡ None = not_refused (fault_at_count (length list)) _ (entries_judged verdicts plan view list) answers is in (
       fifth (refused_if (is_long list) EINVAL) (refused_if (is_of_no_class plan view list) EINVAL) (at_first (naming_refusal plan view) list)
           (at_first (writing_refusal plan view true) (pairs_of plan view.handler view.which list))
-          (at_first (judging_refusal verdicts plan view (laid_pairs plan view list)) (pairs_of plan view.handler view.which list)) all,
+          (at_first (judging_refusal verdicts plan view (pairs_judged plan view list)) (pairs_of plan view.handler view.which list)) all,
       said (first_refusal (write_checks verdicts plan view true list)) all is,
     )
   where
@@ -122,19 +122,19 @@ whole verdicts plan older fh which request list answers current is =
 
 -- a cluster without a control of the pairs keeps its row
 untouched : (verdicts : Verdicts) (plan : PlanData) (controls : List Control) (values : Values) (grabs : Grabs) (pairs : List Pair) (k : ℕ) → is_touched pairs (members plan k) ≡ false
-    → errno_of (row_after verdicts plan controls values grabs pairs k) ≡ None
+    → errno_if_refused (row_after verdicts plan controls values grabs pairs k) ≡ None
 untouched verdicts plan controls values grabs pairs k none = rw none refl
 
 -- no cluster is refused where an accepted set's pairs are laid
 none_refused : (verdicts : Verdicts) (plan : PlanData) (view : ViewData) (pairs : List Pair) (answers : List ExtControl) (k : ℕ) → IsPlan plan → view.controls ≡ plan.controls → k < length plan.clusters
-    → IsWhole verdicts plan view pairs answers → errno_of (row_after verdicts plan plan.controls view.values view.grabs pairs k) ≡ None
+    → IsWhole verdicts plan view pairs answers → errno_if_refused (row_after verdicts plan plan.controls view.values view.grabs pairs k) ≡ None
 none_refused verdicts plan view pairs answers k is cs lt whole = by (is_touched pairs (members plan k)) refl
   where
-    laid : some_in plan pairs k ≡ true → errno_of (row_after verdicts plan plan.controls view.values no_grabs pairs k) ≡ None
-    laid some = subst (λ (l : List Control). errno_of (row_after verdicts plan l view.values no_grabs pairs k) ≡ None) cs (judged_all verdicts plan view pairs 0 pairs k whole.passed some)
+    laid : some_in plan pairs k ≡ true → errno_if_refused (row_after verdicts plan plan.controls view.values no_grabs pairs k) ≡ None
+    laid some = subst (λ (l : List Control). errno_if_refused (row_after verdicts plan l view.values no_grabs pairs k) ≡ None) cs (judged_all verdicts plan view pairs 0 pairs k whole.passed some)
 
-    by : (b : Bool) → is_touched pairs (members plan k) ≡ b → errno_of (row_after verdicts plan plan.controls view.values view.grabs pairs k) ≡ None
-    by true touched = ap errno_of (same_ungrabbed verdicts plan plan.controls view.values view.grabs pairs k whole.free) ∙ laid (sym (touched_members plan pairs k is lt) ∙ touched)
+    by : (b : Bool) → is_touched pairs (members plan k) ≡ b → errno_if_refused (row_after verdicts plan plan.controls view.values view.grabs pairs k) ≡ None
+    by true touched = ap errno_if_refused (same_ungrabbed verdicts plan plan.controls view.values view.grabs pairs k whole.free) ∙ laid (sym (touched_members plan pairs k is lt) ∙ touched)
     by false none = untouched verdicts plan plan.controls view.values view.grabs pairs k none
 
 -- each cluster has the row that an accepted set's pairs make of it
@@ -151,8 +151,8 @@ entry_made : (verdicts : Verdicts) (plan : PlanData) (values : Values) (grabs : 
     → value_after verdicts plan plan.controls values no_grabs pairs c ≡ value_at (overlay verdicts plan plan.controls values grabs pairs) c
 entry_made verdicts plan values grabs pairs c None is many free found some = absurd (some refl)
 entry_made verdicts plan values grabs pairs c (Some k) is many free found some =
-    ap (λ (o : Option ℕ). unwrap_or (given_in plan (row_after verdicts plan plan.controls values no_grabs pairs) o c) (value_at values c)) found
-    ∙ ap (λ (r : Result (List CtrlValue) Errno). unwrap_or (given_by (members plan k) r c) (value_at values c)) (sym (same_ungrabbed verdicts plan plan.controls values grabs pairs k free))
+    ap (λ (o : Option ℕ). unwrap_or (result_value_in plan (row_after verdicts plan plan.controls values no_grabs pairs) o c) (value_at values c)) found
+    ∙ ap (λ (r : Result (List CtrlValue) Errno). unwrap_or (result_value (members plan k) r c) (value_at values c)) (sym (same_ungrabbed verdicts plan plan.controls values grabs pairs k free))
     ∙ sym (member_after verdicts plan plan.controls values grabs pairs k c is many (cluster_of_within plan c k found) (cluster_of_member plan c k found))
 
 -- so are all
@@ -169,10 +169,10 @@ entries_made verdicts plan values grabs view pairs (p ∷ rest) n is many cs vs 
     ∙ entry_made verdicts plan values grabs pairs p.control (cluster_of plan p.control) is many free refl (clustered (cluster_of plan p.control) parts.0) in
     rw (value, entries_made verdicts plan values grabs view pairs rest (n + 1) is many cs vs free parts.1) refl
   where
-    clustered : (o : Option ℕ) → errno_of (row_laid verdicts plan view pairs o) ≡ None → o ≢ None
+    clustered : (o : Option ℕ) → errno_if_refused (row_judged verdicts plan view pairs o) ≡ None → o ≢ None
     clustered None h = λ e. clash h
       where
-        clash : errno_of (row_laid verdicts plan view pairs None) ≡ None → ⊥
+        clash : errno_if_refused (row_judged verdicts plan view pairs None) ≡ None → ⊥
         clash f = cc
     clustered (Some k) h = λ e. cc
 

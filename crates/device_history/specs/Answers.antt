@@ -15,7 +15,7 @@ use Rattle.device_history.specs.Refusals.{Answer, fault_of}
 use Rattle.device_history.specs.Handles.{open_answer, close_answer, shown}
 use Rattle.device_history.specs.Grabs.{grab_answer}
 use Rattle.device_history.specs.Frames.{queue, running, first_of}
-use Rattle.device_history.specs.RequestAnswers.{alloc_answer, buffer_answer, queue_answer, begin_frame_answer, complete_answer, cancel_answer, off_answer, clear_answer, state_answer}
+use Rattle.device_history.specs.RequestAnswers.{alloc_answer, add_buffer_answer, queue_answer, begin_frame_answer, complete_answer, cancel_answer, off_answer, clear_answer, state_answer}
 use Rattle.device_history.specs.EventAnswers.{subscribe_answer, subscribe_step, unsubscribe_answer, take_answer, take_step}
 use Rattle.device_history.specs.Forecasts.{forecast_answer}
 use Rattle.device_history.specs.Lists.{get_list_answer, set_list_answer, try_list_answer, list_step, MayLackList, MayLackSet}
@@ -30,7 +30,7 @@ answer_of verdicts plan past words (asks.SetCtrls fh which request list) = set_l
 answer_of verdicts plan past words (asks.TryCtrls fh which request list) = try_list_answer verdicts plan past fh which request list
 answer_of verdicts plan past words (asks.Grab c on) = grab_answer plan past c
 answer_of verdicts plan past words asks.Alloc = alloc_answer verdicts plan past
-answer_of verdicts plan past words (asks.AddBuffer r number) = buffer_answer verdicts plan past r number
+answer_of verdicts plan past words (asks.AddBuffer r number) = add_buffer_answer verdicts plan past r number
 answer_of verdicts plan past words (asks.Queue r) = queue_answer verdicts plan past r
 answer_of verdicts plan past words asks.Begin = begin_frame_answer verdicts plan past
 answer_of verdicts plan past words asks.Complete = complete_answer verdicts plan past

@@ -43,9 +43,9 @@ abbrev pub where_own : FhId → FhId → FileEvents → FileEvents → FileEvent
 where_own from fh new old = cond (nat_eq from.0 fh.0) new old
 
 -- the end of a subscription, where a control is named
-abbrev pub ended_where : Option ℕ → FileEvents → FileEvents
-ended_where None f = f
-ended_where (Some c) f = after_unsubscribe c f
+abbrev pub unsubscribed_if_named : Option ℕ → FileEvents → FileEvents
+unsubscribed_if_named None f = f
+unsubscribed_if_named (Some c) f = after_unsubscribe c f
 
 -- What an entry makes of the events of a file handle: a set, a begin and a grab raise what they change, in the order of control numbers.
 abbrev pub events_by : Verdicts → PlanData → Entry Step → Past → FhId → Step → FileEvents → FileEvents
@@ -55,7 +55,7 @@ events_by verdicts plan e older fh (steps.Grab c on) f = raised_by verdicts plan
 events_by verdicts plan e older fh (steps.Begin r) f = raised_by verdicts plan e older fh (range_with_len 0 (length plan.controls)) f
 events_by verdicts plan e older fh (steps.Subscribe from c flags) f =
     where_own from fh (after_subscribe c flags (initial_changes (control plan c)) (payload verdicts plan (e ∷ older) c) f) f
-events_by verdicts plan e older fh (steps.Unsubscribe from c) f = where_own from fh (ended_where c f) f
+events_by verdicts plan e older fh (steps.Unsubscribe from c) f = where_own from fh (unsubscribed_if_named c f) f
 events_by verdicts plan e older fh (steps.Take from c) f = where_own from fh (after_take f) f
 events_by verdicts plan e older fh _ f = f
 

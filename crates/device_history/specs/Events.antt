@@ -12,24 +12,24 @@ use Rattle.ctrl_types.specs.declared.sub_flags.SubFlags.{SubFlags}
 use Rattle.ctrl_settle.specs.Control.{Control}
 use Rattle.ctrl_calls.specs.Meanings.{Verdicts}
 use Rattle.ctrl_events.specs.declared.event.Waiting.{Waiting}
-use Rattle.ctrl_events.specs.Pending.{Happening, raise, gone, raises as raises_in, pending as pending_in}
+use Rattle.ctrl_events.specs.Pending.{Happening, raise, withdrawn, raises as raises_in, pending as pending_in}
 use Rattle.ctrl_events.specs.declared.event.Payload.{Payload}
 use Rattle.ctrl_handlers.specs.Plan.{PlanData, control}
 use Rattle.ctrl_clusters.specs.Overlay.{is_among}
 use Rattle.ctrl_clusters.specs.Rows.{value_at}
-use Rattle.ctrl_raises.specs.Raises.{changes_of, differ, initial_changes, told_of}
+use Rattle.ctrl_raises.specs.Raises.{changes_of, differ, initial_changes, payload_of}
 use Rattle.device_history.specs.declared.ask.Step.{Step}
 use Rattle.device_history.specs.declared.ask.Step.TheVariants as steps
 use Rattle.device_history.specs.Steps.{Past}
 use Rattle.device_history.specs.Handles.{handler_of}
 use Rattle.device_history.specs.Values.{now}
 use Rattle.device_history.specs.Flags.{flags_now}
-use Rattle.device_history.specs.Words.{acted, changes}
+use Rattle.device_history.specs.Words.{pairs_applied, changes}
 use Rattle.device_history.specs.Subscriptions.{subscribed, subscribed_by}
 
 -- what is told of a control after a history
 abbrev pub payload : Verdicts → PlanData → Past → ℕ → Payload
-payload verdicts plan past c = told_of (control plan c) (value_at (now verdicts plan past) c) (flags_now verdicts plan past c)
+payload verdicts plan past c = payload_of (control plan c) (value_at (now verdicts plan past) c) (flags_now verdicts plan past c)
 
 -- whether an entry changes the flags of a control
 abbrev pub flags_differ : Verdicts → PlanData → Entry Step → Past → ℕ → Bool
@@ -37,7 +37,7 @@ flags_differ verdicts plan e older c = differ (flags_now verdicts plan older c) 
 
 -- whether it changes its value, which it also does where it sets a control that acts on each write
 abbrev pub value_differs : Verdicts → PlanData → Entry Step → Past → ℕ → Bool
-value_differs verdicts plan e older c = changes plan (now verdicts plan older) (now verdicts plan (e ∷ older)) (acted verdicts plan older e.step) c
+value_differs verdicts plan e older c = changes plan (now verdicts plan older) (now verdicts plan (e ∷ older)) (pairs_applied verdicts plan older e.step) c
 
 -- what an entry changes of a control
 abbrev pub changed : Verdicts → PlanData → Entry Step → Past → ℕ → Changes
@@ -61,13 +61,13 @@ initially None None ctrl = None
 initially None (Some flags) ctrl = cond (sends_initial flags) (Some (initial_changes ctrl)) None
 
 -- what an entry tells a file handle of a control, where it does
-abbrev pub tells : Verdicts → PlanData → Entry Step → Past → FhId → ℕ → Option Changes
-tells verdicts plan e older fh c =
+abbrev pub raised_for : Verdicts → PlanData → Entry Step → Past → FhId → ℕ → Option Changes
+raised_for verdicts plan e older fh c =
     option_or (heard fh (subscribed older fh c) e.step (changed verdicts plan e older c) c) (initially (subscribed older fh c) (subscribed_by fh c e.step) (control plan c))
 
 -- the controls that it tells of, in the order of their numbers, each with what changed
-abbrev pub told_by : Verdicts → PlanData → Entry Step → Past → FhId → List (ℕ × Changes)
-told_by verdicts plan e older fh = filter_map (λ c. option_map (λ change. (c, change)) (tells verdicts plan e older fh c)) (range_with_len 0 (length plan.controls))
+abbrev pub all_raised_for : Verdicts → PlanData → Entry Step → Past → FhId → List (ℕ × Changes)
+all_raised_for verdicts plan e older fh = filter_map (λ c. option_map (λ change. (c, change)) (raised_for verdicts plan e older fh c)) (range_with_len 0 (length plan.controls))
 
 -- what happened to the events of a file handle, where some are raised besides, one after another; each has the next number
 unfoldable pub with_raises : (ℕ → Payload) → List (ℕ × Changes) → List Happening → List Happening
@@ -75,21 +75,21 @@ with_raises told [] hs = hs
 with_raises told (r ∷ rs) hs = with_raises told rs (raise (record { control = r.0; changes = r.1; payload = told r.0; sequence = length (raises_in hs) }) ∷ hs)
 
 -- what happened, where what waits of a control is gone besides, if one is named
-abbrev pub gone_of : Option ℕ → List Happening → List Happening
-gone_of None hs = hs
-gone_of (Some c) hs = gone c ∷ hs
+abbrev pub withdrawn_if_named : Option ℕ → List Happening → List Happening
+withdrawn_if_named None hs = hs
+withdrawn_if_named (Some c) hs = withdrawn c ∷ hs
 
 -- what happened, where a step takes the event of a control or ends the subscription to it besides
-abbrev pub with_gone : FhId → Step → List Happening → List Happening
-with_gone fh (steps.Unsubscribe f c) hs = cond (nat_eq f.0 fh.0) (gone_of c hs) hs
-with_gone fh (steps.Take f c) hs = cond (nat_eq f.0 fh.0) (gone c ∷ hs) hs
-with_gone fh _ hs = hs
+abbrev pub with_withdrawn : FhId → Step → List Happening → List Happening
+with_withdrawn fh (steps.Unsubscribe f c) hs = cond (nat_eq f.0 fh.0) (withdrawn_if_named c hs) hs
+with_withdrawn fh (steps.Take f c) hs = cond (nat_eq f.0 fh.0) (withdrawn c ∷ hs) hs
+with_withdrawn fh _ hs = hs
 
 -- What happened to the events of a file handle, newest first: each entry raises events, in the order of control numbers, whose payload is read
 -- after it; or it takes one, or ends a subscription.
 unfoldable pub happened : Verdicts → PlanData → Past → FhId → List Happening
 happened verdicts plan [] fh = []
-happened verdicts plan (e ∷ older) fh = with_raises (payload verdicts plan (e ∷ older)) (told_by verdicts plan e older fh) (with_gone fh e.step (happened verdicts plan older fh))
+happened verdicts plan (e ∷ older) fh = with_raises (payload verdicts plan (e ∷ older)) (all_raised_for verdicts plan e older fh) (with_withdrawn fh e.step (happened verdicts plan older fh))
 
 -- The raises for a file handle, in order; the number of each is its place.
 abbrev pub raises : Verdicts → PlanData → Past → FhId → List Waiting

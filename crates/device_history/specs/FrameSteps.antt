@@ -4,7 +4,7 @@ use Rattle.std.specs.Prelude.{◌≡◌, ℕ, nat_eq, cond, List, [], ◌∷◌,
 use Rattle.std.specs.Option.{option_map}
 use Rattle.ctrl_types.specs.declared.ids.Pair.{Pair}
 use Rattle.ctrl_clusters.specs.Rows.{Values}
-use Rattle.req_book.specs.Requests.{RequestData, fresh, changed, with_pairs, with_buffer, cleared, queued, begun, completed, is_pending, without}
+use Rattle.req_book.specs.Requests.{RequestData, new_request, with_changed, with_pairs, with_buffer, cleared, queued, begun, completed, is_pending, without}
 use Rattle.req_book.specs.Refusals.{store_refusal, buffer_refusal, queue_refusal, clear_refusal}
 use Rattle.frame_queue.specs.Frames.{FramesData, with_requests, queued_last, after_begin, after_complete, cancelled, cancel_refusal, after_off}
 use Rattle.ctrl_calls.specs.Meanings.{Verdicts}
@@ -18,26 +18,26 @@ use Rattle.device_history.specs.Snapshots.{request, requests, begun_pairs}
 
 -- what a step makes of the requests and the queue, at these present values; `given` is what a begin applies, and `n` the number of the step
 abbrev pub frames_changed : Values → List Pair → ℕ → Step → FramesData → FramesData
-frames_changed values given n steps.Alloc f = with_requests f (record f.requests { all = f.requests.all ++ fresh n ∷ [] })
-frames_changed values given n (steps.Store r pairs) f = with_requests f (changed f.requests r.0 (with_pairs f.requests.controls pairs))
-frames_changed values given n (steps.Buffer r number) f = with_requests f (changed f.requests r.0 (with_buffer number))
+frames_changed values given n steps.Alloc f = with_requests f (record f.requests { all = f.requests.all ++ new_request n ∷ [] })
+frames_changed values given n (steps.Store r pairs) f = with_requests f (with_changed f.requests r.0 (with_pairs f.requests.controls pairs))
+frames_changed values given n (steps.Buffer r number) f = with_requests f (with_changed f.requests r.0 (with_buffer number))
 frames_changed values given n (steps.Queue r) f = queued_last f r.0
 frames_changed values given n (steps.Begin r) f = after_begin f given
 frames_changed values given n (steps.Complete r) f = after_complete f values
 frames_changed values given n (steps.Cancel r) f = cancelled f r.0 values
 frames_changed values given n steps.StreamOff f = after_off f values
-frames_changed values given n (steps.Reinit r) f = with_requests f (changed f.requests r.0 cleared)
+frames_changed values given n (steps.Reinit r) f = with_requests f (with_changed f.requests r.0 cleared)
 frames_changed values given n (steps.Free r) f = with_requests f (record f.requests { all = without r.0 f.requests.all })
 frames_changed values given n _ f = f
 
 -- what a begin applies
-abbrev pub given_by : Verdicts → PlanData → Past → Step → List Pair
-given_by verdicts plan older (steps.Begin r) = begun_pairs verdicts plan older r.0
-given_by verdicts plan older _ = []
+abbrev pub applied_by_step : Verdicts → PlanData → Past → Step → List Pair
+applied_by_step verdicts plan older (steps.Begin r) = begun_pairs verdicts plan older r.0
+applied_by_step verdicts plan older _ = []
 
 -- what a step that follows a history makes of the requests and the queue
 abbrev pub frames_after : Verdicts → PlanData → Past → ℕ → Step → FramesData → FramesData
-frames_after verdicts plan older n step f = frames_changed (now verdicts plan older) (given_by verdicts plan older step) n step f
+frames_after verdicts plan older n step f = frames_changed (now verdicts plan older) (applied_by_step verdicts plan older step) n step f
 
 -- What a step about requests that may follow a history finds: its request doesn't refuse it, and a begin and an end are of the request whose
 -- turn it is.
@@ -57,19 +57,19 @@ abbrev pub ended_request : Values → RequestData → RequestData
 ended_request values q = cond (is_pending q.state) (completed values q) q
 
 -- a change of the request with an id
-abbrev pub where_named : ℕ → ℕ → (RequestData → RequestData) → Option RequestData → Option RequestData
-where_named id j f before = cond (nat_eq id j) (option_map f before) before
+abbrev pub changed_if_named : ℕ → ℕ → (RequestData → RequestData) → Option RequestData → Option RequestData
+changed_if_named id j f before = cond (nat_eq id j) (option_map f before) before
 
 -- What a step that follows a history makes of one request, as the law `each_request` says.
 abbrev pub request_after : Verdicts → PlanData → Past → ℕ → Step → ℕ → Option RequestData → Option RequestData
-request_after verdicts plan older n steps.Alloc j before = cond (nat_eq n j) (Some (fresh n)) before
-request_after verdicts plan older n (steps.Store r pairs) j before = where_named r.0 j (with_pairs (length plan.controls) pairs) before
-request_after verdicts plan older n (steps.Buffer r number) j before = where_named r.0 j (with_buffer number) before
-request_after verdicts plan older n (steps.Queue r) j before = where_named r.0 j (queued (length plan.controls)) before
-request_after verdicts plan older n (steps.Begin r) j before = where_named r.0 j (begun (length plan.controls) (begun_pairs verdicts plan older r.0)) before
-request_after verdicts plan older n (steps.Complete r) j before = where_named r.0 j (completed (now verdicts plan older)) before
-request_after verdicts plan older n (steps.Cancel r) j before = where_named r.0 j (completed (now verdicts plan older)) before
+request_after verdicts plan older n steps.Alloc j before = cond (nat_eq n j) (Some (new_request n)) before
+request_after verdicts plan older n (steps.Store r pairs) j before = changed_if_named r.0 j (with_pairs (length plan.controls) pairs) before
+request_after verdicts plan older n (steps.Buffer r number) j before = changed_if_named r.0 j (with_buffer number) before
+request_after verdicts plan older n (steps.Queue r) j before = changed_if_named r.0 j (queued (length plan.controls)) before
+request_after verdicts plan older n (steps.Begin r) j before = changed_if_named r.0 j (begun (length plan.controls) (begun_pairs verdicts plan older r.0)) before
+request_after verdicts plan older n (steps.Complete r) j before = changed_if_named r.0 j (completed (now verdicts plan older)) before
+request_after verdicts plan older n (steps.Cancel r) j before = changed_if_named r.0 j (completed (now verdicts plan older)) before
 request_after verdicts plan older n steps.StreamOff j before = option_map (ended_request (now verdicts plan older)) before
-request_after verdicts plan older n (steps.Reinit r) j before = where_named r.0 j cleared before
+request_after verdicts plan older n (steps.Reinit r) j before = changed_if_named r.0 j cleared before
 request_after verdicts plan older n (steps.Free r) j before = cond (nat_eq r.0 j) None before
 request_after verdicts plan older n _ j before = before

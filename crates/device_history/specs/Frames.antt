@@ -6,7 +6,7 @@ use Rattle.frame_queue.specs.Frames.{is_queued, is_running}
 use Rattle.device_history.specs.declared.ask.Step.{Step}
 use Rattle.device_history.specs.declared.ask.Step.TheVariants as steps
 use Rattle.device_history.specs.Steps.{Past}
-use Rattle.device_history.specs.Requests.{state, is_there, left_in}
+use Rattle.device_history.specs.Requests.{state, is_there, request_left}
 
 -- the request that a step queues
 abbrev pub queued_by : Step → Option ℕ
@@ -65,20 +65,20 @@ but_named (Some named) ids = all_but named.0 ids
 abbrev pub queue_after : ℕ → Step → List ℕ → List ℕ
 queue_after n steps.StreamOff ids = []
 queue_after n (steps.Queue r) ids = all_but r.0 ids ++ r.0 ∷ []
-queue_after n step ids = but_named (left_in n step) ids
+queue_after n step ids = but_named (request_left n step) ids
 
 -- a number, unless it is this one
-abbrev pub unless_is : ℕ → Option ℕ → Option ℕ
-unless_is r None = None
-unless_is r (Some k) = cond (nat_eq r k) None (Some k)
+abbrev pub unless_equal : ℕ → Option ℕ → Option ℕ
+unless_equal r None = None
+unless_equal r (Some k) = cond (nat_eq r k) None (Some k)
 
 -- a number, unless a step names it
 abbrev pub unless_named : Option (ℕ × Option RequestState) → Option ℕ → Option ℕ
 unless_named None before = before
-unless_named (Some named) before = unless_is named.0 before
+unless_named (Some named) before = unless_equal named.0 before
 
 -- What a step makes of the request whose frame is being made: its begin puts it there; a step that names it, and the end of the stream, end it.
 abbrev pub running_after : ℕ → Step → Option ℕ → Option ℕ
 running_after n steps.StreamOff before = None
 running_after n (steps.Begin r) before = Some r.0
-running_after n step before = unless_named (left_in n step) before
+running_after n step before = unless_named (request_left n step) before

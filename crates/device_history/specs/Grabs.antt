@@ -22,12 +22,12 @@ unfoldable pub grabs_made : Past → List (ℕ × Bool)
 grabs_made past = filter_map (λ e. grab_made e.step) past
 
 -- the last grab of a control holds it
-abbrev pub holds : Past → ℕ → Bool
-holds past c = unwrap_or (lookup (nat_eq c) (grabs_made past)) false
+abbrev pub last_grab_is_on : Past → ℕ → Bool
+last_grab_is_on past c = unwrap_or (lookup (nat_eq c) (grabs_made past)) false
 
 -- For each control of the plan, whether its last grab holds it.
 unfoldable pub grabbed : PlanData → Past → Grabs
-grabbed plan past = map (holds past) (range_with_len 0 (length plan.controls))
+grabbed plan past = map (last_grab_is_on past) (range_with_len 0 (length plan.controls))
 
 -- what a step makes of the grabs, as the law `grabbed_controls` says: a grab holds one control, or lets it go
 abbrev pub grabbed_after : Step → Grabs → Grabs

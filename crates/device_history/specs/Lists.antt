@@ -21,7 +21,7 @@ use Rattle.ctrl_calls.specs.Meanings.{Verdicts}
 use Rattle.ctrl_clusters.specs.Rows.{Values}
 use Rattle.ctrl_lists.specs.declared.refusal.Refusal.{Refusal}
 use Rattle.ctrl_lists.specs.View.{ViewData, pairs_of}
-use Rattle.ctrl_lists.specs.Checks.{first_refusal, refused_if, errno_of, read_checks, entry_checks, write_checks}
+use Rattle.ctrl_lists.specs.Checks.{first_refusal, refused_if, errno_if_refused, read_checks, entry_checks, write_checks}
 use Rattle.ctrl_lists.specs.Answers.{ListAnswer, answered, fault_at_count, fault_at_entry, entries_read, entries_judged, may_lack}
 use Rattle.device_history.specs.Steps.{Past}
 use Rattle.device_history.specs.Refusals.{Answer, is_full}
@@ -41,7 +41,7 @@ writes_defaults writes _ = false
 -- why a request refuses a list: it isn't there; for one that writes, it isn't idle; for one that reads, it isn't complete
 abbrev pub request_refusal : Bool → Option RequestData → Option Errno
 request_refusal true r = store_refusal r
-request_refusal false r = errno_of (snapshot_answer r)
+request_refusal false r = errno_if_refused (snapshot_answer r)
 
 -- the same, where the list speaks of a request; one that isn't named isn't there
 abbrev pub through_refusal : Verdicts → PlanData → Past → Bool → Which → Option RequestId → Option Errno

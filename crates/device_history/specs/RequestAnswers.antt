@@ -27,8 +27,8 @@ alloc_answer verdicts plan past = stepped (alloc_refusal (requests verdicts plan
 
 -- Giving a request a buffer: EINVAL where there is no such request; EBUSY where it isn't idle, has a buffer, or where another request that
 -- isn't complete holds the number.
-abbrev pub buffer_answer : Verdicts → PlanData → Past → RequestId → ℕ → Answer
-buffer_answer verdicts plan past r number = stepped (buffer_refusal (requests verdicts plan past) number (request verdicts plan past r.0)) past replies.Done
+abbrev pub add_buffer_answer : Verdicts → PlanData → Past → RequestId → ℕ → Answer
+add_buffer_answer verdicts plan past r number = stepped (buffer_refusal (requests verdicts plan past) number (request verdicts plan past r.0)) past replies.Done
 
 -- Queueing a request: EINVAL where there is no such request; EBUSY where it isn't idle; ENOENT where it has no buffer.
 abbrev pub queue_answer : Verdicts → PlanData → Past → RequestId → Answer

@@ -13,17 +13,17 @@ use Rattle.device_history.specs.Steps.{Past}
 
 -- The request that the step with a number names, and the state that it leaves it in: none where the request is there no longer. An
 -- allocation names the request that it makes, whose id is its own number.
-abbrev pub left_in : ℕ → Step → Option (ℕ × Option RequestState)
-left_in n steps.Alloc = Some (n, Some Idle)
-left_in n (steps.Store r pairs) = Some (r.0, Some Idle)
-left_in n (steps.Buffer r number) = Some (r.0, Some Idle)
-left_in n (steps.Queue r) = Some (r.0, Some Queued)
-left_in n (steps.Begin r) = Some (r.0, Some Running)
-left_in n (steps.Complete r) = Some (r.0, Some Complete)
-left_in n (steps.Cancel r) = Some (r.0, Some Complete)
-left_in n (steps.Reinit r) = Some (r.0, Some Idle)
-left_in n (steps.Free r) = Some (r.0, None)
-left_in n _ = None
+abbrev pub request_left : ℕ → Step → Option (ℕ × Option RequestState)
+request_left n steps.Alloc = Some (n, Some Idle)
+request_left n (steps.Store r pairs) = Some (r.0, Some Idle)
+request_left n (steps.Buffer r number) = Some (r.0, Some Idle)
+request_left n (steps.Queue r) = Some (r.0, Some Queued)
+request_left n (steps.Begin r) = Some (r.0, Some Running)
+request_left n (steps.Complete r) = Some (r.0, Some Complete)
+request_left n (steps.Cancel r) = Some (r.0, Some Complete)
+request_left n (steps.Reinit r) = Some (r.0, Some Idle)
+request_left n (steps.Free r) = Some (r.0, None)
+request_left n _ = None
 
 -- the state that a step leaves a request in, where it names it
 abbrev pub state_of_named : ℕ → Option (ℕ × Option RequestState) → Option (Option RequestState)
@@ -31,8 +31,8 @@ state_of_named r None = None
 state_of_named r (Some named) = cond (nat_eq named.0 r) (Some named.1) None
 
 -- the same, of the step with a number
-abbrev pub left : ℕ → ℕ → Step → Option (Option RequestState)
-left r n step = state_of_named r (left_in n step)
+abbrev pub state_left : ℕ → ℕ → Step → Option (Option RequestState)
+state_left r n step = state_of_named r (request_left n step)
 
 abbrev pub is_off : Step → Bool
 is_off steps.StreamOff = true
@@ -40,14 +40,14 @@ is_off _ = false
 
 -- the state that the last step which names a request left it in; where none does, there is no such request (in a legal history the first step
 -- that names one is its allocation)
-unfoldable pub last_left : ℕ → Past → Option RequestState
-last_left r [] = None
-last_left r (e ∷ older) = unwrap_or (left r (length older) e.step) (last_left r older)
+unfoldable pub last_state_left : ℕ → Past → Option RequestState
+last_state_left r [] = None
+last_state_left r (e ∷ older) = unwrap_or (state_left r (length older) e.step) (last_state_left r older)
 
 -- the stream was stopped behind the last step that names a request
 unfoldable pub is_off_since : ℕ → Past → Bool
 is_off_since r [] = false
-is_off_since r (e ∷ older) = cond (is_some (left r (length older) e.step)) false (is_off e.step || is_off_since r older)
+is_off_since r (e ∷ older) = cond (is_some (state_left r (length older) e.step)) false (is_off e.step || is_off_since r older)
 
 -- what the end of the stream makes of a state: what waits or runs is complete
 abbrev pub ended_state : RequestState → RequestState
@@ -56,18 +56,18 @@ ended_state Running = Complete
 ended_state state = state
 
 -- the same, where the stream was stopped
-abbrev pub ended_where : Bool → Option RequestState → Option RequestState
-ended_where true state = option_map ended_state state
-ended_where false state = state
+abbrev pub ended_if_off : Bool → Option RequestState → Option RequestState
+ended_if_off true state = option_map ended_state state
+ended_if_off false state = state
 
 -- A request's state, read off the last step that names it: none where there is no such request. A request that was queued or running
 -- is complete where the stream was stopped since.
 abbrev pub state : Past → ℕ → Option RequestState
-state past r = ended_where (is_off_since r past) (last_left r past)
+state past r = ended_if_off (is_off_since r past) (last_state_left r past)
 
 -- what the step with a number makes of a request's state, as the law `request_states` says
 abbrev pub state_after : ℕ → Step → ℕ → Option RequestState → Option RequestState
-state_after n step r before = unwrap_or (left r n step) (ended_where (is_off step) before)
+state_after n step r before = unwrap_or (state_left r n step) (ended_if_off (is_off step) before)
 
 -- a request is there, in such a state
 abbrev pub is_there : (RequestState → Bool) → Option RequestState → Bool

@@ -40,13 +40,13 @@ before_begin r [] = None
 before_begin r (e ∷ older) = cond (makes_new r (length older) e.step) None (cond (is_number (begun_by e.step) r) (Some older) (before_begin r older))
 
 -- what the begin of a request's frame applied; nothing, where there was none
-abbrev pub given : Verdicts → PlanData → ℕ → Option Past → List Pair
-given verdicts plan r None = []
-given verdicts plan r (Some older) = begun_pairs verdicts plan older r
+abbrev pub applied_by_begin : Verdicts → PlanData → ℕ → Option Past → List Pair
+applied_by_begin verdicts plan r None = []
+applied_by_begin verdicts plan r (Some older) = begun_pairs verdicts plan older r
 
 -- for each control its value after the begin of a request's frame, where the begin applied the request to it
 abbrev pub applied : Verdicts → PlanData → Past → ℕ → List (Option CtrlValue)
-applied verdicts plan past r = map (last_value (given verdicts plan r (before_begin r past))) (range_with_len 0 (length plan.controls))
+applied verdicts plan past r = map (last_value (applied_by_begin verdicts plan r (before_begin r past))) (range_with_len 0 (length plan.controls))
 
 -- a step completes a request: it ends its frame, takes it from the queue, or stops the stream while it waits or runs
 abbrev pub completes : Past → ℕ → Step → Bool

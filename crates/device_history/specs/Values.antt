@@ -16,10 +16,10 @@ abbrev pub defaults : PlanData → Values
 defaults plan = map (λ c. c.default_value) plan.controls
 
 -- The pairs that a step lays over the present values: those of a set; those that a request asks for, where its frame is begun.
-abbrev pub laid : PlanData → Past → Step → Option (List Pair)
-laid plan older (steps.Set fh pairs) = Some pairs
-laid plan older (steps.Begin r) = Some (asked plan older r.0)
-laid plan older _ = None
+abbrev pub pairs_asked : PlanData → Past → Step → Option (List Pair)
+pairs_asked plan older (steps.Set fh pairs) = Some pairs
+pairs_asked plan older (steps.Begin r) = Some (asked plan older r.0)
+pairs_asked plan older _ = None
 
 -- what pairs that are laid make of values, under grabs
 abbrev pub now_after : Verdicts → PlanData → Grabs → Option (List Pair) → Values → Values
@@ -29,4 +29,4 @@ now_after verdicts plan grabs (Some pairs) values = overlay verdicts plan plan.c
 -- the present values after a history: the defaults at first, and then what each step makes of them
 unfoldable pub now : Verdicts → PlanData → Past → Values
 now verdicts plan [] = defaults plan
-now verdicts plan (e ∷ older) = now_after verdicts plan (grabbed plan older) (laid plan older e.step) (now verdicts plan older)
+now verdicts plan (e ∷ older) = now_after verdicts plan (grabbed plan older) (pairs_asked plan older e.step) (now verdicts plan older)

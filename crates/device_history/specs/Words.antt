@@ -12,10 +12,10 @@ use Rattle.device_history.specs.Snapshots.{begun_pairs}
 
 -- The pairs of a step that were applied, so that a control among them that acts on each write does so: all that are set; of a request
 -- whose frame is begun those of the clusters that aren't refused.
-abbrev pub acted : Verdicts → PlanData → Past → Step → Option (List Pair)
-acted verdicts plan older (steps.Set fh pairs) = Some pairs
-acted verdicts plan older (steps.Begin r) = Some (begun_pairs verdicts plan older r.0)
-acted verdicts plan older _ = None
+abbrev pub pairs_applied : Verdicts → PlanData → Past → Step → Option (List Pair)
+pairs_applied verdicts plan older (steps.Set fh pairs) = Some pairs
+pairs_applied verdicts plan older (steps.Begin r) = Some (begun_pairs verdicts plan older r.0)
+pairs_applied verdicts plan older _ = None
 
 -- whether applied pairs change a control, from the values before to those after
 abbrev pub changes : PlanData → Values → Values → Option (List Pair) → ℕ → Bool

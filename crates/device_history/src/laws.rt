@@ -27,26 +27,26 @@ ghost use Rattle.device_history.specs.Flags.{flags_now};
 ghost use Rattle.device_history.specs.Steps.{History, Past};
 ghost use Rattle.device_history.specs.Refusals.{fault_of};
 ghost use Rattle.device_history.specs.Handles.{opened, opened_after, handler_of};
-ghost use Rattle.device_history.specs.Values.{defaults, laid, now, now_after};
+ghost use Rattle.device_history.specs.Values.{defaults, pairs_asked, now, now_after};
 ghost use Rattle.device_history.specs.Answers.{MayAnswer, answer_of, is_list, refusal, step_of};
 ghost use Rattle.device_history.specs.Lists.{list_pairs, meant, set_list_answer, values_set, which_or};
 ghost use Rattle.device_history.specs.Legal.{IsLegal, MayFollow};
 ghost use Rattle.device_history.specs.Asking.{ask_by};
-ghost use Rattle.device_history.specs.Words.{acted, changes};
+ghost use Rattle.device_history.specs.Words.{pairs_applied, changes};
 ghost use Rattle.device_history.specs.Subscriptions.{subscribed, subscribed_after};
 ghost use Rattle.device_history.specs.Requests.{asked, asked_after, buffer, buffer_after, state, state_after};
 ghost use Rattle.device_history.specs.Frames.{queue, queue_after, running, running_after};
 ghost use Rattle.device_history.specs.Snapshots.{begun_pairs, frames, request, requests};
 ghost use Rattle.device_history.specs.FrameSteps.{frames_after, request_after};
 ghost use Rattle.device_history.specs.Forecasts.{forecast, queued_frames, waiting_after};
-ghost use Rattle.device_history.specs.Events.{next_sequence, payload, raises, raises_from, told_by};
+ghost use Rattle.device_history.specs.Events.{next_sequence, payload, raises, raises_from, all_raised_for};
 ghost use Rattle.ctrl_raises.specs.Raises.{MomentData, changed_between, needing_feedback, payload_at, raised_all};
 ghost use Rattle.device_history.specs.declared.limits.TheConstants.{MAX_STEPS};
 ghost use Rattle.device_history.specs.EventSteps.{AreAround, AreEvents, events_after, raised_by};
 ghost use Rattle.ctrl_events.specs.Events.{FileEvents, no_events};
 ghost use Rattle.device_history.specs.Stretches.{all_go_on, begins};
 ghost use Rattle.ctrl_forecast.specs.declared.board.Forecast.{Forecast};
-ghost use Rattle.frame_queue.specs.Frames.{FramesData, AreFrames};
+ghost use Rattle.frame_queue.specs.Frames.{FramesData, QueueFitsRequests};
 ghost use Rattle.req_book.specs.Requests.{find};
 
 use ctrl_calls::Driver;
@@ -70,7 +70,7 @@ pub fn closed_handles()
 #[tactic(auto, using(crate::proofs::PastLemmas::now_start, crate::proofs::PastLemmas::now_add))]
 pub fn present_values()
     ensures start { (verdicts : Verdicts) (plan : PlanData) → now verdicts plan (past []) ≡ defaults plan }
-    ensures one_more { (verdicts : Verdicts) (plan : PlanData) (steps : History) (e : Entry Step) → now verdicts plan (past (steps ++ e ∷ [])) ≡ now_after verdicts plan (grabbed plan (past steps)) (laid plan (past steps) e.step) (now verdicts plan (past steps)) }
+    ensures one_more { (verdicts : Verdicts) (plan : PlanData) (steps : History) (e : Entry Step) → now verdicts plan (past (steps ++ e ∷ [])) ≡ now_after verdicts plan (grabbed plan (past steps)) (pairs_asked plan (past steps) e.step) (now verdicts plan (past steps)) }
 {}
 
 /// A set of present values that is accepted is made whole: no cluster is refused, so that each has the row that its pairs make of it; and each entry is answered
@@ -97,13 +97,13 @@ pub fn grabbed_controls()
 pub fn present_flags()
     ensures start { (verdicts : Verdicts) (plan : PlanData) (c : ℕ) → flags_now verdicts plan (past []) c ≡ flags_under plan (defaults plan) (map (λ _. false) plan.controls) c }
     ensures one_more { (verdicts : Verdicts) (plan : PlanData) (steps : History) (e : Entry Step) (c : ℕ) → flags_now verdicts plan (past (steps ++ e ∷ [])) c
-        ≡ flags_under plan (now_after verdicts plan (grabbed plan (past steps)) (laid plan (past steps) e.step) (now verdicts plan (past steps))) (grabbed_after e.step (grabbed plan (past steps))) c }
+        ≡ flags_under plan (now_after verdicts plan (grabbed plan (past steps)) (pairs_asked plan (past steps) e.step) (now verdicts plan (past steps))) (grabbed_after e.step (grabbed plan (past steps))) c }
 {}
 
 /// A driver's cluster, no member of which changes, keeps a word that it may have been told, also where other clusters change.
 pub fn told_words<D: Driver>()
     ensures { (verdicts : Verdicts) (plan : PlanData) (steps : History) (e : Entry Step) (k word : ℕ)
-        → list_any (changes plan (now verdicts plan (past steps)) (now_after verdicts plan (grabbed plan (past steps)) (laid plan (past steps) e.step) (now verdicts plan (past steps))) (acted verdicts plan (past steps) e.step)) (members plan k) ≡ false
+        → list_any (changes plan (now verdicts plan (past steps)) (now_after verdicts plan (grabbed plan (past steps)) (pairs_asked plan (past steps) e.step) (now verdicts plan (past steps))) (pairs_applied verdicts plan (past steps) e.step)) (members plan k) ≡ false
         → MaySay D.told (calls_of plan k).notifier (row_of (now verdicts plan (past steps)) (members plan k)) word
         → MaySay D.told (calls_of plan k).notifier (row_of (now verdicts plan (past (steps ++ e ∷ []))) (members plan k)) word }
 {}
@@ -186,7 +186,7 @@ pub fn kept_frames()
     ensures start { (verdicts : Verdicts) (plan : PlanData) → ◌≡◌ {A = FramesData} (frames verdicts plan (past [])) (record { requests = record { controls = length plan.controls; all = [] }; queue = []; running = None }) }
     ensures one_more { (verdicts : Verdicts) (plan : PlanData) (steps : History) (e : Entry Step) → IsLegal verdicts plan (past steps) → MayFollow verdicts plan (past steps) e.step
         → frames verdicts plan (past (steps ++ e ∷ [])) ≡ frames_after verdicts plan (past steps) (length steps) e.step (frames verdicts plan (past steps)) }
-    ensures queue { (verdicts : Verdicts) (plan : PlanData) (older : Past) → IsLegal verdicts plan older → AreFrames (frames verdicts plan older) }
+    ensures queue { (verdicts : Verdicts) (plan : PlanData) (older : Past) → IsLegal verdicts plan older → QueueFitsRequests (frames verdicts plan older) }
     ensures found { (verdicts : Verdicts) (plan : PlanData) (older : Past) (r : ℕ) → IsLegal verdicts plan older → find (requests verdicts plan older) r ≡ request verdicts plan older r }
 {}
 
@@ -215,7 +215,7 @@ pub fn kept_events()
 pub fn added_raises()
     ensures start { (verdicts : Verdicts) (plan : PlanData) (fh : FhId) → raises verdicts plan (past []) fh ≡ [] }
     ensures one_more { (verdicts : Verdicts) (plan : PlanData) (steps : History) (e : Entry Step) (fh : FhId) → raises verdicts plan (past (steps ++ e ∷ [])) fh
-        ≡ raises verdicts plan (past steps) fh ++ raises_from (length (raises verdicts plan (past steps) fh)) (payload verdicts plan (past (steps ++ e ∷ []))) (told_by verdicts plan e (past steps) fh) }
+        ≡ raises verdicts plan (past steps) fh ++ raises_from (length (raises verdicts plan (past steps) fh)) (payload verdicts plan (past (steps ++ e ∷ []))) (all_raised_for verdicts plan e (past steps) fh) }
 {}
 
 /// What a set, a begin and a grab raise is what changes between the values and grabs before and those after; what a subscription tells at once is

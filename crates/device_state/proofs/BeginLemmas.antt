@@ -13,7 +13,7 @@ use Rattle.device_history.specs.EventSteps.{events_after}
 use Rattle.ctrl_handlers.specs.Plan.{PlanData, members}
 use Rattle.ctrl_clusters.specs.Rows.{Grabs, Values, row_of}
 use Rattle.ctrl_clusters.specs.Changes.{members_change}
-use Rattle.ctrl_clusters.specs.Notified.{AreRenewed}
+use Rattle.ctrl_clusters.specs.Notified.{AreNotified}
 use Rattle.ctrl_clusters.proofs.NotifyLemmas.{words_between}
 use Rattle.req_book.specs.Requests.{find}
 use Rattle.frame_queue.specs.Frames.{FramesData, after_begin, begin_answer, buffer_number}
@@ -171,7 +171,7 @@ begun_board verdicts plan older r old new own first q n f = by (queue older) ref
 -- what is kept after a begin
 pub kept_begin : (verdicts : Verdicts) (told : Words) (plan : PlanData) (entries entries' : History) (caches : Caches) (values : Values) (f : FramesData) (b : BoardData) (events : EventsData) (words : List ℕ) (applied : List Pair) (seat r : ℕ)
     → IsKept verdicts told plan entries caches → IsBegun verdicts plan (past entries) r applied → values ≡ begun_values verdicts plan (past entries) r → entries' ≡ entries ++ record { seat = seat; step = Begin (record { 0 = r }) } ∷ []
-    → f ≡ after_begin caches.frames applied → AreRenewed told plan (members_change plan caches.values values applied) (λ k. row_of values (members plan k)) caches.words words
+    → f ≡ after_begin caches.frames applied → AreNotified told plan (members_change plan caches.values values applied) (λ k. row_of values (members plan k)) caches.words words
     → ((fh : FhId) → events_of events fh.0 ≡ events_after verdicts plan (record { seat = seat; step = Begin (record { 0 = r }) }) (past entries) fh (events_of caches.events fh.0))
     → b ≡ board_after verdicts plan (Begin (record { 0 = r })) (past entries) → IsKept verdicts told plan entries' (record caches { values = values; frames = f; board = b; events = events; words = words })
 kept_begin verdicts told plan entries entries' caches values f b events words applied seat r kept begun v s made renewed ev popped =

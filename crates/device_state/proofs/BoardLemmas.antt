@@ -16,7 +16,7 @@ use Rattle.device_history.specs.declared.ask.Step.{Step}
 use Rattle.device_history.specs.declared.ask.Step.TheVariants as steps
 use Rattle.device_history.specs.Steps.{History, Past}
 use Rattle.device_history.specs.Grabs.{grabbed, grabbed_after}
-use Rattle.device_history.specs.Values.{laid, now, now_after}
+use Rattle.device_history.specs.Values.{pairs_asked, now, now_after}
 use Rattle.device_history.specs.Frames.{queue}
 use Rattle.device_history.specs.Frames as F
 use Rattle.device_history.specs.Requests.{state}
@@ -29,8 +29,8 @@ use Rattle.device_history.proofs.PastLemmas.{now_add}
 use Rattle.device_history.proofs.QueuedFrames.{waiting_add}
 use Rattle.device_history.proofs.FitLemmas.{fits}
 use Rattle.device_history.proofs.FrameLaw.{found_request, frames_legal}
-use Rattle.step_effects.specs.Lines.{frame_in, line_after, line_asks, pairs_in}
-use Rattle.step_effects.specs.Quiet.{is_quiet}
+use Rattle.step_effects.specs.QueuedFrames.{frame_in, queued_after, asks_at_most, pairs_in}
+use Rattle.step_effects.specs.Leaving.{leaves_controls}
 
 -- a board is of the grabs, the values and the queued frames
 pub board_same : (verdicts : Verdicts) (plan : PlanData) {grabs grabs' : Grabs} {values values' : Values} {queued queued' : List QueuedData} → grabs ≡ grabs' → values ≡ values' → queued ≡ queued'
@@ -45,7 +45,7 @@ board_start verdicts plan = refl
 -- what one more step makes of a board
 abbrev pub board_after : Verdicts → PlanData → Step → Past → BoardData
 board_after verdicts plan step older =
-    board_of verdicts plan plan.controls (grabbed_after step (grabbed plan older)) (now_after verdicts plan (grabbed plan older) (laid plan older step) (now verdicts plan older)) (waiting_after plan older step (queued_frames plan older))
+    board_of verdicts plan plan.controls (grabbed_after step (grabbed plan older)) (now_after verdicts plan (grabbed plan older) (pairs_asked plan older step) (now verdicts plan older)) (waiting_after plan older step (queued_frames plan older))
 
 pub board_add : (verdicts : Verdicts) (plan : PlanData) (entries : History) (e : Entry Step) → IsLegal verdicts plan (past entries) → MayFollow verdicts plan (past entries) e.step
     → board verdicts plan (past (entries ++ e ∷ [])) ≡ board_after verdicts plan e.step (past entries)
@@ -64,8 +64,8 @@ frame_is verdicts plan older r legal fits_it = ap of (found_request verdicts pla
     by (Some s) h = refl
 
 -- what a quiet step makes of the queued frames
-line_is : (verdicts : Verdicts) (plan : PlanData) (older : Past) (step : Step) (queued : List QueuedData) → IsLegal verdicts plan older → FitsFrames verdicts plan older step → is_quiet step ≡ true
-    → line_after (frames verdicts plan older) step queued ≡ waiting_after plan older step queued
+line_is : (verdicts : Verdicts) (plan : PlanData) (older : Past) (step : Step) (queued : List QueuedData) → IsLegal verdicts plan older → FitsFrames verdicts plan older step → leaves_controls step ≡ true
+    → queued_after (frames verdicts plan older) step queued ≡ waiting_after plan older step queued
 line_is verdicts plan older (steps.OpenFh handler) queued legal fits_it quiet = cc
 line_is verdicts plan older (steps.CloseFh fh) queued legal fits_it quiet = cc
 line_is verdicts plan older (steps.Set fh pairs) queued legal fits_it quiet = cc
@@ -85,8 +85,8 @@ line_is verdicts plan older (steps.Unsubscribe f c) queued legal fits_it quiet =
 line_is verdicts plan older (steps.Take f c) queued legal fits_it quiet = refl
 
 -- the same, of what is kept
-pub line_kept : (verdicts : Verdicts) (plan : PlanData) (older : Past) (step : Step) (f : FramesData) (queued : List QueuedData) → IsLegal verdicts plan older → MayFollow verdicts plan older step → is_quiet step ≡ true
-    → f ≡ frames verdicts plan older → queued ≡ queued_frames plan older → line_after f step queued ≡ waiting_after plan older step (queued_frames plan older)
+pub line_kept : (verdicts : Verdicts) (plan : PlanData) (older : Past) (step : Step) (f : FramesData) (queued : List QueuedData) → IsLegal verdicts plan older → MayFollow verdicts plan older step → leaves_controls step ≡ true
+    → f ≡ frames verdicts plan older → queued ≡ queued_frames plan older → queued_after f step queued ≡ waiting_after plan older step (queued_frames plan older)
 line_kept verdicts plan older step f queued legal may quiet own line =
     rw (own, line) (line_is verdicts plan older step (queued_frames plan older) legal (fits verdicts plan older step may) quiet)
 
@@ -102,7 +102,7 @@ queued_once verdicts plan older queued legal line =
 
 -- what a quiet step asks at most, of what is kept
 pub line_bound : (verdicts : Verdicts) (plan : PlanData) (older : Past) (step : Step) (f : FramesData) (queued : List QueuedData)
-    → f ≡ frames verdicts plan older → queued ≡ queued_frames plan older → line_asks plan f step queued ≡ line_asks plan (frames verdicts plan older) step (queued_frames plan older)
+    → f ≡ frames verdicts plan older → queued ≡ queued_frames plan older → asks_at_most plan f step queued ≡ asks_at_most plan (frames verdicts plan older) step (queued_frames plan older)
 line_bound verdicts plan older step f queued own line = rw (own, line) refl
 
 -- the board that is kept, as one of what is kept beside it

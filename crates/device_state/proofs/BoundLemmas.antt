@@ -14,7 +14,7 @@ use Rattle.ctrl_handlers.specs.Plan.{PlanData}
 use Rattle.ctrl_forecast.specs.Forecasts.{named_by_frames}
 use Rattle.ctrl_lists.specs.declared.refusal.Refusal.{Refusal}
 use Rattle.ctrl_lists.specs.Answers.{answered, entries_judged, fault_at_count}
-use Rattle.ctrl_lists.specs.Checks.{at_first, entry_checks, first_refusal, judging_refusal, laid_pairs, refused_if, write_checks}
+use Rattle.ctrl_lists.specs.Checks.{at_first, entry_checks, first_refusal, judging_refusal, pairs_judged, refused_if, write_checks}
 use Rattle.ctrl_lists.specs.Touched.{list_asks, none_where, touched}
 use Rattle.ctrl_lists.specs.View.{ViewData, pairs_of}
 use Rattle.device_history.specs.declared.ask.Ask.TheVariants as asks
@@ -45,7 +45,7 @@ pub set_opened : (verdicts : Verdicts) (plan : PlanData) (older : Past) (fh : Fh
 set_opened verdicts plan older fh which request list answers is =
     let all = none_of_both opening (write_checks verdicts plan view true list ++ refused_if (is_full older) ENOSPC ∷ []) (passed (first_refusal (set_checks verdicts plan older fh which request list)) is) in
     let own = none_of_both (write_checks verdicts plan view true list) (refused_if (is_full older) ENOSPC ∷ []) all.1 in
-    (all.0, first_behind opening (entry_checks plan view true list) all.0 ∙ (none_of_both (entry_checks plan view true list) (at_first (judging_refusal verdicts plan view (laid_pairs plan view list)) (pairs_of plan view.handler view.which list) ∷ []) own.0).0)
+    (all.0, first_behind opening (entry_checks plan view true list) all.0 ∙ (none_of_both (entry_checks plan view true list) (at_first (judging_refusal verdicts plan view (pairs_judged plan view list)) (pairs_of plan view.handler view.which list) ∷ []) own.0).0)
   where
     view : ViewData
     view = write_view verdicts plan older fh which request

@@ -16,7 +16,7 @@ use Rattle.device_history.specs.declared.ask.Step.TheVariants as steps
 use Rattle.device_history.specs.Steps.{History, Past}
 use Rattle.device_history.specs.Refusals.{is_full, refused, fault_of}
 use Rattle.device_history.specs.Grabs.{grabbed}
-use Rattle.device_history.specs.Values.{laid, now, now_after}
+use Rattle.device_history.specs.Values.{pairs_asked, now, now_after}
 use Rattle.device_history.specs.Words.{changes}
 use Rattle.device_history.specs.Forecasts.{queued_frames}
 use Rattle.device_history.specs.Snapshots.{applied, before_completion, frames, request, request_in, snapshot}
@@ -31,9 +31,9 @@ use Rattle.device_history.specs.Legal.{MayFollow}
 use Rattle.device_history.proofs.FrameLaw.{found_request}
 use Rattle.ctrl_lists.specs.Touched.{with_calls}
 use Rattle.device_state.specs.Device.{DeviceData, Handles, list_most, list_touches, may_ask, must_ask, with_step, step_changes}
-use Rattle.step_effects.specs.Lines.{line_asks}
-use Rattle.step_effects.specs.Quiet.{NamesKnown, is_quiet}
-use Rattle.device_state.specs.Entering.{IsEntered}
+use Rattle.step_effects.specs.QueuedFrames.{asks_at_most}
+use Rattle.step_effects.specs.Leaving.{NamesKnown, leaves_controls}
+use Rattle.device_state.specs.Entering.{LeavesControls}
 use Rattle.device_state.specs.Kept.{Caches, IsKept}
 use Rattle.device_state.proofs.HandleLemmas.{at_rest, asked_since, handles_asked, handles_set, told_since}
 use Rattle.device_state.proofs.BoundLemmas.{set_at_least}
@@ -51,36 +51,36 @@ use Rattle.req_book.specs.declared.state.RequestState.TheVariants.{Idle, Queued,
 use Rattle.ctrl_types.specs.Values.{CtrlValue}
 use Rattle.req_book.proofs.SettingLemmas.{snapshot_long}
 use Rattle.device_history.proofs.PresentLemmas.{length_now}
-use Rattle.ctrl_lists.specs.Checks.{errno_of}
+use Rattle.ctrl_lists.specs.Checks.{errno_if_refused}
 use Rattle.step_effects.proofs.QuietLemmas.{acted_quiet}
 
 -- an ask that adds such a step, where its refusal was read
-pub entered : (verdicts : Verdicts) (plan : PlanData) (older : Past) (words : List ℕ) (ask : Ask) (refusal own : Option Errno) (step : Step) (reply : Reply) → refusal ≡ own → is_quiet step ≡ true
+pub entered : (verdicts : Verdicts) (plan : PlanData) (older : Past) (words : List ℕ) (ask : Ask) (refusal own : Option Errno) (step : Step) (reply : Reply) → refusal ≡ own → leaves_controls step ≡ true
     → answer_of verdicts plan older words ask ≡ stepped own older reply → answer_of verdicts plan older [] ask ≡ stepped own older reply → (own ≡ None → step_of verdicts plan older ask ≡ Some step)
     → (IsOk (stepped own older reply) → MayLackMemory verdicts plan older ask) → no_memory ask ≡ refused ENOMEM → must_ask plan older ask ≡ 0 → (own ≡ None → NamesKnown (length plan.controls) step)
-    → line_asks plan (frames verdicts plan older) step (queued_frames plan older) ≤ may_ask verdicts plan older ask → IsEntered verdicts plan older words ask refusal step reply
+    → asks_at_most plan (frames verdicts plan older) step (queued_frames plan older) ≤ may_ask verdicts plan older ask → LeavesControls verdicts plan older words ask refusal step reply
 entered verdicts plan older words ask refusal own step reply is quiet answers alone adds lacks plain nobody known most =
-    subst (λ (o : Option Errno). IsEntered verdicts plan older words ask o step reply) (sym is)
+    subst (λ (o : Option Errno). LeavesControls verdicts plan older words ask o step reply) (sym is)
     (record { quiet = quiet; answers = answers; answers_alone = alone; adds = adds; lacks = lacks; plain = plain; asks_nobody = nobody; known = known; most = most })
 
 -- its own refusal
 pub entered_refused : (verdicts : Verdicts) (plan : PlanData) (older : Past) (words : List ℕ) (ask : Ask) (errno : Errno) (step : Step) (reply : Reply)
-    → IsEntered verdicts plan older words ask (Some errno) step reply → MayAnswer verdicts plan older words ask (refused errno)
+    → LeavesControls verdicts plan older words ask (Some errno) step reply → MayAnswer verdicts plan older words ask (refused errno)
 entered_refused verdicts plan older words ask errno step reply is = inl (sym is.answers)
 
 -- no further step is kept
 pub entered_full : (verdicts : Verdicts) (plan : PlanData) (older : Past) (words : List ℕ) (ask : Ask) (step : Step) (reply : Reply)
-    → IsEntered verdicts plan older words ask None step reply → is_full older ≡ true → MayAnswer verdicts plan older words ask (refused ENOSPC)
+    → LeavesControls verdicts plan older words ask None step reply → is_full older ≡ true → MayAnswer verdicts plan older words ask (refused ENOSPC)
 entered_full verdicts plan older words ask step reply is full = inl (sym (is.answers ∙ rw full refl))
 
 -- want of memory
 pub entered_lacks : (verdicts : Verdicts) (plan : PlanData) (older : Past) (words : List ℕ) (ask : Ask) (step : Step) (reply : Reply)
-    → IsEntered verdicts plan older words ask None step reply → is_full older ≡ false → MayAnswer verdicts plan older words ask (refused ENOMEM)
+    → LeavesControls verdicts plan older words ask None step reply → is_full older ≡ false → MayAnswer verdicts plan older words ask (refused ENOMEM)
 entered_lacks verdicts plan older words ask step reply is room = inr (is.lacks (rw room refl), sym is.plain)
 
 -- else its step may follow
 pub entered_follows : (verdicts : Verdicts) (plan : PlanData) (older : Past) (words : List ℕ) (ask : Ask) (step : Step) (reply : Reply)
-    → IsEntered verdicts plan older words ask None step reply → is_full older ≡ false → MayFollow verdicts plan older step
+    → LeavesControls verdicts plan older words ask None step reply → is_full older ≡ false → MayFollow verdicts plan older step
 entered_follows verdicts plan older words ask step reply is room = (ask, ap fault_of is.answers_alone ∙ nothing (is_full older) room, is.adds refl)
   where
     nothing : (b : Bool) → b ≡ false → fault_of (if b then refused ENOSPC else Ok reply) ≡ None
@@ -88,14 +88,14 @@ entered_follows verdicts plan older words ask step reply is room = (ask, ap faul
     nothing false h = refl
 
 -- such a step changes no control
-quiet_changes : (verdicts : Verdicts) (plan : PlanData) (older : Past) (step : Step) (c : ℕ) → is_quiet step ≡ true → step_changes verdicts plan older (Some step) c ≡ false
+quiet_changes : (verdicts : Verdicts) (plan : PlanData) (older : Past) (step : Step) (c : ℕ) → leaves_controls step ≡ true → step_changes verdicts plan older (Some step) c ≡ false
 quiet_changes verdicts plan older step c quiet =
-    ap (λ (l : Option (List Pair)). changes plan (now verdicts plan older) (now_after verdicts plan (grabbed plan older) (laid plan older step) (now verdicts plan older)) l c) (acted_quiet verdicts plan older step quiet)
+    ap (λ (l : Option (List Pair)). changes plan (now verdicts plan older) (now_after verdicts plan (grabbed plan older) (pairs_asked plan older step) (now verdicts plan older)) l c) (acted_quiet verdicts plan older step quiet)
 
 -- a call that adds one
 pub handles_quiet : (verdicts : Verdicts) (old : DeviceData) (work : Work) (seat : ℕ) (ask : Ask) (step : Step) (reply : Reply) → work.told ≡ 0 → work.asked ≤ may_ask verdicts old.plan (past old.steps) ask
     → (with_calls (must_ask old.plan (past old.steps) ask) 0 ≤ work.asked) → MayAnswer verdicts old.plan (past old.steps) old.words ask (Ok reply)
-    → step_of verdicts old.plan (past old.steps) ask ≡ Some step → is_quiet step ≡ true
+    → step_of verdicts old.plan (past old.steps) ask ≡ Some step → leaves_controls step ≡ true
     → Handles verdicts old (with_step (record old { work = work }) seat step) seat ask (Ok reply)
 handles_quiet verdicts old work seat ask step reply told asked all may adds quiet = record {
   plan = refl;
@@ -109,14 +109,14 @@ handles_quiet verdicts old work seat ask step reply told asked all may adds quie
 }
 
 pub handles_entered : (verdicts : Verdicts) (old : DeviceData) (start work : Work) (seat : ℕ) (ask : Ask) (step : Step) (reply : Reply) → start ≡ at_rest → work.told ≡ start.told
-    → work.asked ≤ start.asked + line_asks old.plan (frames verdicts old.plan (past old.steps)) step (queued_frames old.plan (past old.steps)) → IsEntered verdicts old.plan (past old.steps) old.words ask None step reply → is_full (past old.steps) ≡ false
+    → work.asked ≤ start.asked + asks_at_most old.plan (frames verdicts old.plan (past old.steps)) step (queued_frames old.plan (past old.steps)) → LeavesControls verdicts old.plan (past old.steps) old.words ask None step reply → is_full (past old.steps) ≡ false
     → Handles verdicts old (with_step (record old { work = work }) seat step) seat ask (Ok reply)
 handles_entered verdicts old start work seat ask step reply rest untold asked is room =
     handles_quiet verdicts old work seat ask step reply (told_since start work rest untold) (omega (arith, asked_since start work _ rest asked, is.most)) (rw is.asks_nobody (omega arith)) (inl (sym (is.answers ∙ rw room refl))) (is.adds refl) is.quiet
 
 -- one for which there is no memory
 pub handles_lacking : (verdicts : Verdicts) (old new : DeviceData) (start work : Work) (seat : ℕ) (ask : Ask) (step : Step) (reply : Reply) → new ≡ record old { work = work } → start ≡ at_rest → work.told ≡ start.told
-    → work.asked ≤ start.asked + line_asks old.plan (frames verdicts old.plan (past old.steps)) step (queued_frames old.plan (past old.steps)) → IsEntered verdicts old.plan (past old.steps) old.words ask None step reply → is_full (past old.steps) ≡ false → Handles verdicts old new seat ask (refused ENOMEM)
+    → work.asked ≤ start.asked + asks_at_most old.plan (frames verdicts old.plan (past old.steps)) step (queued_frames old.plan (past old.steps)) → LeavesControls verdicts old.plan (past old.steps) old.words ask None step reply → is_full (past old.steps) ≡ false → Handles verdicts old new seat ask (refused ENOMEM)
 handles_lacking verdicts old new start work seat ask step reply begin rest untold asked is room =
     handles_asked verdicts old new start work seat ask (refused ENOMEM) begin rest untold (omega (arith, asked, is.most)) (λ e. cc) refl (entered_lacks verdicts old.plan (past old.steps) old.words ask step reply is room)
 
@@ -191,8 +191,8 @@ asked_is verdicts plan older r pairs is = by (state older r) is
     by (Some s) h = cc
 
 -- what a request doesn't refuse is there
-pub not_denied : (o : Option RequestData) (errno : Errno) → errno_of (book.snapshot_answer o) ≡ None → book.snapshot_answer o ≡ Err errno → ⊥
-not_denied o errno passes is = clash (ap errno_of (sym is) ∙ passes)
+pub not_denied : (o : Option RequestData) (errno : Errno) → errno_if_refused (book.snapshot_answer o) ≡ None → book.snapshot_answer o ≡ Err errno → ⊥
+not_denied o errno passes is = clash (ap errno_if_refused (sym is) ∙ passes)
   where
     clash : Some errno ≡ None → ⊥
     clash h = cc

@@ -29,15 +29,15 @@ use Rattle.ctrl_clusters.specs.Rows.{Grabs, Values}
 use Rattle.device_history.specs.Grabs.{grabbed, grab_answer, grabbed_after}
 use Rattle.device_history.specs.Snapshots.{frames}
 use Rattle.ctrl_forecast.specs.Boards.{BoardData, board_of, no_board}
-use Rattle.step_effects.specs.Lines.{line_after}
+use Rattle.step_effects.specs.QueuedFrames.{queued_after}
 use Rattle.device_state.proofs.BoardLemmas.{board_add, board_after, board_same, board_start, line_kept}
 use Rattle.device_history.specs.FrameSteps.{frames_after}
 use Rattle.frame_queue.specs.Frames.{FramesData}
 use Rattle.device_history.proofs.FrameLaw.{frames_start, frames_add}
-use Rattle.device_history.specs.Values.{laid, now, defaults, now_after}
-use Rattle.ctrl_clusters.specs.Notified.{HaveWords, AreRenewed}
+use Rattle.device_history.specs.Values.{pairs_asked, now, defaults, now_after}
+use Rattle.ctrl_clusters.specs.Notified.{HaveWords, AreNotified}
 use Rattle.ctrl_clusters.specs.Changes.{cluster_changes}
-use Rattle.ctrl_clusters.specs.NewRows.{row_given, written}
+use Rattle.ctrl_clusters.specs.NewRows.{row_or_empty, written}
 use Rattle.device_history.specs.Refusals.{Answer, is_full}
 use Rattle.device_history.specs.Lists.{set_list_answer, list_pairs, meant, which_or}
 use Rattle.ctrl_types.specs.Classes.{which_of}
@@ -46,7 +46,7 @@ use Rattle.device_history.specs.Answers.{step_of}
 use Rattle.device_history.specs.Legal.{IsLegal, MayFollow}
 use Rattle.device_state.specs.Kept.{Caches, IsKept}
 use Rattle.device_state.specs.Setting.{IsSettable}
-use Rattle.step_effects.specs.Quiet.{is_quiet}
+use Rattle.step_effects.specs.Leaving.{leaves_controls}
 use Rattle.step_effects.proofs.QuietLemmas.{opened_quiet, grabbed_quiet, laid_quiet}
 use Rattle.device_history.proofs.PastLemmas.{opened_add, opened_fresh, opened_rising, drops_one, now_add, legal_add}
 use Rattle.device_history.proofs.GrabLemmas.{grabbed_start, grabbed_add, grabbed_more}
@@ -83,7 +83,7 @@ kept_fresh verdicts told plan steps caches kept =
 pub kept_add : (verdicts : Verdicts) (told : Words) (plan : PlanData) (steps steps' : History) (caches caches' : Caches) (e : Entry Step)
     → IsKept verdicts told plan steps caches → length steps < MAX_STEPS → MayFollow verdicts plan (past steps) e.step → steps' ≡ steps ++ e ∷ []
     → caches'.file_handles ≡ opened_after (length steps) e.step (opened (past steps)) → caches'.grabs ≡ grabbed_after e.step (grabbed plan (past steps))
-    → caches'.values ≡ now_after verdicts plan (grabbed plan (past steps)) (laid plan (past steps) e.step) (now verdicts plan (past steps))
+    → caches'.values ≡ now_after verdicts plan (grabbed plan (past steps)) (pairs_asked plan (past steps) e.step) (now verdicts plan (past steps))
     → caches'.frames ≡ frames_after verdicts plan (past steps) (length steps) e.step (frames verdicts plan (past steps)) → HaveWords told plan caches'.values caches'.words
     → ((fh : FhId) → events_of caches'.events fh.0 ≡ events_after verdicts plan e (past steps) fh (events_of caches.events fh.0))
     → caches'.board ≡ board_after verdicts plan e.step (past steps) → IsKept verdicts told plan steps' caches'
@@ -160,7 +160,7 @@ pub kept_set : (verdicts : Verdicts) (told : Words) (plan : PlanData) (steps ste
     (touch : TouchedData) → IsKept verdicts told plan steps caches → IsSettable verdicts plan (past steps) fh which request list touch → meant (which_or (which_of which)) request ≡ None
     → steps' ≡ steps ++ record { seat = seat; step = Set fh touch.pairs } ∷ []
     → values ≡ written plan caches.values touch.rows
-    → AreRenewed told plan (cluster_changes plan caches.values touch.pairs touch.rows) (row_given touch.rows) caches.words words
+    → AreNotified told plan (cluster_changes plan caches.values touch.pairs touch.rows) (row_or_empty touch.rows) caches.words words
     → ((j : FhId) → events_of events j.0 ≡ events_after verdicts plan (record { seat = seat; step = Set fh touch.pairs }) (past steps) j (events_of caches.events j.0))
     → b ≡ board_of verdicts plan plan.controls caches.grabs values caches.board.queued
     → IsKept verdicts told plan steps' (record caches { values = values; board = b; events = events; words = words })
@@ -172,7 +172,7 @@ kept_set verdicts told plan steps steps' caches values b events words seat fh wh
     let adds : step_of verdicts plan (past steps) (asks.SetCtrls fh which request list) ≡ Some (Set fh touch.pairs) =
     ap Some (set_step (meant (which_or (which_of which)) request) fh (list_pairs plan (past steps) fh which list) current) ∙ ap (λ (pairs : List Pair). Some (Set fh pairs)) (sym sets.own_pairs) in
     let accepted : IsOk (set_list_answer verdicts plan (past steps) fh which request list) = accepted_set (set_list_answer verdicts plan (past steps) fh which request list) (Controls touch.answers) sets.accepted in
-    let lays : values ≡ now_after verdicts plan (grabbed plan (past steps)) (laid plan (past steps) (Set fh touch.pairs)) (now verdicts plan (past steps)) =
+    let lays : values ≡ now_after verdicts plan (grabbed plan (past steps)) (pairs_asked plan (past steps) (Set fh touch.pairs)) (now verdicts plan (past steps)) =
     v ∙ ap (λ (v : Values). written plan v touch.rows) kept.values ∙ sym (laid_written verdicts plan (now verdicts plan (past steps)) (grabbed plan (past steps)) touch.pairs touch.rows sets.plans present sets.free) in
     kept_add verdicts told plan steps steps' caches (record caches { values = values; board = b; events = events; words = words }) (record { seat = seat; step = Set fh touch.pairs }) kept (set_room steps sets.room)
     (asks.SetCtrls fh which request list, unrefused (set_list_answer verdicts plan (past steps) fh which request list) accepted, adds) s
@@ -185,17 +185,17 @@ kept_set verdicts told plan steps steps' caches values b events words seat fh wh
 -- what a set lays over the values
 pub set_lays : (verdicts : Verdicts) (told : Words) (plan : PlanData) (steps : History) (caches : Caches) (values : Values) (fh : FhId) (which : ℕ) (request : Option RequestId) (list : List ExtControl) (touch : TouchedData) → IsKept verdicts told plan steps caches
     → IsSettable verdicts plan (past steps) fh which request list touch → meant (which_or (which_of which)) request ≡ None → values ≡ written plan caches.values touch.rows
-    → values ≡ now_after verdicts plan (grabbed plan (past steps)) (laid plan (past steps) (Set fh touch.pairs)) (now verdicts plan (past steps))
+    → values ≡ now_after verdicts plan (grabbed plan (past steps)) (pairs_asked plan (past steps) (Set fh touch.pairs)) (now verdicts plan (past steps))
 set_lays verdicts told plan steps caches values fh which request list touch kept sets current v =
     v ∙ ap (λ (v : Values). written plan v touch.rows) kept.values
     ∙ sym (laid_written verdicts plan (now verdicts plan (past steps)) (grabbed plan (past steps)) touch.pairs touch.rows sets.plans (own_judged verdicts plan (past steps) fh which request list touch sets current) sets.free)
 
 -- a step that leaves file handles, grabs and values
 pub kept_quiet : (verdicts : Verdicts) (told : Words) (plan : PlanData) (steps steps' : History) (caches : Caches) (f : FramesData) (b : BoardData) (events : EventsData) (seat : ℕ) (step : Step)
-    → IsKept verdicts told plan steps caches → is_full (past steps) ≡ false → MayFollow verdicts plan (past steps) step → is_quiet step ≡ true → steps' ≡ steps ++ record { seat = seat; step = step } ∷ []
+    → IsKept verdicts told plan steps caches → is_full (past steps) ≡ false → MayFollow verdicts plan (past steps) step → leaves_controls step ≡ true → steps' ≡ steps ++ record { seat = seat; step = step } ∷ []
     → f ≡ frames_after verdicts plan (past steps) (length steps) step caches.frames
     → ((fh : FhId) → events_of events fh.0 ≡ events_after verdicts plan (record { seat = seat; step = step }) (past steps) fh (events_of caches.events fh.0))
-    → b ≡ board_of verdicts plan plan.controls caches.grabs caches.values (line_after caches.frames step caches.board.queued) → IsKept verdicts told plan steps' (record caches { frames = f; board = b; events = events })
+    → b ≡ board_of verdicts plan plan.controls caches.grabs caches.values (queued_after caches.frames step caches.board.queued) → IsKept verdicts told plan steps' (record caches { frames = f; board = b; events = events })
 kept_quiet verdicts told plan steps steps' caches f b events seat step kept room may quiet s made ev renewed =
     kept_add verdicts told plan steps steps' caches (record caches { frames = f; board = b; events = events }) (record { seat = seat; step = step }) kept (set_room steps room) may s
     (kept.file_handles ∙ sym (opened_quiet (length steps) step (opened (past steps)) quiet))
@@ -212,7 +212,7 @@ pub numbered : (verdicts : Verdicts) (told : Words) (plan : PlanData) (steps : H
 numbered verdicts told plan steps caches kept j = numbers_left verdicts plan (past steps) (record { 0 = j }) (events_of caches.events j) kept.plans (omega (arith, length_past steps, kept.few)) (kept.events (record { 0 = j }))
 
 -- the present values after one more step
-pub now_next : (verdicts : Verdicts) (plan : PlanData) (e : Entry Step) (older : Past) → now verdicts plan (e ∷ older) ≡ now_after verdicts plan (grabbed plan older) (laid plan older e.step) (now verdicts plan older)
+pub now_next : (verdicts : Verdicts) (plan : PlanData) (e : Entry Step) (older : Past) → now verdicts plan (e ∷ older) ≡ now_after verdicts plan (grabbed plan older) (pairs_asked plan older e.step) (now verdicts plan older)
 unfolding now
 now_next verdicts plan e older = refl
 
@@ -222,7 +222,7 @@ moment v g = rw (v, g) refl
 
 -- the values and grabs around a step
 pub around : (verdicts : Verdicts) (told : Words) (plan : PlanData) (steps : History) (caches : Caches) (e : Entry Step) (before after : MomentData) → IsKept verdicts told plan steps caches
-    → before ≡ record { values = caches.values; grabs = caches.grabs } → after.values ≡ now_after verdicts plan (grabbed plan (past steps)) (laid plan (past steps) e.step) (now verdicts plan (past steps))
+    → before ≡ record { values = caches.values; grabs = caches.grabs } → after.values ≡ now_after verdicts plan (grabbed plan (past steps)) (pairs_asked plan (past steps) e.step) (now verdicts plan (past steps))
     → after.grabs ≡ grabbed_after e.step (grabbed plan (past steps)) → AreAround verdicts plan e (past steps) before after
 around verdicts told plan steps caches e before after kept b v g = record {
   old_values = ap (λ (m : MomentData). m.values) b ∙ kept.values;

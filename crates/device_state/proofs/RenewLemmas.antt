@@ -8,7 +8,7 @@ use Rattle.ctrl_types.specs.Values.{CtrlValue}
 use Rattle.ctrl_calls.specs.Meanings.{Verdicts}
 use Rattle.ctrl_settle.specs.Control.{Control}
 use Rattle.ctrl_handlers.specs.Plan.{PlanData, cluster_of, members}
-use Rattle.ctrl_clusters.specs.Rows.{Grabs, Values, value_at, value_in, is_grabbed}
+use Rattle.ctrl_clusters.specs.Rows.{Grabs, Values, value_at, member_value, is_grabbed}
 use Rattle.ctrl_clusters.specs.NewRows.{clusters_of, row_among, value_among, written}
 use Rattle.ctrl_clusters.specs.declared.new_row.NewRow.{NewRow}
 use Rattle.ctrl_clusters.proofs.NewRowLemmas.{has_row, length_written, written_at}
@@ -31,7 +31,7 @@ nothing_among : (plan : PlanData) (rows : List NewRow) (o : Option ℕ) (c : ℕ
 nothing_among plan rows None c apart = refl
 nothing_among plan rows (Some k) c apart = by (row_among rows k) (sym (has_row rows k) ∙ apart)
   where
-    by : (o : Option (List CtrlValue)) → is_some o ≡ false → option_and_then (λ row. value_in (members plan k) row c) o ≡ None
+    by : (o : Option (List CtrlValue)) → is_some o ≡ false → option_and_then (λ row. member_value (members plan k) row c) o ≡ None
     by None h = refl
     by (Some row) h = cc
 

@@ -12,7 +12,7 @@ use Rattle.device_history.specs.Legal.{IsLegal}
 use Rattle.device_history.proofs.PastLemmas.{legal_add}
 use Rattle.device_history.proofs.LegalLemmas.{taken_follows}
 use Rattle.device_state.specs.Device.{DeviceData, Handles}
-use Rattle.device_state.specs.Runs.{Call, IsRun, entries_of, entry_of}
+use Rattle.device_state.specs.Runs.{Call, IsRun, entries_added, entry_added}
 
 -- the plan stays
 pub run_plan : (verdicts : Verdicts) (calls : List Call) (first last : DeviceData) → IsRun verdicts first calls last → last.plan ≡ first.plan
@@ -21,16 +21,16 @@ run_plan verdicts [] first last run = ap (λ (d : DeviceData). d.plan) run
 run_plan verdicts (call ∷ calls) first last run = run_plan verdicts calls run.0 last run.2 ∙ run.1.plan
 
 -- the steps grow by what the calls add
-pub run_steps : (verdicts : Verdicts) (calls : List Call) (first last : DeviceData) → IsRun verdicts first calls last → last.steps ≡ first.steps ++ entries_of verdicts first.plan first.steps calls
-unfolding IsRun entries_of
+pub run_steps : (verdicts : Verdicts) (calls : List Call) (first last : DeviceData) → IsRun verdicts first calls last → last.steps ≡ first.steps ++ entries_added verdicts first.plan first.steps calls
+unfolding IsRun entries_added
 run_steps verdicts [] first last run = ap (λ (d : DeviceData). d.steps) run ∙ sym (append-nil first.steps)
 run_steps verdicts (call ∷ calls) first last run =
     let next : DeviceData = run.0 in
-    let entry : History = entry_of verdicts first.plan first.steps call in
+    let entry : History = entry_added verdicts first.plan first.steps call in
     run_steps verdicts calls next last run.2
-    ∙ ap (λ (p : PlanData). next.steps ++ entries_of verdicts p next.steps calls) run.1.plan
-    ∙ ap (λ (s : History). s ++ entries_of verdicts first.plan s calls) run.1.steps
-    ∙ append_assoc first.steps entry (entries_of verdicts first.plan (first.steps ++ entry) calls)
+    ∙ ap (λ (p : PlanData). next.steps ++ entries_added verdicts p next.steps calls) run.1.plan
+    ∙ ap (λ (s : History). s ++ entries_added verdicts first.plan s calls) run.1.steps
+    ∙ append_assoc first.steps entry (entries_added verdicts first.plan (first.steps ++ entry) calls)
 
 -- what a call adds may follow
 entered_legal : (verdicts : Verdicts) (plan : PlanData) (steps : History) (words : List ℕ) (seat : ℕ) (ask : Ask) (answer : Answer) → MayAnswer verdicts plan (past steps) words ask answer → IsLegal verdicts plan (past steps)

@@ -14,11 +14,11 @@ use Rattle.ctrl_settle.specs.Control.{Control}
 use Rattle.ctrl_handlers.specs.Plan.{PlanData, IsPlan, control, calls_of, members, names_twice}
 use Rattle.ctrl_handlers.proofs.ClusterLemmas.{cluster_of_within, or_false, or_false_right}
 use Rattle.ctrl_clusters.specs.Rows.{AreControlsOf, Values, value_at, row_of, Grabs, is_grabbed}
-use Rattle.ctrl_clusters.specs.Judging.{becomes}
+use Rattle.ctrl_clusters.specs.Judging.{validated_row}
 use Rattle.ctrl_clusters.specs.Overlay.{is_among, is_touched, row_after, overlay}
-use Rattle.ctrl_clusters.specs.NewRows.{row_among, row_given, AreNewRows, written}
+use Rattle.ctrl_clusters.specs.NewRows.{row_among, row_or_empty, AreNewRows, written}
 use Rattle.ctrl_clusters.specs.Changes.{row_changes, cluster_changes}
-use Rattle.ctrl_clusters.specs.Notified.{MaySay, HaveWords, AreRenewed, notified_count}
+use Rattle.ctrl_clusters.specs.Notified.{MaySay, HaveWords, AreNotified, notified_count}
 use Rattle.ctrl_clusters.specs.declared.new_row.NewRow.{NewRow}
 use Rattle.ctrl_clusters.proofs.NewRowLemmas.{has_row, row_met}
 use Rattle.ctrl_clusters.proofs.NotifyLemmas.{changes_none, same_row}
@@ -70,7 +70,7 @@ row_then verdicts plan values grabs pairs rows k None is many lt judged free fou
 row_then verdicts plan values grabs pairs rows k (Some row) is many lt judged free found =
     let some : is_touched pairs (members plan k) ≡ true = touched_row verdicts plan values pairs rows k is lt judged ∙ ap is_some found in
     row_after_free verdicts plan plan.controls values grabs pairs k some (held_none grabs pairs (members plan k) free)
-    ∙ row_met (λ (j : ℕ) (x : List CtrlValue). becomes verdicts plan plan.controls values pairs j ≡ Ok x) rows k row judged.become found
+    ∙ row_met (λ (j : ℕ) (x : List CtrlValue). validated_row verdicts plan plan.controls values pairs j ≡ Ok x) rows k row judged.become found
 
 row_written : (verdicts : Verdicts) (plan : PlanData) (values : Values) (grabs : Grabs) (pairs : List Pair) (rows : List NewRow) (k : ℕ) (o : Option (List CtrlValue)) → IsPlan plan → length values ≡ length plan.controls → k < length plan.clusters
     → AreJudged verdicts plan plan.controls values pairs pairs rows → list_any (λ p. is_grabbed grabs p.control) pairs ≡ false → row_among rows k ≡ o
@@ -112,7 +112,7 @@ changes_written verdicts plan values grabs pairs rows k is many lt judged free =
 -- The words are such as notifiers may say of the rows then, where each changed cluster was notified.
 pub words_after : (says : Words) (verdicts : Verdicts) (plan : PlanData) (values : Values) (grabs : Grabs) (pairs : List Pair) (rows : List NewRow) (words new : List ℕ) → IsPlan plan → length values ≡ length plan.controls
     → AreJudged verdicts plan plan.controls values pairs pairs rows → list_any (λ p. is_grabbed grabs p.control) pairs ≡ false → HaveWords says plan values words
-    → AreRenewed says plan (cluster_changes plan values pairs rows) (row_given rows) words new → HaveWords says plan (overlay verdicts plan plan.controls values grabs pairs) new
+    → AreNotified says plan (cluster_changes plan values pairs rows) (row_or_empty rows) words new → HaveWords says plan (overlay verdicts plan plan.controls values grabs pairs) new
 words_after says verdicts plan values grabs pairs rows words new is many judged free have renewed = record {
   each = renewed.each ∙ have.each;
   allowed = λ k lt. by k lt (row_among rows k) (cluster_changes plan values pairs rows k) refl refl;
@@ -130,7 +130,7 @@ words_after says verdicts plan values grabs pairs rows words new is many judged 
     by k lt (Some row) true found ch =
         rw (row_written verdicts plan values grabs pairs rows k (Some row) is many lt judged free found) (subst (λ (r : List CtrlValue). MaySay says (calls_of plan k).notifier r (slice_index new k)) (given found) (renewed.own k lt ch))
       where
-        given : row_among rows k ≡ Some row → row_given rows k ≡ row
+        given : row_among rows k ≡ Some row → row_or_empty rows k ≡ row
         given h = rw h refl
     by k lt (Some row) false found ch =
         rw (row_written verdicts plan values grabs pairs rows k (Some row) is many lt judged free found)

@@ -6,7 +6,7 @@ use Rattle.ctrl_calls.specs.Meanings.{Verdicts, Words}
 use Rattle.ctrl_handlers.specs.Plan.{PlanData, members}
 use Rattle.ctrl_clusters.specs.Rows.{row_of}
 use Rattle.ctrl_clusters.specs.Changes.{members_change}
-use Rattle.ctrl_clusters.specs.Notified.{AreRenewed, notified_count}
+use Rattle.ctrl_clusters.specs.Notified.{AreNotified, notified_count}
 use Rattle.device_history.specs.declared.ask.Step.TheVariants.{Begin}
 use Rattle.device_history.specs.Steps.{Past}
 use Rattle.device_history.specs.Frames.{first_of, queue, running}
@@ -31,5 +31,5 @@ begin_changes verdicts plan older r = members_change plan (now verdicts plan old
 pub record BeginsAll (verdicts : Verdicts) (told : Words) (old new : DeviceData) (seat r : ℕ) : Type 0 where
   pub plan : new.plan ≡ old.plan
   pub steps : new.steps ≡ old.steps ++ record { seat = seat; step = Begin (record { 0 = r }) } ∷ []
-  pub words : AreRenewed told old.plan (begin_changes verdicts old.plan (past old.steps) r) (λ k. row_of (begun_values verdicts old.plan (past old.steps) r) (members old.plan k)) old.words new.words
+  pub words : AreNotified told old.plan (begin_changes verdicts old.plan (past old.steps) r) (λ k. row_of (begun_values verdicts old.plan (past old.steps) r) (members old.plan k)) old.words new.words
   pub work : new.work ≡ record old.work { told = notified_count old.plan (begin_changes verdicts old.plan (past old.steps) r) }

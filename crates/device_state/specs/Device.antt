@@ -14,11 +14,11 @@ use Rattle.ctrl_lists.specs.Checks.{first_refusal}
 use Rattle.ctrl_lists.specs.Touched.{touched, judged_count, none_where, with_calls}
 use Rattle.device_history.specs.Steps.{History, Past}
 use Rattle.device_history.specs.Grabs.{grabbed}
-use Rattle.device_history.specs.Values.{laid, now, now_after}
-use Rattle.device_history.specs.Words.{acted, changes}
+use Rattle.device_history.specs.Values.{pairs_asked, now, now_after}
+use Rattle.device_history.specs.Words.{pairs_applied, changes}
 use Rattle.device_history.specs.Snapshots.{frames}
 use Rattle.ctrl_forecast.specs.Forecasts.{named_by_frames}
-use Rattle.step_effects.specs.Lines.{line_asks}
+use Rattle.step_effects.specs.QueuedFrames.{asks_at_most}
 use Rattle.device_history.specs.Forecasts.{queued_frames}
 use Rattle.device_history.specs.Refusals.{Answer}
 use Rattle.device_history.specs.Answers.{MayAnswer, taken}
@@ -46,7 +46,7 @@ with_step device seat step = record device { steps = device.steps ++ record { se
 abbrev pub step_changes : Verdicts → PlanData → Past → Option Step → ℕ → Bool
 step_changes verdicts plan past None c = false
 step_changes verdicts plan past (Some step) c =
-    changes plan (now verdicts plan past) (now_after verdicts plan (grabbed plan past) (laid plan past step) (now verdicts plan past)) (acted verdicts plan past step) c
+    changes plan (now verdicts plan past) (now_after verdicts plan (grabbed plan past) (pairs_asked plan past step) (now verdicts plan past)) (pairs_applied verdicts plan past step) c
 
 -- so many validators at most, and none where a check before judging refuses the list
 abbrev pub list_most : Verdicts → PlanData → Past → FhId → ℕ → Option RequestId → Bool → List ExtControl → ℕ → ℕ
@@ -76,8 +76,8 @@ may_ask verdicts plan past (asks.SetCtrls fh which request list) =
     list_most verdicts plan past fh which request true list
     (list_touches plan past fh which list + forecast_asks plan past (which_or (which_of which)) (touched plan (list_pairs plan past fh which list)))
 may_ask verdicts plan past (asks.TryCtrls fh which request list) = list_most verdicts plan past fh which request false list (list_touches plan past fh which list)
-may_ask verdicts plan past (asks.Queue id) = line_asks plan (frames verdicts plan past) (steps.Queue id) (queued_frames plan past)
-may_ask verdicts plan past (asks.Cancel id) = line_asks plan (frames verdicts plan past) (steps.Cancel id) (queued_frames plan past)
+may_ask verdicts plan past (asks.Queue id) = asks_at_most plan (frames verdicts plan past) (steps.Queue id) (queued_frames plan past)
+may_ask verdicts plan past (asks.Cancel id) = asks_at_most plan (frames verdicts plan past) (steps.Cancel id) (queued_frames plan past)
 may_ask verdicts plan past (asks.Grab c on) = grab_asks plan past (cluster_of plan c)
 may_ask verdicts plan past _ = 0
 

@@ -10,17 +10,17 @@ use Rattle.device_history.specs.declared.ask.Step.{Step}
 use Rattle.device_history.specs.Steps.{Past}
 use Rattle.device_history.specs.Snapshots.{frames}
 use Rattle.device_history.specs.Forecasts.{queued_frames}
-use Rattle.step_effects.specs.Lines.{line_asks}
+use Rattle.step_effects.specs.QueuedFrames.{asks_at_most}
 use Rattle.device_history.specs.Refusals.{refused}
 use Rattle.device_history.specs.RequestAnswers.{stepped}
 use Rattle.device_history.specs.Answers.{answer_of, step_of, no_memory, MayLackMemory}
-use Rattle.step_effects.specs.Quiet.{NamesKnown, is_quiet}
+use Rattle.step_effects.specs.Leaving.{NamesKnown, leaves_controls}
 use Rattle.device_state.specs.Device.{may_ask, must_ask}
 
 -- An ask that adds a step which leaves file handles, grabs and values: it is answered its own refusal, then that no further step is kept, and else
 -- the reply; want of memory may take the place of the reply.
-pub record IsEntered (verdicts : Verdicts) (plan : PlanData) (past : Past) (words : List ℕ) (ask : Ask) (refusal : Option Errno) (step : Step) (reply : Reply) : Type 0 where
-  pub quiet : is_quiet step ≡ true
+pub record LeavesControls (verdicts : Verdicts) (plan : PlanData) (past : Past) (words : List ℕ) (ask : Ask) (refusal : Option Errno) (step : Step) (reply : Reply) : Type 0 where
+  pub quiet : leaves_controls step ≡ true
   pub answers : answer_of verdicts plan past words ask ≡ stepped refusal past reply
   pub answers_alone : answer_of verdicts plan past [] ask ≡ stepped refusal past reply
   pub adds : refusal ≡ None → step_of verdicts plan past ask ≡ Some step
@@ -28,5 +28,5 @@ pub record IsEntered (verdicts : Verdicts) (plan : PlanData) (past : Past) (word
   pub plain : no_memory ask ≡ refused ENOMEM
   pub asks_nobody : must_ask plan past ask ≡ 0
   -- validators are asked as often as for the step, at most
-  pub most : line_asks plan (frames verdicts plan past) step (queued_frames plan past) ≤ may_ask verdicts plan past ask
+  pub most : asks_at_most plan (frames verdicts plan past) step (queued_frames plan past) ≤ may_ask verdicts plan past ask
   pub known : refusal ≡ None → NamesKnown (length plan.controls) step

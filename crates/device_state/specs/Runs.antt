@@ -21,10 +21,10 @@ IsRun verdicts first [] last = last ≡ first
 IsRun verdicts first (call ∷ calls) last = (next : DeviceData) × Handles verdicts first next call.seat call.ask call.answer × IsRun verdicts next calls last
 
 -- what a call adds behind some steps: the entry that it takes, or nothing
-abbrev pub entry_of : Verdicts → PlanData → History → Call → History
-entry_of verdicts plan steps call = entered call.seat (taken verdicts plan (past steps) call.ask call.answer)
+abbrev pub entry_added : Verdicts → PlanData → History → Call → History
+entry_added verdicts plan steps call = entered call.seat (taken verdicts plan (past steps) call.ask call.answer)
 
 -- what calls add, in their order
-unfoldable pub entries_of : Verdicts → PlanData → History → List Call → History
-entries_of verdicts plan steps [] = []
-entries_of verdicts plan steps (call ∷ calls) = entry_of verdicts plan steps call ++ entries_of verdicts plan (steps ++ entry_of verdicts plan steps call) calls
+unfoldable pub entries_added : Verdicts → PlanData → History → List Call → History
+entries_added verdicts plan steps [] = []
+entries_added verdicts plan steps (call ∷ calls) = entry_added verdicts plan steps call ++ entries_added verdicts plan (steps ++ entry_added verdicts plan steps call) calls

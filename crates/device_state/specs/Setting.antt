@@ -20,9 +20,9 @@ use Rattle.device_history.specs.Values.{now}
 use Rattle.device_history.specs.Refusals.{is_full}
 use Rattle.device_history.specs.Lists.{earlier_pairs, list_pairs, meant, set_list_answer, which_or}
 use Rattle.device_state.specs.Device.{DeviceData, with_step}
-use Rattle.ctrl_clusters.specs.NewRows.{clusters_of, row_given}
+use Rattle.ctrl_clusters.specs.NewRows.{clusters_of, row_or_empty}
 use Rattle.ctrl_clusters.specs.Changes.{cluster_changes}
-use Rattle.ctrl_clusters.specs.Notified.{AreRenewed, notified_count}
+use Rattle.ctrl_clusters.specs.Notified.{AreNotified, notified_count}
 
 -- A list that can be set: its pairs are laid behind what its request asks for, where it speaks of one; each touched cluster gets a row, off which
 -- the answers are read; none of its controls is grabbed; and there is room for a step.
@@ -39,7 +39,7 @@ pub record IsSettable (verdicts : Verdicts) (plan : PlanData) (older : Past) (fh
 pub record SetsAll (verdicts : Verdicts) (told : Words) (old new : DeviceData) (seat : ℕ) (fh : FhId) (touch : TouchedData) : Type 0 where
   pub plan : new.plan ≡ old.plan
   pub steps : new.steps ≡ old.steps ++ record { seat = seat; step = Set fh touch.pairs } ∷ []
-  pub words : AreRenewed told old.plan (cluster_changes old.plan (now verdicts old.plan (past old.steps)) touch.pairs touch.rows) (row_given touch.rows) old.words new.words
+  pub words : AreNotified told old.plan (cluster_changes old.plan (now verdicts old.plan (past old.steps)) touch.pairs touch.rows) (row_or_empty touch.rows) old.words new.words
   pub notified : new.work.told ≡ notified_count old.plan (cluster_changes old.plan (now verdicts old.plan (past old.steps)) touch.pairs touch.rows)
   -- the forecasts of the queued frames are renewed in the touched clusters
   pub asked : new.work.asked ≤ old.work.asked + named_by_frames old.plan (queued_frames old.plan (past old.steps)) (clusters_of touch.rows)

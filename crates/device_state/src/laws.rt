@@ -9,7 +9,7 @@ ghost use Rattle.history_audit.specs.declared.fault.AuditFault.TheVariants as fa
 ghost use Rattle.history_audit.specs.Fault.{IsFault};
 ghost use Rattle.history_audit.specs.Scratch.{Agrees, ScratchData, scratch};
 ghost use Rattle.device_state.specs.Device.{DeviceData};
-ghost use Rattle.device_state.specs.Runs.{Call, IsRun, entries_of};
+ghost use Rattle.device_state.specs.Runs.{Call, IsRun, entries_added};
 
 /// Calls, each of which does what the contract of `handle` says, keep the plan; the last steps are the first ones, and behind them
 /// exactly the entries of the accepted calls, in their order; a legal history stays legal; and a refused call, wherever it stands,
@@ -17,7 +17,7 @@ ghost use Rattle.device_state.specs.Runs.{Call, IsRun, entries_of};
 #[tactic(auto, using(crate::proofs::RunLemmas::run_plan, crate::proofs::RunLemmas::run_steps, crate::proofs::RunLemmas::run_legal, crate::proofs::RunLemmas::run_refused))]
 pub fn whole_runs()
     ensures plan { (verdicts : Verdicts) (calls : List Call) (first last : DeviceData) → IsRun verdicts first calls last → last.plan ≡ first.plan }
-    ensures steps { (verdicts : Verdicts) (calls : List Call) (first last : DeviceData) → IsRun verdicts first calls last → last.steps ≡ first.steps ++ entries_of verdicts first.plan first.steps calls }
+    ensures steps { (verdicts : Verdicts) (calls : List Call) (first last : DeviceData) → IsRun verdicts first calls last → last.steps ≡ first.steps ++ entries_added verdicts first.plan first.steps calls }
     ensures legal { (verdicts : Verdicts) (calls : List Call) (first last : DeviceData) → IsRun verdicts first calls last → IsLegal verdicts first.plan (past first.steps) → IsLegal verdicts last.plan (past last.steps) }
     ensures refused { (verdicts : Verdicts) (before behind : List Call) (call : Call) (first last : DeviceData) → IsRun verdicts first (before ++ call ∷ behind) last → IsErr call.answer
         → (old : DeviceData) × (new : DeviceData) × IsRun verdicts first before old × (new ≡ record old { work = new.work }) × IsRun verdicts new behind last }

@@ -12,11 +12,11 @@ use Rattle.ctrl_types.specs.declared.ids.Pair.{Pair}
 use Rattle.ctrl_types.specs.declared.errno.Errno.TheVariants.{EBUSY, EINVAL, ENOENT}
 use Rattle.req_book.specs.declared.state.RequestState.{RequestState}
 use Rattle.req_book.specs.declared.state.RequestState.TheVariants.{Idle, Queued, Running, Complete}
-use Rattle.req_book.specs.Requests.{RequestData, RequestsData, find, with_request, changed, queued, begun, completed, cleared, fresh, without, is_pending, is_number}
+use Rattle.req_book.specs.Requests.{RequestData, RequestsData, find, with_request, with_changed, queued, begun, completed, cleared, new_request, without, is_pending, is_number}
 use Rattle.req_book.specs.Refusals.{queue_refusal, clear_refusal, unless}
 use Rattle.req_book.proofs.ObjectLemmas.{Tells}
 use Rattle.req_book.proofs.FindLemmas.{find_added, find_changed, find_without}
-use Rattle.frame_queue.specs.Frames.{FramesData, AreFrames, AreOnce, is_in, is_queued, is_running, queued_last, cancelled, cancel_refusal, ended, stopped, with_requests}
+use Rattle.frame_queue.specs.Frames.{FramesData, QueueFitsRequests, AreOnce, is_in, is_queued, is_running, queued_last, cancelled, cancel_refusal, ended, stopped, with_requests}
 
 clash : {X : Type 0} → true ≡ false → X
 clash h = cc
@@ -34,11 +34,11 @@ or_off true = refl
 or_off false = refl
 
 -- one request is changed
-pub kept_changed : (old : FramesData) (id : ℕ) (f : RequestData → RequestData) (queue : List ℕ) (running : Option ℕ) → AreFrames old → ((r : RequestData) → (f r).id ≡ r.id) → AreOnce queue
+pub kept_changed : (old : FramesData) (id : ℕ) (f : RequestData → RequestData) (queue : List ℕ) (running : Option ℕ) → QueueFitsRequests old → ((r : RequestData) → (f r).id ≡ r.id) → AreOnce queue
     → ((j : ℕ) → id ≢ j → list_any (nat_eq j) queue ≡ list_any (nat_eq j) old.queue) → list_any (nat_eq id) queue ≡ is_in is_queued (option_map f (find old.requests.all id))
     → ((j : ℕ) → id ≢ j → is_number running j ≡ is_number old.running j) → is_number running id ≡ is_in is_running (option_map f (find old.requests.all id))
     → ((r : RequestData) → find old.requests.all id ≡ Some r → is_queued (f r).state ≡ true → is_some (f r).buffer ≡ true)
-    → AreFrames (record { requests = changed old.requests id f; queue = queue; running = running })
+    → QueueFitsRequests (record { requests = with_changed old.requests id f; queue = queue; running = running })
 kept_changed old id f queue running kept keeps once others own runs_others runs_own holds =
     record { once = once; waits = λ j. waits j (eqb_tells id j); runs = λ j. runs j (eqb_tells id j); buffers = λ j r there waiting. buffers j r (eqb_tells id j) there waiting }
   where
@@ -103,10 +103,10 @@ once_filter test (k ∷ ks) once = by (test k) (once_filter test ks once.1)
     by false rest = rest
 
 -- an idle request waits, the last
-pub queued_kept : (old : FramesData) (id : ℕ) → AreFrames old → queue_refusal (find old.requests.all id) ≡ None → AreFrames (queued_last old id)
+pub queued_kept : (old : FramesData) (id : ℕ) → QueueFitsRequests old → queue_refusal (find old.requests.all id) ≡ None → QueueFitsRequests (queued_last old id)
 queued_kept old id kept passes = by (find old.requests.all id) refl passes
   where
-    by : (o : Option RequestData) → find old.requests.all id ≡ o → queue_refusal o ≡ None → AreFrames (queued_last old id)
+    by : (o : Option RequestData) → find old.requests.all id ≡ o → queue_refusal o ≡ None → QueueFitsRequests (queued_last old id)
     by None is passes = cc
     by (Some r) is passes = idle r.state refl
       where
@@ -117,7 +117,7 @@ queued_kept old id kept passes = by (find old.requests.all id) refl passes
         buffered None h = cc
         buffered (Some n) h = refl
 
-        idle : (s : RequestState) → r.state ≡ s → AreFrames (queued_last old id)
+        idle : (s : RequestState) → r.state ≡ s → QueueFitsRequests (queued_last old id)
         idle Idle state =
             let off : list_any (nat_eq id) old.queue ≡ false = kept.waits id ∙ ap (is_in is_queued) is ∙ ap is_queued state in
             let still : is_number old.running id ≡ false = kept.runs id ∙ ap (is_in is_running) is ∙ ap is_running state in
@@ -171,8 +171,8 @@ runs_only (Some r) h = by r.state h
     by Complete h = refl
 
 -- the first that waits runs
-pub begun_kept : (old : FramesData) (id : ℕ) (ids : List ℕ) (applied : List Pair) → AreFrames old → old.queue ≡ id ∷ ids → old.running ≡ None
-    → AreFrames (record { requests = changed old.requests id (begun old.requests.controls applied); queue = ids; running = Some id })
+pub begun_kept : (old : FramesData) (id : ℕ) (ids : List ℕ) (applied : List Pair) → QueueFitsRequests old → old.queue ≡ id ∷ ids → old.running ≡ None
+    → QueueFitsRequests (record { requests = with_changed old.requests id (begun old.requests.controls applied); queue = ids; running = Some id })
 begun_kept old id ids applied kept first none =
     let once : AreOnce (id ∷ ids) = subst AreOnce first kept.once in
     let was : true ≡ is_in is_queued (find old.requests.all id) = sym (ap (λ b. b || list_any (nat_eq id) ids) (eq-eqb id id refl)) ∙ ap (list_any (nat_eq id)) (sym first) ∙ kept.waits id in
@@ -196,8 +196,8 @@ begun_kept old id ids applied kept first none =
     other (inr differs) differ = differs.0
 
 -- the first that waits is complete
-pub ended_kept : (old : FramesData) (id : ℕ) (ids : List ℕ) (values : List CtrlValue) → AreFrames old → old.queue ≡ id ∷ ids
-    → AreFrames (record { requests = changed old.requests id (completed values); queue = ids; running = old.running })
+pub ended_kept : (old : FramesData) (id : ℕ) (ids : List ℕ) (values : List CtrlValue) → QueueFitsRequests old → old.queue ≡ id ∷ ids
+    → QueueFitsRequests (record { requests = with_changed old.requests id (completed values); queue = ids; running = old.running })
 ended_kept old id ids values kept first =
     let once : AreOnce (id ∷ ids) = subst AreOnce first kept.once in
     let was : true ≡ is_in is_queued (find old.requests.all id) = sym (ap (λ b. b || list_any (nat_eq id) ids) (eq-eqb id id refl)) ∙ ap (list_any (nat_eq id)) (sym first) ∙ kept.waits id in
@@ -209,8 +209,8 @@ ended_kept old id ids values kept first =
     (λ r there waiting. clash (sym waiting))
 
 -- the one that runs is complete
-pub completed_kept : (old : FramesData) (id : ℕ) (values : List CtrlValue) → AreFrames old → old.running ≡ Some id
-    → AreFrames (record { requests = changed old.requests id (completed values); queue = old.queue; running = None })
+pub completed_kept : (old : FramesData) (id : ℕ) (values : List CtrlValue) → QueueFitsRequests old → old.running ≡ Some id
+    → QueueFitsRequests (record { requests = with_changed old.requests id (completed values); queue = old.queue; running = None })
 completed_kept old id values kept running =
     let was : true ≡ is_in is_running (find old.requests.all id) = sym (eq-eqb id id refl) ∙ ap (λ o. is_number o id) (sym running) ∙ kept.runs id in
     kept_changed old id (completed values) old.queue None kept (λ r. refl) kept.once (λ j differ. refl)
@@ -224,7 +224,7 @@ completed_kept old id values kept running =
     other (inr differs) differ = differs.0
 
 -- one that waits is taken from the queue
-pub cancelled_kept : (old : FramesData) (id : ℕ) (values : List CtrlValue) → AreFrames old → cancel_refusal (find old.requests.all id) ≡ None → AreFrames (cancelled old id values)
+pub cancelled_kept : (old : FramesData) (id : ℕ) (values : List CtrlValue) → QueueFitsRequests old → cancel_refusal (find old.requests.all id) ≡ None → QueueFitsRequests (cancelled old id values)
 cancelled_kept old id values kept passes =
     let was : is_in is_queued (find old.requests.all id) ≡ true = waiting (find old.requests.all id) passes in
     kept_changed old id (completed values) (filter (λ j. not (nat_eq id j)) old.queue) old.running kept (λ r. refl) (once_filter (λ j. not (nat_eq id j)) old.queue kept.once)
@@ -253,8 +253,8 @@ cancelled_kept old id values kept passes =
     left j k differ (inr other) is = clash (sym is ∙ other.0)
 
 -- a change that leaves the state of a request leaves the queue
-pub state_kept : (old : FramesData) (id : ℕ) (f : RequestData → RequestData) → AreFrames old → ((r : RequestData) → (f r).id ≡ r.id) → ((r : RequestData) → (f r).state ≡ r.state)
-    → ((r : RequestData) → is_some r.buffer ≡ true → is_some (f r).buffer ≡ true) → AreFrames (record { requests = changed old.requests id f; queue = old.queue; running = old.running })
+pub state_kept : (old : FramesData) (id : ℕ) (f : RequestData → RequestData) → QueueFitsRequests old → ((r : RequestData) → (f r).id ≡ r.id) → ((r : RequestData) → (f r).state ≡ r.state)
+    → ((r : RequestData) → is_some r.buffer ≡ true → is_some (f r).buffer ≡ true) → QueueFitsRequests (record { requests = with_changed old.requests id f; queue = old.queue; running = old.running })
 state_kept old id f kept keeps same holds =
     kept_changed old id f old.queue old.running kept keeps kept.once (λ j differ. refl) (kept.waits id ∙ is is_queued (find old.requests.all id)) (λ j differ. refl) (kept.runs id ∙ is is_running (find old.requests.all id))
     (λ r there waiting. holds r (kept.buffers id r there (sym (ap is_queued (same r)) ∙ waiting)))
@@ -275,7 +275,7 @@ rests (Some r) h = by r.state h
     by Complete h = (refl, refl)
 
 -- one that neither waits nor runs is as new
-pub cleared_kept : (old : FramesData) (id : ℕ) → AreFrames old → clear_refusal (find old.requests.all id) ≡ None → AreFrames (record { requests = changed old.requests id cleared; queue = old.queue; running = old.running })
+pub cleared_kept : (old : FramesData) (id : ℕ) → QueueFitsRequests old → clear_refusal (find old.requests.all id) ≡ None → QueueFitsRequests (record { requests = with_changed old.requests id cleared; queue = old.queue; running = old.running })
 cleared_kept old id kept passes =
     kept_changed old id cleared old.queue old.running kept (λ r. refl) kept.once (λ j differ. refl)
     (kept.waits id ∙ (rests (find old.requests.all id) passes).0 ∙ sym (idle (find old.requests.all id)).0) (λ j differ. refl)
@@ -287,8 +287,8 @@ cleared_kept old id kept passes =
     idle (Some r) = (refl, refl)
 
 -- one that neither waits nor runs is let go
-pub freed_kept : (old : FramesData) (id : ℕ) → AreFrames old → clear_refusal (find old.requests.all id) ≡ None
-    → AreFrames (record { requests = record old.requests { all = without id old.requests.all }; queue = old.queue; running = old.running })
+pub freed_kept : (old : FramesData) (id : ℕ) → QueueFitsRequests old → clear_refusal (find old.requests.all id) ≡ None
+    → QueueFitsRequests (record { requests = record old.requests { all = without id old.requests.all }; queue = old.queue; running = old.running })
 freed_kept old id kept passes = record { once = kept.once; waits = λ j. waits j (eqb_tells id j); runs = λ j. runs j (eqb_tells id j); buffers = λ j r there. buffers j r (eqb_tells id j) there }
   where
     buffers : (j : ℕ) (r : RequestData) → Tells id j → find (without id old.requests.all) j ≡ Some r → is_queued r.state ≡ true → is_some r.buffer ≡ true
@@ -319,28 +319,28 @@ freed_kept old id kept passes = record { once = kept.once; waits = λ j. waits j
         kept.runs j ∙ sym (ap (is_in is_running) is)
 
 -- a new one neither waits nor runs
-pub added_kept : (old : FramesData) (id : ℕ) → AreFrames old → find old.requests.all id ≡ None
-    → AreFrames (record { requests = record old.requests { all = old.requests.all ++ fresh id ∷ [] }; queue = old.queue; running = old.running })
+pub added_kept : (old : FramesData) (id : ℕ) → QueueFitsRequests old → find old.requests.all id ≡ None
+    → QueueFitsRequests (record { requests = record old.requests { all = old.requests.all ++ new_request id ∷ [] }; queue = old.queue; running = old.running })
 added_kept old id kept none = record {
   once = kept.once;
-  waits = λ j. kept.waits j ∙ same is_queued refl (find old.requests.all j) (nat_eq j id) ∙ sym (ap (is_in is_queued) (find_added old.requests.all (fresh id) j));
-  runs = λ j. kept.runs j ∙ same is_running refl (find old.requests.all j) (nat_eq j id) ∙ sym (ap (is_in is_running) (find_added old.requests.all (fresh id) j));
-  buffers = λ j r there. waiting r (find old.requests.all j) (nat_eq j id) (kept.buffers j r) (sym (find_added old.requests.all (fresh id) j) ∙ there);
+  waits = λ j. kept.waits j ∙ same is_queued refl (find old.requests.all j) (nat_eq j id) ∙ sym (ap (is_in is_queued) (find_added old.requests.all (new_request id) j));
+  runs = λ j. kept.runs j ∙ same is_running refl (find old.requests.all j) (nat_eq j id) ∙ sym (ap (is_in is_running) (find_added old.requests.all (new_request id) j));
+  buffers = λ j r there. waiting r (find old.requests.all j) (nat_eq j id) (kept.buffers j r) (sym (find_added old.requests.all (new_request id) j) ∙ there);
 }
   where
-    fresh_only : (r : RequestData) → Some (fresh id) ≡ Some r → is_queued r.state ≡ true → is_some r.buffer ≡ true
-    fresh_only r is waits = clash (sym waits ∙ sym (ap (λ (x : RequestData). is_queued x.state) (same_some (fresh id) r is)))
+    fresh_only : (r : RequestData) → Some (new_request id) ≡ Some r → is_queued r.state ≡ true → is_some r.buffer ≡ true
+    fresh_only r is waits = clash (sym waits ∙ sym (ap (λ (x : RequestData). is_queued x.state) (same_some (new_request id) r is)))
       where
         same_some : (a b : RequestData) → Some a ≡ Some b → a ≡ b
         same_some a b h = cc
 
-    waiting : (r : RequestData) (o : Option RequestData) (b : Bool) → (o ≡ Some r → is_queued r.state ≡ true → is_some r.buffer ≡ true) → option_or o (cond b (Some (fresh id)) None) ≡ Some r
+    waiting : (r : RequestData) (o : Option RequestData) (b : Bool) → (o ≡ Some r → is_queued r.state ≡ true → is_some r.buffer ≡ true) → option_or o (cond b (Some (new_request id)) None) ≡ Some r
         → is_queued r.state ≡ true → is_some r.buffer ≡ true
     waiting r None true holds is = fresh_only r is
     waiting r None false holds is = cc
     waiting r (Some q) b holds is = holds is
 
-    same : (test : RequestState → Bool) → test Idle ≡ false → (o : Option RequestData) (b : Bool) → is_in test o ≡ is_in test (option_or o (cond b (Some (fresh id)) None))
+    same : (test : RequestState → Bool) → test Idle ≡ false → (o : Option RequestData) (b : Bool) → is_in test o ≡ is_in test (option_or o (cond b (Some (new_request id)) None))
     same test idle None true = sym idle
     same test idle None false = refl
     same test idle (Some r) b = refl
@@ -368,12 +368,12 @@ at_end values f none = ap (λ ids. whole (ended values ids f.requests)) empty �
     empty = by f.queue none
 
 -- a call that only its refusal can stop keeps the queue, refused or not
-pub unless_kept : (old : FramesData) (refusal : Option Errno) (new : RequestsData) → AreFrames old → (refusal ≡ None → AreFrames (with_requests old new)) → AreFrames (with_requests old (unless refusal old.requests new))
+pub unless_kept : (old : FramesData) (refusal : Option Errno) (new : RequestsData) → QueueFitsRequests old → (refusal ≡ None → QueueFitsRequests (with_requests old new)) → QueueFitsRequests (with_requests old (unless refusal old.requests new))
 unless_kept old None new kept changes = changes refl
 unless_kept old (Some errno) new kept changes = kept
 
 -- a call that may want memory as well: accepted, it changes the requests; refused, it leaves them
-pub either_kept : (old : FramesData) (requests new : RequestsData) (P : Type 0) (R : Errno → Type 0) (r : Result (Unit {0}) Errno) → AreFrames old → OnOk r (P × (requests ≡ new)) → IfErr r (λ errno. R errno × (requests ≡ old.requests)) → (P → AreFrames (with_requests old new))
-    → AreFrames (with_requests old requests)
-either_kept old requests new P R (Ok done) kept ok err changes = subst (λ x. AreFrames (with_requests old x)) (sym ok.1) (changes ok.0)
-either_kept old requests new P R (Err errno) kept ok err changes = subst (λ x. AreFrames (with_requests old x)) (sym err.1) kept
+pub either_kept : (old : FramesData) (requests new : RequestsData) (P : Type 0) (R : Errno → Type 0) (r : Result (Unit {0}) Errno) → QueueFitsRequests old → OnOk r (P × (requests ≡ new)) → IfErr r (λ errno. R errno × (requests ≡ old.requests)) → (P → QueueFitsRequests (with_requests old new))
+    → QueueFitsRequests (with_requests old requests)
+either_kept old requests new P R (Ok done) kept ok err changes = subst (λ x. QueueFitsRequests (with_requests old x)) (sym ok.1) (changes ok.0)
+either_kept old requests new P R (Err errno) kept ok err changes = subst (λ x. QueueFitsRequests (with_requests old x)) (sym err.1) kept

@@ -5,19 +5,19 @@ use Rattle.std.proofs.lemmas.Bool.Decides.{eqb_tells, nat_tests}
 use Rattle.ctrl_types.specs.declared.errno.Errno.{Errno}
 use Rattle.ctrl_types.specs.declared.errno.Errno.TheVariants.{ENOSPC}
 use Rattle.req_book.specs.declared.limits.TheConstants.{MAX_REQUESTS}
-use Rattle.req_book.specs.Requests.{RequestData, RequestsData, changed, find, fresh, queued, with_request, without}
+use Rattle.req_book.specs.Requests.{RequestData, RequestsData, with_changed, find, new_request, queued, with_request, without}
 use Rattle.req_book.specs.Refusals.{alloc_refusal, queue_refusal, unless}
 use Rattle.req_book.proofs.ObjectLemmas.{Tells}
 use Rattle.req_book.proofs.FindLemmas.{find_without}
-use Rattle.frame_queue.specs.Frames.{FramesData, AreFrames, AreOnce, is_in, is_queued, queued_last, with_requests}
-use Rattle.frame_queue.specs.Places.{HasPlaces}
+use Rattle.frame_queue.specs.Frames.{FramesData, QueueFitsRequests, AreOnce, is_in, is_queued, queued_last, with_requests}
+use Rattle.frame_queue.specs.Places.{HasQueueRoom}
 use Rattle.frame_queue.proofs.FrameLemmas.{either_kept, queued_kept, unless_kept}
 
 clash : {X : Type 0} → true ≡ false → X
 clash h = cc
 
 -- the queue of no request
-pub none_kept : (controls : ℕ) → AreFrames (record { requests = record { controls = controls; all = [] }; queue = []; running = None })
+pub none_kept : (controls : ℕ) → QueueFitsRequests (record { requests = record { controls = controls; all = [] }; queue = []; running = None })
 none_kept controls = record { once = tt; waits = λ id. refl; runs = λ id. refl; buffers = λ id r there waiting. none r there }
   where
     none : (r : RequestData) → None ≡ Some r → is_some r.buffer ≡ true
@@ -33,7 +33,7 @@ many_changed (r ∷ rs) id f = by (nat_eq id r.id) (many_changed rs id f)
     by false rest = ap suc rest
 
 -- the same of a whole store
-pub many_after : (old new : RequestsData) (id : ℕ) (f : RequestData → RequestData) → new ≡ changed old id f → length new.all ≡ length old.all
+pub many_after : (old new : RequestsData) (id : ℕ) (f : RequestData → RequestData) → new ≡ with_changed old id f → length new.all ≡ length old.all
 many_after old new id f is = ap (λ (r : RequestsData). length r.all) is ∙ many_changed old.all id f
 
 -- without one there are no more
@@ -72,7 +72,7 @@ named_few (id ∷ ids) rs once named =
         ap is_some is ∙ named j (or_on (nat_eq j id) (list_any (nat_eq j) ids) among)
 
 -- no more wait than there are
-pub waiting_few : (f : FramesData) → AreFrames f → length f.queue ≤ length f.requests.all
+pub waiting_few : (f : FramesData) → QueueFitsRequests f → length f.queue ≤ length f.requests.all
 waiting_few f kept = named_few f.queue f.requests.all kept.once (λ j among. there (find f.requests.all j) (sym (kept.waits j) ∙ among))
   where
     there : (o : Option RequestData) → is_in is_queued o ≡ true → is_some o ≡ true
@@ -80,14 +80,14 @@ waiting_few f kept = named_few f.queue f.requests.all kept.once (λ j among. the
     there (Some r) h = refl
 
 -- one that is queued is one of those that there can be, and didn't wait before
-pub one_fits : (old : FramesData) (room id : ℕ) → HasPlaces old room → queue_refusal (find old.requests.all id) ≡ None → length old.queue + 1 ≤ MAX_REQUESTS
+pub one_fits : (old : FramesData) (room id : ℕ) → HasQueueRoom old room → queue_refusal (find old.requests.all id) ≡ None → length old.queue + 1 ≤ MAX_REQUESTS
 one_fits old room id kept passes =
     let few = waiting_few (queued_last old id) (queued_kept old id kept.frames passes) in
     omega (arith, few, length-append old.queue (id ∷ []), many_changed old.requests.all id (queued old.requests.controls), kept.few)
 
 -- a call that only its refusal can stop keeps the places, refused or not
-pub unless_places : (old : FramesData) (room : ℕ) (refusal : Option Errno) (new : RequestsData) → HasPlaces old room → (refusal ≡ None → AreFrames (with_requests old new)) → length new.all ≤ length old.requests.all
-    → HasPlaces (with_requests old (unless refusal old.requests new)) room
+pub unless_places : (old : FramesData) (room : ℕ) (refusal : Option Errno) (new : RequestsData) → HasQueueRoom old room → (refusal ≡ None → QueueFitsRequests (with_requests old new)) → length new.all ≤ length old.requests.all
+    → HasQueueRoom (with_requests old (unless refusal old.requests new)) room
 unless_places old room refusal new kept changes many = record { frames = unless_kept old refusal new kept.frames changes; few = by refusal; fits = kept.fits }
   where
     by : (o : Option Errno) → length (unless o old.requests new).all ≤ MAX_REQUESTS
@@ -95,8 +95,8 @@ unless_places old room refusal new kept changes many = record { frames = unless_
     by (Some errno) = kept.few
 
 -- a call that may want memory as well
-pub either_places : (old : FramesData) (room : ℕ) (requests new : RequestsData) (P : Type 0) (R : Errno → Type 0) (r : Result (Unit {0}) Errno) → HasPlaces old room → OnOk r (P × (requests ≡ new)) → IfErr r (λ errno. R errno × (requests ≡ old.requests))
-    → (P → AreFrames (with_requests old new)) → (P → length new.all ≤ MAX_REQUESTS) → HasPlaces (with_requests old requests) room
+pub either_places : (old : FramesData) (room : ℕ) (requests new : RequestsData) (P : Type 0) (R : Errno → Type 0) (r : Result (Unit {0}) Errno) → HasQueueRoom old room → OnOk r (P × (requests ≡ new)) → IfErr r (λ errno. R errno × (requests ≡ old.requests))
+    → (P → QueueFitsRequests (with_requests old new)) → (P → length new.all ≤ MAX_REQUESTS) → HasQueueRoom (with_requests old requests) room
 either_places old room requests new P R r kept ok err changes many = record { frames = either_kept old requests new P R r kept.frames ok err changes; few = by r ok err; fits = kept.fits }
   where
     by : (r : Result (Unit {0}) Errno) → OnOk r (P × (requests ≡ new)) → IfErr r (λ errno. R errno × (requests ≡ old.requests)) → length requests.all ≤ MAX_REQUESTS
@@ -104,9 +104,9 @@ either_places old room requests new P R r kept ok err changes many = record { fr
     by (Err errno) ok err = subst (λ (x : RequestsData). length x.all ≤ MAX_REQUESTS) (sym err.1) kept.few
 
 -- a request that is made is one of those that there can be
-pub made_few : (rs : List RequestData) (id : ℕ) → alloc_refusal rs ≡ None → length (rs ++ fresh id ∷ []) ≤ MAX_REQUESTS
+pub made_few : (rs : List RequestData) (id : ℕ) → alloc_refusal rs ≡ None → length (rs ++ new_request id ∷ []) ≤ MAX_REQUESTS
 made_few rs id passes = by (nat_le MAX_REQUESTS (length rs)) refl passes
   where
-    by : (b : Bool) → nat_le MAX_REQUESTS (length rs) ≡ b → (if b then Some ENOSPC else None) ≡ None → length (rs ++ fresh id ∷ []) ≤ MAX_REQUESTS
+    by : (b : Bool) → nat_le MAX_REQUESTS (length rs) ≡ b → (if b then Some ENOSPC else None) ≡ None → length (rs ++ new_request id ∷ []) ≤ MAX_REQUESTS
     by true is h = cc
-    by false is h = let less : length rs < MAX_REQUESTS = grind (arith, nat_tests, is) in omega (arith, less, length-append rs (fresh id ∷ []))
+    by false is h = let less : length rs < MAX_REQUESTS = grind (arith, nat_tests, is) in omega (arith, less, length-append rs (new_request id ∷ []))

@@ -8,7 +8,7 @@ use Rattle.ctrl_types.specs.declared.errno.Errno.TheVariants.{EBUSY, EINVAL, ENO
 use Rattle.ctrl_types.specs.declared.ids.Pair.{Pair}
 use Rattle.req_book.specs.declared.state.RequestState.{RequestState}
 use Rattle.req_book.specs.declared.state.RequestState.TheVariants.{Queued, Running}
-use Rattle.req_book.specs.Requests.{RequestData, RequestsData, find, changed, queued, begun, completed, is_number}
+use Rattle.req_book.specs.Requests.{RequestData, RequestsData, find, with_changed, queued, begun, completed, is_number}
 
 -- the requests; those that wait for their frames, in the order in which they were queued; and the one whose frame is being made
 pub record FramesData : Type 0 where
@@ -35,7 +35,7 @@ AreOnce [] = Unit {0}
 AreOnce (id ∷ ids) = (list_any (nat_eq id) ids ≡ false) × AreOnce ids
 
 -- The queue has exactly the queued requests, each once; the one that runs is exactly the running one; and each that waits holds a buffer.
-pub record AreFrames (f : FramesData) : Type 0 where
+pub record QueueFitsRequests (f : FramesData) : Type 0 where
   pub once : AreOnce f.queue
   pub waits : (id : ℕ) → list_any (nat_eq id) f.queue ≡ is_in is_queued (find f.requests.all id)
   pub runs : (id : ℕ) → is_number f.running id ≡ is_in is_running (find f.requests.all id)
@@ -52,7 +52,7 @@ with_requests f requests = record f { requests = requests }
 
 -- a request waits, the last
 abbrev pub queued_last : FramesData → ℕ → FramesData
-queued_last f id = record { requests = changed f.requests id (queued f.requests.controls); queue = f.queue ++ id ∷ []; running = f.running }
+queued_last f id = record { requests = with_changed f.requests id (queued f.requests.controls); queue = f.queue ++ id ∷ []; running = f.running }
 
 -- the number of the buffer that a request holds; each one that waits holds one
 abbrev pub buffer_number : Option RequestData → ℕ
@@ -71,7 +71,7 @@ begin_answer f = if is_some f.running then Err EBUSY else first_waiting f.reques
 -- what it leaves: the first that waits runs, and its controls got these values
 abbrev pub first_begun : List Pair → RequestsData → List ℕ → FramesData
 first_begun applied requests [] = record { requests = requests; queue = []; running = None }
-first_begun applied requests (id ∷ ids) = record { requests = changed requests id (begun requests.controls applied); queue = ids; running = Some id }
+first_begun applied requests (id ∷ ids) = record { requests = with_changed requests id (begun requests.controls applied); queue = ids; running = Some id }
 
 abbrev pub after_begin : FramesData → List Pair → FramesData
 after_begin f applied = if is_some f.running then f else first_begun applied f.requests f.queue
@@ -83,7 +83,7 @@ complete_refusal f = if is_none f.running then Some ENOENT else None
 -- what is left once the frame that runs, where one does, ended at these values
 abbrev pub running_done : List CtrlValue → RequestsData → List ℕ → Option ℕ → FramesData
 running_done values requests queue None = record { requests = requests; queue = queue; running = None }
-running_done values requests queue (Some id) = record { requests = changed requests id (completed values); queue = queue; running = None }
+running_done values requests queue (Some id) = record { requests = with_changed requests id (completed values); queue = queue; running = None }
 
 abbrev pub after_complete : FramesData → List CtrlValue → FramesData
 after_complete f values = running_done values f.requests f.queue f.running
@@ -95,12 +95,12 @@ cancel_refusal (Some r) = if is_running r.state then Some EBUSY else if is_queue
 
 -- what is left once it was taken from the queue, at these values
 abbrev pub cancelled : FramesData → ℕ → List CtrlValue → FramesData
-cancelled f id values = record { requests = changed f.requests id (completed values); queue = filter (λ j. not (nat_eq id j)) f.queue; running = f.running }
+cancelled f id values = record { requests = with_changed f.requests id (completed values); queue = filter (λ j. not (nat_eq id j)) f.queue; running = f.running }
 
 -- the requests, where those with these ids are complete
 abbrev pub ended : List CtrlValue → List ℕ → RequestsData → RequestsData
 ended values [] requests = requests
-ended values (id ∷ ids) requests = ended values ids (changed requests id (completed values))
+ended values (id ∷ ids) requests = ended values ids (with_changed requests id (completed values))
 
 -- what is left once all that wait are complete
 abbrev pub stopped : List CtrlValue → FramesData → FramesData

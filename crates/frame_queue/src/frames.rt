@@ -1,8 +1,8 @@
 ghost use Rattle.std.specs.Prelude.{◌≡◌, ◌↔◌, IsTrue, ◌++◌, ◌<◌, ◌∷◌, [], length, None, Some, Ok, Err, true, IfErr, IfOk, IfSome, OnOk, MatchResult, slice_get, is_some, ℕ, remove, filter, not, nat_eq, option_copied, vec_capacity};
 ghost use Rattle.std.specs.Option.{option_map, ok_or};
 ghost use Rattle.std.specs.List.{All};
-ghost use Rattle.req_book.specs.Requests.{RequestData, find, changed, completed, with_pairs, with_buffer, cleared, without, fresh};
-ghost use Rattle.req_book.specs.Refusals.{alloc_refusal, store_refusal, buffer_refusal, queue_refusal, clear_refusal, state_answer, buffer_answer, asked_answer, snapshot_answer, value_answer, answered, unless, IsRefusedBy};
+ghost use Rattle.req_book.specs.Requests.{RequestData, find, with_changed, completed, with_pairs, with_buffer, cleared, without, new_request};
+ghost use Rattle.req_book.specs.Refusals.{alloc_refusal, store_refusal, buffer_refusal, queue_refusal, clear_refusal, state_answer, buffer_answer, asked_answer, snapshot_answer, value_answer, done_unless, unless, IsRefusedBy};
 ghost use Rattle.ctrl_types.specs.declared.errno.Errno.TheVariants.{ENOENT, ENOMEM};
 ghost use Rattle.frame_queue.specs.Frames.{is_queued, with_requests, queued_last, begin_answer, after_begin, first_waiting, buffer_number, first_begun, complete_refusal, after_complete, cancel_refusal, cancelled, running_done, unless_refused, after_off};
 ghost use Rattle.frame_queue.specs.Like.{IsLike};
@@ -23,14 +23,14 @@ pub struct Frames {
 
 impl Model for Frames {
     ghost use Rattle.frame_queue.specs.Frames.{FramesData};
-    ghost use Rattle.frame_queue.specs.Places.{HasPlaces};
+    ghost use Rattle.frame_queue.specs.Places.{HasQueueRoom};
     ghost use Rattle.std.specs.Prelude.{vec_capacity};
 
     ghost Value = { FramesData };
 
     ghost view = { λ f. record { requests = f.requests; queue = f.queue.items; running = f.running } };
 
-    ghost invariant = { λ f. HasPlaces (record { requests = f.requests; queue = f.queue.items; running = f.running }) (vec_capacity f.queue) };
+    ghost invariant = { λ f. HasQueueRoom (record { requests = f.requests; queue = f.queue.items; running = f.running }) (vec_capacity f.queue) };
 }
 
 impl Frames {
@@ -181,7 +181,7 @@ impl Frames {
     /// Refused by check 26 (ENOENT, 2), which changes nothing. It takes no memory.
     pub fn complete(&mut self, values: &[CtrlValue]) -> Result<(), Errno>
         requires { length values.now ≡ self.old.requests.controls }
-        ensures answer { result ≡ answered (complete_refusal self.old) }
+        ensures answer { result ≡ done_unless (complete_refusal self.old) }
         ensures frames { self.new ≡ after_complete self.old values.now }
     {
         match self.running {
@@ -226,7 +226,7 @@ impl Frames {
     /// Refused by check 19 (EINVAL, 22), 27 (EBUSY, 16) or 28 (EINVAL, 22), which changes nothing. It takes no memory.
     pub fn cancel(&mut self, id: RequestId, values: &[CtrlValue]) -> Result<(), Errno>
         requires { length values.now ≡ self.old.requests.controls }
-        ensures answer { result ≡ answered (cancel_refusal (find self.old.requests.all id.0)) }
+        ensures answer { result ≡ done_unless (cancel_refusal (find self.old.requests.all id.0)) }
         ensures frames { self.new ≡ unless_refused (cancel_refusal (find self.old.requests.all id.0)) self.old (cancelled self.old id.0 values.now) }
     {
         match self.cancel_refusal(id) {
@@ -275,7 +275,7 @@ impl Frames {
     fn end_first(&mut self, id: u32, values: &[CtrlValue])
         requires values { length values.now ≡ self.old.requests.controls }
         requires first { slice_get self.old.queue 0 ≡ Some id }
-        ensures { self.new ≡ record self.old { requests = changed self.old.requests id (completed values.now); queue = remove self.old.queue 0 } }
+        ensures { self.new ≡ record self.old { requests = with_changed self.old.requests id (completed values.now); queue = remove self.old.queue 0 } }
     {
         self.queue.remove(0);
         self.requests.mark_complete(RequestId(id), values);
@@ -403,7 +403,7 @@ impl Frames {
     /// Refused by check 18 (ENOSPC, 28) or 34 (ENOMEM, 12), which changes nothing.
     pub fn alloc(&mut self, id: RequestId) -> Result<(), Errno>
         requires { find self.old.requests.all id.0 ≡ None }
-        ensures ok { OnOk result ((alloc_refusal self.old.requests.all ≡ None) × (self.new ≡ with_requests self.old (record self.old.requests { all = self.old.requests.all ++ fresh id.0 ∷ [] }))) }
+        ensures ok { OnOk result ((alloc_refusal self.old.requests.all ≡ None) × (self.new ≡ with_requests self.old (record self.old.requests { all = self.old.requests.all ++ new_request id.0 ∷ [] }))) }
         ensures err { IfErr result (λ errno. IsRefusedBy (alloc_refusal self.old.requests.all) errno × (self.new ≡ self.old)) }
     {
         self.requests.alloc(id)
@@ -418,7 +418,7 @@ impl Frames {
     /// Refused by check 19 (EINVAL, 22), 20 (EBUSY, 16) or 34 (ENOMEM, 12), which changes nothing.
     pub fn store(&mut self, id: RequestId, pairs: &[Pair]) -> Result<(), Errno>
         requires { All (λ p. p.control < self.old.requests.controls) pairs.now }
-        ensures ok { OnOk result ((store_refusal (find self.old.requests.all id.0) ≡ None) × (self.new ≡ with_requests self.old (changed self.old.requests id.0 (with_pairs self.old.requests.controls pairs.now)))) }
+        ensures ok { OnOk result ((store_refusal (find self.old.requests.all id.0) ≡ None) × (self.new ≡ with_requests self.old (with_changed self.old.requests id.0 (with_pairs self.old.requests.controls pairs.now)))) }
         ensures err { IfErr result (λ errno. IsRefusedBy (store_refusal (find self.old.requests.all id.0)) errno × (self.new ≡ self.old)) }
     {
         self.requests.store(id, pairs)
@@ -432,8 +432,8 @@ impl Frames {
     ///
     /// Refused by check 19 (EINVAL, 22), or one of 20 to 22 (EBUSY, 16), which changes nothing. It takes no memory.
     pub fn add_buffer(&mut self, id: RequestId, number: u32) -> Result<(), Errno>
-        ensures answer { result ≡ answered (buffer_refusal self.old.requests.all number (find self.old.requests.all id.0)) }
-        ensures frames { self.new ≡ with_requests self.old (unless (buffer_refusal self.old.requests.all number (find self.old.requests.all id.0)) self.old.requests (changed self.old.requests id.0 (with_buffer number))) }
+        ensures answer { result ≡ done_unless (buffer_refusal self.old.requests.all number (find self.old.requests.all id.0)) }
+        ensures frames { self.new ≡ with_requests self.old (unless (buffer_refusal self.old.requests.all number (find self.old.requests.all id.0)) self.old.requests (with_changed self.old.requests id.0 (with_buffer number))) }
     {
         self.requests.add_buffer(id, number)
     }
@@ -445,8 +445,8 @@ impl Frames {
     ///
     /// Refused by check 19 (EINVAL, 22) or 29 (EBUSY, 16), which changes nothing. It takes no memory.
     pub fn reinit(&mut self, id: RequestId) -> Result<(), Errno>
-        ensures answer { result ≡ answered (clear_refusal (find self.old.requests.all id.0)) }
-        ensures frames { self.new ≡ with_requests self.old (unless (clear_refusal (find self.old.requests.all id.0)) self.old.requests (changed self.old.requests id.0 cleared)) }
+        ensures answer { result ≡ done_unless (clear_refusal (find self.old.requests.all id.0)) }
+        ensures frames { self.new ≡ with_requests self.old (unless (clear_refusal (find self.old.requests.all id.0)) self.old.requests (with_changed self.old.requests id.0 cleared)) }
     {
         self.requests.reinit(id)
     }
@@ -457,7 +457,7 @@ impl Frames {
     ///
     /// Refused by check 19 (EINVAL, 22) or 29 (EBUSY, 16), which changes nothing. It takes no memory.
     pub fn free(&mut self, id: RequestId) -> Result<(), Errno>
-        ensures answer { result ≡ answered (clear_refusal (find self.old.requests.all id.0)) }
+        ensures answer { result ≡ done_unless (clear_refusal (find self.old.requests.all id.0)) }
         ensures frames { self.new ≡ with_requests self.old (unless (clear_refusal (find self.old.requests.all id.0)) self.old.requests (record self.old.requests { all = without id.0 self.old.requests.all })) }
     {
         self.requests.free(id)

@@ -11,7 +11,7 @@ use Rattle.device_history.specs.declared.ask.Step.{Step}
 use Rattle.device_history.specs.Steps.{History}
 use Rattle.device_history.specs.Legal.{IsLegal}
 use Rattle.history_audit.specs.Fault.{StopsAt}
-use Rattle.history_audit.specs.Replay.{IsNext, ReplayData, Replayed}
+use Rattle.history_audit.specs.Replay.{IsNextEntry, ReplayData, Replayed}
 use Rattle.history_audit.specs.Scratch.{ScratchData, scratch}
 use Rattle.history_audit.proofs.MadeLemmas.{replayed_next, taken_many}
 
@@ -26,21 +26,21 @@ abbrev pub at : PlanData → History → ℕ → ReplayData
 at plan all n = record { plan = plan; steps = take n all; all = all }
 
 -- the entry that stands behind them is the next one
-next_at : (plan : PlanData) (all : History) (n : ℕ) (e : Entry Step) → n ≤ length all → slice_get all n ≡ Some e → IsNext (at plan all n) e
+next_at : (plan : PlanData) (all : History) (n : ℕ) (e : Entry Step) → n ≤ length all → slice_get all n ≡ Some e → IsNextEntry (at plan all n) e
 next_at plan all n e h is = subst (λ (m : ℕ). slice_get all m ≡ Some e) (sym (taken_many all n h)) is
 
 -- more stand in the history than were replayed
 pub more_stand : (all : History) (n : ℕ) → n ≤ length all → length (take n all) < length all → n < length all
 more_stand all n within more = subst (λ (m : ℕ). m < length all) (taken_many all n within) more
 
-pub next_read : (plan : PlanData) (all : History) (n : ℕ) (e : Entry Step) → n ≤ length all → length (take n all) < length all → e ≡ get_or all n e → IsNext (at plan all n) e
+pub next_read : (plan : PlanData) (all : History) (n : ℕ) (e : Entry Step) → n ≤ length all → length (take n all) < length all → e ≡ get_or all n e → IsNextEntry (at plan all n) e
 next_read plan all n e within more is =
     let less : n < length all = more_stand all n within more in
     next_at plan all n e within (slice_get_read all (length all) n e refl less is)
 
 -- it alone is
-pub replayed_each : (verdicts : Verdicts) (old new : ReplayData) (e : Entry Step) (done : Result Bool AllocError) → IsNext old e → IfOk done (λ is. Replayed verdicts old new e is)
-    → IfOk done (λ is. (other : Entry Step) → IsNext old other → Replayed verdicts old new other is)
+pub replayed_each : (verdicts : Verdicts) (old new : ReplayData) (e : Entry Step) (done : Result Bool AllocError) → IsNextEntry old e → IfOk done (λ is. Replayed verdicts old new e is)
+    → IfOk done (λ is. (other : Entry Step) → IsNextEntry old other → Replayed verdicts old new other is)
 replayed_each verdicts old new e (Ok is) here does = λ other there. subst (λ (x : Entry Step). Replayed verdicts old new x is) (same e other (sym here ∙ there)) does
   where
     same : (a b : Entry Step) → Some a ≡ Some b → a ≡ b
@@ -49,20 +49,20 @@ replayed_each verdicts old new e (Err err) here does = does
 
 -- one more was replayed
 pub audit_next : (verdicts : Verdicts) (plan : PlanData) (all : History) (old new : ReplayData) (n : ℕ) → old ≡ at plan all n → n < length all
-    → ((e : Entry Step) → IsNext old e → Replayed verdicts old new e true) → new ≡ at plan all (n + 1)
+    → ((e : Entry Step) → IsNextEntry old e → Replayed verdicts old new e true) → new ≡ at plan all (n + 1)
 audit_next verdicts plan all old new n is h replays =
     let s = stands all n h in
-    let here : IsNext (at plan all n) s.0 = next_at plan all n s.0 (omega (arith, h)) s.1 in
-    let does : Replayed verdicts (at plan all n) new s.0 true = subst (λ (r : ReplayData). Replayed verdicts r new s.0 true) is (replays s.0 (subst (λ (r : ReplayData). IsNext r s.0) (sym is) here)) in
+    let here : IsNextEntry (at plan all n) s.0 = next_at plan all n s.0 (omega (arith, h)) s.1 in
+    let does : Replayed verdicts (at plan all n) new s.0 true = subst (λ (r : ReplayData). Replayed verdicts r new s.0 true) is (replays s.0 (subst (λ (r : ReplayData). IsNextEntry r s.0) (sym is) here)) in
     does.1 ∙ ap (λ (steps : History). (let d : ReplayData = record { plan = plan; steps = steps; all = all } in d)) (sym (replayed_next all n s.0 (omega (arith, h)) here).0)
 
 -- the next one may not follow
 pub audit_stops : (verdicts : Verdicts) (plan : PlanData) (all : History) (old new : ReplayData) (n : ℕ) → old ≡ at plan all n → n < length all
-    → ((e : Entry Step) → IsNext old e → Replayed verdicts old new e false) → IsLegal verdicts new.plan (past new.steps) → StopsAt verdicts plan all n
+    → ((e : Entry Step) → IsNextEntry old e → Replayed verdicts old new e false) → IsLegal verdicts new.plan (past new.steps) → StopsAt verdicts plan all n
 audit_stops verdicts plan all old new n is h replays legal =
     let s = stands all n h in
-    let does : (e : Entry Step) → IsNext (at plan all n) e → Replayed verdicts (at plan all n) new e false =
-    subst (λ (r : ReplayData). (e : Entry Step) → IsNext r e → Replayed verdicts r new e false) is replays in
+    let does : (e : Entry Step) → IsNextEntry (at plan all n) e → Replayed verdicts (at plan all n) new e false =
+    subst (λ (r : ReplayData). (e : Entry Step) → IsNextEntry r e → Replayed verdicts r new e false) is replays in
     let same : new ≡ at plan all n = (does s.0 (next_at plan all n s.0 (omega (arith, h)) s.1)).1 in
     record {
       within = h;

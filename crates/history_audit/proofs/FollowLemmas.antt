@@ -42,7 +42,7 @@ use Rattle.device_history.proofs.FreeIdLemmas.{free_unshown}
 use Rattle.history_audit.specs.Replay.{gives_pairs}
 use Rattle.history_audit.specs.Changing.{StoresKnown, fits_parts, lacks}
 use Rattle.device_history.proofs.EventLemmas.{subscribes_known}
-use Rattle.step_effects.specs.Quiet.{NamesKnown}
+use Rattle.step_effects.specs.Leaving.{NamesKnown}
 
 both : (a b : Bool) → (a && b) ≡ true → (a ≡ true) × (b ≡ true)
 both true b h = (refl, h)

@@ -20,13 +20,13 @@ use Rattle.device_history.specs.Handles.{opened, ever_opened, opened_after}
 use Rattle.device_history.specs.Grabs.{grabbed, grabbed_after}
 use Rattle.device_history.specs.Snapshots.{frames}
 use Rattle.device_history.specs.FrameSteps.{frames_after}
-use Rattle.device_history.specs.Values.{laid, now, defaults, now_after}
+use Rattle.device_history.specs.Values.{pairs_asked, now, defaults, now_after}
 use Rattle.device_history.specs.Refusals.{is_full}
 use Rattle.device_history.specs.Legal.{IsLegal, MayFollow}
 use Rattle.device_history.proofs.FrameLaw.{frames_start, frames_add}
 use Rattle.device_history.proofs.PastLemmas.{opened_add, opened_fresh, now_add, legal_add}
 use Rattle.device_history.proofs.GrabLemmas.{grabbed_start, grabbed_add}
-use Rattle.history_audit.specs.Replay.{AreMade, IsReplay, Parts}
+use Rattle.history_audit.specs.Replay.{HaveComeAbout, IsReplay, Parts}
 
 -- so many are taken
 pub taken_many : {X : Type 0} (xs : List X) (n : ℕ) → n ≤ length xs → length (take n xs) ≡ n
@@ -73,7 +73,7 @@ replayed_next all count e within h =
 pub replay_add : (verdicts : Verdicts) (plan : PlanData) (all : History) (count : ℕ) (parts parts' : Parts) (e : Entry Step) → IsReplay verdicts plan all count parts
     → slice_get all (length (take count all)) ≡ Some e → is_full (past (take count all)) ≡ false → MayFollow verdicts plan (past (take count all)) e.step
     → parts'.file_handles ≡ opened_after count e.step (opened (past (take count all))) → parts'.grabs ≡ grabbed_after e.step (grabbed plan (past (take count all)))
-    → parts'.values ≡ now_after verdicts plan (grabbed plan (past (take count all))) (laid plan (past (take count all)) e.step) (now verdicts plan (past (take count all)))
+    → parts'.values ≡ now_after verdicts plan (grabbed plan (past (take count all))) (pairs_asked plan (past (take count all)) e.step) (now verdicts plan (past (take count all)))
     → parts'.frames ≡ frames_after verdicts plan (past (take count all)) count e.step (frames verdicts plan (past (take count all)))
     → ((fh : FhId) → events_of parts'.events fh.0 ≡ events_after verdicts plan e (past (take count all)) fh (events_of parts.events fh.0)) → IsReplay verdicts plan all (count + 1) parts'
 replay_add verdicts plan all count parts parts' e replay is room may h g v f ev =
@@ -84,7 +84,7 @@ replay_add verdicts plan all count parts parts' e replay is room may h g v f ev 
       plans = replay.plans;
       within = omega (arith, more.1);
       few = omega (arith, few);
-      made = subst (λ (s : History). AreMade verdicts plan s parts') (sym more.0) (record {
+      made = subst (λ (s : History). HaveComeAbout verdicts plan s parts') (sym more.0) (record {
         legal = legal_add verdicts plan (take count all) e replay.made.legal may;
         file_handles = h ∙ ap (λ (n : ℕ). opened_after n e.step (opened (past (take count all)))) (sym many) ∙ sym (opened_add (take count all) e);
         grabs = g ∙ sym (grabbed_add plan (take count all) e);
@@ -111,6 +111,6 @@ numbered verdicts plan all count parts replay j =
     numbers_left verdicts plan (past (take count all)) (record { 0 = j }) (events_of parts.events j) replay.plans (omega (arith, many, same, replay.few)) (replay.made.events (record { 0 = j }))
 
 -- the present values after one more entry
-pub now_next : (verdicts : Verdicts) (plan : PlanData) (e : Entry Step) (older : Past) → now verdicts plan (e ∷ older) ≡ now_after verdicts plan (grabbed plan older) (laid plan older e.step) (now verdicts plan older)
+pub now_next : (verdicts : Verdicts) (plan : PlanData) (e : Entry Step) (older : Past) → now verdicts plan (e ∷ older) ≡ now_after verdicts plan (grabbed plan older) (pairs_asked plan older e.step) (now verdicts plan older)
 unfolding now
 now_next verdicts plan e older = refl

@@ -19,8 +19,8 @@ pub use Rattle.device_history.specs.Forecasts
 pub use Rattle.device_history.specs.Flags
 pub use Rattle.device_history.specs.Legal
 pub use Rattle.device_history.specs.Asking
-pub use Rattle.step_effects.specs.Quiet
-pub use Rattle.step_effects.specs.Given
+pub use Rattle.step_effects.specs.Leaving
+pub use Rattle.step_effects.specs.Sources
 pub mod Scratch
 pub mod Replay
 pub mod Judged

@@ -26,8 +26,8 @@ pub record ReplayData : Type 0 where
   pub all : History
 
 -- an entry is the next one to be replayed
-abbrev pub IsNext : ReplayData → Entry Step → Type 0
-IsNext replay e = slice_get replay.all (length replay.steps) ≡ Some e
+abbrev pub IsNextEntry : ReplayData → Entry Step → Type 0
+IsNextEntry replay e = slice_get replay.all (length replay.steps) ≡ Some e
 
 -- the replay behind one more entry
 abbrev pub with_next : ReplayData → Entry Step → ReplayData
@@ -50,7 +50,7 @@ pub record Parts : Type 0 where
   pub events : EventsData
 
 -- Steps came about, and each part is what they make of it.
-pub record AreMade (verdicts : Verdicts) (plan : PlanData) (steps : History) (parts : Parts) : Type 0 where
+pub record HaveComeAbout (verdicts : Verdicts) (plan : PlanData) (steps : History) (parts : Parts) : Type 0 where
   pub legal : IsLegal verdicts plan (past steps)
   pub file_handles : parts.file_handles ≡ opened (past steps)
   pub grabs : parts.grabs ≡ grabbed plan (past steps)
@@ -63,7 +63,7 @@ pub record IsReplay (verdicts : Verdicts) (plan : PlanData) (all : History) (cou
   pub plans : IsPlan plan
   pub within : count ≤ length all
   pub few : count ≤ MAX_STEPS
-  pub made : AreMade verdicts plan (take count all) parts
+  pub made : HaveComeAbout verdicts plan (take count all) parts
 
 -- a step that lays a list of pairs that was given with it
 abbrev pub gives_pairs : Step → Bool

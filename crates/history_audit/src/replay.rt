@@ -7,7 +7,7 @@ ghost use Rattle.device_history.specs.Handles.{handler_of};
 ghost use Rattle.device_history.specs.Legal.{IsLegal};
 ghost use Rattle.device_history.specs.Refusals.{is_full};
 ghost use Rattle.device_history.specs.Values.{now};
-ghost use Rattle.history_audit.specs.Replay.{IsNext, Replayed, gives_pairs};
+ghost use Rattle.history_audit.specs.Replay.{IsNextEntry, Replayed, gives_pairs};
 ghost use Rattle.history_audit.specs.Scratch.{scratch};
 
 mod begins;
@@ -119,7 +119,7 @@ impl<'a, D: Driver> Replay<'a, D> {
     /// The error is that a growth was refused; nothing was changed then.
     pub fn next(&mut self) -> Result<bool, AllocError>
         requires { length self.old.steps < length self.old.all }
-        ensures replayed { IfOk result (λ is. (e : EntryOf StepOf) → IsNext self.old e → Replayed D.verdict self.old self.new e is) }
+        ensures replayed { IfOk result (λ is. (e : EntryOf StepOf) → IsNextEntry self.old e → Replayed D.verdict self.old self.new e is) }
         ensures err { OnErr result (self.new ≡ self.old) }
         ensures legal { IsLegal D.verdict self.new.plan (past self.new.steps) }
     {
@@ -132,7 +132,7 @@ impl<'a, D: Driver> Replay<'a, D> {
 
     // Replays an entry, which is the next one.
     fn replay(&mut self, entry: &Entry<Step>) -> Result<bool, AllocError>
-        requires { IsNext self.old entry.now }
+        requires { IsNextEntry self.old entry.now }
         ensures ok { IfOk result (λ is. Replayed D.verdict self.old self.new entry.now is) }
         ensures err { OnErr result (self.new ≡ self.old) }
     {
@@ -145,7 +145,7 @@ impl<'a, D: Driver> Replay<'a, D> {
 
     // Replays an entry whose step gives no pairs.
     fn replay_plain(&mut self, entry: &Entry<Step>) -> Result<bool, AllocError>
-        requires next { IsNext self.old entry.now }
+        requires next { IsNextEntry self.old entry.now }
         requires plain { gives_pairs entry.now.step ≡ false }
         ensures ok { IfOk result (λ is. Replayed D.verdict self.old self.new entry.now is) }
         ensures err { OnErr result (self.new ≡ self.old) }

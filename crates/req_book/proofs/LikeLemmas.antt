@@ -13,7 +13,7 @@ use Rattle.req_book.specs.contracts.state.RequestState.{the_type}
 use Rattle.req_book.specs.declared.state.RequestState.{RequestState}
 use Rattle.req_book.specs.declared.object.Object.{Object}
 use Rattle.slab.specs.Slab.{Slab, get}
-use Rattle.req_book.specs.Objects.{AreKept, request_at, request_in, requests_in, snapshot_seen}
+use Rattle.req_book.specs.Objects.{AreObjects, request_at, request_of_entry, requests_of_entries, snapshot_seen}
 use Rattle.req_book.proofs.ObjectLemmas.{first_in}
 use Rattle.req_book.specs.Requests.{RequestData, RequestsData}
 use Rattle.req_book.specs.Alike.{AreLike, compared}
@@ -57,14 +57,14 @@ same_decides a b =
     (values (snapshot_seen a.state a.values.items) (snapshot_seen b.state b.values.items) _ refl)
 
 -- the request at a place is that of the entry there
-pub at_place : (n : ℕ) (slots : Slab Object) (es : List (ℕ × ℕ)) (i : ℕ) → AreKept n slots es → slice_get (requests_in slots es) i ≡ option_and_then (request_in slots) (slice_get es i)
-unfolding requests_in
+pub at_place : (n : ℕ) (slots : Slab Object) (es : List (ℕ × ℕ)) (i : ℕ) → AreObjects n slots es → slice_get (requests_of_entries slots es) i ≡ option_and_then (request_of_entry slots) (slice_get es i)
+unfolding requests_of_entries
 at_place n slots [] i kept = refl
 at_place n slots (e ∷ es) zero kept =
-    let first = first_in n slots e (requests_in slots es) kept.0 in
+    let first = first_in n slots e (requests_of_entries slots es) kept.0 in
     ap (λ (rs : List RequestData). slice_get rs 0) first.2 ∙ sym (ap (option_map (request_at e.0)) first.1)
 at_place n slots (e ∷ es) (suc i) kept =
-    let first = first_in n slots e (requests_in slots es) kept.0 in
+    let first = first_in n slots e (requests_of_entries slots es) kept.0 in
     ap (λ (rs : List RequestData). slice_get rs (suc i)) first.2 ∙ at_place n slots es i kept.2
 
 -- as many requests that are alike at each place

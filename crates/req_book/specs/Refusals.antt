@@ -8,7 +8,7 @@ use Rattle.ctrl_types.specs.declared.errno.Errno.TheVariants.{EACCES, EBUSY, EIN
 use Rattle.ctrl_types.specs.declared.ids.Pair.{Pair}
 use Rattle.req_book.specs.declared.state.RequestState.{RequestState}
 use Rattle.req_book.specs.declared.limits.TheConstants.{MAX_REQUESTS}
-use Rattle.req_book.specs.Requests.{RequestData, RequestsData, value_in, is_idle, is_complete, is_pending, is_held}
+use Rattle.req_book.specs.Requests.{RequestData, RequestsData, value_of_control, is_idle, is_complete, is_pending, is_number_held}
 
 -- Why no further request is made: there are as many as there can be.
 abbrev pub alloc_refusal : List RequestData → Option Errno
@@ -25,7 +25,7 @@ buffer_refusal rs number None = Some EINVAL
 buffer_refusal rs number (Some r) =
     if not (is_idle r.state) then Some EBUSY
     else if is_some r.buffer then Some EBUSY
-    else if is_held rs number then Some EBUSY
+    else if is_number_held rs number then Some EBUSY
     else None
 
 -- Why a request isn't queued: it isn't there; it isn't idle; it has no buffer.
@@ -64,12 +64,12 @@ snapshot_answer (Some r) = if is_complete r.state then Ok r.snapshot else Err EA
 -- the same, of a control: EINVAL where there is no such request or no such control, then EACCES where the request isn't complete
 abbrev pub value_answer : ℕ → ℕ → Option RequestData → Result CtrlValue Errno
 value_answer controls c None = Err EINVAL
-value_answer controls c (Some r) = if nat_le controls c then Err EINVAL else if is_complete r.state then Ok (value_in r.snapshot c) else Err EACCES
+value_answer controls c (Some r) = if nat_le controls c then Err EINVAL else if is_complete r.state then Ok (value_of_control r.snapshot c) else Err EACCES
 
 -- what a call answers that only its refusal can stop
-abbrev pub answered : Option Errno → Result (Unit {0}) Errno
-answered None = Ok tt
-answered (Some errno) = Err errno
+abbrev pub done_unless : Option Errno → Result (Unit {0}) Errno
+done_unless None = Ok tt
+done_unless (Some errno) = Err errno
 
 -- what it leaves: what was there, where it is refused
 abbrev pub unless : Option Errno → RequestsData → RequestsData → RequestsData

@@ -52,16 +52,16 @@ is_number None number = false
 is_number (Some n) number = nat_eq n number
 
 -- a request holds a buffer number until it is complete
-abbrev pub holds : ℕ → RequestData → Bool
-holds number r = is_number r.buffer number && not (is_complete r.state)
+abbrev pub holds_number : ℕ → RequestData → Bool
+holds_number number r = is_number r.buffer number && not (is_complete r.state)
 
 -- some request holds it
-abbrev pub is_held : List RequestData → ℕ → Bool
-is_held rs number = list_any (holds number) rs
+abbrev pub is_number_held : List RequestData → ℕ → Bool
+is_number_held rs number = list_any (holds_number number) rs
 
 -- a new request: idle, without a buffer, and with nothing asked
-abbrev pub fresh : ℕ → RequestData
-fresh id = record { id = id; state = Idle; buffer = None; pairs = []; applied = []; snapshot = [] }
+abbrev pub new_request : ℕ → RequestData
+new_request id = record { id = id; state = Idle; buffer = None; pairs = []; applied = []; snapshot = [] }
 
 -- the pair of a control that has a value
 abbrev pub pair_of : ℕ → Option CtrlValue → Option Pair
@@ -83,7 +83,7 @@ abbrev pub with_buffer : ℕ → RequestData → RequestData
 with_buffer number r = record r { buffer = Some number }
 
 abbrev pub cleared : RequestData → RequestData
-cleared r = fresh r.id
+cleared r = new_request r.id
 
 -- a queued one: no control got anything yet
 abbrev pub queued : ℕ → RequestData → RequestData
@@ -94,12 +94,12 @@ abbrev pub begun : ℕ → List Pair → RequestData → RequestData
 begun controls pairs r = record r { state = Running; applied = map (last_value pairs) (range_with_len 0 controls) }
 
 -- the value of a control among a value for each
-abbrev pub value_in : List CtrlValue → ℕ → CtrlValue
-value_in values c = slice_index_or values c (pos 0)
+abbrev pub value_of_control : List CtrlValue → ℕ → CtrlValue
+value_of_control values c = slice_index_or values c (pos 0)
 
 -- The values of a frame: of a control that got one at the begin that value, of any other the value at completion.
 unfoldable pub snapshot_of : List (Option CtrlValue) → List CtrlValue → List CtrlValue
-snapshot_of applied values = map (λ c. unwrap_or (slice_index_or applied c None) (value_in values c)) (range_with_len 0 (length values))
+snapshot_of applied values = map (λ c. unwrap_or (slice_index_or applied c None) (value_of_control values c)) (range_with_len 0 (length values))
 
 -- a complete one
 abbrev pub completed : List CtrlValue → RequestData → RequestData
@@ -115,5 +115,5 @@ abbrev pub without : ℕ → List RequestData → List RequestData
 without id rs = filter (λ r. not (nat_eq id r.id)) rs
 
 -- the same of a whole store
-abbrev pub changed : RequestsData → ℕ → (RequestData → RequestData) → RequestsData
-changed r id f = record r { all = with_request id f r.all }
+abbrev pub with_changed : RequestsData → ℕ → (RequestData → RequestData) → RequestsData
+with_changed r id f = record r { all = with_request id f r.all }

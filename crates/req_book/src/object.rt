@@ -3,7 +3,7 @@ ghost use Rattle.ctrl_types.specs.declared.errno.Errno.TheVariants.{EACCES, EBUS
 ghost use Rattle.req_book.specs.Refusals.{store_refusal, queue_refusal, clear_refusal, snapshot_answer};
 ghost use Rattle.req_book.specs.Objects.{request_at, snapshot_seen};
 ghost use Rattle.req_book.specs.Alike.{compared};
-ghost use Rattle.req_book.specs.Requests.{is_number, is_idle, is_complete, value_in};
+ghost use Rattle.req_book.specs.Requests.{is_number, is_idle, is_complete, value_of_control};
 ghost use Rattle.req_book.specs.declared.state.RequestState.TheVariants as states;
 
 use crate::state::RequestState;
@@ -74,7 +74,7 @@ impl Object {
     }
 
     /// Whether it holds a buffer number, which a complete one doesn't.
-    pub(crate) fn holds(&self, number: u32) -> bool
+    pub(crate) fn holds_number(&self, number: u32) -> bool
         ensures { result ≡ (is_number self.now.buffer number && not (is_complete self.now.state)) }
     {
         self.buffer == Some(number) && self.state != RequestState::Complete
@@ -91,10 +91,10 @@ impl Object {
     }
 
     /// Why it takes no buffer, where the number is held or not.
-    pub(crate) fn buffer_refusal(&self, is_held: bool) -> Option<Errno>
-        ensures { result ≡ (if not (is_idle self.now.state) then Some EBUSY else if is_some self.now.buffer then Some EBUSY else if is_held then Some EBUSY else None) }
+    pub(crate) fn buffer_refusal(&self, is_number_held: bool) -> Option<Errno>
+        ensures { result ≡ (if not (is_idle self.now.state) then Some EBUSY else if is_some self.now.buffer then Some EBUSY else if is_number_held then Some EBUSY else None) }
     {
-        if self.state != RequestState::Idle || self.buffer.is_some() || is_held {
+        if self.state != RequestState::Idle || self.buffer.is_some() || is_number_held {
             Some(Errno::EBUSY)
         } else {
             None
@@ -137,7 +137,7 @@ impl Object {
     /// The value of a control that its frame had. The caller owes a number below that of the device's controls.
     pub(crate) fn value_of(&self, control: u32) -> Result<CtrlValue, Errno>
         requires { self.now.state ≡ states.Complete → control < length self.now.values.items }
-        ensures { result ≡ (if is_complete self.now.state then Ok (value_in self.now.values.items control) else Err EACCES) }
+        ensures { result ≡ (if is_complete self.now.state then Ok (value_of_control self.now.values.items control) else Err EACCES) }
     {
         match self.state {
             RequestState::Complete => Ok(self.values[control as usize]),

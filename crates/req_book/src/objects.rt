@@ -1,10 +1,10 @@
 ghost use Rattle.std.specs.Prelude.{◌≡◌, ◌↔◌, IsTrue, ℕ, ◌<◌, slice_get, OnOk, OnErr, IfSome, option_copied, length, replicate, true, ◌++◌, ◌∷◌, [], None};
 ghost use Rattle.std.specs.Option.{option_map};
-ghost use Rattle.req_book.specs.Requests.{find, changed, asking, with_pairs, with_buffer, cleared, queued, begun, completed, is_pending, is_held, without, fresh};
+ghost use Rattle.req_book.specs.Requests.{find, with_changed, asking, with_pairs, with_buffer, cleared, queued, begun, completed, is_pending, is_number_held, without, new_request};
 ghost use Rattle.std.specs.List.{list_any};
 ghost use Rattle.indexmap.specs.IndexMap.{values};
 ghost use Rattle.slab.specs.Slab.{get};
-ghost use Rattle.req_book.specs.Objects.{request_at, held_by, HasRoom};
+ghost use Rattle.req_book.specs.Objects.{request_at, held_by, HasFrameRoom};
 ghost use Rattle.req_book.specs.Alike.{AreLike, compared};
 ghost use Rattle.req_book.specs.declared.state.RequestState.TheVariants as states;
 
@@ -27,13 +27,13 @@ pub(crate) struct Objects {
 
 impl Model for Objects {
     ghost use Rattle.req_book.specs.Requests.{RequestsData};
-    ghost use Rattle.req_book.specs.Objects.{requests_in, IsKept};
+    ghost use Rattle.req_book.specs.Objects.{requests_of_entries, IsObjectTable};
 
     ghost Value = { RequestsData };
 
-    ghost view = { λ o. record { controls = o.controls; all = requests_in o.slots o.ids.entries } };
+    ghost view = { λ o. record { controls = o.controls; all = requests_of_entries o.slots o.ids.entries } };
 
-    ghost invariant = { λ o. IsKept o.controls o.slots o.ids.entries };
+    ghost invariant = { λ o. IsObjectTable o.controls o.slots o.ids.entries };
 }
 
 impl Objects {
@@ -65,7 +65,7 @@ impl Objects {
     /// The object of a request.
     pub(crate) fn get(&self, id: u32) -> Option<&Object>
         ensures request { option_map (request_at id) (option_copied result) ≡ find self.now.all id }
-        ensures room { IfSome result (λ object. HasRoom self.now.controls object.now.state object.now.applied.items object.now.values.items) }
+        ensures room { IfSome result (λ object. HasFrameRoom self.now.controls object.now.state object.now.applied.items object.now.values.items) }
     {
         match self.ids.get(&id) {
             Some(key) => self.slots.get(*key),
@@ -125,8 +125,8 @@ impl Objects {
     }
 
     /// Whether a request that isn't complete holds a buffer number.
-    pub(crate) fn is_held(&self, number: u32) -> bool
-        ensures { result ≡ is_held self.now.all number }
+    pub(crate) fn is_number_held(&self, number: u32) -> bool
+        ensures { result ≡ is_number_held self.now.all number }
     {
         some_holds(&self.slots, &self.ids, number)
     }
@@ -134,7 +134,7 @@ impl Objects {
     /// Puts a new request in, the last. The caller owes that there is none with this id. The error is that a growth was refused.
     pub(crate) fn add(&mut self, alloc: Global, id: u32) -> Result<(), AllocError>
         requires { find self.old.all id ≡ None }
-        ensures ok { OnOk result (self.new ≡ record self.old { all = self.old.all ++ fresh id ∷ [] }) }
+        ensures ok { OnOk result (self.new ≡ record self.old { all = self.old.all ++ new_request id ∷ [] }) }
         ensures err { OnErr result (self.new ≡ self.old) }
     {
         self.ids.reserve(1)?;
@@ -148,7 +148,7 @@ impl Objects {
 
     /// Stores pairs in a request behind those that it has. The error is that a growth was refused.
     pub(crate) fn store(&mut self, alloc: Global, id: u32, more: &[Pair]) -> Result<(), AllocError>
-        ensures ok { OnOk result (self.new ≡ changed self.old id (with_pairs self.old.controls more.now)) }
+        ensures ok { OnOk result (self.new ≡ with_changed self.old id (with_pairs self.old.controls more.now)) }
         ensures err { OnErr result (self.new ≡ self.old) }
     {
         let pairs = match self.get(id) {
@@ -161,7 +161,7 @@ impl Objects {
 
     // Gives a request what it asks for.
     fn set_pairs(&mut self, id: u32, pairs: Vec<Pair>)
-        ensures { self.new ≡ changed self.old id (asking pairs.items) }
+        ensures { self.new ≡ with_changed self.old id (asking pairs.items) }
     {
         if let Some(key) = self.ids.get(&id) {
             if let Some(object) = self.slots.get_mut(*key) {
@@ -172,7 +172,7 @@ impl Objects {
 
     /// Gives a request a buffer.
     pub(crate) fn set_buffer(&mut self, id: u32, number: u32)
-        ensures { self.new ≡ changed self.old id (with_buffer number) }
+        ensures { self.new ≡ with_changed self.old id (with_buffer number) }
     {
         if let Some(key) = self.ids.get(&id) {
             if let Some(object) = self.slots.get_mut(*key) {
@@ -183,7 +183,7 @@ impl Objects {
 
     /// Makes a request as new.
     pub(crate) fn clear(&mut self, id: u32)
-        ensures { self.new ≡ changed self.old id cleared }
+        ensures { self.new ≡ with_changed self.old id cleared }
     {
         if let Some(key) = self.ids.get(&id) {
             if let Some(object) = self.slots.get_mut(*key) {
@@ -206,7 +206,7 @@ impl Objects {
         requires state { IfSome (find self.old.all id) (λ r. r.state ≡ states.Idle) }
         requires applied { applied.items ≡ replicate self.old.controls None }
         requires values { length values.items ≡ self.old.controls }
-        ensures { self.new ≡ changed self.old id (queued self.old.controls) }
+        ensures { self.new ≡ with_changed self.old id (queued self.old.controls) }
     {
         if let Some(key) = self.ids.get(&id) {
             if let Some(object) = self.slots.get_mut(*key) {
@@ -220,7 +220,7 @@ impl Objects {
     /// Has the frame of a request be made, whose controls get these values. The caller owes a queued one.
     pub(crate) fn begin(&mut self, id: u32, applied: &[Pair])
         requires { IfSome (find self.old.all id) (λ r. r.state ≡ states.Queued) }
-        ensures { self.new ≡ changed self.old id (begun self.old.controls applied.now) }
+        ensures { self.new ≡ with_changed self.old id (begun self.old.controls applied.now) }
     {
         if let Some(key) = self.ids.get(&id) {
             if let Some(object) = self.slots.get_mut(*key) {
@@ -234,7 +234,7 @@ impl Objects {
     pub(crate) fn complete(&mut self, id: u32, values: &[CtrlValue])
         requires state { IfSome (find self.old.all id) (λ r. is_pending r.state ≡ true) }
         requires values { length values.now ≡ self.old.controls }
-        ensures { self.new ≡ changed self.old id (completed values.now) }
+        ensures { self.new ≡ with_changed self.old id (completed values.now) }
     {
         if let Some(key) = self.ids.get(&id) {
             if let Some(object) = self.slots.get_mut(*key) {
@@ -266,7 +266,7 @@ fn holds_at(slots: &Slab<Object>, key: usize, number: u32) -> bool
     ensures { result ≡ held_by number (get slots.now key) }
 {
     match slots.get(key) {
-        Some(object) => object.holds(number),
+        Some(object) => object.holds_number(number),
         None => false,
     }
 }

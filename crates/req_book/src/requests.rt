@@ -1,8 +1,8 @@
 ghost use Rattle.std.specs.Prelude.{◌≡◌, ◌↔◌, IsTrue, ◌++◌, ◌<◌, ◌∷◌, [], length, None, Ok, Err, true, IfErr, IfSome, OnOk, MatchResult};
 ghost use Rattle.std.specs.List.{All};
 ghost use Rattle.req_book.specs.declared.state.RequestState.TheVariants as states;
-ghost use Rattle.req_book.specs.Requests.{find, changed, with_pairs, with_buffer, cleared, queued, begun, completed, is_pending, is_held, without, fresh};
-ghost use Rattle.req_book.specs.Refusals.{alloc_refusal, store_refusal, buffer_refusal, queue_refusal, clear_refusal, state_answer, buffer_answer, asked_answer, snapshot_answer, value_answer, IsRefusedBy, answered, unless};
+ghost use Rattle.req_book.specs.Requests.{find, with_changed, with_pairs, with_buffer, cleared, queued, begun, completed, is_pending, is_number_held, without, new_request};
+ghost use Rattle.req_book.specs.Refusals.{alloc_refusal, store_refusal, buffer_refusal, queue_refusal, clear_refusal, state_answer, buffer_answer, asked_answer, snapshot_answer, value_answer, IsRefusedBy, done_unless, unless};
 ghost use Rattle.req_book.specs.Alike.{AreLike};
 
 use crate::limits::MAX_REQUESTS;
@@ -96,10 +96,10 @@ impl Requests {
     /// Whether a request that isn't complete holds a buffer number (of this project). It takes no memory and refuses nothing.
     ///
     /// - `number`: any number.
-    pub fn is_held(&self, number: u32) -> bool
-        ensures { result ≡ is_held self.now.all number }
+    pub fn is_number_held(&self, number: u32) -> bool
+        ensures { result ≡ is_number_held self.now.all number }
     {
-        self.objects.is_held(number)
+        self.objects.is_number_held(number)
     }
 
     /// What a request asks for (Linux userspace API, "Request API"): of each control the last stored pair, in order of control numbers. Refused by
@@ -162,7 +162,7 @@ impl Requests {
         ensures { result ≡ buffer_refusal self.now.all number (find self.now.all id.0) }
     {
         match self.objects.get(id.0) {
-            Some(object) => object.buffer_refusal(self.objects.is_held(number)),
+            Some(object) => object.buffer_refusal(self.objects.is_number_held(number)),
             None => Some(Errno::EINVAL),
         }
     }
@@ -216,7 +216,7 @@ impl Requests {
     /// Refused by check 18 (ENOSPC, 28) or 34 (ENOMEM, 12), which changes nothing.
     pub fn alloc(&mut self, id: RequestId) -> Result<(), Errno>
         requires { find self.old.all id.0 ≡ None }
-        ensures ok { OnOk result ((alloc_refusal self.old.all ≡ None) × (self.new ≡ record self.old { all = self.old.all ++ fresh id.0 ∷ [] })) }
+        ensures ok { OnOk result ((alloc_refusal self.old.all ≡ None) × (self.new ≡ record self.old { all = self.old.all ++ new_request id.0 ∷ [] })) }
         ensures err { IfErr result (λ errno. IsRefusedBy (alloc_refusal self.old.all) errno × (self.new ≡ self.old)) }
     {
         match self.alloc_refusal() {
@@ -237,7 +237,7 @@ impl Requests {
     /// Refused by check 19 (EINVAL, 22), 20 (EBUSY, 16) or 34 (ENOMEM, 12), which changes nothing.
     pub fn store(&mut self, id: RequestId, pairs: &[Pair]) -> Result<(), Errno>
         requires { All (λ p. p.control < self.old.controls) pairs.now }
-        ensures ok { OnOk result ((store_refusal (find self.old.all id.0) ≡ None) × (self.new ≡ changed self.old id.0 (with_pairs self.old.controls pairs.now))) }
+        ensures ok { OnOk result ((store_refusal (find self.old.all id.0) ≡ None) × (self.new ≡ with_changed self.old id.0 (with_pairs self.old.controls pairs.now))) }
         ensures err { IfErr result (λ errno. IsRefusedBy (store_refusal (find self.old.all id.0)) errno × (self.new ≡ self.old)) }
     {
         match self.store_refusal(id) {
@@ -257,8 +257,8 @@ impl Requests {
     ///
     /// Refused by check 19 (EINVAL, 22), or one of 20 to 22 (EBUSY, 16), which changes nothing. It takes no memory.
     pub fn add_buffer(&mut self, id: RequestId, number: u32) -> Result<(), Errno>
-        ensures answer { result ≡ answered (buffer_refusal self.old.all number (find self.old.all id.0)) }
-        ensures requests { self.new ≡ unless (buffer_refusal self.old.all number (find self.old.all id.0)) self.old (changed self.old id.0 (with_buffer number)) }
+        ensures answer { result ≡ done_unless (buffer_refusal self.old.all number (find self.old.all id.0)) }
+        ensures requests { self.new ≡ unless (buffer_refusal self.old.all number (find self.old.all id.0)) self.old (with_changed self.old id.0 (with_buffer number)) }
     {
         match self.buffer_refusal(id, number) {
             Some(errno) => Err(errno),
@@ -276,8 +276,8 @@ impl Requests {
     ///
     /// Refused by check 19 (EINVAL, 22) or 29 (EBUSY, 16), which changes nothing. It takes no memory.
     pub fn reinit(&mut self, id: RequestId) -> Result<(), Errno>
-        ensures answer { result ≡ answered (clear_refusal (find self.old.all id.0)) }
-        ensures requests { self.new ≡ unless (clear_refusal (find self.old.all id.0)) self.old (changed self.old id.0 cleared) }
+        ensures answer { result ≡ done_unless (clear_refusal (find self.old.all id.0)) }
+        ensures requests { self.new ≡ unless (clear_refusal (find self.old.all id.0)) self.old (with_changed self.old id.0 cleared) }
     {
         match self.clear_refusal(id) {
             Some(errno) => Err(errno),
@@ -294,7 +294,7 @@ impl Requests {
     ///
     /// Refused by check 19 (EINVAL, 22) or 29 (EBUSY, 16), which changes nothing. It takes no memory.
     pub fn free(&mut self, id: RequestId) -> Result<(), Errno>
-        ensures answer { result ≡ answered (clear_refusal (find self.old.all id.0)) }
+        ensures answer { result ≡ done_unless (clear_refusal (find self.old.all id.0)) }
         ensures requests { self.new ≡ unless (clear_refusal (find self.old.all id.0)) self.old (record self.old { all = without id.0 self.old.all }) }
     {
         match self.clear_refusal(id) {
@@ -313,7 +313,7 @@ impl Requests {
     ///
     /// Refused by check 19 (EINVAL, 22), 20 (EBUSY, 16), 23 (ENOENT, 2) or 34 (ENOMEM, 12), which changes nothing.
     pub fn mark_queued(&mut self, id: RequestId) -> Result<(), Errno>
-        ensures ok { OnOk result ((queue_refusal (find self.old.all id.0) ≡ None) × (self.new ≡ changed self.old id.0 (queued self.old.controls))) }
+        ensures ok { OnOk result ((queue_refusal (find self.old.all id.0) ≡ None) × (self.new ≡ with_changed self.old id.0 (queued self.old.controls))) }
         ensures err { IfErr result (λ errno. IsRefusedBy (queue_refusal (find self.old.all id.0)) errno × (self.new ≡ self.old)) }
     {
         match self.queue_refusal(id) {
@@ -340,7 +340,7 @@ impl Requests {
     /// It takes no memory and refuses nothing.
     pub fn mark_running(&mut self, id: RequestId, applied: &[Pair])
         requires { IfSome (find self.old.all id.0) (λ r. r.state ≡ states.Queued) }
-        ensures { self.new ≡ changed self.old id.0 (begun self.old.controls applied.now) }
+        ensures { self.new ≡ with_changed self.old id.0 (begun self.old.controls applied.now) }
     {
         self.objects.begin(id.0, applied);
     }
@@ -355,7 +355,7 @@ impl Requests {
     pub fn mark_complete(&mut self, id: RequestId, values: &[CtrlValue])
         requires state { IfSome (find self.old.all id.0) (λ r. is_pending r.state ≡ true) }
         requires values { length values.now ≡ self.old.controls }
-        ensures { self.new ≡ changed self.old id.0 (completed values.now) }
+        ensures { self.new ≡ with_changed self.old id.0 (completed values.now) }
     {
         self.objects.complete(id.0, values);
     }

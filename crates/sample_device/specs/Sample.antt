@@ -74,8 +74,8 @@ sample_before = record sample_controls {
 
 -- The sample device's named clusters: 0 is the auto cluster of autogain and gain, whose manual value is 0, 1 is red and blue, 2 is
 -- the button, and 3 is brightness.
-abbrev pub named_clusters : Relations → Relations → Relations → Relations → List ClusterData
-named_clusters of_gain of_balance of_button of_brightness =
+abbrev pub clusters_with_calls : Relations → Relations → Relations → Relations → List ClusterData
+clusters_with_calls of_gain of_balance of_button of_brightness =
     record { members = 0 ∷ 1 ∷ []; manual = Some (pos 0); calls = of_gain }
     ∷ record { members = 8 ∷ 9 ∷ []; manual = None; calls = of_balance }
     ∷ record { members = 7 ∷ []; manual = None; calls = of_button }
@@ -85,13 +85,13 @@ named_clusters of_gain of_balance of_button of_brightness =
 -- the sample device with its named clusters
 abbrev pub sample : Relations → Relations → Relations → Relations → PlanData
 sample of_gain of_balance of_button of_brightness = record sample_before {
-  clusters = named_clusters of_gain of_balance of_button of_brightness;
+  clusters = clusters_with_calls of_gain of_balance of_button of_brightness;
 }
 
 -- the whole sample device: hflip, vflip, hue and power are alone in clusters 4 to 7
 abbrev pub whole_sample : Relations → Relations → Relations → Relations → PlanData
 whole_sample of_gain of_balance of_button of_brightness = record sample_before {
-  clusters = named_clusters of_gain of_balance of_button of_brightness ++ alone 2 ∷ alone 3 ∷ alone 4 ∷ alone 6 ∷ [];
+  clusters = clusters_with_calls of_gain of_balance of_button of_brightness ++ alone 2 ∷ alone 3 ∷ alone 4 ∷ alone 6 ∷ [];
 }
 
 -- the lesser of two

@@ -15,7 +15,7 @@ use Rattle.device_history.specs.FrameSteps.{FitsFrames}
 use Rattle.device_history.specs.Legal.{IsLegal, MayFollow}
 use Rattle.device_history.proofs.FitLemmas.{fits}
 use Rattle.device_history.proofs.FrameLaw.{found_request, fresh_request}
-use Rattle.step_effects.specs.Quiet.{FitsIn, NamesKnown, is_quiet}
+use Rattle.step_effects.specs.Leaving.{FitsIn, NamesKnown, leaves_controls}
 
 -- the request that is kept under an id
 pub found : (verdicts : Verdicts) (plan : PlanData) (entries : History) (kept : FramesData) (r : ℕ) → kept ≡ frames verdicts plan (past entries) → IsLegal verdicts plan (past entries)
@@ -24,10 +24,10 @@ found verdicts plan entries kept r own legal = ap (λ (f : FramesData). find f.r
 
 -- a step that may follow can change what is kept
 pub fits_in : (verdicts : Verdicts) (plan : PlanData) (entries : History) (kept : FramesData) (step : Step) → kept ≡ frames verdicts plan (past entries) → IsLegal verdicts plan (past entries)
-    → MayFollow verdicts plan (past entries) step → is_quiet step ≡ true → NamesKnown (length plan.controls) step → FitsIn (length entries) step kept
+    → MayFollow verdicts plan (past entries) step → leaves_controls step ≡ true → NamesKnown (length plan.controls) step → FitsIn (length entries) step kept
 fits_in verdicts plan entries kept step own legal may quiet known = by step (fits verdicts plan (past entries) step may) quiet known
   where
-    by : (step : Step) → FitsFrames verdicts plan (past entries) step → is_quiet step ≡ true → NamesKnown (length plan.controls) step → FitsIn (length entries) step kept
+    by : (step : Step) → FitsFrames verdicts plan (past entries) step → leaves_controls step ≡ true → NamesKnown (length plan.controls) step → FitsIn (length entries) step kept
     by steps.Alloc fit quiet known = found verdicts plan entries kept (length entries) own legal ∙ fresh_request verdicts plan entries legal
     by (steps.Store r pairs) fit quiet known = subst (λ (f : FramesData). All (λ p. p.control < f.requests.controls) pairs) (sym own) known
     by (steps.Buffer r number) fit quiet known =

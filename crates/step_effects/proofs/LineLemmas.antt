@@ -9,7 +9,7 @@ use Rattle.ctrl_handlers.proofs.ClusterLemmas.{or_false, or_false_right}
 use Rattle.ctrl_forecast.specs.Boards.{asked_at, named_clusters}
 use Rattle.ctrl_forecast.specs.Forecasts.{QueuedData, named_by_frames, naming_count}
 use Rattle.frame_queue.specs.Frames.{AreOnce}
-use Rattle.step_effects.specs.Lines.{named_behind}
+use Rattle.step_effects.specs.QueuedFrames.{named_behind}
 
 -- the frames of other requests
 abbrev pub without : ℕ → List QueuedData → List QueuedData

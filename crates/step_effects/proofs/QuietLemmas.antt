@@ -8,12 +8,12 @@ use Rattle.device_history.specs.declared.ask.Step.TheVariants as steps
 use Rattle.device_history.specs.Steps.{Past}
 use Rattle.device_history.specs.Handles.{opened_after}
 use Rattle.device_history.specs.Grabs.{grabbed_after}
-use Rattle.device_history.specs.FrameSteps.{given_by}
-use Rattle.device_history.specs.Values.{laid}
-use Rattle.device_history.specs.Words.{acted}
-use Rattle.step_effects.specs.Quiet.{is_quiet}
+use Rattle.device_history.specs.FrameSteps.{applied_by_step}
+use Rattle.device_history.specs.Values.{pairs_asked}
+use Rattle.device_history.specs.Words.{pairs_applied}
+use Rattle.step_effects.specs.Leaving.{leaves_controls}
 
-pub opened_quiet : (n : ℕ) (step : Step) (handles : List (ℕ × ℕ)) → is_quiet step ≡ true → opened_after n step handles ≡ handles
+pub opened_quiet : (n : ℕ) (step : Step) (handles : List (ℕ × ℕ)) → leaves_controls step ≡ true → opened_after n step handles ≡ handles
 opened_quiet n steps.Alloc handles quiet = refl
 opened_quiet n (steps.Store r pairs) handles quiet = refl
 opened_quiet n (steps.Buffer r number) handles quiet = refl
@@ -32,7 +32,7 @@ opened_quiet n (steps.Subscribe f c flags) handles quiet = refl
 opened_quiet n (steps.Unsubscribe f c) handles quiet = refl
 opened_quiet n (steps.Take f c) handles quiet = refl
 
-pub grabbed_quiet : (step : Step) (grabs : Grabs) → is_quiet step ≡ true → grabbed_after step grabs ≡ grabs
+pub grabbed_quiet : (step : Step) (grabs : Grabs) → leaves_controls step ≡ true → grabbed_after step grabs ≡ grabs
 grabbed_quiet steps.Alloc grabs quiet = refl
 grabbed_quiet (steps.Store r pairs) grabs quiet = refl
 grabbed_quiet (steps.Buffer r number) grabs quiet = refl
@@ -51,7 +51,7 @@ grabbed_quiet (steps.Subscribe f c flags) grabs quiet = refl
 grabbed_quiet (steps.Unsubscribe f c) grabs quiet = refl
 grabbed_quiet (steps.Take f c) grabs quiet = refl
 
-pub laid_quiet : (plan : PlanData) (older : Past) (step : Step) → is_quiet step ≡ true → laid plan older step ≡ None
+pub laid_quiet : (plan : PlanData) (older : Past) (step : Step) → leaves_controls step ≡ true → pairs_asked plan older step ≡ None
 laid_quiet plan older steps.Alloc quiet = refl
 laid_quiet plan older (steps.Store r pairs) quiet = refl
 laid_quiet plan older (steps.Buffer r number) quiet = refl
@@ -70,7 +70,7 @@ laid_quiet plan older (steps.Subscribe f c flags) quiet = refl
 laid_quiet plan older (steps.Unsubscribe f c) quiet = refl
 laid_quiet plan older (steps.Take f c) quiet = refl
 
-pub given_quiet : (verdicts : Verdicts) (plan : PlanData) (older : Past) (step : Step) → is_quiet step ≡ true → given_by verdicts plan older step ≡ []
+pub given_quiet : (verdicts : Verdicts) (plan : PlanData) (older : Past) (step : Step) → leaves_controls step ≡ true → applied_by_step verdicts plan older step ≡ []
 given_quiet verdicts plan older steps.Alloc quiet = refl
 given_quiet verdicts plan older (steps.Store r pairs) quiet = refl
 given_quiet verdicts plan older (steps.Buffer r number) quiet = refl
@@ -89,7 +89,7 @@ given_quiet verdicts plan older (steps.Subscribe f c flags) quiet = refl
 given_quiet verdicts plan older (steps.Unsubscribe f c) quiet = refl
 given_quiet verdicts plan older (steps.Take f c) quiet = refl
 
-pub acted_quiet : (verdicts : Verdicts) (plan : PlanData) (older : Past) (step : Step) → is_quiet step ≡ true → acted verdicts plan older step ≡ None
+pub acted_quiet : (verdicts : Verdicts) (plan : PlanData) (older : Past) (step : Step) → leaves_controls step ≡ true → pairs_applied verdicts plan older step ≡ None
 acted_quiet verdicts plan older steps.Alloc quiet = refl
 acted_quiet verdicts plan older (steps.Store r pairs) quiet = refl
 acted_quiet verdicts plan older (steps.Buffer r number) quiet = refl

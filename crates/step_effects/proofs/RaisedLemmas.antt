@@ -16,12 +16,12 @@ use Rattle.device_history.specs.declared.ask.Step.TheVariants as steps
 use Rattle.device_history.specs.Steps.{Past}
 use Rattle.device_history.specs.Grabs.{grabbed, grabbed_after}
 use Rattle.device_history.specs.Snapshots.{begun_pairs}
-use Rattle.device_history.specs.Values.{laid, now}
+use Rattle.device_history.specs.Values.{pairs_asked, now}
 use Rattle.device_history.specs.EventSteps.{AreAround, events_after, events_by}
 use Rattle.device_history.proofs.EventLemmas.{values_quiet}
 use Rattle.device_history.proofs.GrabLemmas.{grabbed_more}
 use Rattle.device_history.proofs.RaiseLaw.{set_raises, begin_raises, grab_raises, subscribe_tells}
-use Rattle.step_effects.specs.Given.{AreGiven}
+use Rattle.step_effects.specs.Sources.{IsSourceOf}
 
 -- the raises between two moments, where pairs were applied
 abbrev raised_between : PlanData → MomentData → MomentData → List Pair → Option FhId → ℕ → FileEvents → FileEvents
@@ -30,12 +30,12 @@ raised_between plan before after pairs from j f =
 
 -- those of a step that raises what it changes
 pub raised_step : (verdicts : Verdicts) (plan : PlanData) (e : Entry Step) (older : Past) (before after : MomentData) (pairs : List Pair) (from : Option FhId) (fh : FhId) (f : FileEvents)
-    → AreAround verdicts plan e older before after → AreGiven verdicts plan older e.step pairs from
+    → AreAround verdicts plan e older before after → IsSourceOf verdicts plan older e.step pairs from
     → raised_all (changed_between plan before after pairs) (payload_at plan after) (λ c. needing_feedback (option_map (λ fh. fh.0) from) pairs (changed_between plan before after pairs c) c) fh.0 (range_with_len 0 (length plan.controls)) f
     ≡ events_after verdicts plan e older fh f
 raised_step verdicts plan e older before after pairs from fh f around given = by e.step refl given
   where
-    by : (step : Step) → e.step ≡ step → AreGiven verdicts plan older step pairs from → raised_between plan before after pairs from fh.0 f ≡ events_by verdicts plan e older fh e.step f
+    by : (step : Step) → e.step ≡ step → IsSourceOf verdicts plan older step pairs from → raised_between plan before after pairs from fh.0 f ≡ events_by verdicts plan e older fh e.step f
     by (steps.Set g own) is given =
         ap (λ (ps : List Pair). raised_between plan before after ps from fh.0 f) given.0 ∙ ap (λ (o : Option FhId). raised_between plan before after own o fh.0 f) given.1
         ∙ set_raises verdicts plan e older before after g own fh (range_with_len 0 (length plan.controls)) f is around ∙ sym (ap (λ (s : Step). events_by verdicts plan e older fh s f) is)
@@ -66,5 +66,5 @@ pub subscribed_step : (verdicts : Verdicts) (plan : PlanData) (e : Entry Step) (
     → only_at g.0 (after_subscribe c flags (initial_changes (control plan c)) (payload_at plan at c)) fh.0 f ≡ events_after verdicts plan e older fh f
 subscribed_step verdicts plan e older at g c flags fh f is v gs =
     ap (λ (x : Payload). only_at g.0 (after_subscribe c flags (initial_changes (control plan c)) x) fh.0 f)
-    (subscribe_tells verdicts plan e older at c (v ∙ sym (values_quiet verdicts plan e older (ap (laid plan older) is))) (gs ∙ sym (grabbed_more plan e older ∙ ap (λ (s : Step). grabbed_after s (grabbed plan older)) is)))
+    (subscribe_tells verdicts plan e older at c (v ∙ sym (values_quiet verdicts plan e older (ap (pairs_asked plan older) is))) (gs ∙ sym (grabbed_more plan e older ∙ ap (λ (s : Step). grabbed_after s (grabbed plan older)) is)))
     ∙ sym (ap (λ (s : Step). events_by verdicts plan e older fh s f) is)

@@ -13,6 +13,6 @@ pub use Rattle.device_history.specs.Snapshots
 pub use Rattle.device_history.specs.FrameSteps
 pub use Rattle.device_history.specs.EventSteps
 pub use Rattle.device_history.specs.Legal
-pub mod Quiet
-pub mod Given
-pub mod Lines
+pub mod Leaving
+pub mod Sources
+pub mod QueuedFrames

@@ -3,11 +3,11 @@
 #![tactic(auto)]
 
 mod copies;
-mod lines;
-mod quiet;
 mod raising;
+mod requests_and_events;
+mod with_forecasts;
 
 pub use copies::{clusters_of, copied_grabs, copied_values};
-pub use lines::change_kept;
-pub use quiet::change_quiet;
 pub use raising::raise_step;
+pub use requests_and_events::change_requests_and_events;
+pub use with_forecasts::change_with_forecasts;

@@ -8,7 +8,7 @@ ghost use Rattle.ctrl_events.specs.Events.{events_of};
 ghost use Rattle.device_history.specs.declared.ask.Step.{Step as StepOf};
 ghost use Rattle.device_history.specs.Steps.{Past};
 ghost use Rattle.device_history.specs.EventSteps.{AreAround, events_after};
-ghost use Rattle.step_effects.specs.Given.{AreGiven};
+ghost use Rattle.step_effects.specs.Sources.{IsSourceOf};
 
 use ctrl_calls::Driver;
 use ctrl_events::Events;
@@ -38,7 +38,7 @@ pub fn raise_step<D: Driver>(
     requires values { length after.now.values ≡ length plan.now.controls }
     requires grabs { length after.now.grabs ≡ length plan.now.controls }
     requires numbers { (j : ℕ) → (events_of events.old j).next + length plan.now.controls ≤ 4294967295 }
-    ensures { (verdicts : Verdicts) (e : EntryOf StepOf) (older : Past) → AreAround verdicts plan.now e older before.now after.now → AreGiven verdicts plan.now older e.step pairs.now from
+    ensures { (verdicts : Verdicts) (e : EntryOf StepOf) (older : Past) → AreAround verdicts plan.now e older before.now after.now → IsSourceOf verdicts plan.now older e.step pairs.now from
         → (fh : FhIdOf) → events_of events.new fh.0 ≡ events_after verdicts plan.now e older fh (events_of events.old fh.0) }
 {
     raise_between(plan, before, after, pairs, from, events);

@@ -11,9 +11,9 @@ ghost use Rattle.device_history.specs.Refusals.{is_full};
 ghost use Rattle.device_history.specs.Snapshots.{frames, request as request_of, requests};
 ghost use Rattle.device_state.specs.Device.{Handles, with_step};
 ghost use Rattle.device_history.specs.Forecasts.{queued_frames};
-ghost use Rattle.step_effects.specs.Lines.{line_asks};
-ghost use Rattle.step_effects.specs.Quiet.{NamesKnown, is_quiet};
-ghost use Rattle.device_state.specs.Entering.{IsEntered};
+ghost use Rattle.step_effects.specs.QueuedFrames.{asks_at_most};
+ghost use Rattle.step_effects.specs.Leaving.{NamesKnown, leaves_controls};
+ghost use Rattle.device_state.specs.Entering.{LeavesControls};
 
 use super::{Device, refused};
 use ctrl_calls::{Driver, Work};
@@ -22,7 +22,7 @@ use device_history::{Ask, Reply, Step};
 use frame_queue::RequestState;
 use history::Entry;
 use std::alloc::AllocError;
-use step_effects::change_kept;
+use step_effects::change_with_forecasts;
 
 impl<D: Driver> Device<D> {
     /// A request's state, for a driver's own use (Linux userspace API, "Request API"): that in which the last step that names it left it;
@@ -169,7 +169,7 @@ impl<D: Driver> Device<D> {
         step: Step,
         reply: Reply,
     ) -> Result<Reply, Fault>
-        requires { IsEntered D.verdict self.old.plan (past self.old.steps) self.old.words ask.now refusal step reply }
+        requires { LeavesControls D.verdict self.old.plan (past self.old.steps) self.old.words ask.now refusal step reply }
         ensures { Handles D.verdict self.old self.new seat ask.now result }
     {
         self.work = Work::new();
@@ -187,20 +187,20 @@ impl<D: Driver> Device<D> {
 
     // Adds such a step, after the refusals. The error is that a growth was refused.
     pub(super) fn accept(&mut self, seat: u32, step: Step) -> Result<(), AllocError>
-        requires quiet { is_quiet step ≡ true }
+        requires quiet { leaves_controls step ≡ true }
         requires follows { MayFollow D.verdict self.old.plan (past self.old.steps) step }
         requires room { is_full (past self.old.steps) ≡ false }
         requires known { NamesKnown (length self.old.plan.controls) step }
         ensures ok { OnOk result (self.new ≡ with_step (record self.old { work = self.new.work }) seat step) }
         ensures err { OnErr result (self.new ≡ record self.old { work = self.new.work }) }
-        ensures asked { self.new.work.asked ≤ self.old.work.asked + line_asks self.old.plan (frames D.verdict self.old.plan (past self.old.steps)) step (queued_frames self.old.plan (past self.old.steps)) }
+        ensures asked { self.new.work.asked ≤ self.old.work.asked + asks_at_most self.old.plan (frames D.verdict self.old.plan (past self.old.steps)) step (queued_frames self.old.plan (past self.old.steps)) }
         ensures counted { self.old.work.asked ≤ self.new.work.asked }
         ensures told { self.new.work.told ≡ self.old.work.told }
     {
         let number = self.steps.len() as u32;
         self.steps.reserve(1)?;
         let mut work = Work::new();
-        let changed = change_kept(
+        let changed = change_with_forecasts(
             &self.plan,
             self.values.as_slice(),
             self.grabs.as_slice(),

@@ -7,7 +7,7 @@ ghost use Rattle.device_history.specs.Legal.{MayFollow};
 ghost use Rattle.device_history.specs.Refusals.{is_full};
 ghost use Rattle.device_history.specs.Requests.{asked as asked_of, state};
 ghost use Rattle.device_history.specs.Snapshots.{begun_pairs, begun_refused, begun_values};
-ghost use Rattle.history_audit.specs.Replay.{IsNext, with_next};
+ghost use Rattle.history_audit.specs.Replay.{IsNextEntry, with_next};
 
 use super::Replay;
 use ctrl_calls::{Driver, Work};
@@ -26,7 +26,7 @@ impl<'a, D: Driver> Replay<'a, D> {
         entry: &Entry<Step>,
         request: RequestId,
     ) -> Result<(), AllocError>
-        requires next { IsNext self.old entry.now }
+        requires next { IsNextEntry self.old entry.now }
         requires step { entry.now.step ≡ steps.Begin request }
         requires room { is_full (past self.old.steps) ≡ false }
         requires follows { MayFollow D.verdict self.old.plan (past self.old.steps) entry.now.step }

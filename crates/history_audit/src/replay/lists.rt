@@ -15,7 +15,7 @@ ghost use Rattle.device_history.specs.Lists.{write_view};
 ghost use Rattle.device_history.specs.Refusals.{is_full};
 ghost use Rattle.device_history.specs.Snapshots.{request as request_of};
 ghost use Rattle.history_audit.specs.Judged.{IsSet, IsUnset, view_of};
-ghost use Rattle.history_audit.specs.Replay.{IsNext, Replayed, with_next};
+ghost use Rattle.history_audit.specs.Replay.{IsNextEntry, Replayed, with_next};
 
 use super::Replay;
 use bitflags::Flags as FlagSet;
@@ -37,7 +37,7 @@ impl<'a, D: Driver> Replay<'a, D> {
         fh: FhId,
         pairs: &[Pair],
     ) -> Result<bool, AllocError>
-        requires next { IsNext self.old entry.now }
+        requires next { IsNextEntry self.old entry.now }
         requires step { entry.now.step ≡ steps.Set fh pairs.now }
         ensures ok { IfOk result (λ is. Replayed D.verdict self.old self.new entry.now is) }
         ensures err { OnErr result (self.new ≡ self.old) }
@@ -65,7 +65,7 @@ impl<'a, D: Driver> Replay<'a, D> {
 
     // Gives the clusters that a set touches their rows.
     fn write(&mut self, entry: &Entry<Step>, fh: FhId, touch: &Touched) -> Result<(), AllocError>
-        requires next { IsNext self.old entry.now }
+        requires next { IsNextEntry self.old entry.now }
         requires step { entry.now.step ≡ steps.Set fh touch.now.pairs }
         requires room { is_full (past self.old.steps) ≡ false }
         requires follows { MayFollow D.verdict self.old.plan (past self.old.steps) entry.now.step }
@@ -95,7 +95,7 @@ impl<'a, D: Driver> Replay<'a, D> {
         request: RequestId,
         pairs: &[Pair],
     ) -> Result<bool, AllocError>
-        requires next { IsNext self.old entry.now }
+        requires next { IsNextEntry self.old entry.now }
         requires step { entry.now.step ≡ steps.Store request pairs.now }
         ensures ok { IfOk result (λ is. Replayed D.verdict self.old self.new entry.now is) }
         ensures err { OnErr result (self.new ≡ self.old) }

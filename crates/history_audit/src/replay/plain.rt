@@ -5,9 +5,9 @@ ghost use Rattle.history.specs.Past.{past};
 ghost use Rattle.device_history.specs.declared.ask.Step.TheVariants as steps;
 ghost use Rattle.device_history.specs.Legal.{MayFollow};
 ghost use Rattle.device_history.specs.Refusals.{is_full};
-ghost use Rattle.history_audit.specs.Replay.{IsNext, with_next};
+ghost use Rattle.history_audit.specs.Replay.{IsNextEntry, with_next};
 ghost use Rattle.history_audit.specs.Changing.{StoresKnown};
-ghost use Rattle.step_effects.specs.Quiet.{is_quiet};
+ghost use Rattle.step_effects.specs.Leaving.{leaves_controls};
 
 use super::Replay;
 use ctrl_calls::Driver;
@@ -16,12 +16,12 @@ use ctrl_types::FhId;
 use device_history::Step;
 use history::Entry;
 use std::alloc::AllocError;
-use step_effects::{change_quiet, copied_grabs, raise_step};
+use step_effects::{change_requests_and_events, copied_grabs, raise_step};
 
 impl<'a, D: Driver> Replay<'a, D> {
     // Opens a file handle.
     pub(super) fn open(&mut self, entry: &Entry<Step>, handler: u32) -> Result<(), AllocError>
-        requires next { IsNext self.old entry.now }
+        requires next { IsNextEntry self.old entry.now }
         requires step { entry.now.step ≡ steps.OpenFh handler }
         requires room { is_full (past self.old.steps) ≡ false }
         requires follows { MayFollow D.verdict self.old.plan (past self.old.steps) entry.now.step }
@@ -35,7 +35,7 @@ impl<'a, D: Driver> Replay<'a, D> {
 
     // Closes one.
     pub(super) fn close(&mut self, entry: &Entry<Step>, fh: FhId)
-        requires next { IsNext self.old entry.now }
+        requires next { IsNextEntry self.old entry.now }
         requires step { entry.now.step ≡ steps.CloseFh fh }
         requires room { is_full (past self.old.steps) ≡ false }
         requires follows { MayFollow D.verdict self.old.plan (past self.old.steps) entry.now.step }
@@ -53,7 +53,7 @@ impl<'a, D: Driver> Replay<'a, D> {
         control: u32,
         on: bool,
     ) -> Result<(), AllocError>
-        requires next { IsNext self.old entry.now }
+        requires next { IsNextEntry self.old entry.now }
         requires step { entry.now.step ≡ steps.Grab control on }
         requires room { is_full (past self.old.steps) ≡ false }
         requires follows { MayFollow D.verdict self.old.plan (past self.old.steps) entry.now.step }
@@ -77,8 +77,8 @@ impl<'a, D: Driver> Replay<'a, D> {
 
     // Makes a step that leaves file handles, grabs and values.
     pub(super) fn change(&mut self, entry: &Entry<Step>) -> Result<(), AllocError>
-        requires next { IsNext self.old entry.now }
-        requires quiet { is_quiet entry.now.step ≡ true }
+        requires next { IsNextEntry self.old entry.now }
+        requires quiet { leaves_controls entry.now.step ≡ true }
         requires room { is_full (past self.old.steps) ≡ false }
         requires follows { MayFollow D.verdict self.old.plan (past self.old.steps) entry.now.step }
         requires known { StoresKnown (length self.old.plan.controls) entry.now.step }
@@ -86,7 +86,7 @@ impl<'a, D: Driver> Replay<'a, D> {
         ensures err { OnErr result (self.new ≡ self.old) }
     {
         let number = self.count as u32;
-        change_quiet(
+        change_requests_and_events(
             self.plan,
             self.values.as_slice(),
             self.grabs.as_slice(),

@@ -2,7 +2,7 @@
 
 ghost use Rattle.std.specs.Prelude.{◌≡◌, ◌<◌, length, IfOk, OnOk};
 ghost use Rattle.ctrl_forecast.specs.Boards.{board_of};
-ghost use Rattle.part_tests.specs.Kept.{IsKept};
+ghost use Rattle.part_tests.specs.Kept.{IsScene};
 ghost use Rattle.part_tests.specs.Verdicts.{ordered_verdict};
 
 use crate::forecast::driver::Ordered;
@@ -32,7 +32,7 @@ pub struct Scene {
 impl Scene {
     /// No frame waits, and each control has its default.
     pub fn new(alloc: Global, plan: &Plan<Ordered>) -> Result<Scene, AllocError>
-        ensures { IfOk result (λ scene. IsKept plan.now scene.values.items scene.grabs.items scene.board) }
+        ensures { IfOk result (λ scene. IsScene plan.now scene.values.items scene.grabs.items scene.board) }
     {
         Ok(Scene {
             values: default_values(alloc, plan.controls())?,
@@ -55,8 +55,8 @@ impl Scene {
         asked: Vec<Pair>,
         work: &mut Work,
     ) -> Result<u64, AllocError>
-        requires { IsKept plan.now self.old.values.items self.old.grabs.items self.old.board }
-        ensures { OnOk result (IsKept plan.now self.new.values.items self.new.grabs.items self.new.board) }
+        requires { IsScene plan.now self.old.values.items self.old.grabs.items self.old.board }
+        ensures { OnOk result (IsScene plan.now self.new.values.items self.new.grabs.items self.new.board) }
     {
         let bound = touched(plan, asked.as_slice());
         self.waiting.reserve(1)?;
@@ -74,8 +74,8 @@ impl Scene {
 
     /// The first frame begins, where one waits, and leaves its values.
     pub fn begin(&mut self, plan: &Plan<Ordered>)
-        requires { IsKept plan.now self.old.values.items self.old.grabs.items self.old.board }
-        ensures { IsKept plan.now self.new.values.items self.new.grabs.items self.new.board }
+        requires { IsScene plan.now self.old.values.items self.old.grabs.items self.old.board }
+        ensures { IsScene plan.now self.new.values.items self.new.grabs.items self.new.board }
     {
         begin_first(
             plan,
@@ -90,8 +90,8 @@ impl Scene {
 
     /// The frame at a place is taken out. The answer is how many validators may be asked.
     pub fn remove(&mut self, plan: &Plan<Ordered>, place: u32, work: &mut Work) -> u64
-        requires { IsKept plan.now self.old.values.items self.old.grabs.items self.old.board }
-        ensures { IsKept plan.now self.new.values.items self.new.grabs.items self.new.board }
+        requires { IsScene plan.now self.old.values.items self.old.grabs.items self.old.board }
+        ensures { IsScene plan.now self.new.values.items self.new.grabs.items self.new.board }
     {
         let place = place as usize;
         if place >= self.board.len() || place >= self.waiting.len() {
@@ -122,8 +122,8 @@ impl Scene {
     ) -> u64
         requires control { control < length plan.now.controls }
         requires other { other < length plan.now.controls }
-        requires kept { IsKept plan.now self.old.values.items self.old.grabs.items self.old.board }
-        ensures { IsKept plan.now self.new.values.items self.new.grabs.items self.new.board }
+        requires kept { IsScene plan.now self.old.values.items self.old.grabs.items self.old.board }
+        ensures { IsScene plan.now self.new.values.items self.new.grabs.items self.new.board }
     {
         let clusters = [plan.cluster_of(control), plan.cluster_of(other)];
         self.values[control as usize] = value;
@@ -141,8 +141,8 @@ impl Scene {
 
     /// No frame waits any more.
     pub fn clear(&mut self, plan: &Plan<Ordered>)
-        requires { IsKept plan.now self.old.values.items self.old.grabs.items self.old.board }
-        ensures { IsKept plan.now self.new.values.items self.new.grabs.items self.new.board }
+        requires { IsScene plan.now self.old.values.items self.old.grabs.items self.old.board }
+        ensures { IsScene plan.now self.new.values.items self.new.grabs.items self.new.board }
     {
         let _plan = plan.controls();
         self.waiting.clear();
@@ -151,7 +151,7 @@ impl Scene {
 
     /// Whether what is kept is what is computed anew.
     pub fn is_twin(&self, alloc: Global, plan: &Plan<Ordered>) -> Result<bool, AllocError>
-        requires { IsKept plan.now self.now.values.items self.now.grabs.items self.now.board }
+        requires { IsScene plan.now self.now.values.items self.now.grabs.items self.now.board }
     {
         let queued = queued(alloc, self.waiting.as_slice())?;
         let computed = Board::compute(

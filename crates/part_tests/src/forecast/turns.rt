@@ -1,7 +1,7 @@
 //! Turns that are drawn from a seed.
 
 ghost use Rattle.std.specs.Prelude.{◌<◌, length, OnOk};
-ghost use Rattle.part_tests.specs.Kept.{IsKept};
+ghost use Rattle.part_tests.specs.Kept.{IsScene};
 
 use crate::forecast::dice::Dice;
 use crate::forecast::driver::Ordered;
@@ -20,8 +20,8 @@ fn turn(
     dice: &mut Dice,
 ) -> Result<bool, AllocError>
     requires controls { 0 < length plan.now.controls }
-    requires kept { IsKept plan.now scene.old.values.items scene.old.grabs.items scene.old.board }
-    ensures { OnOk result (IsKept plan.now scene.new.values.items scene.new.grabs.items scene.new.board) }
+    requires kept { IsScene plan.now scene.old.values.items scene.old.grabs.items scene.old.board }
+    ensures { OnOk result (IsScene plan.now scene.new.values.items scene.new.grabs.items scene.new.board) }
 {
     let controls = plan.control_count();
     let mut work = Work::new();

@@ -4,8 +4,8 @@ use Rattle.ctrl_events.proofs.laws.pending_events.Goals as goal
 pub returns-clause-start : goal.returns-clause-start
 returns-clause-start c = pending_start
 
-pub returns-clause-gone : goal.returns-clause-gone
-returns-clause-gone c = pending_gone
+pub returns-clause-withdrawn : goal.returns-clause-withdrawn
+returns-clause-withdrawn c = pending_gone
 
 pub returns-clause-raised : goal.returns-clause-raised
 returns-clause-raised c = pending_raise

@@ -3,7 +3,7 @@ use Rattle.std.proofs.lemmas.List.{get_or_read_under}
 use Rattle.ctrl_types.specs.declared.ids.Pair.{Pair}
 use Rattle.ctrl_clusters.specs.Rows.{Values}
 use Rattle.ctrl_clusters.specs.Overlay.{row_after}
-use Rattle.ctrl_forecast.specs.Frames.{AreFrames, FrameData, Setting, base_at, frame_at, marked, no_frame, setting, values_before}
+use Rattle.ctrl_forecast.specs.Frames.{AreKeptFrames, FrameData, Setting, base_at, frame_at, with_or_without, no_frame, setting, values_before}
 use Rattle.ctrl_forecast.proofs.RenewLemmas.{base_long, marked_room}
 use Rattle.ctrl_forecast.proofs.renewing.renew_at.Goals as goal
 
@@ -12,15 +12,15 @@ row_over-row-requires-clause-values g c =
     ap length (c.values_before-base.ensures ∙ ap (λ (fs : List FrameData). values_before c.args.values.now fs c.args.place) c.as_slice.ensures.value)
     ∙ base_long c.args.plan.now c.args.values.now c.args.frames.now.items c.args.place c.requires.values c.requires.frames c.requires.place
 
-pub set_outcome-requires-clause-values : goal.set_outcome-requires-clause-values
-unfolding AreFrames
-set_outcome-requires-clause-values g c =
+pub set_row_result-requires-clause-values : goal.set_row_result-requires-clause-values
+unfolding AreKeptFrames
+set_row_result-requires-clause-values g c =
     ap (λ (f : FrameData). length f.values) (get_or_read_under c.args.frames.now.items c.args.place (length c.args.frames.now.items) c.index_mut-frame.result.now no_frame c.index_mut-frame.ensures.value c.requires.place refl)
     ∙ (c.requires.frames c.args.place c.requires.place).long
 
-pub set_outcome-requires-clause-room : goal.set_outcome-requires-clause-room
-unfolding AreFrames
-set_outcome-requires-clause-room g c =
+pub set_row_result-requires-clause-room : goal.set_row_result-requires-clause-room
+unfolding AreKeptFrames
+set_row_result-requires-clause-room g c =
     let s : Setting = setting g.D.Validates.verdict c.args.plan.now c.args.controls.now c.args.grabs.now c.args.values.now in
     let fs : List FrameData = c.args.frames.now.items in
     let p : ℕ = c.args.place in
@@ -35,7 +35,7 @@ set_outcome-requires-clause-room g c =
     omega (
       arith,
       marked_room s (base_at s fs p) k (frame_at fs p) (c.requires.frames p c.requires.place) c.requires.cluster,
-      ap (λ (b : Bool). length (marked k b c.index_mut-frame.result.now.refused)) is,
-      ap (λ (f : FrameData). length (marked k (fails (base_at s fs p) (frame_at fs p).asked) f.refused)) own,
+      ap (λ (b : Bool). length (with_or_without k b c.index_mut-frame.result.now.refused)) is,
+      ap (λ (f : FrameData). length (with_or_without k (fails (base_at s fs p) (frame_at fs p).asked) f.refused)) own,
       ap (λ (f : FrameData). length f.named) own,
     )

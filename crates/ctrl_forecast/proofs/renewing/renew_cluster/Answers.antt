@@ -4,7 +4,7 @@ use Rattle.std.proofs.lemmas.List.{length-map, length-set}
 use Rattle.ctrl_calls.specs.declared.work.Work.{Work}
 use Rattle.ctrl_clusters.specs.Judging.{with_calls}
 use Rattle.ctrl_forecast.specs.Asking.{asks_at}
-use Rattle.ctrl_forecast.specs.Frames.{FrameData, IsRenewed, Setting, base_at, frame_at, queued_of, renewed, setting}
+use Rattle.ctrl_forecast.specs.Frames.{FrameData, IsClusterRenewed, Setting, base_at, frame_at, queued_of, renewed, setting}
 use Rattle.ctrl_forecast.proofs.AskingLemmas.{calls_none, renewed_count}
 use Rattle.ctrl_forecast.proofs.RenewLemmas.{renewed_next, renewed_none}
 use Rattle.ctrl_forecast.proofs.renewing.renew_cluster.Goals as goal
@@ -28,7 +28,7 @@ loop-place-preserved g c =
     let k : ℕ = c.args.cluster in
     let lt : p < length fs = omega (arith, c.loop-place-test.true, c.len-place-end.ensures, c.loop-place.invariant.many, c.args.frames.now.ok) in
     record {
-      renewed = subst (IsRenewed s k (p + 1) c.args.frames.now.items) (sym c.renew_at.ensures.frames) (renewed_next s k p c.args.frames.now.items fs c.controls-plan.ensures.plan c.requires.cluster lt c.loop-place.invariant.renewed);
+      renewed = subst (IsClusterRenewed s k (p + 1) c.args.frames.now.items) (sym c.renew_at.ensures.frames) (renewed_next s k p c.args.frames.now.items fs c.controls-plan.ensures.plan c.requires.cluster lt c.loop-place.invariant.renewed);
       many = ap length c.renew_at.ensures.frames ∙ length-set fs p (renewed s (base_at s fs p) k (frame_at fs p)) ∙ c.loop-place.invariant.many;
       counted = renewed_count s c.args.frames.now.items fs c.args.from k p c.args.work.now.asked c.loop-place.work.asked c.renew_at.new.work.asked c.controls-plan.ensures.plan c.requires.values c.requires.cluster c.loop-place.auto.place lt c.loop-place.invariant.renewed c.loop-place.invariant.counted
           (ap (λ (w : Work). w.asked) c.renew_at.ensures.counted);

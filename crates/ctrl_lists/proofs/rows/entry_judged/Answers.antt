@@ -5,8 +5,8 @@ use Rattle.ctrl_clusters.proofs.NewRowLemmas.{row_met}
 use Rattle.ctrl_lists.proofs.rows.entry_judged.Goals as goal
 
 -- a cluster's row has a value for each member
-pub value_in-requires : goal.value_in-requires
-value_in-requires g c =
+pub member_value-requires : goal.member_value-requires
+member_value-requires g c =
     let found : row_among c.args.rows.now.rows c.cluster_of-cluster.result ≡ Some c.in-Some.row = sym c.among.ensures ∙ c.in-Some.is in
     row_met (λ (k : ℕ) (row : List ℤ). length row ≡ length (members c.args.plan.now k)) c.args.rows.now.rows c.cluster_of-cluster.result c.in-Some.row c.requires.long found
     ∙ sym (ap length c.members.ensures.members)

@@ -24,7 +24,7 @@ pub returns-in-Err-clause-at_most : goal.returns-in-Err-clause-at_most
 returns-in-Err-clause-at_most g c =
     let none : is_some (row_among c.args.rows.now.rows c.cluster_of-cluster.result) ≡ false =
     looked_up c.args.rows.now.rows c.cluster_of-cluster.result c.among.result c.is_some.result false c.among.ensures c.is_some.ensures c.if-is_some.false in
-    asked_once c.args.plan.now c.args.rows.now.rows c.args.control c.cluster_of-cluster.result c.args.work.now.asked c.becomes.new.work.asked c.cluster_of-cluster.ensures.cluster none c.becomes.ensures.at_most_once
+    asked_once c.args.plan.now c.args.rows.now.rows c.args.control c.cluster_of-cluster.result c.args.work.now.asked c.validated_row.new.work.asked c.cluster_of-cluster.ensures.cluster none c.validated_row.ensures.at_most_once
 
 pub returns-in-Ok-clause-each : goal.returns-in-Ok-clause-each
 returns-in-Ok-clause-each g c =
@@ -42,11 +42,11 @@ pub returns-in-Ok-clause-at_most : goal.returns-in-Ok-clause-at_most
 returns-in-Ok-clause-at_most g c =
     let none : is_some (row_among c.args.rows.now.rows c.cluster_of-cluster.result) ≡ false =
     looked_up c.args.rows.now.rows c.cluster_of-cluster.result c.among.result c.is_some.result false c.among.ensures c.is_some.ensures c.if-is_some.false in
-    asked_once c.args.plan.now c.args.rows.now.rows c.args.control c.cluster_of-cluster.result c.args.work.now.asked c.becomes.new.work.asked c.cluster_of-cluster.ensures.cluster none c.becomes.ensures.at_most_once
+    asked_once c.args.plan.now c.args.rows.now.rows c.args.control c.cluster_of-cluster.result c.args.work.now.asked c.validated_row.new.work.asked c.cluster_of-cluster.ensures.cluster none c.validated_row.ensures.at_most_once
 
 pub returns-in-Ok-clause-asked : goal.returns-in-Ok-clause-asked
 returns-in-Ok-clause-asked g c = λ n old.
-    counted_next c.args.plan.now c.args.rows.now.rows c.push_reserved.new.self.rows (record { cluster = c.cluster_of-cluster.result; row = c.in-Ok.row }) n c.args.work.now.asked c.becomes.new.work.asked
+    counted_next c.args.plan.now c.args.rows.now.rows c.push_reserved.new.self.rows (record { cluster = c.cluster_of-cluster.result; row = c.in-Ok.row }) n c.args.work.now.asked c.validated_row.new.work.asked
     c.push_reserved.ensures.items c.in-Ok.ensures.asked old
 
 -- what the row becomes is what is laid

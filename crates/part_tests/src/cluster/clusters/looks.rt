@@ -8,7 +8,7 @@ use crate::cluster::common::pairs_of;
 use crate::cluster::driver::Strict;
 use bitflags::Flags as FlagSet;
 use ctrl_calls::{ClusterRow, Work};
-use ctrl_clusters::{becomes, flags_under, inactive, judge, present_row};
+use ctrl_clusters::{validated_row, flags_under, inactive, judge, present_row};
 use ctrl_forecast::overlay;
 use ctrl_handlers::Plan;
 use ctrl_settle::Ctrl;
@@ -60,7 +60,7 @@ fn is_becoming(
         return false;
     }
     let mut work = Work::new();
-    let row = becomes(plan, controls, cluster, values, pairs, &mut work);
+    let row = validated_row(plan, controls, cluster, values, pairs, &mut work);
     is_answer(row, want) && is_work(&work, asked, 0)
 }
 

@@ -5,7 +5,7 @@ ghost use Rattle.ctrl_clusters.specs.NewRows.{AreNewRows};
 
 use crate::cluster::driver::Strict;
 use ctrl_calls::{ClusterRow, Work};
-use ctrl_clusters::{NewRow, NewRows, value_in};
+use ctrl_clusters::{NewRow, NewRows, member_value};
 use ctrl_handlers::Plan;
 use ctrl_types::CtrlValue;
 use std::alloc::{AllocError, Global};
@@ -80,7 +80,7 @@ const GIVEN: &[(&[u32], &[CtrlValue], u32, Option<CtrlValue>)] = &[
 
 fn gives(members: &[u32], row: &[CtrlValue], control: u32, want: Option<CtrlValue>) -> bool {
     match ClusterRow::from_slice(row) {
-        Some(row) if row.len() == members.len() => value_in(members, &row, control) == want,
+        Some(row) if row.len() == members.len() => member_value(members, &row, control) == want,
         _ => false,
     }
 }

@@ -1,22 +1,22 @@
 use Rattle.std.proofs.Common.{arith, add-one, length, ◌∙◌, ◌≡◌, ◌<◌, sym, ap, subst, slice_get, IfSome, Option, List, ℕ}
 use Rattle.std.specs.Option.{option_map}
 use Rattle.ctrl_events.specs.Events.{FileEvents}
-use Rattle.ctrl_events.specs.Files.{raise_in, changed_at}
+use Rattle.ctrl_events.specs.Files.{raised_in_entry, changed_at}
 use Rattle.ctrl_events.proofs.RaiseLemmas.{changed_none, changed_more, next_unchanged, at_entry, raised_for}
 use Rattle.ctrl_events.proofs.events.Events.raise.Goals as goal
 
 pub loop-place-init : goal.loop-place-init
-loop-place-init c = changed_none c.args.self.now.files (raise_in c.args.control c.args.changes c.args.payload.now (option_map (λ fh. fh.0) c.args.from))
+loop-place-init c = changed_none c.args.self.now.files (raised_in_entry c.args.control c.args.changes c.args.payload.now (option_map (λ fh. fh.0) c.args.from))
 
 pub raise_at-requires : goal.raise_at-requires
 raise_at-requires c =
-    let change : ℕ × FileEvents → ℕ × FileEvents = raise_in c.args.control c.args.changes c.args.payload.now (option_map (λ fh. fh.0) c.args.from) in
+    let change : ℕ × FileEvents → ℕ × FileEvents = raised_in_entry c.args.control c.args.changes c.args.payload.now (option_map (λ fh. fh.0) c.args.from) in
     subst (λ (o : Option (ℕ × FileEvents)). IfSome o (λ e. e.1.next < 4294967295)) (sym (ap (λ (es : List (ℕ × FileEvents)). slice_get es c.loop-place.place) c.loop-place.invariant ∙ next_unchanged c.args.self.now.files c.loop-place.place change))
     (at_entry c.args.self.now c.loop-place.place 4294967295 c.count-place-end.ensures.distinct c.requires)
 
 pub loop-place-preserved : goal.loop-place-preserved
 loop-place-preserved c =
-    let change : ℕ × FileEvents → ℕ × FileEvents = raise_in c.args.control c.args.changes c.args.payload.now (option_map (λ fh. fh.0) c.args.from) in
+    let change : ℕ × FileEvents → ℕ × FileEvents = raised_in_entry c.args.control c.args.changes c.args.payload.now (option_map (λ fh. fh.0) c.args.from) in
     rw add-one (c.raise_at.ensures ∙ ap (changed_at c.loop-place.place change) c.loop-place.invariant ∙ changed_more c.args.self.now.files c.loop-place.place change)
 
 pub returns : goal.returns

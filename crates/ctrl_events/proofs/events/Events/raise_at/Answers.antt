@@ -1,7 +1,7 @@
 use Rattle.std.proofs.Common.{◌∙◌, ◌≡◌, sym, ap, subst, slice_get, IfSome}
 use Rattle.std.specs.Option.{option_map}
 use Rattle.ctrl_events.specs.Events.{EventsData, is_from}
-use Rattle.ctrl_events.specs.Files.{raise_in, changed_at}
+use Rattle.ctrl_events.specs.Files.{raised_in_entry, changed_at}
 use Rattle.ctrl_events.proofs.RaiseLemmas.{raised_at, none_at}
 use Rattle.ctrl_events.proofs.events.Events.raise_at.Goals as goal
 use Rattle.ctrl_events.proofs.events.Events.raise_at.Goals.{in-Some, in_default}
@@ -11,10 +11,10 @@ returns c = elim c.match-get_index_mut.branch [
   | in-Some w ↦ rw w.self-inside-is (
       raised_at c.self.inside.files.entries c.args.place w.in-Some.queue.now w.raise.new.self c.is_at-is_own.result c.args.control c.args.changes c.args.payload.now (option_map (λ fh. fh.0) c.args.from) w.in-Some.ensures.value
       (subst (λ (d : EventsData). IfSome (slice_get d.files c.args.place) (λ e. c.is_at-is_own.result ≡ is_from (option_map (λ fh. fh.0) c.args.from) e.0)) (sym c.self.view_is) c.is_at-is_own.ensures) w.raise.ensures
-      ∙ ap (λ (d : EventsData). changed_at c.args.place (raise_in c.args.control c.args.changes c.args.payload.now (option_map (λ fh. fh.0) c.args.from)) d.files) c.self.view_is
+      ∙ ap (λ (d : EventsData). changed_at c.args.place (raised_in_entry c.args.control c.args.changes c.args.payload.now (option_map (λ fh. fh.0) c.args.from)) d.files) c.self.view_is
       )
   | in_default w ↦ rw w.self-inside-is (
-      none_at c.self.inside.files.entries c.args.place (raise_in c.args.control c.args.changes c.args.payload.now (option_map (λ fh. fh.0) c.args.from)) w.in_default.ensures.value
-      ∙ ap (λ (d : EventsData). changed_at c.args.place (raise_in c.args.control c.args.changes c.args.payload.now (option_map (λ fh. fh.0) c.args.from)) d.files) c.self.view_is
+      none_at c.self.inside.files.entries c.args.place (raised_in_entry c.args.control c.args.changes c.args.payload.now (option_map (λ fh. fh.0) c.args.from)) w.in_default.ensures.value
+      ∙ ap (λ (d : EventsData). changed_at c.args.place (raised_in_entry c.args.control c.args.changes c.args.payload.now (option_map (λ fh. fh.0) c.args.from)) d.files) c.self.view_is
       )
 ]

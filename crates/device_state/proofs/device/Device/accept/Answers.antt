@@ -8,7 +8,7 @@ use Rattle.device_history.specs.declared.ask.Step.{Step}
 use Rattle.device_history.specs.FrameSteps.{frames_changed}
 use Rattle.device_history.specs.Values.{now}
 use Rattle.device_history.proofs.PresentLemmas.{length_grabbed, length_now}
-use Rattle.step_effects.specs.Quiet.{FitsIn}
+use Rattle.step_effects.specs.Leaving.{FitsIn}
 use Rattle.step_effects.proofs.FitLemmas.{fits_in}
 use Rattle.step_effects.proofs.QuietLemmas.{given_quiet}
 use Rattle.ctrl_forecast.specs.Boards.{BoardData}
@@ -20,40 +20,40 @@ use Rattle.ctrl_calls.specs.declared.work.Work.{Work}
 use Rattle.device_state.proofs.device.Device.accept.Goals as goal
 
 -- the step fits what is kept
-pub change_kept-changed-requires-clause-fits : goal.change_kept-changed-requires-clause-fits
-change_kept-changed-requires-clause-fits g c =
+pub change_with_forecasts-changed-requires-clause-fits : goal.change_with_forecasts-changed-requires-clause-fits
+change_with_forecasts-changed-requires-clause-fits g c =
     let device = c.self.inside in
     let number : length device.steps.items ≡ c.len-number.result = omega (arith, c.len-number.ensures, device.steps.ok.0) in
     subst (λ (n : ℕ). FitsIn n c.args.step device.frames) number
     (fits_in g.D.Validates.verdict device.plan device.steps.items device.frames c.args.step c.self.invariant.frames c.self.invariant.legal (rw (← c.self.view_is) at c.requires.follows) c.requires.quiet (rw (← c.self.view_is) at c.requires.known))
 
 -- there is a value and a grab for each control
-pub change_kept-changed-requires-clause-values : goal.change_kept-changed-requires-clause-values
-change_kept-changed-requires-clause-values g c =
+pub change_with_forecasts-changed-requires-clause-values : goal.change_with_forecasts-changed-requires-clause-values
+change_with_forecasts-changed-requires-clause-values g c =
     let device = c.self.inside in
     ap length (c.as_slice.ensures.value ∙ c.self.invariant.values) ∙ length_now g.D.Validates.verdict device.plan (past device.steps.items)
 
-pub change_kept-changed-requires-clause-grabs : goal.change_kept-changed-requires-clause-grabs
-change_kept-changed-requires-clause-grabs g c =
+pub change_with_forecasts-changed-requires-clause-grabs : goal.change_with_forecasts-changed-requires-clause-grabs
+change_with_forecasts-changed-requires-clause-grabs g c =
     let device = c.self.inside in
     ap length (c.as_slice-2.ensures.value ∙ c.self.invariant.grabs) ∙ length_grabbed device.plan (past device.steps.items)
 
-pub change_kept-changed-requires-clause-frames : goal.change_kept-changed-requires-clause-frames
-change_kept-changed-requires-clause-frames g c = ap (λ (f : FramesData). f.requests.controls) c.self.invariant.frames
+pub change_with_forecasts-changed-requires-clause-frames : goal.change_with_forecasts-changed-requires-clause-frames
+change_with_forecasts-changed-requires-clause-frames g c = ap (λ (f : FramesData). f.requests.controls) c.self.invariant.frames
 
 -- there are numbers
-pub change_kept-changed-requires-clause-numbers : goal.change_kept-changed-requires-clause-numbers
-change_kept-changed-requires-clause-numbers g c = numbered g.D.Validates.verdict g.D.Notifies.told c.self.inside.plan c.self.inside.steps.items _ c.self.invariant
+pub change_with_forecasts-changed-requires-clause-numbers : goal.change_with_forecasts-changed-requires-clause-numbers
+change_with_forecasts-changed-requires-clause-numbers g c = numbered g.D.Validates.verdict g.D.Notifies.told c.self.inside.plan c.self.inside.steps.items _ c.self.invariant
 
 -- the board is of what is kept beside it, and no request is queued twice
-pub change_kept-changed-requires-clause-board : goal.change_kept-changed-requires-clause-board
-change_kept-changed-requires-clause-board g c =
+pub change_with_forecasts-changed-requires-clause-board : goal.change_with_forecasts-changed-requires-clause-board
+change_with_forecasts-changed-requires-clause-board g c =
     let device = c.self.inside in
     board_own g.D.Validates.verdict device.plan (grabbed device.plan (past device.steps.items)) _ (now g.D.Validates.verdict device.plan (past device.steps.items)) _ (queued_frames device.plan (past device.steps.items)) device.board c.self.invariant.board
     (c.as_slice-2.ensures.value ∙ c.self.invariant.grabs) (c.as_slice.ensures.value ∙ c.self.invariant.values)
 
-pub change_kept-changed-requires-clause-once : goal.change_kept-changed-requires-clause-once
-change_kept-changed-requires-clause-once g c =
+pub change_with_forecasts-changed-requires-clause-once : goal.change_with_forecasts-changed-requires-clause-once
+change_with_forecasts-changed-requires-clause-once g c =
     let device = c.self.inside in
     queued_once g.D.Validates.verdict device.plan (past device.steps.items) device.board.queued c.self.invariant.legal (ap (λ (b : BoardData). b.queued) c.self.invariant.board)
 
@@ -81,7 +81,7 @@ returns-in-Ok-clause-asked g c =
     let most =
     line_bound g.D.Validates.verdict device.plan (past device.steps.items) c.args.step device.frames device.board.queued c.self.invariant.frames
     (ap (λ (b : BoardData). b.queued) c.self.invariant.board) in
-    rw (← c.self.view_is) (omega (arith, c.saturating_add-self-inside.ensures, c.change_kept-changed.ensures.asked, ap (λ (w : Work). w.asked) c.new-work.ensures, most))
+    rw (← c.self.view_is) (omega (arith, c.saturating_add-self-inside.ensures, c.change_with_forecasts-changed.ensures.asked, ap (λ (w : Work). w.asked) c.new-work.ensures, most))
 
 pub returns-in-Err-clause-asked : goal.returns-in-Err-clause-asked
 returns-in-Err-clause-asked g c =
@@ -89,4 +89,4 @@ returns-in-Err-clause-asked g c =
     let most =
     line_bound g.D.Validates.verdict device.plan (past device.steps.items) c.args.step device.frames device.board.queued c.self.invariant.frames
     (ap (λ (b : BoardData). b.queued) c.self.invariant.board) in
-    rw (← c.self.view_is) (omega (arith, c.saturating_add-self-inside.ensures, c.change_kept-changed.ensures.asked, ap (λ (w : Work). w.asked) c.new-work.ensures, most))
+    rw (← c.self.view_is) (omega (arith, c.saturating_add-self-inside.ensures, c.change_with_forecasts-changed.ensures.asked, ap (λ (w : Work). w.asked) c.new-work.ensures, most))

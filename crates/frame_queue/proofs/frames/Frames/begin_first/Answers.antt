@@ -1,7 +1,7 @@
 use Rattle.std.proofs.Common.{arith, ◌≡◌, ◌∙◌, ◌∷◌, List, ℕ, Some, None, ap, sym, subst, remove, slice_get}
 use Rattle.std.proofs.Math.Path.{ap₂}
 use Rattle.req_book.specs.Requests.{RequestsData}
-use Rattle.frame_queue.specs.Frames.{FramesData, AreFrames}
+use Rattle.frame_queue.specs.Frames.{FramesData, QueueFitsRequests}
 use Rattle.frame_queue.proofs.PlaceLemmas.{many_after}
 use Rattle.frame_queue.proofs.FrameLemmas.{begun_kept, first_is}
 use Rattle.frame_queue.proofs.frames.Frames.begin_first.Goals as goal
@@ -13,7 +13,7 @@ invariant_of-self c =
     let first : c.self.inside.queue.items ≡ c.args.id ∷ remove c.self.inside.queue.items 0 = first_is c.self.inside.queue.items c.args.id (ap (λ (f : FramesData). slice_get f.queue 0) c.self.view_is ∙ c.requires.first) in
     let none : c.self.inside.running ≡ None = ap (λ (f : FramesData). f.running) c.self.view_is ∙ c.requires.idle in
     record {
-      frames = subst AreFrames (sym (ap₂ whole c.mark_running.ensures c.remove.ensures.items)) (begun_kept old c.args.id (remove c.self.inside.queue.items 0) c.args.applied.now c.self.invariant.frames first none);
+      frames = subst QueueFitsRequests (sym (ap₂ whole c.mark_running.ensures c.remove.ensures.items)) (begun_kept old c.args.id (remove c.self.inside.queue.items 0) c.args.applied.now c.self.invariant.frames first none);
       few = omega (arith, c.self.invariant.few, many_after c.self.inside.requests _ c.args.id _ c.mark_running.ensures);
       fits = omega (arith, c.self.invariant.fits, c.remove.ensures.capacity);
     }

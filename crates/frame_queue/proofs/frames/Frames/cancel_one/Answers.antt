@@ -1,7 +1,7 @@
 use Rattle.std.proofs.Common.{arith, ◌≡◌, ◌∙◌, List, ℕ, None, ap, sym, subst}
 use Rattle.std.proofs.Math.Path.{ap₂}
 use Rattle.req_book.specs.Requests.{RequestsData, find}
-use Rattle.frame_queue.specs.Frames.{FramesData, AreFrames, cancel_refusal}
+use Rattle.frame_queue.specs.Frames.{FramesData, QueueFitsRequests, cancel_refusal}
 use Rattle.frame_queue.proofs.PlaceLemmas.{many_after}
 use Rattle.frame_queue.proofs.FrameLemmas.{cancelled_kept}
 use Rattle.frame_queue.proofs.frames.Frames.cancel_one.Goals as goal
@@ -12,7 +12,7 @@ invariant_of-self c =
     let whole : RequestsData → List ℕ → FramesData = λ requests ids. record { requests = requests; queue = ids; running = c.self.inside.running } in
     let waits : cancel_refusal (find c.self.inside.requests.all c.args.id) ≡ None = ap (λ (f : FramesData). cancel_refusal (find f.requests.all c.args.id)) c.self.view_is ∙ c.requires.waits in
     record {
-      frames = subst AreFrames (sym (ap₂ whole c.mark_complete.ensures c.leave.ensures.left)) (cancelled_kept old c.args.id _ c.self.invariant.frames waits);
+      frames = subst QueueFitsRequests (sym (ap₂ whole c.mark_complete.ensures c.leave.ensures.left)) (cancelled_kept old c.args.id _ c.self.invariant.frames waits);
       few = omega (arith, c.self.invariant.few, many_after c.self.inside.requests _ c.args.id _ c.mark_complete.ensures);
       fits = omega (arith, c.self.invariant.fits, c.leave.ensures.room);
     }

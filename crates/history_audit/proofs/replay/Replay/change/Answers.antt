@@ -11,7 +11,7 @@ use Rattle.device_history.specs.Handles.{opened}
 use Rattle.device_history.specs.Snapshots.{frames}
 use Rattle.device_history.specs.Values.{now, now_after}
 use Rattle.device_history.proofs.PresentLemmas.{length_grabbed, length_now}
-use Rattle.step_effects.specs.Quiet.{FitsIn}
+use Rattle.step_effects.specs.Leaving.{FitsIn}
 use Rattle.step_effects.proofs.FitLemmas.{fits_in}
 use Rattle.history_audit.proofs.MadeLemmas.{taken_many}
 use Rattle.step_effects.proofs.QuietLemmas.{opened_quiet, grabbed_quiet, laid_quiet, given_quiet}
@@ -21,35 +21,35 @@ use Rattle.history_audit.proofs.MadeLemmas.{numbered, replay_add, replayed_next}
 use Rattle.history_audit.proofs.replay.Replay.change.Goals as goal
 
 -- the step fits what is kept
-pub change_quiet-requires-clause-fits : goal.change_quiet-requires-clause-fits
-change_quiet-requires-clause-fits g c =
+pub change_requests_and_events-requires-clause-fits : goal.change_requests_and_events-requires-clause-fits
+change_requests_and_events-requires-clause-fits g c =
     let r = c.self.inside in
     subst (λ (n : ℕ). FitsIn n c.args.entry.now.step r.frames) (taken_many r.steps.now r.count c.self.invariant.within)
     (fits_in g.D.Validates.verdict r.plan.now (take r.count r.steps.now) r.frames c.args.entry.now.step c.self.invariant.made.frames c.self.invariant.made.legal (rw (← c.self.view_is) at c.requires.follows) c.requires.quiet
     (names_known g.D.Validates.verdict r.plan.now (past (take r.count r.steps.now)) c.args.entry.now.step c.self.invariant.plans (rw (← c.self.view_is) at c.requires.follows) (rw (← c.self.view_is) at c.requires.known)))
 
-pub change_quiet-requires-clause-known : goal.change_quiet-requires-clause-known
-change_quiet-requires-clause-known g c =
+pub change_requests_and_events-requires-clause-known : goal.change_requests_and_events-requires-clause-known
+change_requests_and_events-requires-clause-known g c =
     let r = c.self.inside in
     names_known g.D.Validates.verdict r.plan.now (past (take r.count r.steps.now)) c.args.entry.now.step c.self.invariant.plans (rw (← c.self.view_is) at c.requires.follows) (rw (← c.self.view_is) at c.requires.known)
 
 -- there is a value and a grab for each control
-pub change_quiet-requires-clause-values : goal.change_quiet-requires-clause-values
-change_quiet-requires-clause-values g c =
+pub change_requests_and_events-requires-clause-values : goal.change_requests_and_events-requires-clause-values
+change_requests_and_events-requires-clause-values g c =
     let r = c.self.inside in
     ap length (c.as_slice.ensures.value ∙ c.self.invariant.made.values) ∙ length_now g.D.Validates.verdict r.plan.now (past (take r.count r.steps.now))
 
-pub change_quiet-requires-clause-grabs : goal.change_quiet-requires-clause-grabs
-change_quiet-requires-clause-grabs g c =
+pub change_requests_and_events-requires-clause-grabs : goal.change_requests_and_events-requires-clause-grabs
+change_requests_and_events-requires-clause-grabs g c =
     let r = c.self.inside in
     ap length (c.as_slice-2.ensures.value ∙ c.self.invariant.made.grabs) ∙ length_grabbed r.plan.now (past (take r.count r.steps.now))
 
-pub change_quiet-requires-clause-frames : goal.change_quiet-requires-clause-frames
-change_quiet-requires-clause-frames g c = ap (λ (f : FramesData). f.requests.controls) c.self.invariant.made.frames
+pub change_requests_and_events-requires-clause-frames : goal.change_requests_and_events-requires-clause-frames
+change_requests_and_events-requires-clause-frames g c = ap (λ (f : FramesData). f.requests.controls) c.self.invariant.made.frames
 
 -- there are numbers
-pub change_quiet-requires-clause-numbers : goal.change_quiet-requires-clause-numbers
-change_quiet-requires-clause-numbers g c = numbered g.D.Validates.verdict c.self.inside.plan.now c.self.inside.steps.now c.self.inside.count _ c.self.invariant
+pub change_requests_and_events-requires-clause-numbers : goal.change_requests_and_events-requires-clause-numbers
+change_requests_and_events-requires-clause-numbers g c = numbered g.D.Validates.verdict c.self.inside.plan.now c.self.inside.steps.now c.self.inside.count _ c.self.invariant
 
 -- the requests, the queue and the events are what the step makes of them
 pub invariant_of-self-2 : goal.invariant_of-self-2
@@ -62,11 +62,11 @@ invariant_of-self-2 g c =
     (made.file_handles ∙ sym (opened_quiet r.count step (opened P) c.requires.quiet))
     (made.grabs ∙ sym (grabbed_quiet step (grabbed r.plan.now P) c.requires.quiet))
     (made.values ∙ ap (λ (l : Option (List Pair)). now_after g.D.Validates.verdict r.plan.now (grabbed r.plan.now P) l (now g.D.Validates.verdict r.plan.now P)) (sym (laid_quiet r.plan.now P step c.requires.quiet)))
-    (c.in_ok-change_quiet.ensures.frames
+    (c.in_ok-change_requests_and_events.ensures.frames
     ∙ ap (λ (v : Values). frames_changed v [] r.count step r.frames) (c.as_slice.ensures.value ∙ made.values)
     ∙ ap (frames_changed (now g.D.Validates.verdict r.plan.now P) [] r.count step) made.frames
     ∙ ap (λ (l : List Pair). frames_changed (now g.D.Validates.verdict r.plan.now P) l r.count step (frames g.D.Validates.verdict r.plan.now P)) (sym (given_quiet g.D.Validates.verdict r.plan.now P step c.requires.quiet)))
-    (c.in_ok-change_quiet.ensures.events g.D.Validates.verdict c.args.entry.now P refl (c.as_slice.ensures.value ∙ made.values) (c.as_slice-2.ensures.value ∙ made.grabs))
+    (c.in_ok-change_requests_and_events.ensures.events g.D.Validates.verdict c.args.entry.now P refl (c.as_slice.ensures.value ∙ made.values) (c.as_slice-2.ensures.value ∙ made.grabs))
 
 -- one more step was replayed
 pub returns-clause-ok : goal.returns-clause-ok

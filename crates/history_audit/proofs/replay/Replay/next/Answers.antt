@@ -1,6 +1,6 @@
 use Rattle.std.proofs.Common.{◌≡◌, ◌<◌, length, get_or, ap, sym, subst, ◌∙◌}
 use Rattle.device_history.specs.Steps.{History}
-use Rattle.history_audit.specs.Replay.{IsNext, ReplayData}
+use Rattle.history_audit.specs.Replay.{IsNextEntry, ReplayData}
 use Rattle.history_audit.proofs.AuditLemmas.{at, more_stand, next_read, replayed_each}
 use Rattle.history_audit.proofs.replay.Replay.next.Goals as goal
 
@@ -17,6 +17,6 @@ returns-clause-replayed g c =
     let r = c.replay.inside in
     let e = c.index-all-self.result in
     let all : c.self.inside.steps.now ≡ r.steps.now = ap (λ (d : ReplayData). d.all) c.self.view_is ∙ sym (ap (λ (d : ReplayData). d.all) c.replay.view_is) in
-    let here : IsNext (at r.plan.now r.steps.now r.count) e =
+    let here : IsNextEntry (at r.plan.now r.steps.now r.count) e =
     next_read r.plan.now r.steps.now r.count e c.replay.invariant.within (rw (← c.replay.view_is) at c.requires) (c.index-all-self.is ∙ ap (λ (xs : History). get_or xs r.count e) all) in
     replayed_each g.D.Validates.verdict c.args.self.now c.replay-done.new.self e c.replay-done.result (rw (← c.replay.view_is) here) c.replay-done.ensures.ok

@@ -7,7 +7,7 @@ use Rattle.device_history.specs.declared.ask.Step.{Step}
 use Rattle.device_history.specs.declared.ask.Step.TheVariants as steps
 use Rattle.device_history.specs.EventSteps.{AreAround}
 use Rattle.device_history.specs.Grabs.{grabbed, grabbed_after}
-use Rattle.device_history.specs.Values.{laid, now, now_after}
+use Rattle.device_history.specs.Values.{pairs_asked, now, now_after}
 use Rattle.device_history.proofs.GrabLemmas.{grabbed_more}
 use Rattle.device_history.proofs.PresentLemmas.{length_grabbed, length_now}
 use Rattle.history_audit.specs.Replay.{ReplayData}
@@ -47,7 +47,7 @@ raise_step-requires-clause-values g c =
     set_makes g.D.Validates.verdict r.plan.now P c.args.fh c.args.touch.now.pairs c.args.touch.now c.rows.result.now c.in_ok-values.values.items c.write_rows.new.values.items c.self.invariant.plans
     (rw (← c.self.view_is) at c.requires.touched) c.rows.ensures (c.in_ok-values.ensures ∙ c.as_slice.ensures.value ∙ c.self.invariant.made.values) c.write_rows.ensures in
     ap (λ (m : MomentData). length m.values) c.new-2.ensures ∙ ap length (c.as_slice-4.ensures.value ∙ made)
-    ∙ ap length (sym (now_next g.D.Validates.verdict r.plan.now c.args.entry.now P ∙ ap (λ (s : Step). now_after g.D.Validates.verdict r.plan.now (grabbed r.plan.now P) (laid r.plan.now P s) (now g.D.Validates.verdict r.plan.now P)) step))
+    ∙ ap length (sym (now_next g.D.Validates.verdict r.plan.now c.args.entry.now P ∙ ap (λ (s : Step). now_after g.D.Validates.verdict r.plan.now (grabbed r.plan.now P) (pairs_asked r.plan.now P s) (now g.D.Validates.verdict r.plan.now P)) step))
     ∙ length_now g.D.Validates.verdict r.plan.now (c.args.entry.now ∷ P)
 
 pub raise_step-requires-clause-grabs : goal.raise_step-requires-clause-grabs
@@ -72,7 +72,7 @@ invariant_of-self g c =
       old_values = ap (λ (m : MomentData). m.values) c.new.ensures ∙ c.as_slice-2.ensures.value ∙ made.values;
       old_grabs = ap (λ (m : MomentData). m.grabs) c.new.ensures ∙ c.as_slice-3.ensures.value ∙ made.grabs;
       values = ap (λ (m : MomentData). m.values) c.new-2.ensures ∙ c.as_slice-4.ensures.value ∙ laid_over
-          ∙ sym (now_next g.D.Validates.verdict r.plan.now c.args.entry.now P ∙ ap (λ (s : Step). now_after g.D.Validates.verdict r.plan.now (grabbed r.plan.now P) (laid r.plan.now P s) (now g.D.Validates.verdict r.plan.now P)) step);
+          ∙ sym (now_next g.D.Validates.verdict r.plan.now c.args.entry.now P ∙ ap (λ (s : Step). now_after g.D.Validates.verdict r.plan.now (grabbed r.plan.now P) (pairs_asked r.plan.now P s) (now g.D.Validates.verdict r.plan.now P)) step);
       grabs = ap (λ (m : MomentData). m.grabs) c.new-2.ensures ∙ c.as_slice-5.ensures.value ∙ made.grabs ∙ sym (grabbed_more r.plan.now c.args.entry.now P ∙ ap (λ (s : Step). grabbed_after s (grabbed r.plan.now P)) step);
     } in
     replay_add g.D.Validates.verdict r.plan.now r.steps.now r.count _ _ c.args.entry.now c.self.invariant (rw (← c.self.view_is) at c.requires.next) (rw (← c.self.view_is) at c.requires.room) (rw (← c.self.view_is) at c.requires.follows)

@@ -1,17 +1,17 @@
 use Rattle.std.proofs.Common.{◌≡◌, refl, None}
-use Rattle.req_book.specs.Requests.{RequestsData, changed, cleared}
+use Rattle.req_book.specs.Requests.{RequestsData, with_changed, cleared}
 use Rattle.req_book.proofs.ObjectLemmas.{done, undone, never_empty}
 use Rattle.req_book.proofs.objects.Objects.clear.Goals as goal
 use Rattle.slab.specs.Slab.{with_value}
 use Rattle.req_book.specs.declared.object.Object.{Object}
 use Rattle.req_book.specs.declared.state.RequestState.TheVariants.{Idle}
-use Rattle.req_book.specs.Objects.{requests_in, IsKept}
+use Rattle.req_book.specs.Objects.{requests_of_entries, IsObjectTable}
 
 abbrev object : goal.After-self-in-Some-get_mut-1 → Object
 object c = record { state = Idle; buffer = None; pairs = c.clear.new.self; applied = c.clear-in-Some-get_mut.new.self; values = c.clear-in-Some-get_mut-2.new.self }
 
-made : (c : goal.After-self-in-Some-get_mut-1) → IsKept c.self.inside.controls (with_value c.self.inside.slots c.in-Some.key.now (object c)) c.self.inside.ids.entries
-    × (◌≡◌ {A = RequestsData} (record { controls = c.self.inside.controls; all = requests_in (with_value c.self.inside.slots c.in-Some.key.now (object c)) c.self.inside.ids.entries }) (changed c.args.self.now c.args.id (cleared)))
+made : (c : goal.After-self-in-Some-get_mut-1) → IsObjectTable c.self.inside.controls (with_value c.self.inside.slots c.in-Some.key.now (object c)) c.self.inside.ids.entries
+    × (◌≡◌ {A = RequestsData} (record { controls = c.self.inside.controls; all = requests_of_entries (with_value c.self.inside.slots c.in-Some.key.now (object c)) c.self.inside.ids.entries }) (with_changed c.args.self.now c.args.id (cleared)))
 made c =
     done c.self.inside.controls c.self.inside.slots c.self.inside.ids.entries c.args.self.now c.args.id c.in-Some.key.now c.in-Some-get_mut.object.now (object c) (cleared)
     c.self.view_is c.self.invariant c.in-Some.ensures.value c.in-Some-get_mut.ensures.value (λ sized. tt) (rw (c.clear.ensures.items, c.clear-in-Some-get_mut.ensures.items) refl)

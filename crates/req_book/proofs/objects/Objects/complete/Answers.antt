@@ -1,5 +1,5 @@
 use Rattle.std.proofs.Common.{◌≡◌, ◌∙◌, ap, sym, List, length, true}
-use Rattle.req_book.specs.Requests.{RequestData, RequestsData, changed, completed, snapshot_of, is_pending}
+use Rattle.req_book.specs.Requests.{RequestData, RequestsData, with_changed, completed, snapshot_of, is_pending}
 use Rattle.req_book.proofs.ObjectLemmas.{done, undone, never_empty, owed, room_of, room_there}
 use Rattle.req_book.proofs.objects.Objects.complete.Goals as goal
 use Rattle.ctrl_types.specs.Values.{CtrlValue}
@@ -7,13 +7,13 @@ use Rattle.req_book.proofs.SettingLemmas.{snapshot_long}
 use Rattle.slab.specs.Slab.{with_value}
 use Rattle.req_book.specs.declared.object.Object.{Object}
 use Rattle.req_book.specs.declared.state.RequestState.TheVariants.{Complete}
-use Rattle.req_book.specs.Objects.{requests_in, IsKept}
+use Rattle.req_book.specs.Objects.{requests_of_entries, IsObjectTable}
 
 abbrev object : goal.After-self-in-Some-get_mut-1 → Object
 object c = record c.in-Some-get_mut.object.now { state = Complete; values = c.keep.new.values }
 
-made : (c : goal.After-self-in-Some-get_mut-1) → IsKept c.self.inside.controls (with_value c.self.inside.slots c.in-Some.key.now (object c)) c.self.inside.ids.entries
-    × (◌≡◌ {A = RequestsData} (record { controls = c.self.inside.controls; all = requests_in (with_value c.self.inside.slots c.in-Some.key.now (object c)) c.self.inside.ids.entries }) (changed c.args.self.now c.args.id (completed c.args.values.now)))
+made : (c : goal.After-self-in-Some-get_mut-1) → IsObjectTable c.self.inside.controls (with_value c.self.inside.slots c.in-Some.key.now (object c)) c.self.inside.ids.entries
+    × (◌≡◌ {A = RequestsData} (record { controls = c.self.inside.controls; all = requests_of_entries (with_value c.self.inside.slots c.in-Some.key.now (object c)) c.self.inside.ids.entries }) (with_changed c.args.self.now c.args.id (completed c.args.values.now)))
 made c =
     let before = c.in-Some-get_mut.object.now in
     let pending : is_pending before.state ≡ true = owed c.self.inside.controls c.self.inside.slots c.self.inside.ids.entries c.args.self.now c.args.id c.in-Some.key.now before (λ r. is_pending r.state ≡ true) c.self.view_is c.self.invariant.named c.in-Some.ensures.value c.in-Some-get_mut.ensures.value c.requires.state in

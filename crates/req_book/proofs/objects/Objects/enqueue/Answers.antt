@@ -1,6 +1,6 @@
 use Rattle.std.proofs.Common.{◌≡◌, ◌∙◌, ap, sym, None, List, length, Option}
 use Rattle.std.proofs.Math.Path.{ap₂}
-use Rattle.req_book.specs.Requests.{RequestData, RequestsData, changed, queued}
+use Rattle.req_book.specs.Requests.{RequestData, RequestsData, with_changed, queued}
 use Rattle.req_book.proofs.ObjectLemmas.{done, undone, never_empty, owed}
 use Rattle.req_book.proofs.objects.Objects.enqueue.Goals as goal
 use Rattle.std.proofs.lemmas.List.{length-replicate}
@@ -8,13 +8,13 @@ use Rattle.ctrl_types.specs.Values.{CtrlValue}
 use Rattle.slab.specs.Slab.{with_value}
 use Rattle.req_book.specs.declared.object.Object.{Object}
 use Rattle.req_book.specs.declared.state.RequestState.TheVariants.{Idle, Queued}
-use Rattle.req_book.specs.Objects.{requests_in, snapshot_seen, IsKept}
+use Rattle.req_book.specs.Objects.{requests_of_entries, snapshot_seen, IsObjectTable}
 
 abbrev object : goal.After-drop-object-in-Some-get_mut → Object
 object c = record c.in-Some-get_mut.object.now { state = Queued; applied = c.args.applied; values = c.args.values }
 
-made : (c : goal.After-drop-object-in-Some-get_mut) → IsKept c.self.inside.controls (with_value c.self.inside.slots c.in-Some.key.now (object c)) c.self.inside.ids.entries
-    × (◌≡◌ {A = RequestsData} (record { controls = c.self.inside.controls; all = requests_in (with_value c.self.inside.slots c.in-Some.key.now (object c)) c.self.inside.ids.entries }) (changed c.args.self.now c.args.id (queued c.args.self.now.controls)))
+made : (c : goal.After-drop-object-in-Some-get_mut) → IsObjectTable c.self.inside.controls (with_value c.self.inside.slots c.in-Some.key.now (object c)) c.self.inside.ids.entries
+    × (◌≡◌ {A = RequestsData} (record { controls = c.self.inside.controls; all = requests_of_entries (with_value c.self.inside.slots c.in-Some.key.now (object c)) c.self.inside.ids.entries }) (with_changed c.args.self.now c.args.id (queued c.args.self.now.controls)))
 made c =
     let before = c.in-Some-get_mut.object.now in
     let state : before.state ≡ Idle = owed c.self.inside.controls c.self.inside.slots c.self.inside.ids.entries c.args.self.now c.args.id c.in-Some.key.now before (λ r. r.state ≡ Idle) c.self.view_is c.self.invariant.named c.in-Some.ensures.value c.in-Some-get_mut.ensures.value c.requires.state in

@@ -1,7 +1,7 @@
 use Rattle.std.proofs.Common.{refl}
-use Rattle.req_book.specs.Objects.{requests_in}
+use Rattle.req_book.specs.Objects.{requests_of_entries}
 use Rattle.req_book.proofs.objects.Objects.new.Goals as goal
 
 pub returns : goal.returns
-unfolding requests_in
+unfolding requests_of_entries
 returns c = rw c.new.ensures.empty refl

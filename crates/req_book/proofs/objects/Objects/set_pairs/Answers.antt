@@ -1,16 +1,16 @@
 use Rattle.std.proofs.Common.{◌≡◌, refl}
-use Rattle.req_book.specs.Requests.{RequestsData, changed, asking}
+use Rattle.req_book.specs.Requests.{RequestsData, with_changed, asking}
 use Rattle.req_book.proofs.ObjectLemmas.{done, undone, never_empty}
 use Rattle.req_book.proofs.objects.Objects.set_pairs.Goals as goal
 use Rattle.slab.specs.Slab.{with_value}
 use Rattle.req_book.specs.declared.object.Object.{Object}
-use Rattle.req_book.specs.Objects.{requests_in, IsKept}
+use Rattle.req_book.specs.Objects.{requests_of_entries, IsObjectTable}
 
 abbrev object : goal.After-drop-object → Object
 object c = record c.in-Some-get_mut.object.now { pairs = c.args.pairs }
 
-made : (c : goal.After-drop-object) → IsKept c.self.inside.controls (with_value c.self.inside.slots c.in-Some.key.now (object c)) c.self.inside.ids.entries
-    × (◌≡◌ {A = RequestsData} (record { controls = c.self.inside.controls; all = requests_in (with_value c.self.inside.slots c.in-Some.key.now (object c)) c.self.inside.ids.entries }) (changed c.args.self.now c.args.id (asking c.args.pairs.items)))
+made : (c : goal.After-drop-object) → IsObjectTable c.self.inside.controls (with_value c.self.inside.slots c.in-Some.key.now (object c)) c.self.inside.ids.entries
+    × (◌≡◌ {A = RequestsData} (record { controls = c.self.inside.controls; all = requests_of_entries (with_value c.self.inside.slots c.in-Some.key.now (object c)) c.self.inside.ids.entries }) (with_changed c.args.self.now c.args.id (asking c.args.pairs.items)))
 made c =
     done c.self.inside.controls c.self.inside.slots c.self.inside.ids.entries c.args.self.now c.args.id c.in-Some.key.now c.in-Some-get_mut.object.now (object c) (asking c.args.pairs.items)
     c.self.view_is c.self.invariant c.in-Some.ensures.value c.in-Some-get_mut.ensures.value (λ sized. sized) (refl)

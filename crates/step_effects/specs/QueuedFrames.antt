@@ -41,8 +41,8 @@ TakesOne (steps.Cancel r) queued = AreOnce (map (λ q. q.request.0) queued)
 TakesOne _ queued = Unit {0}
 
 -- What a quiet step makes of the queued frames.
-abbrev pub line_after : FramesData → Step → List QueuedData → List QueuedData
-line_after f step queued = after_taking step (after_queueing f step queued)
+abbrev pub queued_after : FramesData → Step → List QueuedData → List QueuedData
+queued_after f step queued = after_taking step (after_queueing f step queued)
 
 -- how often the frames behind that of a request name the clusters that it names
 abbrev pub named_behind : PlanData → ℕ → List QueuedData → ℕ
@@ -60,8 +60,8 @@ taking_asks plan (steps.Cancel r) queued = named_behind plan r.0 queued
 taking_asks plan _ queued = 0
 
 -- How many validators a quiet step asks at most.
-abbrev pub line_asks : PlanData → FramesData → Step → List QueuedData → ℕ
-line_asks plan f step queued = queueing_asks plan f step + taking_asks plan step (after_queueing f step queued)
+abbrev pub asks_at_most : PlanData → FramesData → Step → List QueuedData → ℕ
+asks_at_most plan f step queued = queueing_asks plan f step + taking_asks plan step (after_queueing f step queued)
 
 -- how many were asked once a frame was queued: those that laying it over what the last one leaves asks
 abbrev pub asked_queueing : Verdicts → PlanData → Grabs → Values → FramesData → Step → List QueuedData → ℕ → ℕ
@@ -80,6 +80,6 @@ asked_taking verdicts plan grabs values (steps.Cancel r) queued count = asked_re
 asked_taking verdicts plan grabs values _ queued count = count
 
 -- How many validators were asked once a quiet step has changed the queued frames.
-abbrev pub asked_after : Verdicts → PlanData → Grabs → Values → FramesData → Step → List QueuedData → ℕ → ℕ
-asked_after verdicts plan grabs values f step queued count =
+abbrev pub validators_asked : Verdicts → PlanData → Grabs → Values → FramesData → Step → List QueuedData → ℕ → ℕ
+validators_asked verdicts plan grabs values f step queued count =
     asked_taking verdicts plan grabs values step (after_queueing f step queued) (asked_queueing verdicts plan grabs values f step queued count)

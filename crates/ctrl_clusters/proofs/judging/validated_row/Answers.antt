@@ -2,17 +2,17 @@
 use Rattle.std.proofs.Common.{◌≡◌, ◌∙◌, ℕ, List, Ok, Err, ap, rules, sym}
 use Rattle.ctrl_handlers.specs.Plan.{calls_of, members}
 use Rattle.ctrl_clusters.specs.Rows.{overwritten, settle_row}
-use Rattle.ctrl_clusters.specs.Judging.{asks, becomes}
+use Rattle.ctrl_clusters.specs.Judging.{asks_validator, validated_row}
 use Rattle.ctrl_clusters.proofs.RowLemmas.{asked_settled, asked_unsettled}
-use Rattle.ctrl_clusters.proofs.judging.becomes.Goals as goal
+use Rattle.ctrl_clusters.proofs.judging.validated_row.Goals as goal
 
 pub returns-in-Ok-clause-row : goal.returns-in-Ok-clause-row
-unfolding becomes
+unfolding validated_row
 returns-in-Ok-clause-row g c = search rules
 
 -- the row is judged once it has settled
 pub returns-in-Ok-clause-counted : goal.returns-in-Ok-clause-counted
-unfolding asks
+unfolding asks_validator
 returns-in-Ok-clause-counted g c =
     let k : ℕ = c.args.cluster in
     let settled : settle_row c.args.controls.now (members c.args.plan.now k) (overwritten c.args.values.now c.args.pairs.now (members c.args.plan.now k)) ≡ Ok c.in-Ok.row =
@@ -24,7 +24,7 @@ returns-in-Ok-clause-counted g c =
 
 -- and nobody is asked where it doesn't
 pub returns-in-Err-clause-counted : goal.returns-in-Err-clause-counted
-unfolding asks
+unfolding asks_validator
 returns-in-Err-clause-counted g c =
     let k : ℕ = c.args.cluster in
     let unsettled : settle_row c.args.controls.now (members c.args.plan.now k) (overwritten c.args.values.now c.args.pairs.now (members c.args.plan.now k)) ≡ Err c.in-Err.errno =

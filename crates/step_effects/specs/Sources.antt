@@ -10,8 +10,8 @@ use Rattle.device_history.specs.Steps.{Past}
 use Rattle.device_history.specs.Snapshots.{begun_pairs}
 
 -- A set applies its pairs, the begin of a frame those of its request that aren't refused, and a grab none; no other step raises what it changes.
-abbrev pub AreGiven : Verdicts → PlanData → Past → Step → List Pair → Option FhId → Type 0
-AreGiven verdicts plan older (steps.Set fh own) pairs from = (pairs ≡ own) × (from ≡ Some fh)
-AreGiven verdicts plan older (steps.Begin r) pairs from = (pairs ≡ begun_pairs verdicts plan older r.0) × (from ≡ None)
-AreGiven verdicts plan older (steps.Grab c on) pairs from = (pairs ≡ []) × (from ≡ None)
-AreGiven verdicts plan older _ pairs from = ⊥
+abbrev pub IsSourceOf : Verdicts → PlanData → Past → Step → List Pair → Option FhId → Type 0
+IsSourceOf verdicts plan older (steps.Set fh own) pairs from = (pairs ≡ own) × (from ≡ Some fh)
+IsSourceOf verdicts plan older (steps.Begin r) pairs from = (pairs ≡ begun_pairs verdicts plan older r.0) × (from ≡ None)
+IsSourceOf verdicts plan older (steps.Grab c on) pairs from = (pairs ≡ []) × (from ≡ None)
+IsSourceOf verdicts plan older _ pairs from = ⊥

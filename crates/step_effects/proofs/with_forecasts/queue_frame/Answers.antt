@@ -7,8 +7,8 @@ use Rattle.ctrl_forecast.specs.Asking.{asked_count}
 use Rattle.ctrl_forecast.specs.Boards.{BoardData}
 use Rattle.ctrl_forecast.specs.Forecasts.{QueuedData, forecasts, values_behind}
 use Rattle.device_history.specs.declared.ask.Step.{Step}
-use Rattle.step_effects.specs.Lines.{asked_queueing}
-use Rattle.step_effects.proofs.lines.queue_frame.Goals as goal
+use Rattle.step_effects.specs.QueuedFrames.{asked_queueing}
+use Rattle.step_effects.proofs.with_forecasts.queue_frame.Goals as goal
 
 -- its frame is laid over what the last one leaves
 pub returns-in-Queue-clause-counted : goal.returns-in-Queue-clause-counted

@@ -5,7 +5,7 @@ use Rattle.ctrl_events.specs.Events.{after_subscribe, events_of, only_at}
 use Rattle.ctrl_handlers.specs.Plan.{control}
 use Rattle.ctrl_raises.specs.Raises.{initial_changes}
 use Rattle.step_effects.proofs.RaisedLemmas.{subscribed_step}
-use Rattle.step_effects.proofs.quiet.subscribe.Goals as goal
+use Rattle.step_effects.proofs.requests_and_events.subscribe.Goals as goal
 
 -- the file handle is subscribed, and told where it asks for it
 pub returns-in-Ok-clause-ok : goal.returns-in-Ok-clause-ok

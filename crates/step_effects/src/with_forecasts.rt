@@ -14,10 +14,10 @@ ghost use Rattle.device_history.specs.Grabs.{grabbed};
 ghost use Rattle.device_history.specs.Values.{now};
 ghost use Rattle.device_history.specs.EventSteps.{events_after};
 ghost use Rattle.device_history.specs.FrameSteps.{frames_changed};
-ghost use Rattle.step_effects.specs.Lines.{TakesOne, after_queueing, after_taking, asked_after, asked_queueing, asked_taking, frame_in, line_after, line_asks, queueing_asks, taking_asks};
-ghost use Rattle.step_effects.specs.Quiet.{FitsIn, NamesKnown, is_quiet};
+ghost use Rattle.step_effects.specs.QueuedFrames.{TakesOne, after_queueing, after_taking, validators_asked, asked_queueing, asked_taking, frame_in, queued_after, asks_at_most, queueing_asks, taking_asks};
+ghost use Rattle.step_effects.specs.Leaving.{FitsIn, NamesKnown, leaves_controls};
 
-use crate::quiet::change_quiet;
+use crate::requests_and_events::change_requests_and_events;
 use ctrl_calls::{Driver, Work};
 use ctrl_events::Events;
 use ctrl_forecast::{Board, Queued};
@@ -27,16 +27,16 @@ use device_history::Step;
 use frame_queue::Frames;
 use std::alloc::AllocError;
 
-/// Changes the requests, the queue and the events as `change_quiet` does, and the kept forecasts of the queued frames with them (the forecasts
+/// Changes the requests, the queue and the events as `change_requests_and_events` does, and the kept forecasts of the queued frames with them (the forecasts
 /// are of this project).
 ///
-/// - `plan`, `values`, `grabs`, `number`, `step`, `frames`, `events`: as of `change_quiet`.
+/// - `plan`, `values`, `grabs`, `number`, `step`, `frames`, `events`: as of `change_requests_and_events`.
 /// - `board`: the queued frames, with what they will have over these values, under these grabs; the caller owes that no request is queued twice.
 /// - `work`: its count `asked` grows, where a frame is queued, by at most one for each cluster that it names; where one is cancelled, by at most one for
 ///   each of these and each frame behind it that names the cluster too; else by none.
 ///
 /// The error is that a growth was refused; nothing was changed then but `work`.
-pub fn change_kept<D: Driver>(
+pub fn change_with_forecasts<D: Driver>(
     plan: &Plan<D>,
     values: &[CtrlValue],
     grabs: &[bool],
@@ -47,7 +47,7 @@ pub fn change_kept<D: Driver>(
     board: &mut Board,
     work: &mut Work,
 ) -> Result<(), AllocError>
-    requires quiet { is_quiet step.now ≡ true }
+    requires quiet { leaves_controls step.now ≡ true }
     requires fits { FitsIn number step.now frames.old }
     requires known { NamesKnown (length plan.now.controls) step.now }
     requires values { length values.now ≡ length plan.now.controls }
@@ -59,16 +59,16 @@ pub fn change_kept<D: Driver>(
     ensures frames { OnOk result (frames.new ≡ frames_changed values.now [] number step.now frames.old) }
     ensures events { OnOk result ((verdicts : Verdicts) (e : EntryOf StepOf) (older : Past) → e.step ≡ step.now → values.now ≡ now verdicts plan.now older → grabs.now ≡ grabbed plan.now older
         → (fh : FhIdOf) → events_of events.new fh.0 ≡ events_after verdicts plan.now e older fh (events_of events.old fh.0)) }
-    ensures board { OnOk result (board.new ≡ board_of D.verdict plan.now plan.now.controls grabs.now values.now (line_after frames.old step.now board.old.queued)) }
+    ensures board { OnOk result (board.new ≡ board_of D.verdict plan.now plan.now.controls grabs.now values.now (queued_after frames.old step.now board.old.queued)) }
     ensures frames_kept { OnErr result (frames.new ≡ frames.old) }
     ensures events_kept { OnErr result (events.new ≡ events.old) }
     ensures board_kept { OnErr result (board.new ≡ board.old) }
-    ensures asked { work.new.asked ≤ work.old.asked + line_asks plan.now frames.old step.now board.old.queued }
-    ensures counted { OnOk result (work.new.asked ≡ asked_after D.verdict plan.now grabs.now values.now frames.old step.now board.old.queued work.old.asked) }
+    ensures asked { work.new.asked ≤ work.old.asked + asks_at_most plan.now frames.old step.now board.old.queued }
+    ensures counted { OnOk result (work.new.asked ≡ validators_asked D.verdict plan.now grabs.now values.now frames.old step.now board.old.queued work.old.asked) }
     ensures told { work.new.told ≡ work.old.told }
 {
     queue_frame(plan, values, grabs, step, frames, board, work)?;
-    match change_quiet(plan, values, grabs, number, step, frames, events) {
+    match change_requests_and_events(plan, values, grabs, number, step, frames, events) {
         Ok(()) => {
             take_frames(plan, values, grabs, step, board, work);
             Ok(())

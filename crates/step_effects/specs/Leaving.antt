@@ -9,20 +9,20 @@ use Rattle.device_history.specs.declared.ask.Step.{Step}
 use Rattle.device_history.specs.declared.ask.Step.TheVariants as steps
 
 -- a step that leaves file handles, grabs and values
-abbrev pub is_quiet : Step → Bool
-is_quiet steps.Alloc = true
-is_quiet (steps.Store r pairs) = true
-is_quiet (steps.Buffer r number) = true
-is_quiet (steps.Queue r) = true
-is_quiet (steps.Complete r) = true
-is_quiet (steps.Cancel r) = true
-is_quiet steps.StreamOff = true
-is_quiet (steps.Reinit r) = true
-is_quiet (steps.Free r) = true
-is_quiet (steps.Subscribe fh c flags) = true
-is_quiet (steps.Unsubscribe fh c) = true
-is_quiet (steps.Take fh c) = true
-is_quiet _ = false
+abbrev pub leaves_controls : Step → Bool
+leaves_controls steps.Alloc = true
+leaves_controls (steps.Store r pairs) = true
+leaves_controls (steps.Buffer r number) = true
+leaves_controls (steps.Queue r) = true
+leaves_controls (steps.Complete r) = true
+leaves_controls (steps.Cancel r) = true
+leaves_controls steps.StreamOff = true
+leaves_controls (steps.Reinit r) = true
+leaves_controls (steps.Free r) = true
+leaves_controls (steps.Subscribe fh c flags) = true
+leaves_controls (steps.Unsubscribe fh c) = true
+leaves_controls (steps.Take fh c) = true
+leaves_controls _ = false
 
 -- what a step stores, or subscribes to, are controls that are there
 abbrev pub NamesKnown : ℕ → Step → Type 0

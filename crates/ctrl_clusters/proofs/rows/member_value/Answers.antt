@@ -1,7 +1,7 @@
 use Rattle.std.proofs.Common.{w64, FitsSigned, rules}
 use Rattle.std.proofs.Math.Facts.{to_z-of_z}
 use Rattle.ctrl_clusters.proofs.RowLemmas.{given_here}
-use Rattle.ctrl_clusters.proofs.rows.value_in.Goals as goal
+use Rattle.ctrl_clusters.proofs.rows.member_value.Goals as goal
 
 -- the member's value is found
 pub returns-then-member-control : goal.returns-then-member-control

@@ -10,9 +10,9 @@ ghost use Rattle.device_history.specs.declared.ask.Step.TheVariants as steps;
 ghost use Rattle.device_history.specs.Steps.{Past};
 ghost use Rattle.device_history.specs.Grabs.{grabbed};
 ghost use Rattle.device_history.specs.Values.{now};
-ghost use Rattle.device_history.specs.EventSteps.{ended_where, events_after};
+ghost use Rattle.device_history.specs.EventSteps.{unsubscribed_if_named, events_after};
 ghost use Rattle.device_history.specs.FrameSteps.{frames_changed};
-ghost use Rattle.step_effects.specs.Quiet.{FitsIn, NamesKnown, is_quiet};
+ghost use Rattle.step_effects.specs.Leaving.{FitsIn, NamesKnown, leaves_controls};
 
 use ctrl_calls::Driver;
 use ctrl_events::Events;
@@ -35,7 +35,7 @@ use std::alloc::AllocError;
 ///   controls.
 ///
 /// The error is that a growth was refused; nothing was changed then.
-pub fn change_quiet<D: Driver>(
+pub fn change_requests_and_events<D: Driver>(
     plan: &Plan<D>,
     values: &[CtrlValue],
     grabs: &[bool],
@@ -44,7 +44,7 @@ pub fn change_quiet<D: Driver>(
     frames: &mut Frames,
     events: &mut Events,
 ) -> Result<(), AllocError>
-    requires quiet { is_quiet step.now ≡ true }
+    requires quiet { leaves_controls step.now ≡ true }
     requires fits { FitsIn number step.now frames.old }
     requires known { NamesKnown (length plan.now.controls) step.now }
     requires values { length values.now ≡ length plan.now.controls }
@@ -155,7 +155,7 @@ fn subscribe<D: Driver>(
 
 // Ends the subscription of a file handle, where a control is named.
 fn unsubscribe(events: &mut Events, fh: FhId, control: Option<u32>)
-    ensures { (j : ℕ) → events_of events.new j ≡ only_at fh.0 (ended_where control) j (events_of events.old j) }
+    ensures { (j : ℕ) → events_of events.new j ≡ only_at fh.0 (unsubscribed_if_named control) j (events_of events.old j) }
 {
     if let Some(control) = control {
         events.unsubscribe(fh, control);

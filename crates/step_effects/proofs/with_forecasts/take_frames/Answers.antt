@@ -7,9 +7,9 @@ use Rattle.ctrl_forecast.specs.Asking.{renewing_count}
 use Rattle.ctrl_forecast.specs.Boards.{asked_at, board_of, named_clusters}
 use Rattle.ctrl_forecast.specs.Forecasts.{QueuedData, forecasts, named_by_frames}
 use Rattle.device_history.specs.declared.ask.Step.{Step}
-use Rattle.step_effects.specs.Lines.{TakesOne, after_taking, asked_removing, asked_taking, taking_asks}
+use Rattle.step_effects.specs.QueuedFrames.{TakesOne, after_taking, asked_removing, asked_taking, taking_asks}
 use Rattle.step_effects.proofs.LineLemmas.{none_found, one_found}
-use Rattle.step_effects.proofs.lines.take_frames.Goals as goal
+use Rattle.step_effects.proofs.with_forecasts.take_frames.Goals as goal
 
 -- the frame of the request is taken
 pub returns-in-Some-clause-board : goal.returns-in-Some-clause-board
