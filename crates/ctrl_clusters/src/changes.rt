@@ -37,7 +37,8 @@ pub(crate) fn row_changes<D: Driver>(
     false
 }
 
-/// Whether a control is changed where pairs are applied: it has another value afterwards, or it acts on each write and is among the pairs.
+/// Whether a control is changed where pairs are applied: it has another value afterwards, or it acts on each write and is among the pairs (Linux userspace API,
+/// "Control Flags", `V4L2_CTRL_FLAG_EXECUTE_ON_WRITE`).
 ///
 /// - `plan`: what the device is built of.
 /// - `before`, `after`: the values before and afterwards; the caller owes one for each control.
@@ -98,7 +99,10 @@ fn acts_on_each_write<D: Driver>(plan: &Plan<D>, member: u32) -> bool
         .contains(Flags::EXECUTE_ON_WRITE)
 }
 
-/// Whether a control is among pairs. It takes no memory and refuses nothing.
+/// Whether a control is among pairs (of this project). It takes no memory and refuses nothing.
+///
+/// - `pairs`: any.
+/// - `control`: any number, of a control or not.
 pub fn is_among(pairs: &[Pair], control: u32) -> bool
     ensures { result ≡ is_among pairs.now control }
 {

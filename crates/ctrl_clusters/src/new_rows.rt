@@ -28,7 +28,7 @@ impl Model for NewRows {
 }
 
 impl NewRows {
-    /// No rows, and room for none. It takes no memory.
+    /// No rows, and room for none (of this project). It takes no memory.
     ///
     /// - `alloc`: where rows would lie.
     pub fn new(alloc: Global) -> NewRows
@@ -40,7 +40,7 @@ impl NewRows {
         }
     }
 
-    /// No rows, and room for some.
+    /// No rows, and room for some (of this project).
     ///
     /// - `alloc`: where the rows and the table of their places lie.
     /// - `clusters`: how many clusters there are; rows may be of those with lesser numbers.
@@ -57,7 +57,7 @@ impl NewRows {
         Ok(NewRows { rows, places })
     }
 
-    /// Adds the row of a cluster behind the others.
+    /// Adds the row of a cluster behind the others (of this project).
     ///
     /// - `new`: the row; the caller owes that its cluster is one of those that rows may be of and has none yet, and that there is room.
     ///
@@ -75,7 +75,7 @@ impl NewRows {
         self.rows.push_reserved(new);
     }
 
-    /// The row that a cluster gets, where it gets one.
+    /// The row that a cluster gets, where it gets one (of this project).
     ///
     /// - `cluster`: the cluster's number, any `u32`.
     ///
@@ -86,7 +86,7 @@ impl NewRows {
         row_at(self.rows.as_slice(), self.places.as_slice(), cluster)
     }
 
-    /// The rows, in the order in which they were added.
+    /// The rows, in the order in which they were added (of this project). It takes no memory and refuses nothing.
     pub fn as_slice(&self) -> &[NewRow]
         ensures { result.now ≡ self.now.rows }
     {

@@ -21,7 +21,12 @@ pub fn default_values(alloc: Global, controls: &[Ctrl]) -> Result<Vec<CtrlValue>
         .collect(alloc)
 }
 
-/// Each control is let go (Linux driver API, `v4l2_ctrl_grab`). The arguments and the error are those of `default_values`.
+/// Each control is let go (Linux driver API, `v4l2_ctrl_grab`).
+///
+/// - `alloc`: where the grabs lie.
+/// - `controls`: the controls, in the order of their numbers.
+///
+/// The error is that a growth was refused.
 pub fn no_grabs(alloc: Global, controls: &[Ctrl]) -> Result<Vec<bool>, AllocError>
     ensures { IfOk result (λ grabs. grabs.items ≡ map (λ _. false) controls.now) }
 {

@@ -37,7 +37,7 @@ abbrev pub changes_in : List Waiting → ℕ → Changes
 changes_in [] c = no_changes
 changes_in (w ∷ ws) c = if nat_eq c w.control then w.changes else changes_in ws c
 
--- A raise for the file handle: at most one event of a control waits, with the changes of all since one was taken or the subscription ended, what is told now and the next
+-- A raise for the file handle: at most one event of a control waits, with the changes of all since one was taken or the subscription ended, the payload of now and the next
 -- number, and it is the last.
 abbrev pub raised : ℕ → Changes → Payload → FileEvents → FileEvents
 raised c changes payload f = record {

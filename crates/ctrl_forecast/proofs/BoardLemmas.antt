@@ -42,14 +42,14 @@ values_at_last values (r ∷ s ∷ rows) row h =
 
 -- without the first frame, the others stand over what it leaves
 pub popped : (verdicts : Verdicts) (plan : PlanData) (controls : List Control) (grabs : Grabs) (values : Values) (q : QueuedData) (qs : List QueuedData)
-    → ◌≡◌ {A = BoardData} (record { queued = drop 1 (board_of verdicts plan controls grabs values (q ∷ qs)).queued; named = drop 1 (board_of verdicts plan controls grabs values (q ∷ qs)).named; rows = drop 1 (board_of verdicts plan controls grabs values (q ∷ qs)).rows })
+    → ◌≡◌ {A = BoardData} (record { queued = drop 1 (board_of verdicts plan controls grabs values (q ∷ qs)).queued; named = drop 1 (board_of verdicts plan controls grabs values (q ∷ qs)).named; forecasts = drop 1 (board_of verdicts plan controls grabs values (q ∷ qs)).forecasts })
     (board_of verdicts plan controls grabs (overlay verdicts plan controls values grabs q.asked) qs)
 unfolding forecasts
 popped verdicts plan controls grabs values q qs = refl
 
 -- a board without its first frame
 abbrev pub rest_of : BoardData → BoardData
-rest_of b = record { queued = drop 1 b.queued; named = drop 1 b.named; rows = drop 1 b.rows }
+rest_of b = record { queued = drop 1 b.queued; named = drop 1 b.named; forecasts = drop 1 b.forecasts }
 
 -- what the first frame leaves is what the others stand over
 pub begun : (verdicts : Verdicts) (plan : PlanData) (controls : List Control) (grabs : Grabs) (values : Values) (qs : List QueuedData) (f : Forecast)

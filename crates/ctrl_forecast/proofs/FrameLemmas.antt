@@ -34,13 +34,13 @@ behind_long verdicts plan controls grabs values (q ∷ qs) =
 pub kept_more : (verdicts : Verdicts) (plan : PlanData) (controls : List Control) (grabs : Grabs) (values : Values) (fs : List FrameData) (qs : List QueuedData) (q : QueuedData)
     → board_seen fs ≡ board_of verdicts plan controls grabs values qs
     → board_seen (fs ++ frame_over verdicts plan controls grabs (values_behind values (map forecast_of fs)) q ∷ []) ≡ board_of verdicts plan controls grabs values (qs ++ q ∷ [])
-kept_more verdicts plan controls grabs values fs qs q kept = λ i. record { queued = asks i; named = names i; rows = has i }
+kept_more verdicts plan controls grabs values fs qs q kept = λ i. record { queued = asks i; named = names i; forecasts = has i }
   where
     new : FrameData
     new = frame_over verdicts plan controls grabs (values_behind values (map forecast_of fs)) q
 
     rows : map forecast_of fs ≡ forecasts verdicts plan controls grabs values qs
-    rows = ap (λ (b : BoardData). b.rows) kept
+    rows = ap (λ (b : BoardData). b.forecasts) kept
 
     asks : map queued_of (fs ++ new ∷ []) ≡ qs ++ q ∷ []
     asks = map-append queued_of fs (new ∷ []) ∙ ap (λ (l : List QueuedData). l ++ q ∷ []) (ap (λ (b : BoardData). b.queued) kept)

@@ -145,7 +145,7 @@ ready_kept verdicts plan controls grabs values from fs done many ready =
     λ i. record {
       queued = map queued_of fs;
       named = right_names plan fs ready.frames_ok i;
-      rows = right_rows verdicts plan controls grabs values fs done many ready.frames_ok (λ k j lt less. ready.apart k j lt refl less) i;
+      forecasts = right_rows verdicts plan controls grabs values fs done many ready.frames_ok (λ k j lt less. ready.apart k j lt refl less) i;
     }
 
 -- one cluster fewer has to be renewed

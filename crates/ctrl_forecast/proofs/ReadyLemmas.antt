@@ -45,7 +45,7 @@ ready_changed verdicts plan controls held grabs before values clusters fs is man
 }
   where
     rows : map forecast_of fs ≡ forecasts verdicts plan controls held before (map queued_of fs)
-    rows = ap (λ (b : BoardData). b.rows) kept
+    rows = ap (λ (b : BoardData). b.forecasts) kept
 
     outside : (k c : ℕ) → k < length plan.clusters → list_any (nat_eq k) clusters ≡ false → list_any (nat_eq c) (members plan k) ≡ true → is_in_one_of clusters (cluster_of plan c) ≡ false
     outside k c lt none among = ap (is_in_one_of clusters) (is.members_apart k c lt among) ∙ none
@@ -91,7 +91,7 @@ ready_removed verdicts plan controls grabs values p fs is many lt kept = record 
 }
   where
     rows : map forecast_of fs ≡ forecasts verdicts plan controls grabs values (map queued_of fs)
-    rows = ap (λ (b : BoardData). b.rows) kept
+    rows = ap (λ (b : BoardData). b.forecasts) kept
 
     are : AreKeptFrames plan fs
     are = rows_frames verdicts plan controls grabs values fs many (ap (λ (b : BoardData). b.named) kept) rows
@@ -149,7 +149,7 @@ pub kept_named : (verdicts : Verdicts) (plan : PlanData) (controls : List Contro
     → (qs : List QueuedData) → board_seen fs ≡ board_of verdicts plan controls grabs values qs → (frame_at fs p).named ≡ named_clusters plan (frame_at fs p).asked
 unfolding AreKeptFrames
 kept_named verdicts plan controls grabs values fs p many lt qs kept =
-    (rows_frames verdicts plan controls grabs values fs many (ap (λ (b : BoardData). b.named) whole) (ap (λ (b : BoardData). b.rows) whole) p lt).names
+    (rows_frames verdicts plan controls grabs values fs many (ap (λ (b : BoardData). b.named) whole) (ap (λ (b : BoardData). b.forecasts) whole) p lt).names
   where
     whole : board_seen fs ≡ board_of verdicts plan controls grabs values (map queued_of fs)
     whole = kept ∙ ap (board_of verdicts plan controls grabs values) (sym (ap (λ (b : BoardData). b.queued) kept))

@@ -18,18 +18,18 @@ named_clusters plan pairs = filter (λ k. is_touched pairs (members plan k)) (ra
 pub record BoardData : Type 0 where
   pub queued : List QueuedData
   pub named : List (List ℕ)
-  pub rows : List Forecast
+  pub forecasts : List Forecast
 
 -- the board of no frame
 abbrev pub no_board : BoardData
-no_board = record { queued = []; named = []; rows = [] }
+no_board = record { queued = []; named = []; forecasts = [] }
 
 -- What is kept of queued frames, where the first stands over these values, under these grabs: nothing of it depends on what was kept before.
 abbrev pub board_of : Verdicts → PlanData → List Control → Grabs → Values → List QueuedData → BoardData
 board_of verdicts plan controls grabs values queued = record {
   queued = queued;
   named = map (λ q. named_clusters plan q.asked) queued;
-  rows = forecasts verdicts plan controls grabs values queued;
+  forecasts = forecasts verdicts plan controls grabs values queued;
 }
 
 -- what the frame at a place asks for; nothing where there is none

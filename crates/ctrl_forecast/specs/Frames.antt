@@ -42,7 +42,7 @@ forecast_of frame = record { request = frame.request; buffer = frame.buffer; val
 
 -- frames as they are kept
 abbrev pub board_seen : List FrameData → BoardData
-board_seen frames = record { queued = map queued_of frames; named = map (λ f. f.named) frames; rows = map forecast_of frames }
+board_seen frames = record { queued = map queued_of frames; named = map (λ f. f.named) frames; forecasts = map forecast_of frames }
 
 -- a frame that is queued over values
 abbrev pub frame_over : Verdicts → PlanData → List Control → Grabs → Values → QueuedData → FrameData

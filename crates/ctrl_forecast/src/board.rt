@@ -47,7 +47,7 @@ pub struct Row<'a> {
 }
 
 impl<'a> Row<'a> {
-    /// The same in memory of its own, which is taken from `alloc`. The error is that a growth was refused.
+    /// The same in memory of its own (of this project), which is taken from `alloc`. The error is that a growth was refused.
     pub fn to_forecast(&self, alloc: Global) -> Result<Forecast, AllocError>
         ensures { IfOk result (λ forecast. forecast ≡ seen self.now) }
     {
@@ -88,7 +88,7 @@ impl Model for Board {
 }
 
 impl Board {
-    /// No frame is queued. It takes no memory; other calls take theirs from `alloc`.
+    /// No frame is queued (of this project). It takes no memory; other calls take theirs from `alloc`.
     pub fn empty(alloc: Global) -> Board
         ensures { result ≡ no_board }
     {
@@ -98,11 +98,11 @@ impl Board {
         }
     }
 
-    /// What the frame at a place will have; none where there is none. It takes no memory.
+    /// What the frame at a place will have; none where there is none (of this project). It takes no memory.
     ///
     /// - `place`: any place, from 0.
     pub fn row(&self, place: usize) -> Option<Row<'_>>
-        ensures { option_map seen result ≡ slice_get self.now.rows place }
+        ensures { option_map seen result ≡ slice_get self.now.forecasts place }
     {
         match self.frames.get(place) {
             Some(frame) => Some(Row {
@@ -115,7 +115,7 @@ impl Board {
         }
     }
 
-    /// The place of the first frame of a request; none where it isn't queued. It takes no memory.
+    /// The place of the first frame of a request; none where it isn't queued (of this project). It takes no memory.
     ///
     /// - `request`: any request.
     pub fn place_of(&self, request: RequestId) -> Option<usize>
@@ -124,17 +124,19 @@ impl Board {
         place_in(self.frames.as_slice(), request)
     }
 
-    /// How many frames there are. It takes no memory.
+    /// How many frames there are (of this project). It takes no memory.
     pub fn len(&self) -> usize
-        ensures rows { result ≡ length self.now.rows }
+        ensures forecasts { result ≡ length self.now.forecasts }
         ensures queued { result ≡ length self.now.queued }
     {
         self.frames.len()
     }
 
-    /// Whether the frames of another board have the same requests, buffers, values and refused clusters, in the same order. It takes no memory.
+    /// Whether the frames of another board have the same requests, buffers, values and refused clusters, in the same order (of this project). It takes no memory.
+    ///
+    /// - `other`: any board, of whichever plan.
     pub fn is_like(&self, other: &Board) -> bool
-        ensures { IsTrue result ↔ (self.now.rows ≡ other.now.rows) }
+        ensures { IsTrue result ↔ (self.now.forecasts ≡ other.now.forecasts) }
     {
         if self.len() != other.len() {
             return false;
@@ -144,7 +146,7 @@ impl Board {
 
     // Whether the first rows are seen as the same.
     fn is_like_below(&self, other: &Board, count: usize) -> bool
-        ensures { IsTrue result ↔ ((place : ℕ) → place < count → slice_get self.now.rows place ≡ slice_get other.now.rows place) }
+        ensures { IsTrue result ↔ ((place : ℕ) → place < count → slice_get self.now.forecasts place ≡ slice_get other.now.forecasts place) }
     {
         for place in 0..count {
             if !self.is_like_at(other, place) {
@@ -156,7 +158,7 @@ impl Board {
 
     // Whether the rows at a place are seen as the same, or there is none on either side.
     fn is_like_at(&self, other: &Board, place: usize) -> bool
-        ensures { IsTrue result ↔ (slice_get self.now.rows place ≡ slice_get other.now.rows place) }
+        ensures { IsTrue result ↔ (slice_get self.now.forecasts place ≡ slice_get other.now.forecasts place) }
     {
         match (self.row(place), other.row(place)) {
             (Some(own), Some(row)) => own.is_like(&row),
@@ -188,7 +190,7 @@ impl Board {
         ensures ok { OnOk result (self.new ≡ board_of D.verdict plan.now controls.now grabs.now values.now (self.old.queued ++ queued.now ∷ [])) }
         ensures err { OnErr result (self.new ≡ self.old) }
         ensures asked { work.new.asked ≤ work.old.asked + touched_count plan.now queued.now.asked }
-        ensures counted { OnOk result (work.new.asked ≡ with_calls (asked_count plan.now controls.now (values_behind values.now self.old.rows) grabs.now queued.now.asked) work.old.asked) }
+        ensures counted { OnOk result (work.new.asked ≡ with_calls (asked_count plan.now controls.now (values_behind values.now self.old.forecasts) grabs.now queued.now.asked) work.old.asked) }
         ensures told { work.new.told ≡ work.old.told }
     {
         self.frames.reserve(1)?;
@@ -205,11 +207,11 @@ impl Board {
         Ok(())
     }
 
-    /// Takes the first frame out, and answers what it will have; none where no frame is queued. What the others will have stays as it is: it is
+    /// Takes the first frame out, and answers what it will have; none where no frame is queued (of this project). What the others will have stays as it is: it is
     /// what they have over the values that the first one leaves. It takes no memory, and asks nobody.
     pub fn pop(&mut self) -> Option<Forecast>
-        ensures first { result ≡ slice_get self.old.rows 0 }
-        ensures rest { self.new ≡ record { queued = drop 1 self.old.queued; named = drop 1 self.old.named; rows = drop 1 self.old.rows } }
+        ensures first { result ≡ slice_get self.old.forecasts 0 }
+        ensures rest { self.new ≡ record { queued = drop 1 self.old.queued; named = drop 1 self.old.named; forecasts = drop 1 self.old.forecasts } }
     {
         if self.frames.is_empty() {
             return None;
@@ -301,7 +303,7 @@ impl Board {
         );
     }
 
-    /// Takes all frames out. It takes no memory, and asks nobody.
+    /// Takes all frames out (of this project). It takes no memory, and asks nobody.
     pub fn clear(&mut self)
         ensures { self.new ≡ no_board }
     {
@@ -311,6 +313,7 @@ impl Board {
     /// What queued frames will have, in their order: the first over the values that are handed in, each other over those of the one before
     /// (of this project).
     ///
+    /// - `alloc`: where the board lies, and what later calls take.
     /// - `plan`, `controls`, `values`, `grabs`: as of `overlay`; `values` are those before the first frame.
     /// - `queued`: the frames, in the order of the queue.
     /// - `work`: its count `asked` grows by at most one for each frame and each cluster with a member among its pairs.
@@ -340,7 +343,7 @@ impl Board {
 
     // The values that the last frame leaves, or those before the first.
     fn values_behind<'a>(&'a self, values: &'a [CtrlValue]) -> &'a [CtrlValue]
-        ensures { result.now ≡ values_behind values.now self.now.rows }
+        ensures { result.now ≡ values_behind values.now self.now.forecasts }
     {
         match self.frames.last() {
             Some(frame) => frame.values(),

@@ -37,7 +37,7 @@ impl<'a> Model for Queued<'a> {
 }
 
 impl<'a> Queued<'a> {
-    /// The frame of a request that is queued.
+    /// The frame of a request that is queued (of this project). It takes no memory.
     ///
     /// - `request`: the request.
     /// - `buffer`: the number of its buffer.

@@ -29,6 +29,7 @@ pub struct Overlaid {
 /// Lays pairs over values, under grabs (of this project; what a cluster makes of a row is of the Linux driver API, "V4L2 Controls", "Control
 /// Clusters"): each cluster with a member among the pairs is overwritten, settled and judged by itself; one that is refused keeps its row.
 ///
+/// - `alloc`: where the answer lies, and what is kept on the way.
 /// - `plan`: what the device is built of.
 /// - `controls`: its controls as they are now; the caller owes as many as the plan's, with their ids, kinds, flags and skipped items.
 /// - `values`: a value for each control, in the order of their numbers; the caller owes exactly as many.

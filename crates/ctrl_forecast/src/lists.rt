@@ -25,7 +25,7 @@ impl ValueRow {
         ValueRow { values }
     }
 
-    /// The values, with the memory that they lie in.
+    /// The values, with the memory that they lie in (of this project). It takes no further memory.
     pub fn into_vec(self) -> Vec<CtrlValue>
         ensures { result.items ≡ self }
     {
@@ -33,7 +33,7 @@ impl ValueRow {
         values
     }
 
-    /// The values, in the order of the controls' numbers.
+    /// The values, in the order of the controls' numbers (of this project). It takes no memory.
     pub fn as_slice(&self) -> &[CtrlValue]
         ensures { result.now ≡ self.now }
     {
@@ -64,7 +64,7 @@ impl ClusterList {
         ClusterList { clusters }
     }
 
-    /// The numbers, rising, with the memory that they lie in.
+    /// The numbers, rising, with the memory that they lie in (of this project). It takes no further memory.
     pub fn into_vec(self) -> Vec<u32>
         ensures { result.items ≡ self }
     {
@@ -72,7 +72,7 @@ impl ClusterList {
         clusters
     }
 
-    /// The numbers, rising.
+    /// The numbers, rising (of this project). It takes no memory.
     pub fn as_slice(&self) -> &[u32]
         ensures { result.now ≡ self.now }
     {

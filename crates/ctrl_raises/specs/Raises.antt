@@ -1,5 +1,5 @@
 -- What a change of values and grabs raises for the file handles that are subscribed (Linux userspace API, "ioctl VIDIOC_DQEVENT"; the order of the raises, that
--- a member which isn't in the list is heard of, and that what can't be read is told as 0, are of this project).
+-- a member which isn't in the list is heard of, and that what can't be read is shown as 0, are of this project).
 use Rattle.std.specs.Prelude.{ℕ, Bool, true, not, ◌||◌, pos, nat_eq, cond, List, [], ◌∷◌, Option, None, Some}
 use Rattle.ctrl_types.specs.Values.{CtrlValue}
 use Rattle.ctrl_types.specs.Flags.{contains}
@@ -22,11 +22,11 @@ pub record MomentData : Type 0 where
   pub values : Values
   pub grabs : Grabs
 
--- the value that is told of a control: 0 where it can't be read
+-- the value of a control that an event shows: 0 where it can't be read
 abbrev pub value_shown : Control → CtrlValue → CtrlValue
 value_shown ctrl value = cond (contains ctrl.flags WRITE_ONLY) (pos 0) value
 
--- what is told of a control
+-- the payload of a control's event
 abbrev pub payload_of : Control → CtrlValue → Flags → Payload
 payload_of ctrl value flags = record {
   id = ctrl.id;
@@ -73,9 +73,9 @@ needing_feedback (Some from) pairs change c = cond (has_flags change || not (is_
 
 -- what changes of a control is raised for a file handle, where something does
 abbrev pub raised_one : Changes → Payload → Option ℕ → ℕ → ℕ → FileEvents → FileEvents
-raised_one change told from fh c f = cond (is_nothing change) f (after_raise c change told from fh f)
+raised_one change payload from fh c f = cond (is_nothing change) f (after_raise c change payload from fh f)
 
 -- the same of some controls, one after another
 unfoldable pub raised_all : (ℕ → Changes) → (ℕ → Payload) → (ℕ → Option ℕ) → ℕ → List ℕ → FileEvents → FileEvents
-raised_all change told from fh [] f = f
-raised_all change told from fh (c ∷ cs) f = raised_all change told from fh cs (raised_one (change c) (told c) (from c) fh c f)
+raised_all change payload from fh [] f = f
+raised_all change payload from fh (c ∷ cs) f = raised_all change payload from fh cs (raised_one (change c) (payload c) (from c) fh c f)

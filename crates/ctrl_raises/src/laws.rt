@@ -10,5 +10,5 @@ ghost use Rattle.ctrl_raises.specs.Raises.{raised_all};
 /// For a file handle at most as many events are raised as there are controls.
 #[tactic(auto, using(crate::proofs::RaiseLemmas::raises_counted))]
 pub fn raises_count()
-    ensures { (change : ℕ → Changes) (told : ℕ → Payload) (from : ℕ → Option ℕ) (fh n : ℕ) (f : FileEvents) → (raised_all change told from fh (range_with_len 0 n) f).next ≤ f.next + n }
+    ensures { (change : ℕ → Changes) (payload : ℕ → Payload) (from : ℕ → Option ℕ) (fh n : ℕ) (f : FileEvents) → (raised_all change payload from fh (range_with_len 0 n) f).next ≤ f.next + n }
 {}

@@ -1,4 +1,4 @@
-//! What is told of controls.
+//! The payloads of controls' events.
 
 ghost use Rattle.std.specs.Prelude.{◌≡◌, ◌<◌, length};
 ghost use Rattle.ctrl_types.specs.Flags.{contains};

@@ -35,8 +35,8 @@ use Rattle.device_history.specs.Flags.{flags_now}
 use Rattle.device_history.specs.Words.{pairs_applied}
 use Rattle.device_history.specs.Legal.{IsLegal, MayFollow}
 use Rattle.device_history.specs.Subscriptions.{first_flags, is_control, since_ended, subscribed, subscribed_after, subscribed_by}
-use Rattle.device_history.specs.Events.{changed, withdrawn_if_named, happened, heard, hears, initially, next_sequence, payload, pending, raises, raised_for, all_raised_for, with_withdrawn, with_raises}
-use Rattle.device_history.specs.EventSteps.{AreEvents, unsubscribed_if_named, events_after, events_by, from_of, raised_by}
+use Rattle.device_history.specs.Events.{changed, withdrawn_if_named, happened, heard, hears, initially, next_sequence, payload, pending, raises, raised_for, all_raised_for, with_withdrawn, with_raises, from_of}
+use Rattle.device_history.specs.EventSteps.{AreEvents, unsubscribed_if_named, events_after, events_by, raised_by}
 use Rattle.ctrl_raises.specs.Raises.{initial_changes, raised_all}
 use Rattle.device_history.specs.EventAnswers.{first_control}
 use Rattle.device_history.proofs.AskingLemmas.{may_decided}
@@ -131,41 +131,7 @@ nothing_closed verdicts plan past fh f shut none =
 
 -- whether a subscriber hears of a change is whether its raise reaches it
 hears_reaches : (fh : FhId) (flags : SubFlags) (step : Step) (change : Changes) (c : ℕ) → hears fh flags step change c ≡ reaches (is_from (from_of step change c) fh.0) (Some flags)
-hears_reaches fh flags (steps.Set from pairs) change c = by (has_flags change) (is_among pairs c)
-  where
-    own : Bool
-    own = nat_eq from.0 fh.0
-
-    always : (o b : Bool) → (not o || (b || true)) ≡ true
-    always true true = refl
-    always true false = refl
-    always false b = refl
-
-    sometimes : (o b : Bool) → (not o || (b || false)) ≡ (not o || b)
-    sometimes true true = refl
-    sometimes true false = refl
-    sometimes false b = refl
-
-    by : (h a : Bool) → (not own || (allows_feedback flags || (h || not a))) ≡ (not (is_from (cond (h || not a) None (Some from.0)) fh.0) || allows_feedback flags)
-    by true a = always own (allows_feedback flags)
-    by false false = always own (allows_feedback flags)
-    by false true = sometimes own (allows_feedback flags)
-hears_reaches fh flags (steps.OpenFh handler) change c = refl
-hears_reaches fh flags (steps.CloseFh f) change c = refl
-hears_reaches fh flags (steps.Grab d on) change c = refl
-hears_reaches fh flags steps.Alloc change c = refl
-hears_reaches fh flags (steps.Store r pairs) change c = refl
-hears_reaches fh flags (steps.Buffer r number) change c = refl
-hears_reaches fh flags (steps.Queue r) change c = refl
-hears_reaches fh flags (steps.Begin r) change c = refl
-hears_reaches fh flags (steps.Complete r) change c = refl
-hears_reaches fh flags (steps.Cancel r) change c = refl
-hears_reaches fh flags steps.StreamOff change c = refl
-hears_reaches fh flags (steps.Reinit r) change c = refl
-hears_reaches fh flags (steps.Free r) change c = refl
-hears_reaches fh flags (steps.Subscribe f d own) change c = refl
-hears_reaches fh flags (steps.Unsubscribe f d) change c = refl
-hears_reaches fh flags (steps.Take f d) change c = refl
+hears_reaches fh flags step change c = refl
 
 -- nothing is picked where nothing passes
 none_picked : {Y : Type 0} (g : ℕ → Option Y) (cs : List ℕ) → ((c : ℕ) → g c ≡ None) → filter_map g cs ≡ []
@@ -257,16 +223,16 @@ raises_kept verdicts plan e older fh (c ∷ cs) f hs kept subs = by (raises_kept
         (goes more flags (subs c ∙ is) (reaches (is_from from fh.0) (Some flags)) refl))
 
 -- a step that lays no pairs, applies none and leaves the grabs
-abbrev IsQuiet : Verdicts → PlanData → Past → Step → Type 0
-IsQuiet verdicts plan older step = (pairs_asked plan older step ≡ None) × (pairs_applied verdicts plan older step ≡ None) × (grabbed_after step (grabbed plan older) ≡ grabbed plan older)
+abbrev ChangesNoControl : Verdicts → PlanData → Past → Step → Type 0
+ChangesNoControl verdicts plan older step = (pairs_asked plan older step ≡ None) × (pairs_applied verdicts plan older step ≡ None) × (grabbed_after step (grabbed plan older) ≡ grabbed plan older)
 
-pub values_quiet : (verdicts : Verdicts) (plan : PlanData) (e : Entry Step) (older : Past) → pairs_asked plan older e.step ≡ None → now verdicts plan (e ∷ older) ≡ now verdicts plan older
+pub values_controls_left : (verdicts : Verdicts) (plan : PlanData) (e : Entry Step) (older : Past) → pairs_asked plan older e.step ≡ None → now verdicts plan (e ∷ older) ≡ now verdicts plan older
 unfolding now
-values_quiet verdicts plan e older none = rw none refl
+values_controls_left verdicts plan e older none = rw none refl
 
 -- such a step changes nothing
-quiet : (verdicts : Verdicts) (plan : PlanData) (e : Entry Step) (older : Past) → IsQuiet verdicts plan older e.step → (c : ℕ) → is_nothing (changed verdicts plan e older c) ≡ true
-quiet verdicts plan e older is c = rw (values_quiet verdicts plan e older is.0, grabbed_more plan e older ∙ is.2, is.1, eq-eqb (flags_now verdicts plan older c).0 (flags_now verdicts plan older c).0 refl) refl
+changes_none : (verdicts : Verdicts) (plan : PlanData) (e : Entry Step) (older : Past) → ChangesNoControl verdicts plan older e.step → (c : ℕ) → is_nothing (changed verdicts plan e older c) ≡ true
+changes_none verdicts plan e older is c = rw (values_controls_left verdicts plan e older is.0, grabbed_more plan e older ∙ is.2, is.1, eq-eqb (flags_now verdicts plan older c).0 (flags_now verdicts plan older c).0 refl) refl
 
 -- nobody hears of nothing
 heard_nothing : (fh : FhId) (o : Option SubFlags) (step : Step) (change : Changes) (c : ℕ) → is_nothing change ≡ true → heard fh o step change c ≡ None
@@ -395,10 +361,10 @@ closed_more verdicts plan e older fh f may shut none = by e.step refl
     by (steps.Take g c) is = other g _ (takes_open verdicts plan older g c (subst (MayFollow verdicts plan older) is may))
 
 -- what a step without a subscription and without changes makes of an open file handle's happenings
-told_quiet : (verdicts : Verdicts) (plan : PlanData) (e : Entry Step) (older : Past) (fh : FhId) → IsQuiet verdicts plan older e.step → ((c : ℕ) → subscribed_by fh c e.step ≡ None) → all_raised_for verdicts plan e older fh ≡ []
-told_quiet verdicts plan e older fh is none =
+told_controls_left : (verdicts : Verdicts) (plan : PlanData) (e : Entry Step) (older : Past) (fh : FhId) → ChangesNoControl verdicts plan older e.step → ((c : ℕ) → subscribed_by fh c e.step ≡ None) → all_raised_for verdicts plan e older fh ≡ []
+told_controls_left verdicts plan e older fh is none =
     none_picked _ (range_with_len 0 (length plan.controls))
-    (λ c. ap (option_map {U = ℕ × Changes} (λ change. (c, change))) (told_heard verdicts plan e older fh c (none c) ∙ heard_nothing fh (subscribed older fh c) e.step (changed verdicts plan e older c) c (quiet verdicts plan e older is c)))
+    (λ c. ap (option_map {U = ℕ × Changes} (λ change. (c, change))) (told_heard verdicts plan e older fh c (none c) ∙ heard_nothing fh (subscribed older fh c) e.step (changed verdicts plan e older c) c (changes_none verdicts plan e older is c)))
 
 or_none : (o : Option SubFlags) → option_or o None ≡ o
 or_none None = refl
@@ -521,7 +487,7 @@ subscribes_own verdicts plan e older fh g c0 flags f plans legal may is own live
     each : (c : ℕ) → raised_for verdicts plan e older fh c ≡ cond (nat_eq c0 c) (initially (subscribed older fh c0) (Some flags) (control plan c0)) None
     each c =
         ap (λ (o : Option Changes). option_or o (initially (subscribed older fh c) (subscribed_by fh c e.step) (control plan c)))
-        (heard_nothing fh (subscribed older fh c) e.step (changed verdicts plan e older c) c (quiet verdicts plan e older (ap (pairs_asked plan older) is, ap (pairs_applied verdicts plan older) is, ap (λ (s : Step). grabbed_after s (grabbed plan older)) is) c))
+        (heard_nothing fh (subscribed older fh c) e.step (changed verdicts plan e older c) c (changes_none verdicts plan e older (ap (pairs_asked plan older) is, ap (pairs_applied verdicts plan older) is, ap (λ (s : Step). grabbed_after s (grabbed plan older)) is) c))
         ∙ ap (λ (o : Option SubFlags). initially (subscribed older fh c) o (control plan c)) (asks c) ∙ at (nat_eq c0 c) refl
       where
         at : (b : Bool) → nat_eq c0 c ≡ b → initially (subscribed older fh c) (cond b (Some flags) None) (control plan c) ≡ cond b (initially (subscribed older fh c0) (Some flags) (control plan c0)) None
@@ -594,12 +560,12 @@ ends_own verdicts plan e older fh g d f legal may is own live still are = by d r
     hs : List Happening
     hs = happened verdicts plan older fh
 
-    calm : IsQuiet verdicts plan older e.step
+    calm : ChangesNoControl verdicts plan older e.step
     calm = (ap (pairs_asked plan older) is, ap (pairs_applied verdicts plan older) is, ap (λ (s : Step). grabbed_after s (grabbed plan older)) is)
 
     now_happened : happened verdicts plan (e ∷ older) fh ≡ withdrawn_if_named d hs
     now_happened =
-        ap (λ (rs : List (ℕ × Changes)). with_raises (payload verdicts plan (e ∷ older)) rs (with_withdrawn fh e.step hs)) (told_quiet verdicts plan e older fh calm (λ c. ap (subscribed_by fh c) is))
+        ap (λ (rs : List (ℕ × Changes)). with_raises (payload verdicts plan (e ∷ older)) rs (with_withdrawn fh e.step hs)) (told_controls_left verdicts plan e older fh calm (λ c. ap (subscribed_by fh c) is))
         ∙ ap (λ (s : Step). with_withdrawn fh s hs) is ∙ ap (λ (b : Bool). cond b (withdrawn_if_named d hs) hs) own
 
     subs : (c : ℕ) → subscribed (e ∷ older) fh c ≡ cond (is_control c d) None (subscribed older fh c)
@@ -622,12 +588,12 @@ takes_own verdicts plan e older fh g c0 f legal may is own live still are = by f
     hs : List Happening
     hs = happened verdicts plan older fh
 
-    calm : IsQuiet verdicts plan older e.step
+    calm : ChangesNoControl verdicts plan older e.step
     calm = (ap (pairs_asked plan older) is, ap (pairs_applied verdicts plan older) is, ap (λ (s : Step). grabbed_after s (grabbed plan older)) is)
 
     now_happened : happened verdicts plan (e ∷ older) fh ≡ withdrawn c0 ∷ hs
     now_happened =
-        ap (λ (rs : List (ℕ × Changes)). with_raises (payload verdicts plan (e ∷ older)) rs (with_withdrawn fh e.step hs)) (told_quiet verdicts plan e older fh calm (λ c. ap (subscribed_by fh c) is))
+        ap (λ (rs : List (ℕ × Changes)). with_raises (payload verdicts plan (e ∷ older)) rs (with_withdrawn fh e.step hs)) (told_controls_left verdicts plan e older fh calm (λ c. ap (subscribed_by fh c) is))
         ∙ ap (λ (s : Step). with_withdrawn fh s hs) is ∙ ap (λ (b : Bool). cond b (withdrawn c0 ∷ hs) hs) own
 
     subs : (c : ℕ) → subscribed (e ∷ older) fh c ≡ subscribed older fh c
@@ -654,16 +620,16 @@ opened_more_events verdicts plan e older fh f plans legal may live are = by e.st
     still : (step : Step) → e.step ≡ step → opened_after (length older) step (opened older) ≡ opened older → is_open (e ∷ older) fh ≡ true
     still step is same = ap is_some (handler_more e older step fh is same) ∙ live
 
-    calm : (step : Step) → e.step ≡ step → is_open (e ∷ older) fh ≡ true → IsQuiet verdicts plan older step → ((c : ℕ) → subscribed_by fh c step ≡ None) → with_withdrawn fh step (happened verdicts plan older fh) ≡ happened verdicts plan older fh
+    calm : (step : Step) → e.step ≡ step → is_open (e ∷ older) fh ≡ true → ChangesNoControl verdicts plan older step → ((c : ℕ) → subscribed_by fh c step ≡ None) → with_withdrawn fh step (happened verdicts plan older fh) ≡ happened verdicts plan older fh
         → ((c : ℕ) → subscribed_after step fh c (subscribed older fh c) ≡ subscribed older fh c) → AreEvents verdicts plan (e ∷ older) fh f
     calm step is stays rests none kept same =
         stays_open verdicts plan e older fh f live stays
         (happened_same verdicts plan e older fh
-        (told_quiet verdicts plan e older fh (subst (IsQuiet verdicts plan older) (sym is) rests) (λ c. ap (subscribed_by fh c) is ∙ none c))
+        (told_controls_left verdicts plan e older fh (subst (ChangesNoControl verdicts plan older) (sym is) rests) (λ c. ap (subscribed_by fh c) is ∙ none c))
         (ap (λ (s : Step). with_withdrawn fh s (happened verdicts plan older fh)) is ∙ kept))
         (λ c. subs step is c ∙ same c) are
 
-    simple : (step : Step) → e.step ≡ step → opened_after (length older) step (opened older) ≡ opened older → IsQuiet verdicts plan older step → ((c : ℕ) → subscribed_by fh c step ≡ None)
+    simple : (step : Step) → e.step ≡ step → opened_after (length older) step (opened older) ≡ opened older → ChangesNoControl verdicts plan older step → ((c : ℕ) → subscribed_by fh c step ≡ None)
         → with_withdrawn fh step (happened verdicts plan older fh) ≡ happened verdicts plan older fh → ((c : ℕ) → subscribed_after step fh c (subscribed older fh c) ≡ option_or (subscribed older fh c) None) → AreEvents verdicts plan (e ∷ older) fh f
     simple step is same rests none kept ends = calm step is (still step is same) rests none kept (λ c. ends c ∙ or_none (subscribed older fh c))
 

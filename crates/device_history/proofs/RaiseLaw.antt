@@ -30,9 +30,9 @@ use Rattle.device_history.specs.Values.{pairs_asked, now}
 use Rattle.device_history.specs.Flags.{flags_now}
 use Rattle.device_history.specs.Snapshots.{begun_pairs}
 use Rattle.device_history.specs.Words.{pairs_applied, changes}
-use Rattle.device_history.specs.Events.{changed, happened, payload, raises, raises_from, all_raised_for, value_differs, with_withdrawn, with_raises}
-use Rattle.device_history.specs.EventSteps.{AreAround, AreEvents, from_of, raised_by}
-use Rattle.device_history.proofs.EventLemmas.{next_bound, raises_gone, values_quiet}
+use Rattle.device_history.specs.Events.{changed, happened, payload, raises, raises_from, all_raised_for, value_differs, with_withdrawn, with_raises, from_of}
+use Rattle.device_history.specs.EventSteps.{AreAround, AreEvents, raised_by}
+use Rattle.device_history.proofs.EventLemmas.{next_bound, raises_gone, values_controls_left}
 
 -- raises of the same changes, payloads and callers
 raised_same : (change change' : ℕ → Changes) (told told' : ℕ → Payload) (from from' : ℕ → Option ℕ) (fh : ℕ) (cs : List ℕ) (f : FileEvents)
@@ -103,7 +103,7 @@ pub grab_raises : (verdicts : Verdicts) (plan : PlanData) (e : Entry Step) (olde
     → raised_all (changed_between plan before after []) (payload_at plan after) (λ c. needing_feedback None [] (changed_between plan before after [] c) c) fh.0 cs f ≡ raised_by verdicts plan e older fh cs f
 grab_raises verdicts plan e older before after d on fh cs f is around =
     raised_around verdicts plan e older before after [] None fh cs f around
-    (λ c. ap (λ (vs : Values). is_changed plan (now verdicts plan older) [] c (value_at vs c)) (values_quiet verdicts plan e older (ap (pairs_asked plan older) is)) ∙ unchanged plan (now verdicts plan older) c
+    (λ c. ap (λ (vs : Values). is_changed plan (now verdicts plan older) [] c (value_at vs c)) (values_controls_left verdicts plan e older (ap (pairs_asked plan older) is)) ∙ unchanged plan (now verdicts plan older) c
     ∙ sym (ap (λ (s : Step). changes plan (now verdicts plan older) (now verdicts plan (e ∷ older)) (pairs_applied verdicts plan older s) c) is))
     (λ change c. sym (ap (λ (s : Step). from_of s change c) is))
 

@@ -2,30 +2,24 @@
 use Rattle.std.specs.Prelude.{◌≡◌, ℕ, nat_eq, cond, List, ◌∷◌, length, Option, None, Some}
 use Rattle.std.specs.List.{range_with_len}
 use Rattle.history.specs.declared.entry.Entry.{Entry}
-use Rattle.ctrl_types.specs.declared.changes.Changes.{Changes}
 use Rattle.ctrl_types.specs.declared.ids.FhId.{FhId}
 use Rattle.ctrl_calls.specs.Meanings.{Verdicts}
 use Rattle.ctrl_events.specs.Events.{FileEvents, no_events, flags_in, after_subscribe, after_unsubscribe, after_take}
 use Rattle.ctrl_handlers.specs.Plan.{PlanData, control}
-use Rattle.ctrl_raises.specs.Raises.{MomentData, needing_feedback, initial_changes, raised_all}
+use Rattle.ctrl_raises.specs.Raises.{MomentData, initial_changes, raised_all}
 use Rattle.device_history.specs.declared.ask.Step.{Step}
 use Rattle.device_history.specs.declared.ask.Step.TheVariants as steps
 use Rattle.device_history.specs.Steps.{Past}
 use Rattle.device_history.specs.Grabs.{grabbed}
 use Rattle.device_history.specs.Values.{now}
 use Rattle.device_history.specs.Subscriptions.{subscribed}
-use Rattle.device_history.specs.Events.{changed, next_sequence, payload, pending}
+use Rattle.device_history.specs.Events.{changed, from_of, next_sequence, payload, pending}
 
 -- What is kept of a file handle is what the history makes of it: its subscriptions, the events that wait, and the number of the next raise.
 pub record AreEvents (verdicts : Verdicts) (plan : PlanData) (past : Past) (fh : FhId) (f : FileEvents) : Type 0 where
   pub subscribed : (c : ℕ) → flags_in f.subscribed c ≡ subscribed past fh c
   pub waiting : f.waiting ≡ pending verdicts plan past fh
   pub next : f.next ≡ next_sequence verdicts plan past fh
-
--- the file handle whose set a change of a control is, where it hears of it only if its subscription allows feedback
-abbrev pub from_of : Step → Changes → ℕ → Option ℕ
-from_of (steps.Set from pairs) change c = needing_feedback (Some from.0) pairs change c
-from_of _ change c = None
 
 -- what an entry changes of some controls is raised, one after another
 abbrev pub raised_by : Verdicts → PlanData → Entry Step → Past → FhId → List ℕ → FileEvents → FileEvents

@@ -16,19 +16,19 @@ use Rattle.device_history.specs.Frames.{queue, running, first_of}
 use Rattle.device_history.specs.Values.{now}
 use Rattle.device_history.specs.Snapshots.{request, requests, begun_pairs}
 
--- what a step makes of the requests and the queue, at these present values; `given` is what a begin applies, and `n` the number of the step
+-- what a step makes of the requests and the queue, at these present values; `applied` is what a begin applies, and `n` the number of the step
 abbrev pub frames_changed : Values → List Pair → ℕ → Step → FramesData → FramesData
-frames_changed values given n steps.Alloc f = with_requests f (record f.requests { all = f.requests.all ++ new_request n ∷ [] })
-frames_changed values given n (steps.Store r pairs) f = with_requests f (with_changed f.requests r.0 (with_pairs f.requests.controls pairs))
-frames_changed values given n (steps.Buffer r number) f = with_requests f (with_changed f.requests r.0 (with_buffer number))
-frames_changed values given n (steps.Queue r) f = queued_last f r.0
-frames_changed values given n (steps.Begin r) f = after_begin f given
-frames_changed values given n (steps.Complete r) f = after_complete f values
-frames_changed values given n (steps.Cancel r) f = cancelled f r.0 values
-frames_changed values given n steps.StreamOff f = after_off f values
-frames_changed values given n (steps.Reinit r) f = with_requests f (with_changed f.requests r.0 cleared)
-frames_changed values given n (steps.Free r) f = with_requests f (record f.requests { all = without r.0 f.requests.all })
-frames_changed values given n _ f = f
+frames_changed values applied n steps.Alloc f = with_requests f (record f.requests { all = f.requests.all ++ new_request n ∷ [] })
+frames_changed values applied n (steps.Store r pairs) f = with_requests f (with_changed f.requests r.0 (with_pairs f.requests.controls pairs))
+frames_changed values applied n (steps.Buffer r number) f = with_requests f (with_changed f.requests r.0 (with_buffer number))
+frames_changed values applied n (steps.Queue r) f = queued_last f r.0
+frames_changed values applied n (steps.Begin r) f = after_begin f applied
+frames_changed values applied n (steps.Complete r) f = after_complete f values
+frames_changed values applied n (steps.Cancel r) f = cancelled f r.0 values
+frames_changed values applied n steps.StreamOff f = after_off f values
+frames_changed values applied n (steps.Reinit r) f = with_requests f (with_changed f.requests r.0 cleared)
+frames_changed values applied n (steps.Free r) f = with_requests f (record f.requests { all = without r.0 f.requests.all })
+frames_changed values applied n _ f = f
 
 -- what a begin applies
 abbrev pub applied_by_step : Verdicts → PlanData → Past → Step → List Pair

@@ -15,11 +15,25 @@ use Rattle.device_history.specs.Requests.{asked}
 abbrev pub defaults : PlanData → Values
 defaults plan = map (λ c. c.default_value) plan.controls
 
--- The pairs that a step lays over the present values: those of a set; those that a request asks for, where its frame is begun.
+-- The pairs that a step asks to have laid over the present values: those of a set; those that a request asks for, where its frame is begun.
 abbrev pub pairs_asked : PlanData → Past → Step → Option (List Pair)
 pairs_asked plan older (steps.Set fh pairs) = Some pairs
 pairs_asked plan older (steps.Begin r) = Some (asked plan older r.0)
-pairs_asked plan older _ = None
+pairs_asked plan older (steps.OpenFh handler) = None
+pairs_asked plan older (steps.CloseFh fh) = None
+pairs_asked plan older (steps.Grab c on) = None
+pairs_asked plan older steps.Alloc = None
+pairs_asked plan older (steps.Store r pairs) = None
+pairs_asked plan older (steps.Buffer r number) = None
+pairs_asked plan older (steps.Queue r) = None
+pairs_asked plan older (steps.Complete r) = None
+pairs_asked plan older (steps.Cancel r) = None
+pairs_asked plan older steps.StreamOff = None
+pairs_asked plan older (steps.Reinit r) = None
+pairs_asked plan older (steps.Free r) = None
+pairs_asked plan older (steps.Subscribe fh c flags) = None
+pairs_asked plan older (steps.Unsubscribe fh c) = None
+pairs_asked plan older (steps.Take fh c) = None
 
 -- what pairs that are laid make of values, under grabs
 abbrev pub now_after : Verdicts → PlanData → Grabs → Option (List Pair) → Values → Values

@@ -142,10 +142,10 @@ rows_behind verdicts plan grabs values q qs = refl
 
 -- what is kept of the queued frames after a begin
 pub begun_board : (verdicts : Verdicts) (plan : PlanData) (older : Past) (r : ℕ) (old new : BoardData) → old ≡ board verdicts plan older → first_of (queue older) ≡ Some r
-    → new.queued ≡ drop 1 old.queued → new.named ≡ drop 1 old.named → new.rows ≡ drop 1 old.rows → new ≡ board_after verdicts plan (Begin (record { 0 = r })) older
+    → new.queued ≡ drop 1 old.queued → new.named ≡ drop 1 old.named → new.forecasts ≡ drop 1 old.forecasts → new ≡ board_after verdicts plan (Begin (record { 0 = r })) older
 begun_board verdicts plan older r old new own first q n f = by (queue older) refl first
   where
-    parts : {a b : BoardData} → a.queued ≡ b.queued → a.named ≡ b.named → a.rows ≡ b.rows → a ≡ b
+    parts : {a b : BoardData} → a.queued ≡ b.queued → a.named ≡ b.named → a.forecasts ≡ b.forecasts → a ≡ b
     parts x y z = rw (x, y, z) refl
 
     by : (ids : List ℕ) → queue older ≡ ids → first_of ids ≡ Some r → new ≡ board_after verdicts plan (Begin (record { 0 = r })) older
@@ -155,7 +155,7 @@ begun_board verdicts plan older r old new own first q n f = by (queue older) ref
         let whole : old ≡ board_of verdicts plan plan.controls (grabbed plan older) (now verdicts plan older) (queued_frame plan older j ∷ map (queued_frame plan older) ids) =
         own ∙ ap (λ (js : List ℕ). board_of verdicts plan plan.controls (grabbed plan older) (now verdicts plan older) (map (queued_frame plan older) js)) is in
         parts (q ∙ ap (λ (b : BoardData). drop 1 b.queued) own) (n ∙ ap (λ (b : BoardData). drop 1 b.named) whole ∙ ap (λ (js : List ℕ). map (λ x. named_clusters plan x.asked) (drop 1 (map (queued_frame plan older) js))) (sym is))
-        (f ∙ ap (λ (b : BoardData). drop 1 b.rows) whole
+        (f ∙ ap (λ (b : BoardData). drop 1 b.forecasts) whole
         ∙ behind j ids
         ∙ ap (λ (k : ℕ). forecasts verdicts plan plan.controls (grabbed plan older) (overlay verdicts plan plan.controls (now verdicts plan older) (grabbed plan older) (asked plan older k)) (map (queued_frame plan older) ids)) same
         ∙ ap (λ (js : List ℕ). forecasts verdicts plan plan.controls (grabbed plan older) (begun_values verdicts plan older r) (drop 1 (map (queued_frame plan older) js))) (sym is))

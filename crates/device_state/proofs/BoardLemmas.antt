@@ -63,32 +63,32 @@ frame_is verdicts plan older r legal fits_it = ap of (found_request verdicts pla
     by None h = cc
     by (Some s) h = refl
 
--- what a quiet step makes of the queued frames
+-- what a step that leaves the controls makes of the queued frames
 line_is : (verdicts : Verdicts) (plan : PlanData) (older : Past) (step : Step) (queued : List QueuedData) → IsLegal verdicts plan older → FitsFrames verdicts plan older step → leaves_controls step ≡ true
     → queued_after (frames verdicts plan older) step queued ≡ waiting_after plan older step queued
-line_is verdicts plan older (steps.OpenFh handler) queued legal fits_it quiet = cc
-line_is verdicts plan older (steps.CloseFh fh) queued legal fits_it quiet = cc
-line_is verdicts plan older (steps.Set fh pairs) queued legal fits_it quiet = cc
-line_is verdicts plan older (steps.Grab c on) queued legal fits_it quiet = cc
-line_is verdicts plan older steps.Alloc queued legal fits_it quiet = refl
-line_is verdicts plan older (steps.Store r pairs) queued legal fits_it quiet = refl
-line_is verdicts plan older (steps.Buffer r number) queued legal fits_it quiet = refl
-line_is verdicts plan older (steps.Queue r) queued legal fits_it quiet = ap (λ (q : QueuedData). queued ++ q ∷ []) (frame_is verdicts plan older r.0 legal fits_it)
-line_is verdicts plan older (steps.Begin r) queued legal fits_it quiet = cc
-line_is verdicts plan older (steps.Complete r) queued legal fits_it quiet = refl
-line_is verdicts plan older (steps.Cancel r) queued legal fits_it quiet = refl
-line_is verdicts plan older steps.StreamOff queued legal fits_it quiet = refl
-line_is verdicts plan older (steps.Reinit r) queued legal fits_it quiet = refl
-line_is verdicts plan older (steps.Free r) queued legal fits_it quiet = refl
-line_is verdicts plan older (steps.Subscribe f c flags) queued legal fits_it quiet = refl
-line_is verdicts plan older (steps.Unsubscribe f c) queued legal fits_it quiet = refl
-line_is verdicts plan older (steps.Take f c) queued legal fits_it quiet = refl
+line_is verdicts plan older (steps.OpenFh handler) queued legal fits_it leaves = cc
+line_is verdicts plan older (steps.CloseFh fh) queued legal fits_it leaves = cc
+line_is verdicts plan older (steps.Set fh pairs) queued legal fits_it leaves = cc
+line_is verdicts plan older (steps.Grab c on) queued legal fits_it leaves = cc
+line_is verdicts plan older steps.Alloc queued legal fits_it leaves = refl
+line_is verdicts plan older (steps.Store r pairs) queued legal fits_it leaves = refl
+line_is verdicts plan older (steps.Buffer r number) queued legal fits_it leaves = refl
+line_is verdicts plan older (steps.Queue r) queued legal fits_it leaves = ap (λ (q : QueuedData). queued ++ q ∷ []) (frame_is verdicts plan older r.0 legal fits_it)
+line_is verdicts plan older (steps.Begin r) queued legal fits_it leaves = cc
+line_is verdicts plan older (steps.Complete r) queued legal fits_it leaves = refl
+line_is verdicts plan older (steps.Cancel r) queued legal fits_it leaves = refl
+line_is verdicts plan older steps.StreamOff queued legal fits_it leaves = refl
+line_is verdicts plan older (steps.Reinit r) queued legal fits_it leaves = refl
+line_is verdicts plan older (steps.Free r) queued legal fits_it leaves = refl
+line_is verdicts plan older (steps.Subscribe f c flags) queued legal fits_it leaves = refl
+line_is verdicts plan older (steps.Unsubscribe f c) queued legal fits_it leaves = refl
+line_is verdicts plan older (steps.Take f c) queued legal fits_it leaves = refl
 
 -- the same, of what is kept
 pub line_kept : (verdicts : Verdicts) (plan : PlanData) (older : Past) (step : Step) (f : FramesData) (queued : List QueuedData) → IsLegal verdicts plan older → MayFollow verdicts plan older step → leaves_controls step ≡ true
     → f ≡ frames verdicts plan older → queued ≡ queued_frames plan older → queued_after f step queued ≡ waiting_after plan older step (queued_frames plan older)
-line_kept verdicts plan older step f queued legal may quiet own line =
-    rw (own, line) (line_is verdicts plan older step (queued_frames plan older) legal (fits verdicts plan older step may) quiet)
+line_kept verdicts plan older step f queued legal may leaves own line =
+    rw (own, line) (line_is verdicts plan older step (queued_frames plan older) legal (fits verdicts plan older step may) leaves)
 
 -- each queued frame is of the request at its place
 frames_named : (plan : PlanData) (older : Past) (ids : List ℕ) → map (λ q. q.request.0) (map (queued_frame plan older) ids) ≡ ids
@@ -100,7 +100,7 @@ pub queued_once : (verdicts : Verdicts) (plan : PlanData) (older : Past) (queued
 queued_once verdicts plan older queued legal line =
     subst AreOnce (sym (ap (map (λ (q : QueuedData). q.request.0)) line ∙ frames_named plan older (queue older))) (frames_legal verdicts plan older legal).once
 
--- what a quiet step asks at most, of what is kept
+-- what a step that leaves the controls asks at most, of what is kept
 pub line_bound : (verdicts : Verdicts) (plan : PlanData) (older : Past) (step : Step) (f : FramesData) (queued : List QueuedData)
     → f ≡ frames verdicts plan older → queued ≡ queued_frames plan older → asks_at_most plan f step queued ≡ asks_at_most plan (frames verdicts plan older) step (queued_frames plan older)
 line_bound verdicts plan older step f queued own line = rw (own, line) refl

@@ -33,7 +33,7 @@ use Rattle.ctrl_lists.specs.Touched.{with_calls}
 use Rattle.device_state.specs.Device.{DeviceData, Handles, list_most, list_touches, may_ask, must_ask, with_step, step_changes}
 use Rattle.step_effects.specs.QueuedFrames.{asks_at_most}
 use Rattle.step_effects.specs.Leaving.{NamesKnown, leaves_controls}
-use Rattle.device_state.specs.Entering.{LeavesControls}
+use Rattle.device_state.specs.Entering.{AddsStep}
 use Rattle.device_state.specs.Kept.{Caches, IsKept}
 use Rattle.device_state.proofs.HandleLemmas.{at_rest, asked_since, handles_asked, handles_set, told_since}
 use Rattle.device_state.proofs.BoundLemmas.{set_at_least}
@@ -52,35 +52,35 @@ use Rattle.ctrl_types.specs.Values.{CtrlValue}
 use Rattle.req_book.proofs.SettingLemmas.{snapshot_long}
 use Rattle.device_history.proofs.PresentLemmas.{length_now}
 use Rattle.ctrl_lists.specs.Checks.{errno_if_refused}
-use Rattle.step_effects.proofs.QuietLemmas.{acted_quiet}
+use Rattle.step_effects.proofs.LeavingLemmas.{acted_controls_left}
 
 -- an ask that adds such a step, where its refusal was read
 pub entered : (verdicts : Verdicts) (plan : PlanData) (older : Past) (words : List ℕ) (ask : Ask) (refusal own : Option Errno) (step : Step) (reply : Reply) → refusal ≡ own → leaves_controls step ≡ true
     → answer_of verdicts plan older words ask ≡ stepped own older reply → answer_of verdicts plan older [] ask ≡ stepped own older reply → (own ≡ None → step_of verdicts plan older ask ≡ Some step)
     → (IsOk (stepped own older reply) → MayLackMemory verdicts plan older ask) → no_memory ask ≡ refused ENOMEM → must_ask plan older ask ≡ 0 → (own ≡ None → NamesKnown (length plan.controls) step)
-    → asks_at_most plan (frames verdicts plan older) step (queued_frames plan older) ≤ may_ask verdicts plan older ask → LeavesControls verdicts plan older words ask refusal step reply
-entered verdicts plan older words ask refusal own step reply is quiet answers alone adds lacks plain nobody known most =
-    subst (λ (o : Option Errno). LeavesControls verdicts plan older words ask o step reply) (sym is)
-    (record { quiet = quiet; answers = answers; answers_alone = alone; adds = adds; lacks = lacks; plain = plain; asks_nobody = nobody; known = known; most = most })
+    → asks_at_most plan (frames verdicts plan older) step (queued_frames plan older) ≤ may_ask verdicts plan older ask → AddsStep verdicts plan older words ask refusal step reply
+entered verdicts plan older words ask refusal own step reply is leaves answers alone adds lacks plain nobody known most =
+    subst (λ (o : Option Errno). AddsStep verdicts plan older words ask o step reply) (sym is)
+    (record { leaves = leaves; answers = answers; answers_alone = alone; adds = adds; lacks = lacks; plain = plain; asks_nobody = nobody; known = known; most = most })
 
 -- its own refusal
 pub entered_refused : (verdicts : Verdicts) (plan : PlanData) (older : Past) (words : List ℕ) (ask : Ask) (errno : Errno) (step : Step) (reply : Reply)
-    → LeavesControls verdicts plan older words ask (Some errno) step reply → MayAnswer verdicts plan older words ask (refused errno)
+    → AddsStep verdicts plan older words ask (Some errno) step reply → MayAnswer verdicts plan older words ask (refused errno)
 entered_refused verdicts plan older words ask errno step reply is = inl (sym is.answers)
 
 -- no further step is kept
 pub entered_full : (verdicts : Verdicts) (plan : PlanData) (older : Past) (words : List ℕ) (ask : Ask) (step : Step) (reply : Reply)
-    → LeavesControls verdicts plan older words ask None step reply → is_full older ≡ true → MayAnswer verdicts plan older words ask (refused ENOSPC)
+    → AddsStep verdicts plan older words ask None step reply → is_full older ≡ true → MayAnswer verdicts plan older words ask (refused ENOSPC)
 entered_full verdicts plan older words ask step reply is full = inl (sym (is.answers ∙ rw full refl))
 
 -- want of memory
 pub entered_lacks : (verdicts : Verdicts) (plan : PlanData) (older : Past) (words : List ℕ) (ask : Ask) (step : Step) (reply : Reply)
-    → LeavesControls verdicts plan older words ask None step reply → is_full older ≡ false → MayAnswer verdicts plan older words ask (refused ENOMEM)
+    → AddsStep verdicts plan older words ask None step reply → is_full older ≡ false → MayAnswer verdicts plan older words ask (refused ENOMEM)
 entered_lacks verdicts plan older words ask step reply is room = inr (is.lacks (rw room refl), sym is.plain)
 
 -- else its step may follow
 pub entered_follows : (verdicts : Verdicts) (plan : PlanData) (older : Past) (words : List ℕ) (ask : Ask) (step : Step) (reply : Reply)
-    → LeavesControls verdicts plan older words ask None step reply → is_full older ≡ false → MayFollow verdicts plan older step
+    → AddsStep verdicts plan older words ask None step reply → is_full older ≡ false → MayFollow verdicts plan older step
 entered_follows verdicts plan older words ask step reply is room = (ask, ap fault_of is.answers_alone ∙ nothing (is_full older) room, is.adds refl)
   where
     nothing : (b : Bool) → b ≡ false → fault_of (if b then refused ENOSPC else Ok reply) ≡ None
@@ -88,35 +88,35 @@ entered_follows verdicts plan older words ask step reply is room = (ask, ap faul
     nothing false h = refl
 
 -- such a step changes no control
-quiet_changes : (verdicts : Verdicts) (plan : PlanData) (older : Past) (step : Step) (c : ℕ) → leaves_controls step ≡ true → step_changes verdicts plan older (Some step) c ≡ false
-quiet_changes verdicts plan older step c quiet =
-    ap (λ (l : Option (List Pair)). changes plan (now verdicts plan older) (now_after verdicts plan (grabbed plan older) (pairs_asked plan older step) (now verdicts plan older)) l c) (acted_quiet verdicts plan older step quiet)
+left_unchanged : (verdicts : Verdicts) (plan : PlanData) (older : Past) (step : Step) (c : ℕ) → leaves_controls step ≡ true → step_changes verdicts plan older (Some step) c ≡ false
+left_unchanged verdicts plan older step c leaves =
+    ap (λ (l : Option (List Pair)). changes plan (now verdicts plan older) (now_after verdicts plan (grabbed plan older) (pairs_asked plan older step) (now verdicts plan older)) l c) (acted_controls_left verdicts plan older step leaves)
 
 -- a call that adds one
-pub handles_quiet : (verdicts : Verdicts) (old : DeviceData) (work : Work) (seat : ℕ) (ask : Ask) (step : Step) (reply : Reply) → work.told ≡ 0 → work.asked ≤ may_ask verdicts old.plan (past old.steps) ask
+pub handles_controls_left : (verdicts : Verdicts) (old : DeviceData) (work : Work) (seat : ℕ) (ask : Ask) (step : Step) (reply : Reply) → work.told ≡ 0 → work.asked ≤ may_ask verdicts old.plan (past old.steps) ask
     → (with_calls (must_ask old.plan (past old.steps) ask) 0 ≤ work.asked) → MayAnswer verdicts old.plan (past old.steps) old.words ask (Ok reply)
     → step_of verdicts old.plan (past old.steps) ask ≡ Some step → leaves_controls step ≡ true
     → Handles verdicts old (with_step (record old { work = work }) seat step) seat ask (Ok reply)
-handles_quiet verdicts old work seat ask step reply told asked all may adds quiet = record {
+handles_controls_left verdicts old work seat ask step reply told asked all may adds leaves = record {
   plan = refl;
   answers = may;
   refused = λ e. cc;
   steps = rw adds refl;
   words = λ k lt same. refl;
-  notified = told ∙ sym (rw adds (notified_none old.plan (step_changes verdicts old.plan (past old.steps) (Some step)) (λ c. quiet_changes verdicts old.plan (past old.steps) step c quiet)));
+  notified = told ∙ sym (rw adds (notified_none old.plan (step_changes verdicts old.plan (past old.steps) (Some step)) (λ c. left_unchanged verdicts old.plan (past old.steps) step c leaves)));
   asked = asked;
   asked_all = λ _. all;
 }
 
 pub handles_entered : (verdicts : Verdicts) (old : DeviceData) (start work : Work) (seat : ℕ) (ask : Ask) (step : Step) (reply : Reply) → start ≡ at_rest → work.told ≡ start.told
-    → work.asked ≤ start.asked + asks_at_most old.plan (frames verdicts old.plan (past old.steps)) step (queued_frames old.plan (past old.steps)) → LeavesControls verdicts old.plan (past old.steps) old.words ask None step reply → is_full (past old.steps) ≡ false
+    → work.asked ≤ start.asked + asks_at_most old.plan (frames verdicts old.plan (past old.steps)) step (queued_frames old.plan (past old.steps)) → AddsStep verdicts old.plan (past old.steps) old.words ask None step reply → is_full (past old.steps) ≡ false
     → Handles verdicts old (with_step (record old { work = work }) seat step) seat ask (Ok reply)
 handles_entered verdicts old start work seat ask step reply rest untold asked is room =
-    handles_quiet verdicts old work seat ask step reply (told_since start work rest untold) (omega (arith, asked_since start work _ rest asked, is.most)) (rw is.asks_nobody (omega arith)) (inl (sym (is.answers ∙ rw room refl))) (is.adds refl) is.quiet
+    handles_controls_left verdicts old work seat ask step reply (told_since start work rest untold) (omega (arith, asked_since start work _ rest asked, is.most)) (rw is.asks_nobody (omega arith)) (inl (sym (is.answers ∙ rw room refl))) (is.adds refl) is.leaves
 
 -- one for which there is no memory
 pub handles_lacking : (verdicts : Verdicts) (old new : DeviceData) (start work : Work) (seat : ℕ) (ask : Ask) (step : Step) (reply : Reply) → new ≡ record old { work = work } → start ≡ at_rest → work.told ≡ start.told
-    → work.asked ≤ start.asked + asks_at_most old.plan (frames verdicts old.plan (past old.steps)) step (queued_frames old.plan (past old.steps)) → LeavesControls verdicts old.plan (past old.steps) old.words ask None step reply → is_full (past old.steps) ≡ false → Handles verdicts old new seat ask (refused ENOMEM)
+    → work.asked ≤ start.asked + asks_at_most old.plan (frames verdicts old.plan (past old.steps)) step (queued_frames old.plan (past old.steps)) → AddsStep verdicts old.plan (past old.steps) old.words ask None step reply → is_full (past old.steps) ≡ false → Handles verdicts old new seat ask (refused ENOMEM)
 handles_lacking verdicts old new start work seat ask step reply begin rest untold asked is room =
     handles_asked verdicts old new start work seat ask (refused ENOMEM) begin rest untold (omega (arith, asked, is.most)) (λ e. cc) refl (entered_lacks verdicts old.plan (past old.steps) old.words ask step reply is room)
 
@@ -149,7 +149,7 @@ pub handles_store : (verdicts : Verdicts) (old : DeviceData) (start work : Work)
     → with_calls (judged_count old.plan (touched old.plan (list_pairs old.plan (past old.steps) fh which list))) 0 ≤ work.asked
     → Handles verdicts old (with_step (record old { work = work }) seat (steps.Store stored touch.pairs)) seat (asks.SetCtrls fh which request list) (Ok (Controls controls))
 handles_store verdicts old start work seat fh which request stored list touch controls rest untold asked sets through reply all =
-    handles_quiet verdicts old work seat (asks.SetCtrls fh which request list) (steps.Store stored touch.pairs) (Controls controls) (told_since start work rest untold)
+    handles_controls_left verdicts old work seat (asks.SetCtrls fh which request list) (steps.Store stored touch.pairs) (Controls controls) (told_since start work rest untold)
     (omega (arith, asked_since start work _ rest asked, set_at_least verdicts old.plan (past old.steps) fh which request list)) all
     (inl (ap (λ (l : List ExtControl). Ok (Controls l)) reply ∙ sym sets.accepted)) (store_adds verdicts old.plan (past old.steps) fh which request stored list touch sets through) refl
 

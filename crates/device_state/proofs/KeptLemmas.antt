@@ -47,7 +47,7 @@ use Rattle.device_history.specs.Legal.{IsLegal, MayFollow}
 use Rattle.device_state.specs.Kept.{Caches, IsKept}
 use Rattle.device_state.specs.Setting.{IsSettable}
 use Rattle.step_effects.specs.Leaving.{leaves_controls}
-use Rattle.step_effects.proofs.QuietLemmas.{opened_quiet, grabbed_quiet, laid_quiet}
+use Rattle.step_effects.proofs.LeavingLemmas.{opened_controls_left, grabbed_controls_left, laid_controls_left}
 use Rattle.device_history.proofs.PastLemmas.{opened_add, opened_fresh, opened_rising, drops_one, now_add, legal_add}
 use Rattle.device_history.proofs.GrabLemmas.{grabbed_start, grabbed_add, grabbed_more}
 use Rattle.device_history.proofs.LegalLemmas.{unrefused}
@@ -191,21 +191,21 @@ set_lays verdicts told plan steps caches values fh which request list touch kept
     ∙ sym (laid_written verdicts plan (now verdicts plan (past steps)) (grabbed plan (past steps)) touch.pairs touch.rows sets.plans (own_judged verdicts plan (past steps) fh which request list touch sets current) sets.free)
 
 -- a step that leaves file handles, grabs and values
-pub kept_quiet : (verdicts : Verdicts) (told : Words) (plan : PlanData) (steps steps' : History) (caches : Caches) (f : FramesData) (b : BoardData) (events : EventsData) (seat : ℕ) (step : Step)
+pub kept_controls_left : (verdicts : Verdicts) (told : Words) (plan : PlanData) (steps steps' : History) (caches : Caches) (f : FramesData) (b : BoardData) (events : EventsData) (seat : ℕ) (step : Step)
     → IsKept verdicts told plan steps caches → is_full (past steps) ≡ false → MayFollow verdicts plan (past steps) step → leaves_controls step ≡ true → steps' ≡ steps ++ record { seat = seat; step = step } ∷ []
     → f ≡ frames_after verdicts plan (past steps) (length steps) step caches.frames
     → ((fh : FhId) → events_of events fh.0 ≡ events_after verdicts plan (record { seat = seat; step = step }) (past steps) fh (events_of caches.events fh.0))
     → b ≡ board_of verdicts plan plan.controls caches.grabs caches.values (queued_after caches.frames step caches.board.queued) → IsKept verdicts told plan steps' (record caches { frames = f; board = b; events = events })
-kept_quiet verdicts told plan steps steps' caches f b events seat step kept room may quiet s made ev renewed =
+kept_controls_left verdicts told plan steps steps' caches f b events seat step kept room may leaves s made ev renewed =
     kept_add verdicts told plan steps steps' caches (record caches { frames = f; board = b; events = events }) (record { seat = seat; step = step }) kept (set_room steps room) may s
-    (kept.file_handles ∙ sym (opened_quiet (length steps) step (opened (past steps)) quiet))
-    (kept.grabs ∙ sym (grabbed_quiet step (grabbed plan (past steps)) quiet))
-    (kept.values ∙ ap (λ (l : Option (List Pair)). now_after verdicts plan (grabbed plan (past steps)) l (now verdicts plan (past steps))) (sym (laid_quiet plan (past steps) step quiet)))
+    (kept.file_handles ∙ sym (opened_controls_left (length steps) step (opened (past steps)) leaves))
+    (kept.grabs ∙ sym (grabbed_controls_left step (grabbed plan (past steps)) leaves))
+    (kept.values ∙ ap (λ (l : Option (List Pair)). now_after verdicts plan (grabbed plan (past steps)) l (now verdicts plan (past steps))) (sym (laid_controls_left plan (past steps) step leaves)))
     (made ∙ ap (frames_after verdicts plan (past steps) (length steps) step) kept.frames) kept.words ev
     (renewed
-    ∙ board_same verdicts plan (kept.grabs ∙ sym (grabbed_quiet step (grabbed plan (past steps)) quiet))
-    (kept.values ∙ ap (λ (l : Option (List Pair)). now_after verdicts plan (grabbed plan (past steps)) l (now verdicts plan (past steps))) (sym (laid_quiet plan (past steps) step quiet)))
-    (line_kept verdicts plan (past steps) step caches.frames caches.board.queued kept.legal may quiet kept.frames (ap (λ (x : BoardData). x.queued) kept.board)))
+    ∙ board_same verdicts plan (kept.grabs ∙ sym (grabbed_controls_left step (grabbed plan (past steps)) leaves))
+    (kept.values ∙ ap (λ (l : Option (List Pair)). now_after verdicts plan (grabbed plan (past steps)) l (now verdicts plan (past steps))) (sym (laid_controls_left plan (past steps) step leaves)))
+    (line_kept verdicts plan (past steps) step caches.frames caches.board.queued kept.legal may leaves kept.frames (ap (λ (x : BoardData). x.queued) kept.board)))
 
 -- there is a number for each raise of one more step
 pub numbered : (verdicts : Verdicts) (told : Words) (plan : PlanData) (steps : History) (caches : Caches) → IsKept verdicts told plan steps caches → (j : ℕ) → (events_of caches.events j).next + length plan.controls ≤ 4294967295

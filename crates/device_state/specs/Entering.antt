@@ -19,8 +19,8 @@ use Rattle.device_state.specs.Device.{may_ask, must_ask}
 
 -- An ask that adds a step which leaves file handles, grabs and values: it is answered its own refusal, then that no further step is kept, and else
 -- the reply; want of memory may take the place of the reply.
-pub record LeavesControls (verdicts : Verdicts) (plan : PlanData) (past : Past) (words : List ℕ) (ask : Ask) (refusal : Option Errno) (step : Step) (reply : Reply) : Type 0 where
-  pub quiet : leaves_controls step ≡ true
+pub record AddsStep (verdicts : Verdicts) (plan : PlanData) (past : Past) (words : List ℕ) (ask : Ask) (refusal : Option Errno) (step : Step) (reply : Reply) : Type 0 where
+  pub leaves : leaves_controls step ≡ true
   pub answers : answer_of verdicts plan past words ask ≡ stepped refusal past reply
   pub answers_alone : answer_of verdicts plan past [] ask ≡ stepped refusal past reply
   pub adds : refusal ≡ None → step_of verdicts plan past ask ≡ Some step

@@ -1,4 +1,5 @@
-//! What calls, one after another, make of a device. Each function is a law that its contract states; none has anything to do.
+//! The laws of a device and of its history: what calls, one after another, make of a device, and what one more step makes of each part. Each function is a
+//! law that its contract states; none has anything to do.
 
 ghost use Rattle.std.specs.Prelude.{◌≡◌, ◌∷◌, ◌++◌, List, IsErr};
 ghost use Rattle.history.specs.Past.{past};
@@ -10,6 +11,8 @@ ghost use Rattle.history_audit.specs.Fault.{IsFault};
 ghost use Rattle.history_audit.specs.Scratch.{Agrees, ScratchData, scratch};
 ghost use Rattle.device_state.specs.Device.{DeviceData};
 ghost use Rattle.device_state.specs.Runs.{Call, IsRun, entries_added};
+
+pub use device_history::laws::{added_raises, asked_pairs, closed_handles, deciding_asks, each_request, frames_as_forecast, grabbed_controls, kept_events, kept_frames, legal_histories, open_handles, present_flags, present_values, queued_requests, raised_events, refusals, request_buffers, request_states, subscriptions, told_words, waiting_frames, whole_sets};
 
 /// Calls, each of which does what the contract of `handle` says, keep the plan; the last steps are the first ones, and behind them
 /// exactly the entries of the accepted calls, in their order; a legal history stays legal; and a refused call, wherever it stands,

@@ -339,7 +339,7 @@ fn audited(alloc: Global, scene: &Scene) -> Result<Scratch, Trouble> {
     match audit(alloc, scene.device.plan(), scene.device.steps()) {
         Ok(scratch) => Ok(scratch),
         Err(AuditFault::Memory) => Err(Trouble::Memory),
-        Err(AuditFault::NotLegal { index }) => Err(Trouble::Step(index)),
+        Err(AuditFault::NotLegal { index }) => Err(Trouble::Step(index as usize)),
     }
 }
 

@@ -24,7 +24,8 @@ lacks o = not (is_some o)
 abbrev pub shows_it : PlanData → Past → FhId → ℕ → Bool
 shows_it plan past fh c = is_number (shown plan past fh (control plan c).id) c
 
--- nothing refuses a step that gives no pairs, but that no further step is kept
+-- Of the code: what a replay tests of a step that gives no pairs, where a further step is kept; that this is whether the step may follow is said at
+-- `Replay::fits`.
 abbrev pub fits_parts : Verdicts → PlanData → Past → Step → Bool
 fits_parts verdicts plan past (steps.OpenFh handler) = nat_lt handler (length plan.handlers) && not (are_all_open past)
 fits_parts verdicts plan past (steps.CloseFh fh) = is_some (handler_of past fh)

@@ -34,7 +34,8 @@ pub fn audit<D: Driver>(
     let Ok(mut replay) = Replay::new(alloc, plan, steps) else {
         return Err(AuditFault::Memory);
     };
-    for index in 0..steps.len() {
+    for _ in 0..steps.len() {
+        let index = replay.replayed();
         match replay.next() {
             Ok(true) => {}
             Ok(false) => return Err(AuditFault::NotLegal { index }),

@@ -113,6 +113,13 @@ impl<'a, D: Driver> Replay<'a, D> {
         })
     }
 
+    /// How many steps were replayed, at most 1000000. It takes no memory.
+    pub fn replayed(&self) -> u32
+        ensures { result ≡ length self.now.steps }
+    {
+        self.count as u32
+    }
+
     /// Replays the next step, which the caller owes to be there: true where it may follow those before it, and was replayed; false where it
     /// may not, and nothing was changed. Validators are asked; nobody is told.
     ///

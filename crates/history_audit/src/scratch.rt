@@ -35,7 +35,7 @@ impl Model for Scratch {
 
     ghost Value = { ScratchData };
 
-    ghost view = { λ s. record { values = s.values.items; flags = s.flags.items; frames = s.frames; forecasts = s.forecasts.rows; events = open_events s.events s.file_handles.entries } };
+    ghost view = { λ s. record { values = s.values.items; flags = s.flags.items; frames = s.frames; forecasts = s.forecasts.forecasts; events = open_events s.events s.file_handles.entries } };
 }
 
 impl Scratch {
@@ -48,7 +48,7 @@ impl Scratch {
         file_handles: IndexMap<u32, u32>,
         events: Events,
     ) -> Scratch
-        ensures { result ≡ record { values = values.items; flags = flags.items; frames = frames; forecasts = forecasts.rows; events = open_events events file_handles.entries } }
+        ensures { result ≡ record { values = values.items; flags = flags.items; frames = frames; forecasts = forecasts.forecasts; events = open_events events file_handles.entries } }
     {
         Scratch {
             values,
@@ -83,7 +83,7 @@ impl Scratch {
 
     /// What the queued frames will have, in the order of the queue. It takes no memory.
     pub fn forecasts(&self) -> &Board
-        ensures { result.now.rows ≡ self.now.forecasts }
+        ensures { result.now.forecasts ≡ self.now.forecasts }
     {
         &self.forecasts
     }
@@ -132,7 +132,7 @@ impl Scratch {
     ) -> bool
         requires values { length values.now ≡ length plan.now.controls }
         requires grabs { length grabs.now ≡ length plan.now.controls }
-        ensures { IsTrue result ↔ HasParts self.now plan.now values.now grabs.now frames.now board.now.rows file_handles.now.entries events.now }
+        ensures { IsTrue result ↔ HasParts self.now plan.now values.now grabs.now frames.now board.now.forecasts file_handles.now.entries events.now }
     {
         if !are_values(self.values(), values) {
             return false;

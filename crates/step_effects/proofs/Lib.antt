@@ -1,4 +1,4 @@
-pub mod QuietLemmas
+pub mod LeavingLemmas
 pub mod FitLemmas
 pub mod RaisedLemmas
-pub mod LineLemmas
+pub mod QueuedLemmas

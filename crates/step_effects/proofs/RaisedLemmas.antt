@@ -18,7 +18,7 @@ use Rattle.device_history.specs.Grabs.{grabbed, grabbed_after}
 use Rattle.device_history.specs.Snapshots.{begun_pairs}
 use Rattle.device_history.specs.Values.{pairs_asked, now}
 use Rattle.device_history.specs.EventSteps.{AreAround, events_after, events_by}
-use Rattle.device_history.proofs.EventLemmas.{values_quiet}
+use Rattle.device_history.proofs.EventLemmas.{values_controls_left}
 use Rattle.device_history.proofs.GrabLemmas.{grabbed_more}
 use Rattle.device_history.proofs.RaiseLaw.{set_raises, begin_raises, grab_raises, subscribe_tells}
 use Rattle.step_effects.specs.Sources.{IsSourceOf}
@@ -66,5 +66,5 @@ pub subscribed_step : (verdicts : Verdicts) (plan : PlanData) (e : Entry Step) (
     → only_at g.0 (after_subscribe c flags (initial_changes (control plan c)) (payload_at plan at c)) fh.0 f ≡ events_after verdicts plan e older fh f
 subscribed_step verdicts plan e older at g c flags fh f is v gs =
     ap (λ (x : Payload). only_at g.0 (after_subscribe c flags (initial_changes (control plan c)) x) fh.0 f)
-    (subscribe_tells verdicts plan e older at c (v ∙ sym (values_quiet verdicts plan e older (ap (pairs_asked plan older) is))) (gs ∙ sym (grabbed_more plan e older ∙ ap (λ (s : Step). grabbed_after s (grabbed plan older)) is)))
+    (subscribe_tells verdicts plan e older at c (v ∙ sym (values_controls_left verdicts plan e older (ap (pairs_asked plan older) is))) (gs ∙ sym (grabbed_more plan e older ∙ ap (λ (s : Step). grabbed_after s (grabbed plan older)) is)))
     ∙ sym (ap (λ (s : Step). events_by verdicts plan e older fh s f) is)

@@ -22,7 +22,11 @@ leaves_controls (steps.Free r) = true
 leaves_controls (steps.Subscribe fh c flags) = true
 leaves_controls (steps.Unsubscribe fh c) = true
 leaves_controls (steps.Take fh c) = true
-leaves_controls _ = false
+leaves_controls (steps.OpenFh handler) = false
+leaves_controls (steps.CloseFh fh) = false
+leaves_controls (steps.Set fh pairs) = false
+leaves_controls (steps.Grab c on) = false
+leaves_controls (steps.Begin r) = false
 
 -- what a step stores, or subscribes to, are controls that are there
 abbrev pub NamesKnown : ℕ → Step → Type 0

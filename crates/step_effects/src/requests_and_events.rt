@@ -44,7 +44,7 @@ pub fn change_requests_and_events<D: Driver>(
     frames: &mut Frames,
     events: &mut Events,
 ) -> Result<(), AllocError>
-    requires quiet { leaves_controls step.now ≡ true }
+    requires leaves { leaves_controls step.now ≡ true }
     requires fits { FitsIn number step.now frames.old }
     requires known { NamesKnown (length plan.now.controls) step.now }
     requires values { length values.now ≡ length plan.now.controls }

@@ -1,20 +1,22 @@
 //! What the steps that leave file handles, grabs and values do where the forecasts of the queued frames are kept.
 
-ghost use Rattle.std.specs.Prelude.{◌≡◌, ◌<◌, ◌≤◌, ◌+◌, ◌++◌, ◌∷◌, ℕ, true, [], List, length, map, OnOk, OnErr};
+ghost use Rattle.std.specs.Prelude.{◌≡◌, ◌≤◌, ◌+◌, ◌++◌, ◌∷◌, ℕ, true, not, nat_eq, [], List, length, map, filter, OnOk, OnErr};
+ghost use Rattle.std.specs.List.{position};
 ghost use Rattle.history.specs.declared.entry.Entry.{Entry as EntryOf};
 ghost use Rattle.ctrl_calls.specs.Meanings.{Verdicts};
 ghost use Rattle.ctrl_types.specs.declared.ids.FhId.{FhId as FhIdOf};
 ghost use Rattle.ctrl_events.specs.Events.{events_of};
 ghost use Rattle.ctrl_forecast.specs.Boards.{board_of};
 ghost use Rattle.ctrl_forecast.specs.Forecasts.{QueuedData};
-ghost use Rattle.frame_queue.specs.Frames.{AreOnce, FramesData};
+ghost use Rattle.ctrl_forecast.specs.Touched.{touched_count};
+ghost use Rattle.frame_queue.specs.Frames.{AreOnce};
 ghost use Rattle.device_history.specs.declared.ask.Step.{Step as StepOf};
 ghost use Rattle.device_history.specs.Steps.{Past};
 ghost use Rattle.device_history.specs.Grabs.{grabbed};
 ghost use Rattle.device_history.specs.Values.{now};
 ghost use Rattle.device_history.specs.EventSteps.{events_after};
 ghost use Rattle.device_history.specs.FrameSteps.{frames_changed};
-ghost use Rattle.step_effects.specs.QueuedFrames.{TakesOne, after_queueing, after_taking, validators_asked, asked_queueing, asked_taking, frame_in, queued_after, asks_at_most, queueing_asks, taking_asks};
+ghost use Rattle.step_effects.specs.QueuedFrames.{asks_at_most, counted_after, counted_queueing, counted_removing, frame_in, named_behind, queued_after};
 ghost use Rattle.step_effects.specs.Leaving.{FitsIn, NamesKnown, leaves_controls};
 
 use crate::requests_and_events::change_requests_and_events;
@@ -47,7 +49,7 @@ pub fn change_with_forecasts<D: Driver>(
     board: &mut Board,
     work: &mut Work,
 ) -> Result<(), AllocError>
-    requires quiet { leaves_controls step.now ≡ true }
+    requires leaves { leaves_controls step.now ≡ true }
     requires fits { FitsIn number step.now frames.old }
     requires known { NamesKnown (length plan.now.controls) step.now }
     requires values { length values.now ≡ length plan.now.controls }
@@ -64,100 +66,94 @@ pub fn change_with_forecasts<D: Driver>(
     ensures events_kept { OnErr result (events.new ≡ events.old) }
     ensures board_kept { OnErr result (board.new ≡ board.old) }
     ensures asked { work.new.asked ≤ work.old.asked + asks_at_most plan.now frames.old step.now board.old.queued }
-    ensures counted { OnOk result (work.new.asked ≡ validators_asked D.verdict plan.now grabs.now values.now frames.old step.now board.old.queued work.old.asked) }
+    ensures counted { OnOk result (work.new.asked ≡ counted_after D.verdict plan.now grabs.now values.now frames.old step.now board.old.queued work.old.asked) }
     ensures told { work.new.told ≡ work.old.told }
 {
-    queue_frame(plan, values, grabs, step, frames, board, work)?;
-    match change_requests_and_events(plan, values, grabs, number, step, frames, events) {
-        Ok(()) => {
-            take_frames(plan, values, grabs, step, board, work);
+    match step {
+        Step::Queue { request } => {
+            put_frame(plan, values, grabs, *request, frames, board, work)?;
+            let changed =
+                change_requests_and_events(plan, values, grabs, number, step, frames, events);
+            if changed.is_err() {
+                take_last(plan, values, grabs, board, work);
+            }
+            changed
+        }
+        Step::Cancel { request } => {
+            change_requests_and_events(plan, values, grabs, number, step, frames, events)?;
+            take_frame(plan, values, grabs, *request, board, work);
             Ok(())
         }
-        Err(error) => {
-            unqueue_frame(plan, values, grabs, step, board, work);
-            Err(error)
+        Step::StreamOff => {
+            change_requests_and_events(plan, values, grabs, number, step, frames, events)?;
+            board.clear();
+            Ok(())
         }
+        _ => change_requests_and_events(plan, values, grabs, number, step, frames, events),
     }
 }
 
-// Puts the frame of a request that is queued behind the others.
-fn queue_frame<D: Driver>(
+// Puts the frame of a request behind the others.
+fn put_frame<D: Driver>(
     plan: &Plan<D>,
     values: &[CtrlValue],
     grabs: &[bool],
-    step: &Step,
+    request: RequestId,
     frames: &Frames,
     board: &mut Board,
     work: &mut Work,
 ) -> Result<(), AllocError>
     requires values { length values.now ≡ length plan.now.controls }
     requires board { board.old ≡ board_of D.verdict plan.now plan.now.controls grabs.now values.now board.old.queued }
-    ensures ok { OnOk result (board.new ≡ board_of D.verdict plan.now plan.now.controls grabs.now values.now (after_queueing frames.now step.now board.old.queued)) }
+    ensures ok { OnOk result (board.new ≡ board_of D.verdict plan.now plan.now.controls grabs.now values.now (board.old.queued ++ frame_in frames.now request.0 ∷ [])) }
     ensures err { OnErr result (board.new ≡ board.old) }
-    ensures asked { work.new.asked ≤ work.old.asked + queueing_asks plan.now frames.now step.now }
-    ensures counted { OnOk result (work.new.asked ≡ asked_queueing D.verdict plan.now grabs.now values.now frames.now step.now board.old.queued work.old.asked) }
+    ensures asked { work.new.asked ≤ work.old.asked + touched_count plan.now (frame_in frames.now request.0).asked }
+    ensures counted { OnOk result (work.new.asked ≡ counted_queueing D.verdict plan.now grabs.now values.now (frame_in frames.now request.0) board.old.queued work.old.asked) }
     ensures told { work.new.told ≡ work.old.told }
 {
-    match step {
-        Step::Queue { request } => {
-            let frame = frame_of(frames, *request);
-            board.push(plan, plan.controls(), values, grabs, &frame, work)
-        }
-        _ => Ok(()),
-    }
+    let frame = frame_of(frames, request);
+    board.push(plan, plan.controls(), values, grabs, &frame, work)
 }
 
-// Takes it out again.
-fn unqueue_frame<D: Driver>(
+// Takes the last frame out again. Behind it there is none, so nobody is asked.
+fn take_last<D: Driver>(
     plan: &Plan<D>,
     values: &[CtrlValue],
     grabs: &[bool],
-    step: &Step,
     board: &mut Board,
     work: &mut Work,
 )
     requires values { length values.now ≡ length plan.now.controls }
     requires board { board.old ≡ board_of D.verdict plan.now plan.now.controls grabs.now values.now board.old.queued }
-    ensures board { (queued : List QueuedData) (f : FramesData) → board.old.queued ≡ after_queueing f step.now queued → board.new ≡ board_of D.verdict plan.now plan.now.controls grabs.now values.now queued }
+    ensures board { (queued : List QueuedData) (frame : QueuedData) → board.old.queued ≡ queued ++ frame ∷ [] → board.new ≡ board_of D.verdict plan.now plan.now.controls grabs.now values.now queued }
     ensures asked { work.new.asked ≤ work.old.asked }
     ensures told { work.new.told ≡ work.old.told }
 {
     let place = board.len().wrapping_sub(1);
-    match step {
-        Step::Queue { .. } => {
-            if place < board.len() {
-                board.remove(place, plan, plan.controls(), values, grabs, work);
-            }
-        }
-        _ => {}
+    if place < board.len() {
+        board.remove(place, plan, plan.controls(), values, grabs, work);
     }
 }
 
-// Takes the frame of a request that is cancelled out, and all at the end of the stream.
-fn take_frames<D: Driver>(
+// Takes the frame of a request that is cancelled out.
+fn take_frame<D: Driver>(
     plan: &Plan<D>,
     values: &[CtrlValue],
     grabs: &[bool],
-    step: &Step,
+    request: RequestId,
     board: &mut Board,
     work: &mut Work,
 )
     requires values { length values.now ≡ length plan.now.controls }
     requires board { board.old ≡ board_of D.verdict plan.now plan.now.controls grabs.now values.now board.old.queued }
-    requires once { TakesOne step.now board.old.queued }
-    ensures board { board.new ≡ board_of D.verdict plan.now plan.now.controls grabs.now values.now (after_taking step.now board.old.queued) }
-    ensures asked { work.new.asked ≤ work.old.asked + taking_asks plan.now step.now board.old.queued }
-    ensures counted { work.new.asked ≡ asked_taking D.verdict plan.now grabs.now values.now step.now board.old.queued work.old.asked }
+    requires once { AreOnce (map (λ q. q.request.0) board.old.queued) }
+    ensures board { board.new ≡ board_of D.verdict plan.now plan.now.controls grabs.now values.now (filter (λ q. not (nat_eq request.0 q.request.0)) board.old.queued) }
+    ensures asked { work.new.asked ≤ work.old.asked + named_behind plan.now request.0 board.old.queued }
+    ensures counted { work.new.asked ≡ counted_removing D.verdict plan.now grabs.now values.now board.old.queued (position (λ q. nat_eq request.0 q.request.0) board.old.queued) work.old.asked }
     ensures told { work.new.told ≡ work.old.told }
 {
-    match step {
-        Step::Cancel { request } => {
-            if let Some(place) = board.place_of(*request) {
-                board.remove(place, plan, plan.controls(), values, grabs, work);
-            }
-        }
-        Step::StreamOff => board.clear(),
-        _ => {}
+    if let Some(place) = board.place_of(request) {
+        board.remove(place, plan, plan.controls(), values, grabs, work);
     }
 }
 

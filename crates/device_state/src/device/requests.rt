@@ -13,7 +13,7 @@ ghost use Rattle.device_state.specs.Device.{Handles, with_step};
 ghost use Rattle.device_history.specs.Forecasts.{queued_frames};
 ghost use Rattle.step_effects.specs.QueuedFrames.{asks_at_most};
 ghost use Rattle.step_effects.specs.Leaving.{NamesKnown, leaves_controls};
-ghost use Rattle.device_state.specs.Entering.{LeavesControls};
+ghost use Rattle.device_state.specs.Entering.{AddsStep};
 
 use super::{Device, refused};
 use ctrl_calls::{Driver, Work};
@@ -169,7 +169,7 @@ impl<D: Driver> Device<D> {
         step: Step,
         reply: Reply,
     ) -> Result<Reply, Fault>
-        requires { LeavesControls D.verdict self.old.plan (past self.old.steps) self.old.words ask.now refusal step reply }
+        requires { AddsStep D.verdict self.old.plan (past self.old.steps) self.old.words ask.now refusal step reply }
         ensures { Handles D.verdict self.old self.new seat ask.now result }
     {
         self.work = Work::new();
@@ -187,7 +187,7 @@ impl<D: Driver> Device<D> {
 
     // Adds such a step, after the refusals. The error is that a growth was refused.
     pub(super) fn accept(&mut self, seat: u32, step: Step) -> Result<(), AllocError>
-        requires quiet { leaves_controls step ≡ true }
+        requires leaves { leaves_controls step ≡ true }
         requires follows { MayFollow D.verdict self.old.plan (past self.old.steps) step }
         requires room { is_full (past self.old.steps) ≡ false }
         requires known { NamesKnown (length self.old.plan.controls) step }

@@ -97,7 +97,7 @@ fn audited(
     let steps = steps(alloc, moves)?;
     match audit(alloc, plan, steps.as_slice()) {
         Ok(scratch) => Ok(Ok(scratch)),
-        Err(AuditFault::NotLegal { index }) => Ok(Err(index)),
+        Err(AuditFault::NotLegal { index }) => Ok(Err(index as usize)),
         Err(AuditFault::Memory) => Err(AllocError),
     }
 }

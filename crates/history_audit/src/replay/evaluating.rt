@@ -29,7 +29,7 @@ impl<'a, D: Driver> Replay<'a, D> {
 
     // What each queued frame will have.
     pub(super) fn forecasts(&self) -> Result<Board, AllocError>
-        ensures { IfOk result (λ b. b.rows ≡ forecast D.verdict self.now.plan (past self.now.steps)) }
+        ensures { IfOk result (λ b. b.forecasts ≡ forecast D.verdict self.now.plan (past self.now.steps)) }
     {
         let queued = self.queued_frames()?;
         let mut work = Work::new();

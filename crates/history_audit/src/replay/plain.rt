@@ -78,7 +78,7 @@ impl<'a, D: Driver> Replay<'a, D> {
     // Makes a step that leaves file handles, grabs and values.
     pub(super) fn change(&mut self, entry: &Entry<Step>) -> Result<(), AllocError>
         requires next { IsNextEntry self.old entry.now }
-        requires quiet { leaves_controls entry.now.step ≡ true }
+        requires leaves { leaves_controls entry.now.step ≡ true }
         requires room { is_full (past self.old.steps) ≡ false }
         requires follows { MayFollow D.verdict self.old.plan (past self.old.steps) entry.now.step }
         requires known { StoresKnown (length self.old.plan.controls) entry.now.step }

@@ -3,5 +3,5 @@ use Rattle.history_audit.proofs.AuditLemmas.{at}
 use Rattle.history_audit.proofs.auditing.audit.Given as goal
 
 -- the steps so far were replayed
-abbrev pub invariant-loop-index : goal.invariant-loop-index
-invariant-loop-index g l = l.replay ≡ at l.plan l.steps l.index
+abbrev pub invariant-loop : goal.invariant-loop
+invariant-loop g l = l.replay ≡ at l.plan l.steps l.counter

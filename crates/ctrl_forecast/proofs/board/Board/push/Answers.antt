@@ -12,7 +12,7 @@ use Rattle.ctrl_forecast.proofs.board.Board.push.Goals as goal
 pub new-requires-clause-values : goal.new-requires-clause-values
 new-requires-clause-values g c =
     ap length c.values_behind.ensures
-    ∙ ap (λ (rows : List Forecast). length (values_behind c.args.values.now rows)) (ap (map forecast_of) c.reserve.ensures.items ∙ ap (λ (b : BoardData). b.rows) (c.self.view_is ∙ c.requires.kept))
+    ∙ ap (λ (rows : List Forecast). length (values_behind c.args.values.now rows)) (ap (map forecast_of) c.reserve.ensures.items ∙ ap (λ (b : BoardData). b.forecasts) (c.self.view_is ∙ c.requires.kept))
     ∙ behind_long g.D.Validates.verdict c.args.plan.now c.args.controls.now c.args.grabs.now c.args.values.now c.args.self.now.queued ∙ c.requires.values
 
 pub returns-clause-ok : goal.returns-clause-ok
@@ -30,4 +30,4 @@ pub returns-clause-counted : goal.returns-clause-counted
 returns-clause-counted g c =
     c.in_ok-frame.ensures.counted
     ∙ ap (λ (values : Values). with_calls (asked_count c.args.plan.now c.args.controls.now values c.args.grabs.now c.args.queued.now.asked) c.args.work.now.asked)
-    (c.values_behind.ensures ∙ ap (values_behind c.args.values.now) (ap (map forecast_of) c.reserve.ensures.items ∙ ap (λ (b : BoardData). b.rows) c.self.view_is))
+    (c.values_behind.ensures ∙ ap (values_behind c.args.values.now) (ap (map forecast_of) c.reserve.ensures.items ∙ ap (λ (b : BoardData). b.forecasts) c.self.view_is))

@@ -7,4 +7,4 @@ use Rattle.ctrl_forecast.proofs.board.Board.values_behind.Goals as goal
 pub returns-in-Some : goal.returns-in-Some
 returns-in-Some c =
     c.values.ensures ∙ frame_last c.args.values.now c.self.inside.frames.items c.in-Some.frame.now (rw c.deref.ensures.value at c.in-Some.ensures.value)
-    ∙ ap (λ (b : BoardData). values_behind c.args.values.now b.rows) c.self.view_is
+    ∙ ap (λ (b : BoardData). values_behind c.args.values.now b.forecasts) c.self.view_is

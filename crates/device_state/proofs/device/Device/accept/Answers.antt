@@ -10,12 +10,12 @@ use Rattle.device_history.specs.Values.{now}
 use Rattle.device_history.proofs.PresentLemmas.{length_grabbed, length_now}
 use Rattle.step_effects.specs.Leaving.{FitsIn}
 use Rattle.step_effects.proofs.FitLemmas.{fits_in}
-use Rattle.step_effects.proofs.QuietLemmas.{given_quiet}
+use Rattle.step_effects.proofs.LeavingLemmas.{given_controls_left}
 use Rattle.ctrl_forecast.specs.Boards.{BoardData}
 use Rattle.device_history.specs.Grabs.{grabbed}
 use Rattle.device_history.specs.Forecasts.{queued_frames}
 use Rattle.device_state.proofs.BoardLemmas.{board_own, board_same, line_bound, queued_once}
-use Rattle.device_state.proofs.KeptLemmas.{kept_quiet, numbered}
+use Rattle.device_state.proofs.KeptLemmas.{kept_controls_left, numbered}
 use Rattle.ctrl_calls.specs.declared.work.Work.{Work}
 use Rattle.device_state.proofs.device.Device.accept.Goals as goal
 
@@ -25,7 +25,7 @@ change_with_forecasts-changed-requires-clause-fits g c =
     let device = c.self.inside in
     let number : length device.steps.items ≡ c.len-number.result = omega (arith, c.len-number.ensures, device.steps.ok.0) in
     subst (λ (n : ℕ). FitsIn n c.args.step device.frames) number
-    (fits_in g.D.Validates.verdict device.plan device.steps.items device.frames c.args.step c.self.invariant.frames c.self.invariant.legal (rw (← c.self.view_is) at c.requires.follows) c.requires.quiet (rw (← c.self.view_is) at c.requires.known))
+    (fits_in g.D.Validates.verdict device.plan device.steps.items device.frames c.args.step c.self.invariant.frames c.self.invariant.legal (rw (← c.self.view_is) at c.requires.follows) c.requires.leaves (rw (← c.self.view_is) at c.requires.known))
 
 -- there is a value and a grab for each control
 pub change_with_forecasts-changed-requires-clause-values : goal.change_with_forecasts-changed-requires-clause-values
@@ -64,13 +64,13 @@ invariant_of-self-in-Ok g c =
     let entry : Entry Step = record { seat = c.args.seat; step = c.args.step } in
     let P : List (Entry Step) = past device.steps.items in
     let number : c.len-number.result ≡ length device.steps.items = omega (arith, c.len-number.ensures, device.steps.ok.0) in
-    kept_quiet g.D.Validates.verdict g.D.Notifies.told device.plan device.steps.items _ _ _ _ _ c.args.seat c.args.step c.self.invariant (rw (← c.self.view_is) at c.requires.room) (rw (← c.self.view_is) at c.requires.follows) c.requires.quiet
+    kept_controls_left g.D.Validates.verdict g.D.Notifies.told device.plan device.steps.items _ _ _ _ _ c.args.seat c.args.step c.self.invariant (rw (← c.self.view_is) at c.requires.room) (rw (← c.self.view_is) at c.requires.follows) c.requires.leaves
     (c.push_reserved.ensures.items ∙ ap (λ (s : List (Entry Step)). s ++ entry ∷ []) c.reserve.ensures.items)
     (c.in-Ok.ensures.frames
     ∙ ap (λ (v : Values). frames_changed v [] c.len-number.result c.args.step device.frames) (c.as_slice.ensures.value ∙ c.self.invariant.values)
     ∙ ap (λ (n : ℕ). frames_changed (now g.D.Validates.verdict device.plan P) [] n c.args.step device.frames) number
     ∙ ap (λ (l : List Pair). frames_changed (now g.D.Validates.verdict device.plan P) l (length device.steps.items) c.args.step device.frames)
-    (sym (given_quiet g.D.Validates.verdict device.plan P c.args.step c.requires.quiet)))
+    (sym (given_controls_left g.D.Validates.verdict device.plan P c.args.step c.requires.leaves)))
     (c.in-Ok.ensures.events g.D.Validates.verdict entry P refl (c.as_slice.ensures.value ∙ c.self.invariant.values) (c.as_slice-2.ensures.value ∙ c.self.invariant.grabs))
     (c.in-Ok.ensures.board ∙ board_same g.D.Validates.verdict device.plan c.as_slice-2.ensures.value c.as_slice.ensures.value refl)
 

@@ -26,7 +26,7 @@ notify_between-requires-clause-after g c =
     let begun = rw (← c.self.view_is) at c.requires.begun in
     let first =
     begun_first g.D.Validates.verdict device.plan (past device.steps.items) c.args.begun.request.0 c.in-Some.row begun.free begun.first
-    (sym (ap (λ (b : BoardData). slice_get b.rows 0) c.self.invariant.board) ∙ sym c.pop.ensures.first ∙ c.in-Some.is) in
+    (sym (ap (λ (b : BoardData). slice_get b.forecasts 0) c.self.invariant.board) ∙ sym c.pop.ensures.first ∙ c.in-Some.is) in
     ap length (c.as_slice-2.ensures ∙ first.0) ∙ length_begun g.D.Validates.verdict device.plan (past device.steps.items) c.args.begun.request.0
 
 -- there is a value and a grab for each control, before and afterwards
@@ -46,7 +46,7 @@ raise_step-requires-clause-values g c =
     let begun = rw (← c.self.view_is) at c.requires.begun in
     let first =
     begun_first g.D.Validates.verdict device.plan (past device.steps.items) c.args.begun.request.0 c.in-Some.row begun.free begun.first
-    (sym (ap (λ (b : BoardData). slice_get b.rows 0) c.self.invariant.board) ∙ sym c.pop.ensures.first ∙ c.in-Some.is) in
+    (sym (ap (λ (b : BoardData). slice_get b.forecasts 0) c.self.invariant.board) ∙ sym c.pop.ensures.first ∙ c.in-Some.is) in
     ap (λ (m : MomentData). length m.values) c.new-2.ensures ∙ ap length (c.as_slice-6.ensures ∙ first.0) ∙ length_begun g.D.Validates.verdict device.plan (past device.steps.items) c.args.begun.request.0
 
 pub raise_step-requires-clause-grabs : goal.raise_step-requires-clause-grabs
@@ -66,7 +66,7 @@ invariant_of-self-2 g c =
     let begun = rw (← c.self.view_is) at c.requires.begun in
     let first =
     begun_first g.D.Validates.verdict device.plan (past device.steps.items) c.args.begun.request.0 c.in-Some.row begun.free begun.first
-    (sym (ap (λ (b : BoardData). slice_get b.rows 0) c.self.invariant.board) ∙ sym c.pop.ensures.first ∙ c.in-Some.is) in
+    (sym (ap (λ (b : BoardData). slice_get b.forecasts 0) c.self.invariant.board) ∙ sym c.pop.ensures.first ∙ c.in-Some.is) in
     rw (c.into_vec.ensures)
     (kept_begin g.D.Validates.verdict g.D.Notifies.told device.plan device.steps.items _ _ c.in-Some.row.values _ _ _ _ c.args.begun.applied.items c.args.seat c.args.begun.request.0 c.self.invariant begun first.0
     (c.push_reserved.ensures.items ∙ ap (λ (s : List (Entry Step)). s ++ entry ∷ []) c.reserve.ensures.items)
@@ -78,7 +78,7 @@ invariant_of-self-2 g c =
     (ap (λ (m : MomentData). m.grabs) c.new-2.ensures ∙ c.as_slice-7.ensures.value ∙ c.self.invariant.grabs))
     (c.as_slice-8.ensures.value ∙ begun.are_applied, refl))
     (begun_board g.D.Validates.verdict device.plan (past device.steps.items) c.args.begun.request.0 device.board _ c.self.invariant.board begun.first (ap (λ (b : BoardData). b.queued) c.pop.ensures.rest) (ap (λ (b : BoardData). b.named) c.pop.ensures.rest)
-    (ap (λ (b : BoardData). b.rows) c.pop.ensures.rest)))
+    (ap (λ (b : BoardData). b.forecasts) c.pop.ensures.rest)))
 
 -- the first frame has a row
 pub invariant_of-self-in_default : goal.invariant_of-self-in_default
@@ -86,7 +86,7 @@ invariant_of-self-in_default g c =
     let device = c.self.inside in
     let begun = rw (← c.self.view_is) at c.requires.begun in
     absurd
-    (begun_some g.D.Validates.verdict device.plan (past device.steps.items) c.args.begun.request.0 begun.first (sym (ap (λ (b : BoardData). slice_get b.rows 0) c.self.invariant.board) ∙ sym c.pop.ensures.first ∙ c.in_default.is))
+    (begun_some g.D.Validates.verdict device.plan (past device.steps.items) c.args.begun.request.0 begun.first (sym (ap (λ (b : BoardData). slice_get b.forecasts 0) c.self.invariant.board) ∙ sym c.pop.ensures.first ∙ c.in_default.is))
 
 -- the reply is what the row says
 pub returns-clause-reply : goal.returns-clause-reply
@@ -95,7 +95,7 @@ returns-clause-reply g c =
     let P : List (Entry Step) = past device.steps.items in
     let begun = rw (← c.self.view_is) at c.requires.begun in
     let first =
-    begun_first g.D.Validates.verdict device.plan P c.args.begun.request.0 c.in-Some.row begun.free begun.first (sym (ap (λ (b : BoardData). slice_get b.rows 0) c.self.invariant.board) ∙ sym c.pop.ensures.first ∙ c.in-Some.is) in
+    begun_first g.D.Validates.verdict device.plan P c.args.begun.request.0 c.in-Some.row begun.free begun.first (sym (ap (λ (b : BoardData). slice_get b.forecasts 0) c.self.invariant.board) ∙ sym c.pop.ensures.first ∙ c.in-Some.is) in
     elim c.match-begin.branch [
       | in-Ok w ↦ rw (← c.self.view_is)
           (begin_reply g.D.Validates.verdict device.plan P c.args.begun.request.0 w.in-Ok.field-0-0.0 w.in-Ok.buffer device.frames begun.free begun.first begun.room c.self.invariant.frames w.in-Ok.ensures.answer
@@ -112,7 +112,7 @@ returns-clause-ok g c =
     let begun = rw (← c.self.view_is) at c.requires.begun in
     let first =
     begun_first g.D.Validates.verdict device.plan (past device.steps.items) c.args.begun.request.0 c.in-Some.row begun.free begun.first
-    (sym (ap (λ (b : BoardData). slice_get b.rows 0) c.self.invariant.board) ∙ sym c.pop.ensures.first ∙ c.in-Some.is) in
+    (sym (ap (λ (b : BoardData). slice_get b.forecasts 0) c.self.invariant.board) ∙ sym c.pop.ensures.first ∙ c.in-Some.is) in
     rw (← c.self.view_is)
     (record {
       plan = refl;

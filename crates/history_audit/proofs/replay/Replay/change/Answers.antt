@@ -14,7 +14,7 @@ use Rattle.device_history.proofs.PresentLemmas.{length_grabbed, length_now}
 use Rattle.step_effects.specs.Leaving.{FitsIn}
 use Rattle.step_effects.proofs.FitLemmas.{fits_in}
 use Rattle.history_audit.proofs.MadeLemmas.{taken_many}
-use Rattle.step_effects.proofs.QuietLemmas.{opened_quiet, grabbed_quiet, laid_quiet, given_quiet}
+use Rattle.step_effects.proofs.LeavingLemmas.{opened_controls_left, grabbed_controls_left, laid_controls_left, given_controls_left}
 use Rattle.history_audit.proofs.FollowLemmas.{names_known}
 use Rattle.history_audit.specs.Replay.{ReplayData}
 use Rattle.history_audit.proofs.MadeLemmas.{numbered, replay_add, replayed_next}
@@ -25,7 +25,7 @@ pub change_requests_and_events-requires-clause-fits : goal.change_requests_and_e
 change_requests_and_events-requires-clause-fits g c =
     let r = c.self.inside in
     subst (λ (n : ℕ). FitsIn n c.args.entry.now.step r.frames) (taken_many r.steps.now r.count c.self.invariant.within)
-    (fits_in g.D.Validates.verdict r.plan.now (take r.count r.steps.now) r.frames c.args.entry.now.step c.self.invariant.made.frames c.self.invariant.made.legal (rw (← c.self.view_is) at c.requires.follows) c.requires.quiet
+    (fits_in g.D.Validates.verdict r.plan.now (take r.count r.steps.now) r.frames c.args.entry.now.step c.self.invariant.made.frames c.self.invariant.made.legal (rw (← c.self.view_is) at c.requires.follows) c.requires.leaves
     (names_known g.D.Validates.verdict r.plan.now (past (take r.count r.steps.now)) c.args.entry.now.step c.self.invariant.plans (rw (← c.self.view_is) at c.requires.follows) (rw (← c.self.view_is) at c.requires.known)))
 
 pub change_requests_and_events-requires-clause-known : goal.change_requests_and_events-requires-clause-known
@@ -59,13 +59,13 @@ invariant_of-self-2 g c =
     let step : Step = c.args.entry.now.step in
     let P : List (Entry Step) = past (take r.count r.steps.now) in
     replay_add g.D.Validates.verdict r.plan.now r.steps.now r.count _ _ c.args.entry.now c.self.invariant (rw (← c.self.view_is) at c.requires.next) (rw (← c.self.view_is) at c.requires.room) (rw (← c.self.view_is) at c.requires.follows)
-    (made.file_handles ∙ sym (opened_quiet r.count step (opened P) c.requires.quiet))
-    (made.grabs ∙ sym (grabbed_quiet step (grabbed r.plan.now P) c.requires.quiet))
-    (made.values ∙ ap (λ (l : Option (List Pair)). now_after g.D.Validates.verdict r.plan.now (grabbed r.plan.now P) l (now g.D.Validates.verdict r.plan.now P)) (sym (laid_quiet r.plan.now P step c.requires.quiet)))
+    (made.file_handles ∙ sym (opened_controls_left r.count step (opened P) c.requires.leaves))
+    (made.grabs ∙ sym (grabbed_controls_left step (grabbed r.plan.now P) c.requires.leaves))
+    (made.values ∙ ap (λ (l : Option (List Pair)). now_after g.D.Validates.verdict r.plan.now (grabbed r.plan.now P) l (now g.D.Validates.verdict r.plan.now P)) (sym (laid_controls_left r.plan.now P step c.requires.leaves)))
     (c.in_ok-change_requests_and_events.ensures.frames
     ∙ ap (λ (v : Values). frames_changed v [] r.count step r.frames) (c.as_slice.ensures.value ∙ made.values)
     ∙ ap (frames_changed (now g.D.Validates.verdict r.plan.now P) [] r.count step) made.frames
-    ∙ ap (λ (l : List Pair). frames_changed (now g.D.Validates.verdict r.plan.now P) l r.count step (frames g.D.Validates.verdict r.plan.now P)) (sym (given_quiet g.D.Validates.verdict r.plan.now P step c.requires.quiet)))
+    ∙ ap (λ (l : List Pair). frames_changed (now g.D.Validates.verdict r.plan.now P) l r.count step (frames g.D.Validates.verdict r.plan.now P)) (sym (given_controls_left g.D.Validates.verdict r.plan.now P step c.requires.leaves)))
     (c.in_ok-change_requests_and_events.ensures.events g.D.Validates.verdict c.args.entry.now P refl (c.as_slice.ensures.value ∙ made.values) (c.as_slice-2.ensures.value ∙ made.grabs))
 
 -- one more step was replayed

@@ -9,7 +9,7 @@ use Rattle.device_history.specs.EventSteps.{AreAround}
 use Rattle.device_history.specs.Grabs.{grabbed, grabbed_after}
 use Rattle.device_history.specs.Legal.{MayFollow}
 use Rattle.device_history.specs.Values.{pairs_asked}
-use Rattle.device_history.proofs.EventLemmas.{values_quiet}
+use Rattle.device_history.proofs.EventLemmas.{values_controls_left}
 use Rattle.device_history.proofs.GrabLemmas.{grabbed_more}
 use Rattle.device_history.proofs.PresentLemmas.{length_grabbed, length_now}
 use Rattle.history_audit.proofs.FollowLemmas.{grab_known}
@@ -67,7 +67,7 @@ invariant_of-self g c =
     let around : AreAround g.D.Validates.verdict r.plan.now c.args.entry.now P c.new.result c.new-2.result = record {
       old_values = ap (λ (m : MomentData). m.values) c.new.ensures ∙ c.as_slice-2.ensures.value ∙ made.values;
       old_grabs = ap (λ (m : MomentData). m.grabs) c.new.ensures ∙ c.as_slice-3.ensures.value ∙ made.grabs;
-      values = ap (λ (m : MomentData). m.values) c.new-2.ensures ∙ c.as_slice-4.ensures.value ∙ made.values ∙ sym (values_quiet g.D.Validates.verdict r.plan.now c.args.entry.now P (ap (pairs_asked r.plan.now P) step));
+      values = ap (λ (m : MomentData). m.values) c.new-2.ensures ∙ c.as_slice-4.ensures.value ∙ made.values ∙ sym (values_controls_left g.D.Validates.verdict r.plan.now c.args.entry.now P (ap (pairs_asked r.plan.now P) step));
       grabs = ap (λ (m : MomentData). m.grabs) c.new-2.ensures ∙ c.as_slice-5.ensures.value ∙ kept ∙ sym (grabbed_more r.plan.now c.args.entry.now P ∙ ap (λ (s : Step). grabbed_after s (grabbed r.plan.now P)) step);
     } in
     replay_add g.D.Validates.verdict r.plan.now r.steps.now r.count _ _ c.args.entry.now c.self.invariant (rw (← c.self.view_is) at c.requires.next) (rw (← c.self.view_is) at c.requires.room) (rw (← c.self.view_is) at c.requires.follows)

@@ -1,8 +1,8 @@
 use Rattle.std.proofs.Common.{◌≡◌, ◌≤◌, ◌+◌, ◌%◌, ℕ, List, drop, length, arith}
 use Rattle.ctrl_forecast.specs.Boards.{asked_at, named_clusters}
 use Rattle.ctrl_forecast.specs.Forecasts.{QueuedData, named_by_frames}
-use Rattle.step_effects.proofs.LineLemmas.{none_behind}
-use Rattle.step_effects.proofs.with_forecasts.unqueue_frame.Goals as goal
+use Rattle.step_effects.proofs.QueuedLemmas.{none_behind}
+use Rattle.step_effects.proofs.with_forecasts.take_last.Goals as goal
 
 -- behind the last frame nobody is asked
 pub returns-then-place-len-clause-asked : goal.returns-then-place-len-clause-asked
