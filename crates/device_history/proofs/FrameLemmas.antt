@@ -22,7 +22,7 @@ use Rattle.device_history.specs.declared.ask.Step.{Step}
 use Rattle.device_history.specs.declared.ask.Step.TheVariants.{OpenFh, CloseFh, Set, Grab, Alloc, Store, Buffer, Queue, Begin, Complete, Cancel, StreamOff, Reinit, Free, Subscribe, Unsubscribe, Take}
 use Rattle.device_history.specs.Steps.{Past}
 use Rattle.device_history.specs.Requests.{made, ever_made, state, last_state_left, is_off_since}
-use Rattle.device_history.specs.Frames.{all_but, ever_queued, queue, queue_after, last_begun, running, running_after, unless_equal, first_of}
+use Rattle.device_history.specs.Frames.{all_but, queue, queue_after, last_begun, running, running_after, unless_equal, first_of}
 use Rattle.device_history.specs.Values.{now}
 use Rattle.device_history.specs.Snapshots.{request_in, request, requests, frames, begun_pairs}
 use Rattle.device_history.specs.FrameSteps.{frames_after, FitsFrames}
@@ -30,6 +30,7 @@ use Rattle.device_history.specs.FrameSteps.{request_after, changed_if_named}
 use Rattle.device_history.proofs.AllFit.{AllFit}
 use Rattle.device_history.proofs.RequestLemmas.{request_more}
 use Rattle.device_history.proofs.MadeLemmas.{AreNamed, made_once, next_not_made, find_listed, same_listed, same_but, all_changed, changed_listed, freed_listed, whole}
+use Rattle.device_history.proofs.QueueingLemmas.{ever_queued_start}
 use Rattle.device_history.proofs.QueueLemmas.{queue_more, running_more}
 
 -- a request has its number as its id
@@ -88,8 +89,8 @@ find_request verdicts plan past r fit = find_listed (request verdicts plan past)
 
 -- before the first entry
 pub frames_start : (verdicts : Verdicts) (plan : PlanData) → frames verdicts plan [] ≡ record { requests = record { controls = length plan.controls; all = [] }; queue = []; running = None }
-unfolding ever_made ever_queued last_begun
-frames_start verdicts plan = refl
+unfolding ever_made last_begun
+frames_start verdicts plan = rw ever_queued_start refl
 
 start_kept : (controls : ℕ) → QueueFitsRequests (record { requests = record { controls = controls; all = [] }; queue = []; running = None })
 start_kept controls = record { once = tt; waits = λ id. refl; runs = λ id. refl; buffers = λ id r there waiting. none r there }
