@@ -6,8 +6,9 @@ use Rattle.std.proofs.lemmas.List.{length-append}
 use Rattle.history.specs.Past.{past}
 use Rattle.ctrl_calls.specs.Meanings.{Verdicts, Words}
 use Rattle.ctrl_handlers.specs.Plan.{PlanData}
-use Rattle.device_history.specs.Frames.{all_but, ever_queued, queue, queued_by, with_last}
+use Rattle.device_history.specs.Frames.{all_but, ever_queued, queue}
 use Rattle.device_history.specs.Steps.{Past}
+use Rattle.device_history.proofs.QueueingLemmas.{queued_by, with_last, ever_queued_start, ever_queued_more}
 use Rattle.device_state.specs.Device.{DeviceData}
 use Rattle.script_replies.specs.Replies.{outcome_line}
 use Rattle.script_replies.specs.declared.outcome.Outcome.{Outcome}
@@ -34,9 +35,8 @@ last_short None ids = omega arith
 last_short (Some r) ids = let few = filter_short (λ j. not (nat_eq r j)) ids in let one = length-append (all_but r ids) (r ∷ []) in omega arith
 
 ever_short : (older : Past) → length (ever_queued older) ≤ length older
-unfolding ever_queued
-ever_short [] = omega arith
-ever_short (e ∷ older) = let one = last_short (queued_by e.step) (ever_queued older) in let few = ever_short older in omega arith
+ever_short [] = rw ever_queued_start (omega arith)
+ever_short (e ∷ older) = rw (ever_queued_more e older) let one = last_short (queued_by e.step) (ever_queued older) in let few = ever_short older in omega arith
 
 -- no more frames are queued than steps were taken
 pub queue_short : (older : Past) → length (queue older) ≤ length older

@@ -1,5 +1,5 @@
 -- The requests and the queue of frames after one more entry that fits.
-use Rattle.std.proofs.Common.{◌≡◌, ℕ, ◌∙◌, Bool, true, false, cond, List, [], ◌∷◌, ◌++◌, length, filter_map, Option, None, Some, nat_eq, is_some, eq-eqb, refl, sym, ap, subst, append-nil, arith, if◌then◌else◌}
+use Rattle.std.proofs.Common.{◌≡◌, ℕ, ◌∙◌, Bool, true, false, cond, List, [], ◌∷◌, ◌++◌, length, map, filter_map, Option, None, Some, nat_eq, is_some, eq-eqb, refl, sym, ap, subst, append-nil, arith, if◌then◌else◌}
 use Rattle.std.specs.List.{list_any, cons_option}
 use Rattle.std.specs.Option.{option_map}
 use Rattle.std.proofs.lemmas.Bool.{or_parts}
@@ -12,25 +12,25 @@ use Rattle.ctrl_types.specs.declared.errno.Errno.TheVariants.{EBUSY}
 use Rattle.ctrl_types.specs.declared.ids.Pair.{Pair}
 use Rattle.ctrl_calls.specs.Meanings.{Verdicts}
 use Rattle.ctrl_handlers.specs.Plan.{PlanData}
-use Rattle.ctrl_clusters.specs.Rows.{Values}
 use Rattle.req_book.specs.declared.state.RequestState.{RequestState}
 use Rattle.req_book.specs.declared.state.RequestState.TheVariants as states
 use Rattle.req_book.specs.Requests.{RequestData, RequestsData, find, new_request, with_changed, with_pairs, with_buffer, cleared, queued, begun, completed, is_idle, is_number, without}
 use Rattle.req_book.specs.Refusals.{store_refusal, buffer_refusal, queue_refusal, clear_refusal}
-use Rattle.frame_queue.specs.Frames.{FramesData, QueueFitsRequests, AreOnce, is_in, is_queued, is_running, after_begin, after_complete, running_done, stopped, after_off, cancel_refusal, ended}
-use Rattle.frame_queue.proofs.FrameLemmas.{queued_kept, begun_kept, ended_kept, completed_kept, cancelled_kept, state_kept, rests, cleared_kept, freed_kept, added_kept}
+use Rattle.frame_queue.specs.Frames.{FramesData, QueueFitsRequests, AreOnce, is_in, is_queued, is_running, after_begin, after_complete, ended_request, cancel_refusal}
+use Rattle.frame_queue.proofs.FrameLemmas.{queued_kept, begun_kept, completed_kept, cancelled_kept, off_kept, state_kept, rests, cleared_kept, freed_kept, added_kept}
 use Rattle.device_history.specs.declared.ask.Step.{Step}
 use Rattle.device_history.specs.declared.ask.Step.TheVariants.{OpenFh, CloseFh, Set, Grab, Alloc, Store, Buffer, Queue, Begin, Complete, Cancel, StreamOff, Reinit, Free, Subscribe, Unsubscribe, Take}
 use Rattle.device_history.specs.Steps.{Past}
 use Rattle.device_history.specs.Requests.{made, ever_made, state, last_state_left, is_off_since}
-use Rattle.device_history.specs.Frames.{all_but, ever_queued, queue, queue_after, last_begun, running, running_after, unless_equal, first_of}
+use Rattle.device_history.specs.Frames.{all_but, queue, queue_after, last_begun, running, running_after, unless_equal, first_of}
 use Rattle.device_history.specs.Values.{now}
 use Rattle.device_history.specs.Snapshots.{request_in, request, requests, frames, begun_pairs}
 use Rattle.device_history.specs.FrameSteps.{frames_after, FitsFrames}
-use Rattle.device_history.specs.FrameSteps.{request_after, changed_if_named, ended_request}
+use Rattle.device_history.specs.FrameSteps.{request_after, changed_if_named}
 use Rattle.device_history.proofs.AllFit.{AllFit}
 use Rattle.device_history.proofs.RequestLemmas.{request_more}
-use Rattle.device_history.proofs.MadeLemmas.{AreNamed, made_once, next_not_made, find_listed, same_listed, same_but, changed_listed, freed_listed, still_named, ended_if, ended_listed, whole}
+use Rattle.device_history.proofs.MadeLemmas.{AreNamed, made_once, next_not_made, find_listed, same_listed, same_but, all_changed, changed_listed, freed_listed, whole}
+use Rattle.device_history.proofs.QueueingLemmas.{ever_queued_start}
 use Rattle.device_history.proofs.QueueLemmas.{queue_more, running_more}
 
 -- a request has its number as its id
@@ -89,8 +89,8 @@ find_request verdicts plan past r fit = find_listed (request verdicts plan past)
 
 -- before the first entry
 pub frames_start : (verdicts : Verdicts) (plan : PlanData) → frames verdicts plan [] ≡ record { requests = record { controls = length plan.controls; all = [] }; queue = []; running = None }
-unfolding ever_made ever_queued last_begun
-frames_start verdicts plan = refl
+unfolding ever_made last_begun
+frames_start verdicts plan = rw ever_queued_start refl
 
 start_kept : (controls : ℕ) → QueueFitsRequests (record { requests = record { controls = controls; all = [] }; queue = []; running = None })
 start_kept controls = record { once = tt; waits = λ id. refl; runs = λ id. refl; buffers = λ id r there waiting. none r there }
@@ -136,55 +136,6 @@ requests_made verdicts plan e older is fit =
 requests_changed : (verdicts : Verdicts) (plan : PlanData) (older : Past) (r : ℕ) (f : RequestData → RequestData)
     → whole (length plan.controls) (filter_map (λ j. changed_if_named r j f (request verdicts plan older j)) (ever_made older)) ≡ with_changed (whole (length plan.controls) (requests verdicts plan older)) r f
 requests_changed verdicts plan older r f = ap (whole (length plan.controls)) (changed_listed (request verdicts plan older) (ever_made older) r f (request_named verdicts plan older) (made_once older))
-
--- the end of the stream completes the one that runs and all that wait
-requests_ended : (verdicts : Verdicts) (plan : PlanData) (older : Past) (values : Values) → AllFit verdicts plan older → QueueFitsRequests (frames verdicts plan older)
-    → whole (length plan.controls) (filter_map (λ j. option_map (ended_request values) (request verdicts plan older j)) (ever_made older)) ≡ (after_off (frames verdicts plan older) values).requests
-requests_ended verdicts plan older values fit kept = by (running older) refl
-  where
-    g : ℕ → Option RequestData
-    g = request verdicts plan older
-
-    waits : (j : ℕ) → list_any (nat_eq j) (queue older) ≡ is_in is_queued (g j)
-    waits j = kept.waits j ∙ ap (is_in is_queued) (find_request verdicts plan older j fit)
-
-    runs : (j : ℕ) → is_number (running older) j ≡ is_in is_running (g j)
-    runs j = kept.runs j ∙ ap (is_in is_running) (find_request verdicts plan older j fit)
-
-    none : (o : Option RequestData) (b : Bool) → b ≡ is_in is_queued o → false ≡ is_in is_running o → option_map (ended_request values) o ≡ option_map (ended_if values b) o
-    none None b wait run = refl
-    none (Some q) b wait run = state q.state refl b wait run
-      where
-        state : (s : RequestState) → q.state ≡ s → (b : Bool) → b ≡ is_queued q.state → false ≡ is_running q.state → Some (ended_request values q) ≡ Some (ended_if values b q)
-        state states.Idle is b wait run = rw (wait, is) refl
-        state states.Queued is b wait run = rw (wait, is) refl
-        state states.Running is b wait run = clash (run ∙ ap is_running is)
-          where
-            clash : false ≡ true → Some (ended_request values q) ≡ Some (ended_if values b q)
-            clash h = cc
-        state states.Complete is b wait run = rw (wait, is) refl
-
-    one : (o : Option RequestData) (r j : ℕ) (b : Bool) → b ≡ is_in is_queued o → nat_eq r j ≡ is_in is_running o → option_map (ended_request values) o ≡ option_map (ended_if values b) (changed_if_named r j (completed values) o)
-    one None r j b wait run = rw run refl
-    one (Some q) r j b wait run = state q.state refl b wait run
-      where
-        state : (s : RequestState) → q.state ≡ s → (b : Bool) → b ≡ is_queued q.state → nat_eq r j ≡ is_running q.state → Some (ended_request values q) ≡ option_map (ended_if values b) (changed_if_named r j (completed values) (Some q))
-        state states.Idle is b wait run = rw (wait, run, is) refl
-        state states.Queued is b wait run = rw (wait, run, is) refl
-        state states.Running is b wait run = rw (wait, run, is) refl
-        state states.Complete is b wait run = rw (wait, run, is) refl
-
-    by : (o : Option ℕ) → running older ≡ o
-        → whole (length plan.controls) (filter_map (λ j. option_map (ended_request values) (g j)) (ever_made older)) ≡ (stopped values (running_done values (whole (length plan.controls) (requests verdicts plan older)) (queue older) (running older))).requests
-    by None is = rw is
-        (ap (whole (length plan.controls)) (same_listed (λ j. option_map (ended_if values (list_any (nat_eq j) (queue older))) (g j)) (λ j. option_map (ended_request values) (g j)) (ever_made older)
-        (λ j. none (g j) (list_any (nat_eq j) (queue older)) (waits j) (sym (ap (λ o. is_number o j) is) ∙ runs j)))
-        ∙ sym (ended_listed values (queue older) (length plan.controls) g (ever_made older) (request_named verdicts plan older) (made_once older)))
-    by (Some r) is = rw is
-        (ap (whole (length plan.controls)) (same_listed (λ j. option_map (ended_if values (list_any (nat_eq j) (queue older))) (changed_if_named r j (completed values) (g j))) (λ j. option_map (ended_request values) (g j)) (ever_made older)
-        (λ j. one (g j) r j (list_any (nat_eq j) (queue older)) (waits j) (sym (ap (λ o. is_number o j) is) ∙ runs j)))
-        ∙ sym (ended_listed values (queue older) (length plan.controls) (λ j. changed_if_named r j (completed values) (g j)) (ever_made older) (still_named g r (completed values) (λ q. refl) (request_named verdicts plan older)) (made_once older))
-        ∙ ap (λ qs. ended values (queue older) (whole (length plan.controls) qs)) (changed_listed g (ever_made older) r (completed values) (request_named verdicts plan older) (made_once older)))
 
 -- a number that isn't there leaves the others
 stays : (r : ℕ) (ids : List ℕ) → list_any (nat_eq r) ids ≡ false → all_but r ids ≡ ids
@@ -293,26 +244,6 @@ seen requests queue running = record { requests = requests; queue = queue; runni
 seen_same : (a b : RequestsData) (q p : List ℕ) (r s : Option ℕ) → a ≡ b → q ≡ p → r ≡ s → seen a q r ≡ seen b p s
 seen_same a b q p r s x y z = rw (x, y, z) refl
 
--- once a stream was stopped
-off_is : (f : FramesData) (values : List CtrlValue) → after_off f values ≡ record { requests = (after_off f values).requests; queue = []; running = None }
-off_is f values = by f.running
-  where
-    by : (o : Option ℕ) → stopped values (running_done values f.requests f.queue o) ≡ record { requests = (stopped values (running_done values f.requests f.queue o)).requests; queue = []; running = None }
-    by None = refl
-    by (Some id) = refl
-
--- all that wait are complete
-stopped_kept : (values : List CtrlValue) (f : FramesData) (ids : List ℕ) → f.queue ≡ ids → QueueFitsRequests f → QueueFitsRequests (seen (ended values ids f.requests) [] f.running)
-stopped_kept values f [] is kept = subst (λ (q : List ℕ). QueueFitsRequests (seen f.requests q f.running)) is kept
-stopped_kept values f (id ∷ ids) is kept = stopped_kept values (record { requests = with_changed f.requests id (completed values); queue = ids; running = f.running }) ids refl (ended_kept f id ids values kept is)
-
-off_kept : (values : List CtrlValue) (f : FramesData) → QueueFitsRequests f → QueueFitsRequests (after_off f values)
-off_kept values f kept = by f.running refl
-  where
-    by : (o : Option ℕ) → f.running ≡ o → QueueFitsRequests (stopped values (running_done values f.requests f.queue o))
-    by None is = stopped_kept values (record { requests = f.requests; queue = f.queue; running = None }) f.queue refl (subst (λ (o : Option ℕ). QueueFitsRequests (seen f.requests f.queue o)) is kept)
-    by (Some id) is = stopped_kept values (record { requests = with_changed f.requests id (completed values); queue = f.queue; running = None }) f.queue refl (completed_kept f id values kept is)
-
 -- a step that fits keeps the queue as it is to be
 after_kept : (verdicts : Verdicts) (plan : PlanData) (older : Past) (step : Step) → AllFit verdicts plan older → QueueFitsRequests (frames verdicts plan older) → FitsFrames verdicts plan older step
     → QueueFitsRequests (frames_after verdicts plan older (length older) step (frames verdicts plan older))
@@ -329,7 +260,7 @@ after_kept verdicts plan older (Begin r) fit kept fits =
     subst QueueFitsRequests (sym (begin_is (frames verdicts plan older) (begun_pairs verdicts plan older r.0) r.0 first.0 fits.0 first.1)) (begun_kept (frames verdicts plan older) r.0 first.0 (begun_pairs verdicts plan older r.0) kept first.1 fits.0)
 after_kept verdicts plan older (Complete r) fit kept fits = subst QueueFitsRequests (sym (complete_is (frames verdicts plan older) (now verdicts plan older) r.0 fits)) (completed_kept (frames verdicts plan older) r.0 (now verdicts plan older) kept fits)
 after_kept verdicts plan older (Cancel r) fit kept fits = cancelled_kept (frames verdicts plan older) r.0 (now verdicts plan older) kept (ap cancel_refusal (find_request verdicts plan older r.0 fit) ∙ fits)
-after_kept verdicts plan older StreamOff fit kept fits = off_kept (now verdicts plan older) (frames verdicts plan older) kept
+after_kept verdicts plan older StreamOff fit kept fits = off_kept (now verdicts plan older) (frames verdicts plan older)
 after_kept verdicts plan older (Reinit r) fit kept fits = cleared_kept (frames verdicts plan older) r.0 kept (ap clear_refusal (find_request verdicts plan older r.0 fit) ∙ fits)
 after_kept verdicts plan older (Free r) fit kept fits = freed_kept (frames verdicts plan older) r.0 kept (ap clear_refusal (find_request verdicts plan older r.0 fit) ∙ fits)
 after_kept verdicts plan older (Subscribe f c flags) fit kept fits = kept
@@ -414,9 +345,8 @@ frames_from verdicts plan e older fit kept fits = by e.step refl fits
         seen_same (rs (requests verdicts plan (e ∷ older))) (with_changed (rs (requests verdicts plan older)) r.0 (completed (now verdicts plan older))) (queue (e ∷ older)) (all_but r.0 (queue older)) (running (e ∷ older)) (running older)
         (one _ is fits refl r.0 (completed (now verdicts plan older)) (λ j. refl)) (line _ is) (turn _ is ∙ turn_stays r.0 (cancel_waits (was r.0) fits))
     by StreamOff is fits =
-        seen_same (rs (requests verdicts plan (e ∷ older))) (after_off (frames verdicts plan older) (now verdicts plan older)).requests (queue (e ∷ older)) [] (running (e ∷ older)) None
-        (ap rs (requests_more verdicts plan e older StreamOff is fit fits refl) ∙ requests_ended verdicts plan older (now verdicts plan older) fit kept) (line _ is) (turn _ is)
-        ∙ sym (off_is (frames verdicts plan older) (now verdicts plan older))
+        seen_same (rs (requests verdicts plan (e ∷ older))) (rs (map (ended_request (now verdicts plan older)) (requests verdicts plan older))) (queue (e ∷ older)) [] (running (e ∷ older)) None
+        (ap rs (requests_more verdicts plan e older StreamOff is fit fits refl ∙ all_changed was (ended_request (now verdicts plan older)) (ever_made older))) (line _ is) (turn _ is)
     by (Reinit r) is fits = resting _ is fits refl r.0 cleared (rests (was r.0) fits) (λ j. refl) refl refl
     by (Free r) is fits =
         let rest = rests (was r.0) fits in

@@ -2,6 +2,7 @@ pub mod AllFit
 pub mod StateLemmas
 pub mod RequestLemmas
 pub mod MadeLemmas
+pub mod QueueingLemmas
 pub mod QueueLemmas
 pub mod FrameLemmas
 pub mod GrabLemmas

@@ -1,27 +1,18 @@
 -- Requests as a list: the numbers of those that were ever made, and what a change of one, or of all, makes of those that are there.
-use Rattle.std.proofs.Common.{◌≡◌, ◌≢◌, ℕ, ◌<◌, ◌≤◌, ◌∙◌, ◌||◌, Bool, true, false, cond, inl, inr, List, [], ◌∷◌, ◌++◌, length, filter_map, Option, None, Some, nat_eq, nat_le, eq-eqb, refl, sym, ap, arith}
+use Rattle.std.proofs.Common.{◌≡◌, ℕ, ◌<◌, ◌≤◌, ◌∙◌, ◌||◌, Bool, true, false, cond, inl, inr, List, [], ◌∷◌, ◌++◌, length, map, filter_map, Option, None, Some, nat_eq, nat_le, refl, sym, ap, arith}
 use Rattle.std.specs.List.{list_any, cons_option}
 use Rattle.std.specs.Option.{option_map}
 use Rattle.std.proofs.lemmas.Bool.{or_from, or_parts}
 use Rattle.std.proofs.lemmas.Bool.Decides.{eqb_tells, nat_tests}
 use Rattle.std.proofs.lemmas.List.Folds.{list_any-append}
-use Rattle.ctrl_types.specs.Values.{CtrlValue}
-use Rattle.req_book.specs.Requests.{RequestData, RequestsData, find, with_request, without, completed}
+use Rattle.req_book.specs.Requests.{RequestData, RequestsData, find, with_request, without}
 use Rattle.req_book.proofs.ObjectLemmas.{Tells}
-use Rattle.frame_queue.specs.Frames.{AreOnce, ended}
+use Rattle.frame_queue.specs.Frames.{AreOnce}
 use Rattle.device_history.specs.declared.ask.Step.{Step}
 use Rattle.device_history.specs.declared.ask.Step.TheVariants.{OpenFh, CloseFh, Set, Grab, Alloc, Store, Buffer, Queue, Begin, Complete, Cancel, StreamOff, Reinit, Free, Subscribe, Unsubscribe, Take}
 use Rattle.device_history.specs.Steps.{Past}
 use Rattle.device_history.specs.Requests.{made, ever_made}
 use Rattle.device_history.specs.FrameSteps.{changed_if_named}
-
--- a number isn't another
-pub apart : (j k : ℕ) → k ≢ j → nat_eq j k ≡ false
-apart j k differ = by (eqb_tells j k)
-  where
-    by : Tells j k → nat_eq j k ≡ false
-    by (inl same) = absurd (differ (sym same.1))
-    by (inr other) = other.0
 
 -- the number that a step makes is its own
 made_own : (r n : ℕ) (step : Step) → nat_eq r n ≡ false → list_any (nat_eq r) (made n step) ≡ false
@@ -184,43 +175,15 @@ freed_listed g (j ∷ ids) r named = by (g j) refl (eqb_tells r j) (freed_listed
         let off : nat_eq r q.id ≡ false = ap (nat_eq r) (named j q is) ∙ other.0 in
         rw (off, other.0) (ap (λ qs. q ∷ qs) rest)
 
--- a request, complete where it is to be
-abbrev pub ended_if : List CtrlValue → Bool → RequestData → RequestData
-ended_if values b q = cond b (completed values q) q
+-- each request is changed
+pub all_changed : (g : ℕ → Option RequestData) (f : RequestData → RequestData) (ids : List ℕ) → filter_map (λ j. option_map f (g j)) ids ≡ map f (filter_map g ids)
+all_changed g f [] = refl
+all_changed g f (j ∷ ids) = by (g j) (all_changed g f ids)
+  where
+    by : (o : Option RequestData) → filter_map (λ j. option_map f (g j)) ids ≡ map f (filter_map g ids) → cons_option (option_map f o) (filter_map (λ j. option_map f (g j)) ids) ≡ map f (cons_option o (filter_map g ids))
+    by None rest = rest
+    by (Some q) rest = ap (λ qs. f q ∷ qs) rest
 
 -- the requests of a device with so many controls
 abbrev pub whole : ℕ → List RequestData → RequestsData
 whole n rs = record { controls = n; all = rs }
-
--- a change that keeps the id
-pub still_named : (g : ℕ → Option RequestData) (id : ℕ) (f : RequestData → RequestData) → ((q : RequestData) → (f q).id ≡ q.id) → AreNamed g → AreNamed (λ j. changed_if_named id j f (g j))
-still_named g id f keeps named j q is = by (g j) (nat_eq id j) refl is
-  where
-    same : (a b : RequestData) → Some a ≡ Some b → a ≡ b
-    same a b h = cc
-
-    by : (o : Option RequestData) (b : Bool) → g j ≡ o → cond b (option_map f o) o ≡ Some q → q.id ≡ j
-    by None true before there = cc
-    by None false before there = cc
-    by (Some p) true before there = sym (ap (λ (x : RequestData). x.id) (same (f p) q there)) ∙ keeps p ∙ named j p before
-    by (Some p) false before there = sym (ap (λ (x : RequestData). x.id) (same p q there)) ∙ named j p before
-
--- each request with an id among some is complete
-pub ended_listed : (values : List CtrlValue) (queue : List ℕ) (controls : ℕ) (g : ℕ → Option RequestData) (ids : List ℕ) → AreNamed g → AreOnce ids
-    → ended values queue (whole controls (filter_map g ids)) ≡ whole controls (filter_map (λ j. option_map (ended_if values (list_any (nat_eq j) queue)) (g j)) ids)
-ended_listed values [] controls g ids named once = ap (whole controls) (sym (same_listed g (λ j. option_map (ended_if values false) (g j)) ids (λ j. as_is (g j))))
-  where
-    as_is : (o : Option RequestData) → option_map (ended_if values false) o ≡ o
-    as_is None = refl
-    as_is (Some q) = refl
-ended_listed values (id ∷ queue) controls g ids named once =
-    ap (λ rs. ended values queue (whole controls rs)) (sym (changed_listed g ids id (completed values) named once))
-    ∙ ended_listed values queue controls (λ j. changed_if_named id j (completed values) (g j)) ids (still_named g id (completed values) (λ q. refl) named) once
-    ∙ ap (whole controls) (same_listed (λ j. option_map (ended_if values (list_any (nat_eq j) (id ∷ queue))) (g j)) (λ j. option_map (ended_if values (list_any (nat_eq j) queue)) (changed_if_named id j (completed values) (g j))) ids (λ j. both j (g j) (eqb_tells id j) (list_any (nat_eq j) queue)))
-  where
-    both : (j : ℕ) (o : Option RequestData) → Tells id j → (b : Bool) → option_map (ended_if values b) (changed_if_named id j (completed values) o) ≡ option_map (ended_if values (nat_eq j id || b)) o
-    both j None (inl same) b = rw same.0 refl
-    both j None (inr other) b = rw other.0 refl
-    both j (Some q) (inl same) true = rw (same.0, eq-eqb j id (sym same.1)) refl
-    both j (Some q) (inl same) false = rw (same.0, eq-eqb j id (sym same.1)) refl
-    both j (Some q) (inr other) b = rw (other.0, apart j id other.1) refl

@@ -14,7 +14,7 @@ use Rattle.device_history.specs.declared.ask.Step.{Step}
 use Rattle.device_history.specs.declared.ask.Step.TheVariants as steps
 use Rattle.ctrl_handlers.specs.Plan.{PlanData}
 use Rattle.device_history.specs.Steps.{History, Past}
-use Rattle.device_history.specs.Handles.{opening, ever_opened, closes, is_closed, opened, opened_after, handler_of}
+use Rattle.device_history.specs.Handles.{opening, ever_opened, closes, behind, is_closed, opened, opened_after, handler_of}
 use Rattle.device_history.specs.Grabs.{grabbed, grabbed_after}
 use Rattle.ctrl_clusters.specs.PresentFlags.{flags_under}
 use Rattle.device_history.specs.Flags.{flags_now}
@@ -68,16 +68,16 @@ pub legal_front : (verdicts : Verdicts) (plan : PlanData) (steps more : History)
 legal_front verdicts plan steps more legal = legal_older verdicts plan (past more) (past steps) (subst (IsLegal verdicts plan) (reverse-append steps more) legal)
 
 -- no entry has a number from n on as its key
-pub AreBelow : ℕ → List (ℕ × ℕ) → Type 0
+unfoldable pub AreBelow : ℕ → List (ℕ × ℕ) → Type 0
 AreBelow n [] = Unit {0}
 AreBelow n (o ∷ os) = (o.0 < n) × AreBelow n os
 
-below_append : (n : ℕ) (os ps : List (ℕ × ℕ)) → AreBelow n os → AreBelow n ps → AreBelow n (os ++ ps)
+pub below_append : (n : ℕ) (os ps : List (ℕ × ℕ)) → AreBelow n os → AreBelow n ps → AreBelow n (os ++ ps)
 unfolding AreBelow
 below_append n [] ps h k = k
 below_append n (o ∷ os) ps h k = (h.0, below_append n os ps h.1 k)
 
-below_more : (n m : ℕ) (os : List (ℕ × ℕ)) → n ≤ m → AreBelow n os → AreBelow m os
+pub below_more : (n m : ℕ) (os : List (ℕ × ℕ)) → n ≤ m → AreBelow n os → AreBelow m os
 unfolding AreBelow
 below_more n m [] le h = tt
 below_more n m (o ∷ os) le h = (omega (arith, h.0), below_more n m os le h.1)
@@ -119,26 +119,35 @@ ever_below (e ∷ older) =
     below_append (suc (length older)) (ever_opened older) (opening (length older) e.step)
     (below_more (length older) (suc (length older)) (ever_opened older) (omega arith) (ever_below older)) (opening_below (length older) e.step)
 
--- one more entry closes what it names, and what was closed stays so
-closed_more : (e : Entry Step) (older : Past) (n : ℕ) → n < length older → is_closed (e ∷ older) n ≡ (closes n e.step || is_closed older n)
-closed_more e older n lt =
+-- one more entry is behind each of the others, with what was behind it
+pub behind_more : (test : Step → Bool) (e : Entry Step) (older : Past) (n : ℕ) → n < length older
+    → list_any (λ (x : Entry Step). test x.step) (behind n (e ∷ older)) ≡ (test e.step || list_any (λ (x : Entry Step). test x.step) (behind n older))
+behind_more test e older n lt =
     let count : length (e ∷ older) - suc n ≡ suc (length older - suc n) = omega (arith, lt) in
-    ap (λ (k : ℕ). list_any (λ (x : Entry Step). closes n x.step) (take k (e ∷ older))) count
+    ap (λ (k : ℕ). list_any (λ (x : Entry Step). test x.step) (take k (e ∷ older))) count
 
 -- nothing is behind the last entry
-closed_last : (e : Entry Step) (older : Past) → is_closed (e ∷ older) (length older) ≡ false
-closed_last e older =
+pub behind_last : (test : Step → Bool) (e : Entry Step) (older : Past) → list_any (λ (x : Entry Step). test x.step) (behind (length older) (e ∷ older)) ≡ false
+behind_last test e older =
     let count : length (e ∷ older) - suc (length older) ≡ 0 = omega arith in
-    ap (λ (k : ℕ). list_any (λ (x : Entry Step). closes (length older) x.step) (take k (e ∷ older))) count
+    ap (λ (k : ℕ). list_any (λ (x : Entry Step). test x.step) (take k (e ∷ older))) count
+
+-- one more entry closes what it names, and what was closed stays so
+closed_more : (e : Entry Step) (older : Past) (n : ℕ) → n < length older → is_closed (e ∷ older) n ≡ (closes n e.step || is_closed older n)
+closed_more e older n lt = behind_more (closes n) e older n lt
+
+-- the last entry closes nothing that it opens
+closed_last : (e : Entry Step) (older : Past) → is_closed (e ∷ older) (length older) ≡ false
+closed_last e older = behind_last (closes (length older)) e older
 
 -- tests that agree on keys below n keep the same
-filter_alike : (n : ℕ) (p q : ℕ × ℕ → Bool) (os : List (ℕ × ℕ)) → ((o : ℕ × ℕ) → o.0 < n → p o ≡ q o) → AreBelow n os → filter p os ≡ filter q os
+pub filter_alike : (n : ℕ) (p q : ℕ × ℕ → Bool) (os : List (ℕ × ℕ)) → ((o : ℕ × ℕ) → o.0 < n → p o ≡ q o) → AreBelow n os → filter p os ≡ filter q os
 unfolding AreBelow
 filter_alike n p q [] alike h = refl
 filter_alike n p q (o ∷ os) alike h = rw (alike o h.0, filter_alike n p q os alike h.1) refl
 
 -- what neither of two tests finds is what the one leaves of what the other does
-filter_both : (p q : ℕ × ℕ → Bool) (os : List (ℕ × ℕ)) → filter (λ o. not (p o || q o)) os ≡ filter (λ o. not (p o)) (filter (λ o. not (q o)) os)
+pub filter_both : (p q : ℕ × ℕ → Bool) (os : List (ℕ × ℕ)) → filter (λ o. not (p o || q o)) os ≡ filter (λ o. not (p o)) (filter (λ o. not (q o)) os)
 filter_both p q [] = refl
 filter_both p q (o ∷ os) = by (p o) (q o) refl refl (filter_both p q os)
   where

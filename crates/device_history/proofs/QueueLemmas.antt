@@ -10,8 +10,9 @@ use Rattle.device_history.specs.declared.ask.Step.{Step}
 use Rattle.device_history.specs.declared.ask.Step.TheVariants.{OpenFh, CloseFh, Set, Grab, Alloc, Store, Buffer, Queue, Begin, Complete, Cancel, StreamOff, Reinit, Free, Subscribe, Unsubscribe, Take}
 use Rattle.device_history.specs.Steps.{Past}
 use Rattle.device_history.specs.Requests.{state, state_after, state_of_named, is_there, ended_state}
-use Rattle.device_history.specs.Frames.{all_but, with_last, queued_by, begun_by, ever_queued, queue, queue_after, last_begun, if_running, running, running_after, unless_equal}
+use Rattle.device_history.specs.Frames.{all_but, begun_by, ever_queued, queue, queue_after, last_begun, if_running, running, running_after, unless_equal}
 use Rattle.device_history.proofs.StateLemmas.{state_more}
+use Rattle.device_history.proofs.QueueingLemmas.{queued_by, with_last, ever_queued_more}
 
 -- tests that agree keep the same
 alike : (p q : ℕ → Bool) (ids : List ℕ) → ((j : ℕ) → p j ≡ q j) → filter p ids ≡ filter q ids
@@ -77,8 +78,7 @@ there_more test e older step is j = ap (is_there test) (state_more e older j ∙
 
 -- the queue after one more entry
 pub queue_more : (e : Entry Step) (older : Past) → queue (e ∷ older) ≡ queue_after (length older) e.step (queue older)
-unfolding ever_queued
-queue_more e older = by e.step refl
+queue_more e older = rw (ever_queued_more e older) (by e.step refl)
   where
     test : ℕ → Bool
     test j = is_there is_queued (state (e ∷ older) j)

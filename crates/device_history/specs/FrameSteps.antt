@@ -4,9 +4,9 @@ use Rattle.std.specs.Prelude.{◌≡◌, ℕ, nat_eq, cond, List, [], ◌∷◌,
 use Rattle.std.specs.Option.{option_map}
 use Rattle.ctrl_types.specs.declared.ids.Pair.{Pair}
 use Rattle.ctrl_clusters.specs.Rows.{Values}
-use Rattle.req_book.specs.Requests.{RequestData, new_request, with_changed, with_pairs, with_buffer, cleared, queued, begun, completed, is_pending, without}
+use Rattle.req_book.specs.Requests.{RequestData, new_request, with_changed, with_pairs, with_buffer, cleared, queued, begun, completed, without}
 use Rattle.req_book.specs.Refusals.{store_refusal, buffer_refusal, queue_refusal, clear_refusal}
-use Rattle.frame_queue.specs.Frames.{FramesData, with_requests, queued_last, after_begin, after_complete, cancelled, cancel_refusal, after_off}
+use Rattle.frame_queue.specs.Frames.{FramesData, with_requests, queued_last, after_begin, after_complete, cancelled, cancel_refusal, ended_request, after_off}
 use Rattle.ctrl_calls.specs.Meanings.{Verdicts}
 use Rattle.ctrl_handlers.specs.Plan.{PlanData}
 use Rattle.device_history.specs.declared.ask.Step.{Step}
@@ -51,10 +51,6 @@ FitsFrames verdicts plan older (steps.Cancel r) = cancel_refusal (request verdic
 FitsFrames verdicts plan older (steps.Reinit r) = clear_refusal (request verdicts plan older r.0) ≡ None
 FitsFrames verdicts plan older (steps.Free r) = clear_refusal (request verdicts plan older r.0) ≡ None
 FitsFrames verdicts plan older _ = Unit {0}
-
--- a request that waits or runs is complete
-abbrev pub ended_request : Values → RequestData → RequestData
-ended_request values q = cond (is_pending q.state) (completed values q) q
 
 -- a change of the request with an id
 abbrev pub changed_if_named : ℕ → ℕ → (RequestData → RequestData) → Option RequestData → Option RequestData

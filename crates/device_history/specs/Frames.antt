@@ -1,31 +1,37 @@
 -- The queue of frames after a history, and the frame that is being made (Linux userspace API, "Request API").
-use Rattle.std.specs.Prelude.{ℕ, not, nat_eq, cond, List, [], ◌∷◌, ◌++◌, filter, Option, None, Some}
+use Rattle.std.specs.Prelude.{ℕ, Bool, false, not, nat_eq, cond, List, [], ◌∷◌, ◌++◌, length, map, filter, Option, None, Some}
+use Rattle.std.specs.List.{list_any}
 use Rattle.std.specs.Option.{option_or}
 use Rattle.req_book.specs.declared.state.RequestState.{RequestState}
 use Rattle.frame_queue.specs.Frames.{is_queued, is_running}
 use Rattle.device_history.specs.declared.ask.Step.{Step}
 use Rattle.device_history.specs.declared.ask.Step.TheVariants as steps
 use Rattle.device_history.specs.Steps.{Past}
+use Rattle.device_history.specs.Handles.{behind}
 use Rattle.device_history.specs.Requests.{state, is_there, request_left}
 
--- the request that a step queues
-abbrev pub queued_by : Step → Option ℕ
-queued_by (steps.Queue r) = Some r.0
-queued_by _ = None
+-- the queueing that the step with a number makes: this number, with the request that it queues
+abbrev pub queueing : ℕ → Step → List (ℕ × ℕ)
+queueing n (steps.Queue r) = (n, r.0) ∷ []
+queueing n _ = []
 
--- numbers without one
-abbrev pub all_but : ℕ → List ℕ → List ℕ
-all_but r ids = filter (λ j. not (nat_eq r j)) ids
+-- the queueings of a history, oldest first
+unfoldable pub queueings : Past → List (ℕ × ℕ)
+queueings [] = []
+queueings (e ∷ older) = queueings older ++ queueing (length older) e.step
 
--- numbers, with one put last, where there is one
-abbrev pub with_last : Option ℕ → List ℕ → List ℕ
-with_last None ids = ids
-with_last (Some r) ids = all_but r ids ++ r ∷ []
+-- a step queues a request
+abbrev pub queues : ℕ → Step → Bool
+queues r (steps.Queue id) = nat_eq id.0 r
+queues r _ = false
 
--- the requests that were ever queued, in the order of their last queueing
+-- a step behind a queueing queues its request again
+abbrev pub is_queued_again : Past → ℕ × ℕ → Bool
+is_queued_again past q = list_any (λ e. queues q.1 e.step) (behind q.0 past)
+
+-- The requests that were ever queued, in the order of their last queueing: those of the queueings behind which no step queues the same request again.
 unfoldable pub ever_queued : Past → List ℕ
-ever_queued [] = []
-ever_queued (e ∷ older) = with_last (queued_by e.step) (ever_queued older)
+ever_queued past = map (λ q. q.1) (filter (λ q. not (is_queued_again past q)) (queueings past))
 
 -- The queue: the requests that are queued, in the order of their last queueing.
 abbrev pub queue : Past → List ℕ
@@ -54,6 +60,10 @@ running past = if_running past (last_begun past)
 abbrev pub first_of : List ℕ → Option ℕ
 first_of [] = None
 first_of (r ∷ rest) = Some r
+
+-- numbers without one
+abbrev pub all_but : ℕ → List ℕ → List ℕ
+all_but r ids = filter (λ j. not (nat_eq r j)) ids
 
 -- numbers without the one that a step names
 abbrev pub but_named : Option (ℕ × Option RequestState) → List ℕ → List ℕ

@@ -18,7 +18,6 @@ use Rattle.device_history.specs.Steps.{History, Past}
 use Rattle.device_history.specs.Grabs.{grabbed, grabbed_after}
 use Rattle.device_history.specs.Values.{pairs_asked, now, now_after}
 use Rattle.device_history.specs.Frames.{queue}
-use Rattle.device_history.specs.Frames as F
 use Rattle.device_history.specs.Requests.{state}
 use Rattle.device_history.specs.Snapshots.{frames, request, request_in}
 use Rattle.device_history.specs.Forecasts.{board, queued_frame, queued_frames, waiting_after}
@@ -26,6 +25,7 @@ use Rattle.device_history.specs.FrameSteps.{FitsFrames}
 use Rattle.device_history.specs.Legal.{IsLegal, MayFollow}
 use Rattle.device_history.proofs.GrabLemmas.{grabbed_add}
 use Rattle.device_history.proofs.PastLemmas.{now_add}
+use Rattle.device_history.proofs.QueueingLemmas.{ever_queued_start}
 use Rattle.device_history.proofs.QueuedFrames.{waiting_add}
 use Rattle.device_history.proofs.FitLemmas.{fits}
 use Rattle.device_history.proofs.FrameLaw.{found_request, frames_legal}
@@ -39,8 +39,8 @@ board_same verdicts plan g v q = rw (g, v, q) refl
 
 -- at first no frame is queued
 pub board_start : (verdicts : Verdicts) (plan : PlanData) → board verdicts plan (past []) ≡ no_board
-unfolding forecasts F.ever_queued
-board_start verdicts plan = refl
+unfolding forecasts
+board_start verdicts plan = rw ever_queued_start refl
 
 -- what one more step makes of a board
 abbrev pub board_after : Verdicts → PlanData → Step → Past → BoardData

@@ -1,5 +1,5 @@
 -- The queue has exactly the queued requests, and the running one runs: each call keeps it so.
-use Rattle.std.proofs.Common.{◌≡◌, ◌≢◌, ℕ, ◌∙◌, ◌||◌, Bool, true, false, not, cond, inl, inr, List, [], ◌∷◌, ◌++◌, filter, Option, None, Some, is_some, Result, Ok, Err, OnOk, IfErr, nat_eq, eq-eqb, refl, sym, ap, subst, slice_get, remove, if◌then◌else◌}
+use Rattle.std.proofs.Common.{◌≡◌, ◌≢◌, ℕ, ◌∙◌, ◌||◌, Bool, true, false, not, cond, inl, inr, List, [], ◌∷◌, ◌++◌, map, filter, Option, None, Some, is_some, Result, Ok, Err, OnOk, IfErr, nat_eq, eq-eqb, refl, sym, ap, subst, slice_get, remove, if◌then◌else◌}
 use Rattle.std.specs.List.{list_any}
 use Rattle.std.specs.Option.{option_map, option_or, is_none}
 use Rattle.std.proofs.lemmas.Bool.{or_from, or_parts}
@@ -12,11 +12,11 @@ use Rattle.ctrl_types.specs.declared.ids.Pair.{Pair}
 use Rattle.ctrl_types.specs.declared.errno.Errno.TheVariants.{EBUSY, EINVAL, ENOENT}
 use Rattle.req_book.specs.declared.state.RequestState.{RequestState}
 use Rattle.req_book.specs.declared.state.RequestState.TheVariants.{Idle, Queued, Running, Complete}
-use Rattle.req_book.specs.Requests.{RequestData, RequestsData, find, with_request, with_changed, queued, begun, completed, cleared, new_request, without, is_pending, is_number}
+use Rattle.req_book.specs.Requests.{RequestData, RequestsData, HaveOwnIds, find, with_request, with_changed, queued, begun, completed, cleared, new_request, without, is_pending, is_number}
 use Rattle.req_book.specs.Refusals.{queue_refusal, clear_refusal, unless}
 use Rattle.req_book.proofs.ObjectLemmas.{Tells}
 use Rattle.req_book.proofs.FindLemmas.{find_added, find_changed, find_without}
-use Rattle.frame_queue.specs.Frames.{FramesData, QueueFitsRequests, AreOnce, is_in, is_queued, is_running, queued_last, cancelled, cancel_refusal, ended, stopped, with_requests}
+use Rattle.frame_queue.specs.Frames.{FramesData, QueueFitsRequests, AreOnce, is_in, is_queued, is_running, queued_last, cancelled, cancel_refusal, running_done, after_complete, ended_request, after_off, with_requests}
 
 clash : {X : Type 0} → true ≡ false → X
 clash h = cc
@@ -353,6 +353,15 @@ first_is (k ∷ ks) id h = ap (λ i. i ∷ ks) (same k id h)
     same : (a b : ℕ) → Some a ≡ Some b → a ≡ b
     same a b h = cc
 
+-- the requests, where those with these ids were completed one after another
+abbrev pub ended : List CtrlValue → List ℕ → RequestsData → RequestsData
+ended values [] requests = requests
+ended values (id ∷ ids) requests = ended values ids (with_changed requests id (completed values))
+
+-- what is left once all that wait were
+abbrev pub stopped : List CtrlValue → FramesData → FramesData
+stopped values f = record { requests = ended values f.queue f.requests; queue = []; running = f.running }
+
 -- where none waits, nothing is left to stop
 pub at_end : (values : List CtrlValue) (f : FramesData) → slice_get f.queue 0 ≡ None → stopped values f ≡ f
 at_end values f none = ap (λ ids. whole (ended values ids f.requests)) empty ∙ ap (λ ids. record { requests = f.requests; queue = ids; running = f.running }) (sym empty)
@@ -366,6 +375,136 @@ at_end values f none = ap (λ ids. whole (ended values ids f.requests)) empty �
 
     empty : f.queue ≡ []
     empty = by f.queue none
+
+-- a request that was completed already is as it is once the stream is off
+ended_first : (values : List CtrlValue) (rs : List RequestData) (id : ℕ) → ((r : RequestData) → find rs id ≡ Some r → is_pending r.state ≡ true)
+    → map (ended_request values) (with_request id (completed values) rs) ≡ map (ended_request values) rs
+ended_first values [] id pending = refl
+ended_first values (r ∷ rs) id pending = by (nat_eq id r.id) pending (ended_first values rs id)
+  where
+    by : (b : Bool) → ((q : RequestData) → cond b (Some r) (find rs id) ≡ Some q → is_pending q.state ≡ true)
+        → (((q : RequestData) → find rs id ≡ Some q → is_pending q.state ≡ true) → map (ended_request values) (with_request id (completed values) rs) ≡ map (ended_request values) rs)
+        → map (ended_request values) (cond b (completed values r ∷ rs) (r ∷ with_request id (completed values) rs)) ≡ ended_request values r ∷ map (ended_request values) rs
+    by true pending rest = rw (pending r refl) refl
+    by false pending rest = ap (λ qs. ended_request values r ∷ qs) (rest pending)
+
+-- where no request waits or runs, each is as it is once the stream is off
+none_ends : (values : List CtrlValue) (rs : List RequestData) → HaveOwnIds rs → ((id : ℕ) → is_in is_pending (find rs id) ≡ false) → map (ended_request values) rs ≡ rs
+none_ends values [] own none = refl
+none_ends values (r ∷ rs) own none =
+    let rests : is_pending r.state ≡ false = subst (λ (b : Bool). is_in is_pending (cond b (Some r) (find rs r.id)) ≡ false) (eq-eqb r.id r.id refl) (none r.id) in
+    rw (rests, none_ends values rs own.1 (λ id. further id (eqb_tells id r.id))) refl
+  where
+    further : (id : ℕ) → Tells id r.id → is_in is_pending (find rs id) ≡ false
+    further id (inl same) = ap (λ i. is_in is_pending (find rs i)) same.1 ∙ ap (is_in is_pending) own.0
+    further id (inr other) = rw other.0 at (none id)
+
+-- a change that keeps the ids keeps them apart
+own_changed : (rs : List RequestData) (id : ℕ) (f : RequestData → RequestData) → ((r : RequestData) → (f r).id ≡ r.id) → HaveOwnIds rs → HaveOwnIds (with_request id f rs)
+own_changed [] id f keeps own = tt
+own_changed (r ∷ rs) id f keeps own = by (nat_eq id r.id) (own_changed rs id f keeps own.1)
+  where
+    none : (b : Bool) (o : Option RequestData) → o ≡ None → cond b (option_map f o) o ≡ None
+    none true o is = ap (option_map f) is
+    none false o is = is
+
+    by : (b : Bool) → HaveOwnIds (with_request id f rs) → HaveOwnIds (cond b (f r ∷ rs) (r ∷ with_request id f rs))
+    by true rest = (ap (find rs) (keeps r) ∙ own.0, own.1)
+    by false rest = (find_changed rs id f r.id keeps ∙ none (nat_eq id r.id) (find rs r.id) own.0, rest)
+
+-- all that wait were completed one after another
+queue_ended : (values : List CtrlValue) (requests : RequestsData) (ids : List ℕ) → QueueFitsRequests (record { requests = requests; queue = ids; running = None }) → HaveOwnIds requests.all
+    → ended values ids requests ≡ record requests { all = map (ended_request values) requests.all }
+queue_ended values requests [] kept own = ap (λ (rs : List RequestData). record requests { all = rs }) (sym (none_ends values requests.all own (λ id. neither (find requests.all id) (sym (kept.waits id)) (sym (kept.runs id)))))
+  where
+    neither : (o : Option RequestData) → is_in is_queued o ≡ false → is_in is_running o ≡ false → is_in is_pending o ≡ false
+    neither None waits runs = refl
+    neither (Some r) waits runs = by r.state waits runs
+      where
+        by : (s : RequestState) → is_queued s ≡ false → is_running s ≡ false → is_pending s ≡ false
+        by Idle waits runs = refl
+        by Queued waits runs = waits
+        by Running waits runs = runs
+        by Complete waits runs = refl
+queue_ended values requests (id ∷ ids) kept own =
+    queue_ended values (with_changed requests id (completed values)) ids (ended_kept (record { requests = requests; queue = id ∷ ids; running = None }) id ids values kept refl) (own_changed requests.all id (completed values) (λ r. refl) own)
+    ∙ ap (λ (rs : List RequestData). record requests { all = rs }) (ended_first values requests.all id (λ r there. pending r.state (sym (ap (is_in is_queued) there) ∙ sym was)))
+  where
+    was : true ≡ is_in is_queued (find requests.all id)
+    was = sym (ap (λ b. b || list_any (nat_eq id) ids) (eq-eqb id id refl)) ∙ kept.waits id
+
+    pending : (s : RequestState) → is_queued s ≡ true → is_pending s ≡ true
+    pending Idle h = h
+    pending Queued h = refl
+    pending Running h = refl
+    pending Complete h = h
+
+-- the one that runs was completed, and all that wait, one after another: this is what is left once the stream is off
+pub all_ended : (values : List CtrlValue) (f : FramesData) → QueueFitsRequests f → HaveOwnIds f.requests.all → stopped values (after_complete f values) ≡ after_off f values
+all_ended values f kept own = by f.running refl
+  where
+    off : RequestsData → FramesData
+    off requests = record { requests = requests; queue = []; running = None }
+
+    pending : (s : RequestState) → is_running s ≡ true → is_pending s ≡ true
+    pending Idle h = h
+    pending Queued h = refl
+    pending Running h = refl
+    pending Complete h = h
+
+    by : (o : Option ℕ) → f.running ≡ o → stopped values (running_done values f.requests f.queue o) ≡ after_off f values
+    by None is = ap off (queue_ended values f.requests f.queue (subst (λ (o : Option ℕ). QueueFitsRequests (record { requests = f.requests; queue = f.queue; running = o })) is kept) own)
+    by (Some id) is =
+        let was : true ≡ is_in is_running (find f.requests.all id) = sym (eq-eqb id id refl) ∙ ap (λ o. is_number o id) (sym is) ∙ kept.runs id in
+        ap off
+        (queue_ended values (with_changed f.requests id (completed values)) f.queue (completed_kept f id values kept is) (own_changed f.requests.all id (completed values) (λ r. refl) own)
+        ∙ ap (λ (rs : List RequestData). record f.requests { all = rs }) (ended_first values f.requests.all id (λ r there. pending r.state (sym (ap (is_in is_running) there) ∙ sym was))))
+
+-- once the stream is off an id finds its request as it is then
+find_ended : (values : List CtrlValue) (rs : List RequestData) (id : ℕ) → find (map (ended_request values) rs) id ≡ option_map (ended_request values) (find rs id)
+find_ended values [] id = refl
+find_ended values (r ∷ rs) id = ap (λ i. cond (nat_eq id i) (Some (ended_request values r)) (find (map (ended_request values) rs) id)) (same (is_pending r.state)) ∙ by (nat_eq id r.id) (find_ended values rs id)
+  where
+    same : (b : Bool) → (cond b (completed values r) r).id ≡ r.id
+    same true = refl
+    same false = refl
+
+    by : (b : Bool) → find (map (ended_request values) rs) id ≡ option_map (ended_request values) (find rs id)
+        → cond b (Some (ended_request values r)) (find (map (ended_request values) rs) id) ≡ option_map (ended_request values) (cond b (Some r) (find rs id))
+    by true rest = refl
+    by false rest = rest
+
+-- once the stream is off nothing waits, and nothing runs
+pub off_kept : (values : List CtrlValue) (f : FramesData) → QueueFitsRequests (after_off f values)
+off_kept values f = record {
+  once = tt;
+  waits = λ id. sym (off is_queued refl waits id);
+  runs = λ id. sym (off is_running refl runs id);
+  buffers = λ id r there waiting. clash (sym waiting ∙ sym (ap (is_in is_queued) there) ∙ off is_queued refl waits id);
+}
+  where
+    waits : (s : RequestState) → is_pending s ≡ false → is_queued s ≡ false
+    waits Idle h = refl
+    waits Queued h = h
+    waits Running h = refl
+    waits Complete h = refl
+
+    runs : (s : RequestState) → is_pending s ≡ false → is_running s ≡ false
+    runs Idle h = refl
+    runs Queued h = refl
+    runs Running h = h
+    runs Complete h = refl
+
+    off : (test : RequestState → Bool) → test Complete ≡ false → ((s : RequestState) → is_pending s ≡ false → test s ≡ false) → (id : ℕ) → is_in test (find (map (ended_request values) f.requests.all) id) ≡ false
+    off test done others id = ap (is_in test) (find_ended values f.requests.all id) ∙ by (find f.requests.all id)
+      where
+        by : (o : Option RequestData) → is_in test (option_map (ended_request values) o) ≡ false
+        by None = refl
+        by (Some r) = state (is_pending r.state) refl
+          where
+            state : (b : Bool) → is_pending r.state ≡ b → test (cond b (completed values r) r).state ≡ false
+            state true is = done
+            state false is = others r.state is
 
 -- a call that only its refusal can stop keeps the queue, refused or not
 pub unless_kept : (old : FramesData) (refusal : Option Errno) (new : RequestsData) → QueueFitsRequests old → (refusal ≡ None → QueueFitsRequests (with_requests old new)) → QueueFitsRequests (with_requests old (unless refusal old.requests new))

@@ -1,5 +1,5 @@
 -- The queue of frames, and what its calls make of it (Linux userspace API, "Request API").
-use Rattle.std.specs.Prelude.{◌≡◌, ℕ, Bool, true, false, not, List, [], ◌∷◌, ◌++◌, filter, Option, None, Some, is_some, Result, Ok, Err, nat_eq, if◌then◌else◌, unwrap_or}
+use Rattle.std.specs.Prelude.{◌≡◌, ℕ, Bool, true, false, not, List, [], ◌∷◌, ◌++◌, map, filter, Option, None, Some, is_some, Result, Ok, Err, nat_eq, if◌then◌else◌, unwrap_or}
 use Rattle.std.specs.List.{list_any}
 use Rattle.std.specs.Option.{is_none}
 use Rattle.ctrl_types.specs.Values.{CtrlValue}
@@ -8,7 +8,7 @@ use Rattle.ctrl_types.specs.declared.errno.Errno.TheVariants.{EBUSY, EINVAL, ENO
 use Rattle.ctrl_types.specs.declared.ids.Pair.{Pair}
 use Rattle.req_book.specs.declared.state.RequestState.{RequestState}
 use Rattle.req_book.specs.declared.state.RequestState.TheVariants.{Queued, Running}
-use Rattle.req_book.specs.Requests.{RequestData, RequestsData, find, with_changed, queued, begun, completed, is_number}
+use Rattle.req_book.specs.Requests.{RequestData, RequestsData, find, with_changed, queued, begun, completed, is_pending, is_number}
 
 -- the requests; those that wait for their frames, in the order in which they were queued; and the one whose frame is being made
 pub record FramesData : Type 0 where
@@ -97,15 +97,10 @@ cancel_refusal (Some r) = if is_running r.state then Some EBUSY else if is_queue
 abbrev pub cancelled : FramesData → ℕ → List CtrlValue → FramesData
 cancelled f id values = record { requests = with_changed f.requests id (completed values); queue = filter (λ j. not (nat_eq id j)) f.queue; running = f.running }
 
--- the requests, where those with these ids are complete
-abbrev pub ended : List CtrlValue → List ℕ → RequestsData → RequestsData
-ended values [] requests = requests
-ended values (id ∷ ids) requests = ended values ids (with_changed requests id (completed values))
+-- a request as it is once the stream is off: one that waits or runs is complete
+abbrev pub ended_request : List CtrlValue → RequestData → RequestData
+ended_request values r = if is_pending r.state then completed values r else r
 
--- what is left once all that wait are complete
-abbrev pub stopped : List CtrlValue → FramesData → FramesData
-stopped values f = record { requests = ended values f.queue f.requests; queue = []; running = f.running }
-
--- what is left once the stream is off: the one that runs and all that wait are complete
+-- what is left once the stream is off: each request that waits or runs is complete, nothing waits, and nothing runs
 abbrev pub after_off : FramesData → List CtrlValue → FramesData
-after_off f values = stopped values (after_complete f values)
+after_off f values = record { requests = record f.requests { all = map (ended_request values) f.requests.all }; queue = []; running = None }

@@ -258,6 +258,8 @@ impl Frames {
         requires { length values.now ≡ self.old.requests.controls }
         ensures { self.new ≡ after_off self.old values.now }
     {
+        // no two requests have an id in common, as the contract of `count` says
+        let _count = self.requests.count();
         let _ = self.complete(values);
         while let Some(id) = self.next_waiting() {
             self.end_first(id, values);

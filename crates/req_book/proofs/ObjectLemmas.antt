@@ -15,7 +15,7 @@ use Rattle.req_book.specs.declared.object.Object.{Object}
 use Rattle.ctrl_types.specs.Values.{CtrlValue}
 use Rattle.req_book.specs.declared.state.RequestState.{RequestState}
 use Rattle.req_book.specs.declared.state.RequestState.TheVariants.{Idle, Queued, Running, Complete}
-use Rattle.req_book.specs.Requests.{RequestData, RequestsData, find, with_request, with_changed, without, new_request, is_pending, is_number_held}
+use Rattle.req_book.specs.Requests.{RequestData, RequestsData, HaveOwnIds, find, with_request, with_changed, without, new_request, is_pending, is_number_held}
 use Rattle.req_book.specs.Objects.{request_at, request_of_entry, requests_of_entries, is_shared, HasFrameRoom, IsObject, AreObjects, IsObjectTable, held_by}
 
 -- what a comparison of two numbers tells
@@ -51,6 +51,23 @@ counted n slots [] kept = refl
 counted n slots (e ∷ es) kept =
     let first = first_in n slots e (requests_of_entries slots es) kept.0 in
     ap length first.2 ∙ ap suc (counted n slots es kept.2)
+
+-- an id that an entry shares with none names none
+unshared : (e : ℕ × ℕ) (es : List (ℕ × ℕ)) → is_shared e es ≡ false → lookup (nat_eq e.0) es ≡ None
+unshared e [] apart = refl
+unshared e (o ∷ es) apart =
+    let parts = or_parts (nat_eq e.0 o.0 || nat_eq e.1 o.1) (is_shared e es) apart in
+    let own = or_parts (nat_eq e.0 o.0) (nat_eq e.1 o.1) parts.0 in
+    rw own.0 (unshared e es parts.1)
+
+-- no two requests have an id in common
+pub own_ids : (n : ℕ) (slots : Slab Object) (es : List (ℕ × ℕ)) → AreObjects n slots es → HaveOwnIds (requests_of_entries slots es)
+unfolding requests_of_entries
+own_ids n slots [] kept = tt
+own_ids n slots (e ∷ es) kept =
+    let first = first_in n slots e (requests_of_entries slots es) kept.0 in
+    let none : find (requests_of_entries slots es) e.0 ≡ None = found n slots es e.0 kept.2 ∙ ap (λ (k : Option ℕ). option_map (request_at e.0) (option_and_then (get slots) k)) (unshared e es kept.1) in
+    subst HaveOwnIds (sym first.2) (none, own_ids n slots es kept.2)
 
 -- objects under other keys don't matter
 pub same_slots : (n : ℕ) (slots new : Slab Object) (es : List (ℕ × ℕ)) (id key : ℕ) (slot : Option Object) → AreObjects n slots es → is_shared (id, key) es ≡ false → Updates slots new key slot

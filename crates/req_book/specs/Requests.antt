@@ -1,5 +1,5 @@
 -- Media requests, as their store is seen, and what its calls make of them (Linux userspace API, "Request API").
-use Rattle.std.specs.Prelude.{ℕ, Bool, true, false, not, ◌&&◌, pos, List, [], ◌∷◌, ◌++◌, length, map, filter, filter_map, replicate, Option, None, Some, nat_eq, if◌then◌else◌, slice_index_or, unwrap_or}
+use Rattle.std.specs.Prelude.{◌≡◌, ℕ, Bool, true, false, not, ◌&&◌, pos, List, [], ◌∷◌, ◌++◌, length, map, filter, filter_map, replicate, Option, None, Some, nat_eq, if◌then◌else◌, slice_index_or, unwrap_or}
 use Rattle.std.specs.List.{list_any, range_with_len}
 use Rattle.std.specs.Option.{option_map}
 use Rattle.ctrl_types.specs.Values.{CtrlValue}
@@ -31,6 +31,11 @@ pub record RequestsData : Type 0 where
 abbrev pub find : List RequestData → ℕ → Option RequestData
 find [] id = None
 find (r ∷ rs) id = if nat_eq id r.id then Some r else find rs id
+
+-- No two of them have an id in common: behind each none is found under its id.
+abbrev pub HaveOwnIds : List RequestData → Type 0
+HaveOwnIds [] = Unit {0}
+HaveOwnIds (r ∷ rs) = (find rs r.id ≡ None) × HaveOwnIds rs
 
 abbrev pub is_idle : RequestState → Bool
 is_idle Idle = true

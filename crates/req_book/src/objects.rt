@@ -1,6 +1,6 @@
 ghost use Rattle.std.specs.Prelude.{◌≡◌, ◌↔◌, IsTrue, ℕ, ◌<◌, slice_get, OnOk, OnErr, IfSome, option_copied, length, replicate, true, ◌++◌, ◌∷◌, [], None};
 ghost use Rattle.std.specs.Option.{option_map};
-ghost use Rattle.req_book.specs.Requests.{find, with_changed, asking, with_pairs, with_buffer, cleared, queued, begun, completed, is_pending, is_number_held, without, new_request};
+ghost use Rattle.req_book.specs.Requests.{HaveOwnIds, find, with_changed, asking, with_pairs, with_buffer, cleared, queued, begun, completed, is_pending, is_number_held, without, new_request};
 ghost use Rattle.std.specs.List.{list_any};
 ghost use Rattle.indexmap.specs.IndexMap.{values};
 ghost use Rattle.slab.specs.Slab.{get};
@@ -55,9 +55,10 @@ impl Objects {
         self.controls
     }
 
-    /// How many there are.
+    /// How many there are; no two have an id in common.
     pub(crate) fn count(&self) -> usize
-        ensures { result ≡ length self.now.all }
+        ensures count { result ≡ length self.now.all }
+        ensures ids { HaveOwnIds self.now.all }
     {
         self.ids.len()
     }

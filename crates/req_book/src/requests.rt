@@ -1,7 +1,7 @@
 ghost use Rattle.std.specs.Prelude.{◌≡◌, ◌↔◌, IsTrue, ◌++◌, ◌<◌, ◌∷◌, [], length, None, Ok, Err, true, IfErr, IfSome, OnOk, MatchResult};
 ghost use Rattle.std.specs.List.{All};
 ghost use Rattle.req_book.specs.declared.state.RequestState.TheVariants as states;
-ghost use Rattle.req_book.specs.Requests.{find, with_changed, with_pairs, with_buffer, cleared, queued, begun, completed, is_pending, is_number_held, without, new_request};
+ghost use Rattle.req_book.specs.Requests.{HaveOwnIds, find, with_changed, with_pairs, with_buffer, cleared, queued, begun, completed, is_pending, is_number_held, without, new_request};
 ghost use Rattle.req_book.specs.Refusals.{alloc_refusal, store_refusal, buffer_refusal, queue_refusal, clear_refusal, state_answer, buffer_answer, asked_answer, snapshot_answer, value_answer, IsRefusedBy, done_unless, unless};
 ghost use Rattle.req_book.specs.Alike.{AreLike};
 
@@ -51,9 +51,10 @@ impl Requests {
         self.objects.controls()
     }
 
-    /// How many requests there are, at most 64 (of this project). It takes no memory and refuses nothing.
+    /// How many requests there are, at most 64 (of this project); no two have an id in common. It takes no memory and refuses nothing.
     pub fn count(&self) -> usize
-        ensures { result ≡ length self.now.all }
+        ensures count { result ≡ length self.now.all }
+        ensures ids { HaveOwnIds self.now.all }
     {
         self.objects.count()
     }

@@ -1,5 +1,5 @@
 use Rattle.std.proofs.Common.{◌≡◌, length}
-use Rattle.frame_queue.specs.Frames.{stopped}
+use Rattle.frame_queue.proofs.FrameLemmas.{stopped}
 use Rattle.frame_queue.proofs.frames.Frames.stream_off.Given as goal
 
 -- stopping what is left stops the whole
