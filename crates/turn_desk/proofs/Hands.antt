@@ -1,5 +1,7 @@
 -- What a seat knows after each step of a call.
-use Rattle.std.proofs.Common.{◌≡◌, ℕ, ◌+◌, List, [], ◌∷◌, ◌++◌, length, map, Option, Some, None, sym, ap, ◌∙◌, subst, arith, ◌≢◌, append-nil, length-append}
+use Rattle.std.proofs.Common.{◌≡◌, ℕ, ◌+◌, List, [], ◌∷◌, ◌++◌, length, map, Option, Some, None, sym, ap, ◌∙◌, subst, arith, ◌<◌, ◌≢◌, append-nil, length-append}
+use Rattle.std.proofs.Math.Decide.{dec_lt}
+use mathlib.Core.Logic.{dite}
 use Rattle.history.specs.declared.entry.Entry.{Entry}
 use Rattle.history.specs.Past.{own, entered}
 use Rattle.history.specs.Prefix.{IsPrefix}
@@ -137,12 +139,13 @@ module _ {T P S : Type 0} where
         closing = ap (λ x. x.closing) v;
       }
 
-  -- no account had the number
-  pub new_number : (number n : ℕ) (t u w : Seat (Place T) (View P S)) → IsSeated number t → u.me ≡ t.me → Numbers n u.me w.me → n ≢ number
-  new_number number n t u w s same new = λ e.
-      let one : times n (numbers u.me.0.accounts) ≡ 1 = ap (λ m. times n (numbers m.0.accounts)) same ∙ ap (λ xs. times n (numbers xs)) s.account ∙ ap (λ k. times n (k ∷ [])) (sym e) ∙ times_self n in
-      let none_yet = new.new in
-      absurd (omega arith)
+  -- the seat's own number lies below the new one
+  pub new_number : (number n : ℕ) (t u w : Seat (Place T) (View P S)) → IsSeated number t → u.me ≡ t.me → Numbers n u.me w.me → number < n
+  new_number number n t u w s same new =
+      let one : times number (numbers u.me.0.accounts) ≡ 1 = ap (λ m. times number (numbers m.0.accounts)) same ∙ ap (λ xs. times number (numbers xs)) s.account ∙ times_self number in
+      dite (dec_lt number n)
+      (λ below. below)
+      (λ other. let none_yet = new.new number (omega arith) in absurd (omega arith))
 
   -- a seat that hears another keeps its account
   pub seated_heard : (number other : ℕ) (t from messenger u : Seat (Place T) (View P S)) → IsSeated number t → IsSeated other from → messenger.me ≡ (cut_part from.me.0, []) → u.me ≡ (gathered t.me.0 messenger.me.0, t.me.1) → IsSeated number u

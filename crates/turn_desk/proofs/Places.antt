@@ -22,7 +22,7 @@ use Rattle.turn_desk.specs.Plays.{account, opener, bare, with_accounts, kept_par
 use Rattle.turn_desk.specs.Ending.{IsEnded}
 use Rattle.turn_desk.proofs.Sums.{total-set, total-push, one_within, others_below, times-append, Each-append, Each-weaker}
 use Rattle.turn_desk.proofs.Histories.{prefix_refl, prefix_none}
-use Rattle.turn_desk.proofs.Parts.{once_outside, once_more, numbers-append, times-parts, length-parts, first_some, Each-first_of, Each-rest_of, none_seen, fits_set}
+use Rattle.turn_desk.proofs.Parts.{once_outside, once_more, numbers-append, times-parts, length-parts, first_some, Each-first_of, Each-rest_of, seats_seen, none_seen, fits_set}
 use Rattle.turn_desk.proofs.Turns.{Holds, idle, total_same}
 
 -- the number of seats made, where the word is below the mark
@@ -58,7 +58,7 @@ module _ {T P S : Type 0} (is_legal : P → List (Entry S) → Type 0) (plan_of 
   Rule = Holds is_legal plan_of steps_of plan
 
   numbered : (s : State (Place T) (View P S)) (id n : ℕ) (c : List (ℕ × Place T)) (v : View P S) (h : Rule s) → get_elem? s.views id ≡ some v → made_word h.count h.closers ≡ n → n + 1 < CLOSED
-      → Rule (stepped s 2 (n + 1) id c (with_accounts (v.accounts ++ account n v.seen ∷ []) v) keeps) × (own n v.seen ≡ []) × (times n (numbers v.accounts) ≡ 0)
+      → Rule (stepped s 2 (n + 1) id c (with_accounts (v.accounts ++ account n v.seen ∷ []) v) keeps) × (own n v.seen ≡ []) × ((x : ℕ) → n ≤ x → times x (numbers v.accounts) ≡ 0) × Each (λ (y : Entry S). y.seat < n) v.seen
   numbered s id n c v h at e below =
       let w = with_accounts (v.accounts ++ account n v.seen ∷ []) v in
       let now = open_count h.count h.closers n e (omega arith) in
@@ -67,9 +67,7 @@ module _ {T P S : Type 0} (is_legal : P → List (Entry S) → Type 0) (plan_of 
       let nobody : total closes s.views ≡ 0 = h.closed_by ∙ now.0 in
       let no_entry : own n v.seen ≡ [] = none_seen n h.count v.seen h.history mine.seen h.seats (omega arith) in
       let no_entry_at_all : own n h.history ≡ [] = none_seen n h.count h.history h.history (prefix_refl h.history) h.seats (omega arith) in
-      let unused = once_outside n h.count (omega arith) in
-      let once = h.once n in
-      let within = one_within (times_in n) s.views id v at in (
+      let older : Each (λ (y : Entry S). y.seat < n) v.seen = subst (λ k. Each (λ (y : Entry S). y.seat < k) v.seen) count_is (seats_seen h.count v.seen h.history mine.seen h.seats) in (
         record {
           history = h.history;
           turn = h.turn;
@@ -116,7 +114,12 @@ module _ {T P S : Type 0} (is_legal : P → List (Entry S) → Type 0) (plan_of 
               });
         },
         no_entry,
-        (omega arith),
+        (λ x above.
+            let unused = once_outside x h.count (omega arith) in
+            let once = h.once x in
+            let within = one_within (times_in x) s.views id v at in
+            omega arith),
+        older,
       )
 
   pub takes_number : (slots id n : ℕ) (m : Me (Place T) (View P S)) → n + 1 < CLOSED → Allows Rule slots id m 2 (λ k. either (eqb k n) (n + 1) k) (numbering (step slots 2 n (n + 1) none) m)
@@ -126,7 +129,7 @@ module _ {T P S : Type 0} (is_legal : P → List (Entry S) → Type 0) (plan_of 
       (λ k. (w : View P S) × (a : Act (Place T)) × Valid s.homes m.1 a × Rule (stepped s 2 k id m.1 w a) × numbering (step slots 2 n (n + 1) none) m (slice_index s.words 2) (w, carried_after m.1 a))
       (λ hit.
       let taken = numbered s id n m.1 m.0 h at (sym found ∙ hit) below in
-      (with_accounts (m.0.accounts ++ account n m.0.seen ∷ []) m.0, keeps, tt, taken.0, ((λ _. record { after = refl; none = taken.1; new = taken.2 }), (λ apart. absurd (apart hit)))))
+      (with_accounts (m.0.accounts ++ account n m.0.seen ∷ []) m.0, keeps, tt, taken.0, ((λ _. record { after = refl; none = taken.1; new = taken.2; older = taken.3 }), (λ apart. absurd (apart hit)))))
       (λ apart. (m.0, keeps, tt, idle is_legal plan_of steps_of plan s 2 (slice_index s.words 2) id m.1 m.0 h at ((λ k. slice_set (h.words k) 2 (found k)) ∙ sym h.words), ((λ e. absurd (apart e)), (λ _. refl))))
 
   -- a view is cut in two

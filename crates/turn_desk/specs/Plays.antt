@@ -1,5 +1,5 @@
 -- What each kind of step tells the seat that makes it.
-use Rattle.std.specs.Prelude.{◌≡◌, ◌≢◌, ◌≤◌, ℕ, List, [], ◌∷◌, ◌++◌, Option, Some, None, map, length}
+use Rattle.std.specs.Prelude.{◌≡◌, ◌≢◌, ◌<◌, ◌≤◌, ℕ, List, [], ◌∷◌, ◌++◌, Option, Some, None, map, length}
 use Rattle.std.specs.declared.snapshot.Snapshot.{Snapshot}
 use Rattle.history.specs.declared.entry.Entry.{Entry}
 use Rattle.history.specs.Past.{own}
@@ -94,10 +94,12 @@ module _ {T P S : Type 0} where
   abbrev pub left : Step (Place T) → Me (Place T) (View P S) → ℕ → Me (Place T) (View P S) → Type 0
   left st m r m' = m' ≡ (with_holding None m.0, [])
 
+  -- the view has come to have an account of a number above all that it knows
   pub record Numbers (n : ℕ) (m m' : Me (Place T) (View P S)) : Type 0 where
     pub after : m' ≡ (with_accounts (m.0.accounts ++ account n m.0.seen ∷ []) m.0, m.1)
     pub none : own n m.0.seen ≡ []
-    pub new : times n (numbers m.0.accounts) ≡ 0
+    pub new : (x : ℕ) → n ≤ x → times x (numbers m.0.accounts) ≡ 0
+    pub older : Each (λ e. e.seat < n) m.0.seen
 
   abbrev pub numbering : Step (Place T) → Me (Place T) (View P S) → ℕ → Me (Place T) (View P S) → Type 0
   numbering st m r m' = (r ≡ st.first → Numbers st.first m m') × (r ≢ st.first → m' ≡ m)

@@ -103,6 +103,8 @@ impl<T: Served, A: Allocator> Desk<T, A> {
 
     /// A further seat, which has seen what this one has. At most 1,024 seats are made, numbered from 0.
     ///
+    /// Its number lies above this seat's, and above that of every entry that this seat has seen.
+    ///
     /// The given seat comes back as it was. Where all seats were made, it comes with `SeatsFull`, and no number is used.
     /// It takes no memory, and tries again where another seat came first.
     pub fn another<R: Wait>(
@@ -113,7 +115,8 @@ impl<T: Served, A: Allocator> Desk<T, A> {
         requires { IsSeatOf self.now seat }
         ensures kept { result.0 ≡ seat }
         ensures made { IfOk result.1 (λ new. IsSeatOf self.now new × (new.seen ≡ seat.seen)) }
-        ensures number { IfOk result.1 (λ new. (new.number ≢ seat.number) × (new.number < MOST_SEATS)) }
+        ensures number { IfOk result.1 (λ new. (seat.number < new.number) × (new.number < MOST_SEATS)) }
+        ensures newest { IfOk result.1 (λ new. All (λ e. e.seat < new.number) seat.seen) }
         ensures own { IfOk result.1 (λ new. own new.number new.seen ≡ []) }
         ensures full { IfErr result.1 (λ fault. fault ≡ DeskFault.SeatsFull) }
     {
