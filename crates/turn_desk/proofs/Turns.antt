@@ -154,7 +154,7 @@ module _ {T P S : Type 0} (is_legal : P → List (Entry S) → Type 0) (plan_of 
             closing = mine.closing;
           });
         },
-        record { history = h.history; front = found; shows = record { legal = λ p e. subst (λ q. is_legal q h.history) (sym (mine.planned p e)) h.legal; later = mine.seen; learned = mine.heard; whole = mine.accounts; held = λ g e. (mine.holding g e).0 }; after = refl },
+        record { history = h.history; front = found; shows = record { legal = λ p e. subst (λ q. is_legal q h.history) (sym (mine.planned p e)) h.legal; later = mine.seen; learned = mine.heard; whole = mine.accounts; held = λ g e. (mine.holding g e).0 }; once = λ x. (let sum = h.once x in let most = once_le x h.count in let within = one_within (times_in x) s.views id v at in omega arith); after = refl },
       )
 
   -- an entry of the seat that holds the turn

@@ -82,6 +82,8 @@ module _ {T P S : Type 0} where
     pub history : List (Entry S)
     pub front : r ≡ length history
     pub shows : Shows is_legal m.0 history
+    -- no number stands in two accounts
+    pub once : (x : ℕ) → times x (numbers m.0.accounts) ≤ 1
     pub after : m' ≡ (raised history m.0, m.1)
 
   abbrev pub looked : (P → List (Entry S) → Type 0) → Step (Place T) → Me (Place T) (View P S) → ℕ → Me (Place T) (View P S) → Type 0

@@ -140,39 +140,40 @@ impl<T: Served, A: Allocator> Desk<T, A> {
         unreachable!()
     }
 
-    /// Two seats meet: what each had seen, both have seen then, and the one list is a beginning of the other.
+    /// Two seats meet: what each had seen, both have seen then, and both have seen the same. No two seats have one number.
     ///
     /// They come back in the same order. It waits for nobody and takes no memory.
-    pub fn meet(&self, mut a: DeskSeat<T>, mut b: DeskSeat<T>) -> (DeskSeat<T>, DeskSeat<T>)
+    pub fn meet(&self, a: DeskSeat<T>, b: DeskSeat<T>) -> (DeskSeat<T>, DeskSeat<T>)
         requires first { IsSeatOf self.now a }
         requires second { IsSeatOf self.now b }
         ensures seats { IsSameSeat a result.0 × IsSameSeat b result.1 }
+        ensures apart { a.number ≢ b.number }
         ensures first { IsPrefix a.seen result.0.seen × IsPrefix b.seen result.0.seen }
         ensures second { IsPrefix a.seen result.1.seen × IsPrefix b.seen result.1.seen }
-        ensures met { IsPrefix result.0.seen result.1.seen }
+        ensures met { result.0.seen ≡ result.1.seen }
         ensures legal { T.is_legal self.now.plan result.0.seen × T.is_legal self.now.plan result.1.seen }
         ensures own { (own a.number result.0.seen ≡ own a.number a.seen) × (own b.number result.1.seen ≡ own b.number b.seen) }
     {
-        self.tell(&mut b, &mut a);
-        self.tell(&mut a, &mut b);
-        (a, b)
-    }
-
-    // The second seat hears what the first has seen, and then sees the whole history.
-    fn tell(&self, from: &mut DeskSeat<T>, to: &mut DeskSeat<T>)
-        requires from { IsSeatOf self.now from.old }
-        requires to { IsSeatOf self.now to.old }
-        ensures from { from.new ≡ from.old }
-        ensures seat { IsSameSeat to.old to.new }
-        ensures later { IsPrefix to.old.seen to.new.seen }
-        ensures told { IsPrefix from.old.seen to.new.seen }
-        ensures legal { T.is_legal self.now.plan to.new.seen }
-        ensures own { own to.old.number to.new.seen ≡ own to.old.number to.old.seen }
-    {
         let shared = &self.table.shared;
-        let messenger = shared.split_seat::<Cut>(&mut from.token);
-        shared.join_seat::<Gather>(&mut to.token, messenger);
-        shared.load::<Look>(&mut to.token, FRONT);
+        let DeskSeat {
+            number: first,
+            token: mut both,
+        } = a;
+        let DeskSeat {
+            number: second,
+            token,
+        } = b;
+        shared.join_seat::<Gather>(&mut both, token);
+        shared.load::<Look>(&mut both, FRONT);
+        let a = DeskSeat {
+            number: first,
+            token: shared.split_seat::<Cut>(&mut both),
+        };
+        let b = DeskSeat {
+            number: second,
+            token: both,
+        };
+        (a, b)
     }
 
     /// Ends the desk and gives the object back, where all of its seats are given. It waits for nobody and takes no memory.
