@@ -119,10 +119,10 @@ module _ {T P S : Type 0} where
   }
 
   -- the new seat has the new account, and has seen as much
-  pub new_view : (number n : ℕ) (t u w : Seat (Place T) (View P S)) → IsSeated number t → Numbers n t.me u.me → w.me ≡ (cut_part u.me.0, []) → w.me.0 ≡ record { plan = t.me.0.plan; seen = t.me.0.seen; heard = t.me.0.heard; accounts = account n t.me.0.seen ∷ []; holding = None; closing = None }
+  pub new_view : (number n : ℕ) (t u w : Seat (Place T) (View P S)) → IsSeated number t → Numbers n t.me u.me → w.me ≡ (cut_part u.me.0, []) → w.me.0 ≡ record { plan = t.me.0.plan; seen = t.me.0.seen; heard = t.me.0.heard; accounts = account n t.me.0.seen ∷ []; holding = None; closing = None; fewest = t.me.0.fewest }
   new_view number n t u w s new e =
       let others : rest_of (t.me.0.accounts ++ account n t.me.0.seen ∷ []) ≡ account n t.me.0.seen ∷ [] = ap (λ xs. rest_of (xs ++ account n t.me.0.seen ∷ [])) s.account in
-      ap (λ m. m.0) e ∙ ap (λ m. cut_part m.0) new.after ∙ (λ i. record { plan = t.me.0.plan; seen = t.me.0.seen; heard = t.me.0.heard; accounts = others i; holding = None; closing = None })
+      ap (λ m. m.0) e ∙ ap (λ m. cut_part m.0) new.after ∙ (λ i. record { plan = t.me.0.plan; seen = t.me.0.seen; heard = t.me.0.heard; accounts = others i; holding = None; closing = None; fewest = t.me.0.fewest })
 
   pub seated_new : (number n : ℕ) (t u w : Seat (Place T) (View P S)) → IsSeated number t → Numbers n t.me u.me → w.me ≡ (cut_part u.me.0, []) → IsSeated n w
   seated_new number n t u w s new e =

@@ -1,6 +1,6 @@
 use Rattle.std.proofs.Common.{◌<◌, All, sym, ap, ◌∙◌, subst}
 use Rattle.history.specs.Past.{own}
-use Rattle.turn_desk.proofs.Words.{has_turn, has_seats, below_mark}
+use Rattle.turn_desk.proofs.Words.{has_turn, has_seats}
 use Rattle.turn_desk.proofs.Hands.{kept_first, seated_same, seated_new, same_view, new_view, new_number}
 use Rattle.turn_desk.proofs.Places.{takes_number, cuts}
 use Rattle.turn_desk.proofs.Endings.{All-each}
@@ -13,7 +13,7 @@ compare_exchange-found-requires g c =
     let token = c.loop.token in (
       c.loop.invariant.0 ∙ ap (λ s. s.desk) c.seat.view_is ∙ c.requires.made_by ∙ sym (ap (λ d. d.id) c.self.view_is),
       has_seats shared.table_id.words c.self.invariant.0,
-      takes_number t.is_legal t.plan t.steps (t.plan shared.key.value) shared.table_id.slots token.id c.loop.next token.me (below_mark c.loop.next c.if-next.false),
+      takes_number t.is_legal t.plan t.steps (t.plan shared.key.value) shared.table_id.slots token.id c.loop.next token.me c.if-next.false,
     )
 
 pub split_seat-requires : goal.split_seat-requires
