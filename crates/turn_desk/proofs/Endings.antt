@@ -1,21 +1,31 @@
 -- The seat that closes the desk takes in all others.
-use Rattle.std.proofs.Common.{◌≡◌, ℕ, ◌<◌, ◌≤◌, suc, List, [], ◌∷◌, ◌++◌, All, length, map, Option, Some, refl, sym, ap, ◌∙◌, subst, append_assoc, append-nil}
+use Rattle.std.proofs.Common.{◌≡◌, ◌≢◌, ℕ, ◌<◌, ◌≤◌, suc, min, List, [], ◌∷◌, ◌++◌, All, length, map, Option, Some, None, refl, sym, ap, ◌∙◌, subst, append_assoc, append-nil, arith}
+use Rattle.std.proofs.Math.Nat.{min-eq_left, min-eq_right}
+use mathlib.Core.Logic.{dite}
+use native.Mathlib.Decide.{ℕ_discrete}
 use Rattle.std.proofs.lemmas.List.Elements.{All-nil, All-cons}
 use Rattle.std.specs.Option.{option_to_list}
 use Rattle.history.specs.declared.entry.Entry.{Entry}
 use Rattle.history.specs.Past.{own}
 use Rattle.history.specs.Prefix.{IsPrefix}
+use Rattle.atomic_table.specs.Table.{Me}
 use Rattle.turn_desk.specs.declared.rule.Account.{Account}
+use Rattle.turn_desk.specs.declared.rule.Place.{Place}
 use Rattle.turn_desk.specs.declared.rule.View.{View}
+use Rattle.turn_desk.specs.declared.rule.TheConstants.{CLOSED}
+use Rattle.turn_desk.specs.declared.seat.TheConstants.{MOST_SEATS}
 use Rattle.turn_desk.specs.Views.{SeatView, times, once_below, IsWhole}
 use Rattle.turn_desk.specs.Rule.{Each, IsAccount, numbers}
 use Rattle.turn_desk.specs.Plays.{account, bare, gathered}
-use Rattle.turn_desk.specs.Ending.{HasGathered, IsCloser, IsGathering, IsEnded}
+use Rattle.turn_desk.specs.Ending.{HasGathered, HasOpened, IsCloser, IsGathering, IsEnded}
 
 module _ {A : Type 0} (P : A → Type 0) where
   pub All-each : (xs : List A) → Each P xs → All P xs
   All-each [] all = All-nil P
   All-each (x ∷ xs) all = All-cons P x xs all.0 (All-each xs all.1)
+
+min-most : (found : ℕ) → found ≡ CLOSED → min found MOST_SEATS ≡ MOST_SEATS
+min-most found mark = min-eq_right (omega arith)
 
 module _ {P S : Type 0} where
   abbrev pub account_of : SeatView P S → Account S
@@ -39,15 +49,28 @@ module _ {P S : Type 0} where
   length_of [] = refl
   length_of (s ∷ seats) = ap suc (length_of seats)
 
+  pub opened_of : {T : Type 0} (plan : Option P) (m : Me (Place T) (View P S)) (found : ℕ) → (found ≡ CLOSED → m ≡ (bare plan None, [])) × (found ≢ CLOSED → (found ≤ MOST_SEATS) × (m ≡ (bare plan (Some found), []))) → HasOpened found plan m.0
+  opened_of plan m found opens = record { marked = λ mark. ap (λ x. x.0) (opens.0 mark); counted = λ apart. ((opens.1 apart).0, ap (λ x. x.0) (opens.1 apart).1) }
+
+  -- it has no account, and holds nothing
+  pub opened_bare : (plan : Option P) (found : ℕ) (v : View P S) → HasOpened found plan v → (v.accounts ≡ []) × (v.holding ≡ None)
+  opened_bare plan found v opened =
+      dite (ℕ_discrete found CLOSED)
+      (λ mark. let is = opened.marked mark in (ap (λ x. x.accounts) is, ap (λ x. x.holding) is))
+      (λ apart. let is = (opened.counted apart).1 in (ap (λ x. x.accounts) is, ap (λ x. x.holding) is))
+
   -- with as many seats as were made it closes the desk
-  pub closer_of : (plan : Option P) (made : ℕ) (seats : List (SeatView P S)) (v w : View P S) → v ≡ bare plan (Some made) → HasGathered seats v w → made ≤ length seats → IsCloser w
-  closer_of plan made seats v w opened g enough =
-      let all : w.accounts ≡ map account_of seats ++ [] = g.accounts ∙ ap (λ x. map account_of seats ++ x.accounts) opened in
+  pub closer_of : (plan : Option P) (found : ℕ) (seats : List (SeatView P S)) (v w : View P S) → HasOpened found plan v → HasGathered seats v w → min found MOST_SEATS ≤ length seats → IsCloser w
+  closer_of plan found seats v w opened g enough =
+      let all : w.accounts ≡ map account_of seats ++ [] = g.accounts ∙ ap (λ xs. map account_of seats ++ xs) (opened_bare plan found v opened).0 in
       record {
-        count = made;
-        closes = g.closed ∙ ap (λ x. x.closing) opened;
-        unheld = g.held ∙ ap (λ x. x.holding) opened;
-        enough = subst (λ k. made ≤ k) (sym (ap length all ∙ length_of seats)) enough;
+        made = min found MOST_SEATS;
+        closes = λ apart.
+            let below : found ≢ CLOSED = (λ mark. apart (min-most found mark)) in
+            let counted = opened.counted below in
+            g.closed ∙ ap (λ x. x.closing) counted.1 ∙ ap (λ n. Some n) (sym (min-eq_left counted.0));
+        unheld = g.held ∙ (opened_bare plan found v opened).1;
+        enough = subst (λ k. min found MOST_SEATS ≤ k) (sym (ap length all ∙ length_of seats)) enough;
       }
 
   numbers_of : (seats : List (SeatView P S)) → numbers (map account_of seats ++ []) ≡ map (λ s. s.number) seats

@@ -1,5 +1,8 @@
 -- What a seat knows after each step of a call.
-use Rattle.std.proofs.Common.{◌≡◌, ℕ, ◌+◌, List, [], ◌∷◌, ◌++◌, length, map, Option, Some, None, sym, ap, ◌∙◌, subst, arith, ◌≢◌, append-nil, length-append}
+use Rattle.std.proofs.Common.{◌≡◌, ℕ, ◌+◌, List, [], ◌∷◌, ◌++◌, length, map, Option, Some, None, sym, ap, ◌∙◌, subst, arith, ◌<◌, ◌≤◌, ◌≢◌, append-nil, length-append}
+use Rattle.std.proofs.Math.Decide.{dec_lt}
+use Rattle.std.proofs.lemmas.Bool.Decides.{nat_tests}
+use mathlib.Core.Logic.{dite}
 use Rattle.history.specs.declared.entry.Entry.{Entry}
 use Rattle.history.specs.Past.{own, entered}
 use Rattle.history.specs.Prefix.{IsPrefix}
@@ -101,13 +104,7 @@ module _ {S : Type 0} where
       by_step (Some s) e = let longer : length after ≡ length before + 1 = ap length e ∙ length-append before (record { seat = number; step = s } ∷ []) in absurd (omega arith)
 
 module _ {T P S : Type 0} where
-  -- a seat that is cut while it has one account is as it was
-  pub kept_same : (number : ℕ) (t u : Seat (Place T) (View P S)) → IsSeated number t → u.me ≡ (kept_part t.me.0, t.me.1) → u.me ≡ t.me
-  kept_same number t u s e =
-      let first : first_of t.me.0.accounts ≡ t.me.0.accounts = ap first_of s.account ∙ sym s.account in
-      e ∙ (λ i. (with_accounts (first i) t.me.0, t.me.1))
-
-  -- so it is where the account of a new seat was added first
+  -- a seat to which the account of a new seat was added is as it was once it is cut
   pub kept_first : (number n : ℕ) (t u w : Seat (Place T) (View P S)) → IsSeated number t → Numbers n t.me u.me → w.me ≡ (kept_part u.me.0, u.me.1) → w.me ≡ t.me
   kept_first number n t u w s new e =
       let first : first_of (t.me.0.accounts ++ account n t.me.0.seen ∷ []) ≡ t.me.0.accounts = ap (λ xs. first_of (xs ++ account n t.me.0.seen ∷ [])) s.account ∙ sym s.account in
@@ -122,10 +119,10 @@ module _ {T P S : Type 0} where
   }
 
   -- the new seat has the new account, and has seen as much
-  pub new_view : (number n : ℕ) (t u w : Seat (Place T) (View P S)) → IsSeated number t → Numbers n t.me u.me → w.me ≡ (cut_part u.me.0, []) → w.me.0 ≡ record { plan = t.me.0.plan; seen = t.me.0.seen; heard = t.me.0.heard; accounts = account n t.me.0.seen ∷ []; holding = None; closing = None }
+  pub new_view : (number n : ℕ) (t u w : Seat (Place T) (View P S)) → IsSeated number t → Numbers n t.me u.me → w.me ≡ (cut_part u.me.0, []) → w.me.0 ≡ record { plan = t.me.0.plan; seen = t.me.0.seen; heard = t.me.0.heard; accounts = account n t.me.0.seen ∷ []; holding = None; closing = None; fewest = t.me.0.fewest }
   new_view number n t u w s new e =
       let others : rest_of (t.me.0.accounts ++ account n t.me.0.seen ∷ []) ≡ account n t.me.0.seen ∷ [] = ap (λ xs. rest_of (xs ++ account n t.me.0.seen ∷ [])) s.account in
-      ap (λ m. m.0) e ∙ ap (λ m. cut_part m.0) new.after ∙ (λ i. record { plan = t.me.0.plan; seen = t.me.0.seen; heard = t.me.0.heard; accounts = others i; holding = None; closing = None })
+      ap (λ m. m.0) e ∙ ap (λ m. cut_part m.0) new.after ∙ (λ i. record { plan = t.me.0.plan; seen = t.me.0.seen; heard = t.me.0.heard; accounts = others i; holding = None; closing = None; fewest = t.me.0.fewest })
 
   pub seated_new : (number n : ℕ) (t u w : Seat (Place T) (View P S)) → IsSeated number t → Numbers n t.me u.me → w.me ≡ (cut_part u.me.0, []) → IsSeated n w
   seated_new number n t u w s new e =
@@ -137,47 +134,24 @@ module _ {T P S : Type 0} where
         closing = ap (λ x. x.closing) v;
       }
 
-  -- no account had the number
-  pub new_number : (number n : ℕ) (t u w : Seat (Place T) (View P S)) → IsSeated number t → u.me ≡ t.me → Numbers n u.me w.me → n ≢ number
-  new_number number n t u w s same new = λ e.
-      let one : times n (numbers u.me.0.accounts) ≡ 1 = ap (λ m. times n (numbers m.0.accounts)) same ∙ ap (λ xs. times n (numbers xs)) s.account ∙ ap (λ k. times n (k ∷ [])) (sym e) ∙ times_self n in
-      let none_yet = new.new in
-      absurd (omega arith)
-
-  -- a seat that hears another keeps its account
-  pub seated_heard : (number other : ℕ) (t from messenger u : Seat (Place T) (View P S)) → IsSeated number t → IsSeated other from → messenger.me ≡ (cut_part from.me.0, []) → u.me ≡ (gathered t.me.0 messenger.me.0, t.me.1) → IsSeated number u
-  seated_heard number other t from messenger u s f cut e =
-      let none_there : messenger.me.0.accounts ≡ [] = ap (λ m. m.0.accounts) cut ∙ ap rest_of f.account in
-      record {
-        empty = ap (λ m. m.1) e ∙ s.empty;
-        account = ap (λ m. m.0.accounts) e ∙ ap (λ xs. xs ++ t.me.0.accounts) none_there ∙ s.account ∙ ap (λ k. account number k ∷ []) (sym (ap (λ m. m.0.seen) e));
-        holding = ap (λ m. m.0.holding) e ∙ s.holding;
-        closing = ap (λ m. m.0.closing) e ∙ s.closing;
-      }
+  -- the seat's own number lies below the new one
+  pub new_number : (number n : ℕ) (t u w : Seat (Place T) (View P S)) → IsSeated number t → u.me ≡ t.me → Numbers n u.me w.me → number < n
+  new_number number n t u w s same new =
+      let one : times number (numbers u.me.0.accounts) ≡ 1 = ap (λ m. times number (numbers m.0.accounts)) same ∙ ap (λ xs. times number (numbers xs)) s.account ∙ times_self number in
+      dite (dec_lt number n)
+      (λ below. below)
+      (λ other. let none_yet = new.new number (omega arith) in absurd (omega arith))
 
   pub same_view : (number : ℕ) (t u : Seat (Place T) (View P S)) → u.table_id ≡ t.table_id → u.me ≡ t.me → seat_view number u ≡ seat_view number t
   same_view number t u table e = λ i. record { desk = table i; plan = (e i).0.plan; number = number; seen = (e i).0.seen }
 
--- a seat that has heard another, and has then looked at the history
-module _ {T P S : Type 0} (is_legal : P → List (Entry S) → Type 0) (plan_of : T → P) (steps_of : T → List (Entry S)) (number other r : ℕ) (t from messenger heard u : Seat (Place T) (View P S))
-    (s : IsSeated number t) (f : IsSeated other from) (cut : messenger.me ≡ (cut_part from.me.0, [])) (joined : heard.me ≡ (gathered t.me.0 messenger.me.0, t.me.1)) (l : Looks is_legal heard.me r u.me) where
-  heard_seated : IsSeated number heard
-  heard_seated = seated_heard number other t from messenger heard s f cut joined
+twice : (n m : ℕ) → n ≡ m → times n (n ∷ m ∷ []) ≡ 2
+twice n m same = grind (arith, nat_tests)
 
-  pub told_seated : IsSeated number u
-  told_seated = seated_look is_legal plan_of steps_of number r heard u heard_seated l
-
-  history_seen : l.history ≡ u.me.0.seen
-  history_seen = sym (ap (λ m. m.0.seen) l.after)
-
-  pub told_later : IsPrefix t.me.0.seen u.me.0.seen
-  told_later = subst (IsPrefix t.me.0.seen) history_seen (subst (λ xs. IsPrefix xs l.history) (ap (λ m. m.0.seen) joined) l.shows.later)
-
-  pub told_told : IsPrefix from.me.0.seen u.me.0.seen
-  told_told = subst (IsPrefix from.me.0.seen) history_seen (subst (λ xs. IsPrefix xs l.history) (ap (λ m. m.0.heard) joined ∙ ap (λ m. m.0.seen) cut) l.shows.learned)
-
-  pub told_legal : (plan : P) → t.me.0.plan ≡ Some plan → is_legal plan u.me.0.seen
-  told_legal plan planned = subst (is_legal plan) history_seen (l.shows.legal plan (ap (λ m. m.0.plan) joined ∙ planned))
-
-  pub told_own : own number u.me.0.seen ≡ own number t.me.0.seen
-  told_own = own_look is_legal plan_of steps_of number r heard u heard_seated l ∙ ap (λ m. own number m.0.seen) joined
+-- two seats are joined, and no number stands in two accounts of what they know
+pub apart_joined : {T P S : Type 0} (first second : ℕ) (a b both : Seat (Place T) (View P S)) → IsSeated first a → IsSeated second b → both.me ≡ (gathered a.me.0 b.me.0, a.me.1) → ((x : ℕ) → times x (numbers both.me.0.accounts) ≤ 1) → second ≢ first
+apart_joined first second a b both at_a at_b joined once same =
+    let accounts : both.me.0.accounts ≡ account second b.me.0.seen ∷ account first a.me.0.seen ∷ [] = ap (λ m. m.0.accounts) joined ∙ (λ i. at_b.account i ++ at_a.account i) in
+    let two : times second (numbers both.me.0.accounts) ≡ 2 = ap (λ xs. times second (numbers xs)) accounts ∙ twice second first same in
+    let one = once second in
+    absurd (omega arith)

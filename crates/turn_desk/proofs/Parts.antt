@@ -86,13 +86,17 @@ module _ {S : Type 0} where
     still_whole h n s xs (omega arith) all.1,
   )
 
-  -- of a beginning of a history, where no entry has the number
-  pub none_seen : (n count : ℕ) (seen h : List (Entry S)) → IsPrefix seen h → Each (λ e. e.seat < count) h → count ≤ n → own n seen ≡ []
-  none_seen n count seen h begins below above = own-none n count seen (front seen begins.rest (subst (Each (λ e. e.seat < count)) (sym begins.joined) below)) above
+  -- of a beginning of a history
+  pub seats_seen : (count : ℕ) (seen h : List (Entry S)) → IsPrefix seen h → Each (λ e. e.seat < count) h → Each (λ e. e.seat < count) seen
+  seats_seen count seen h begins below = front seen begins.rest (subst (Each (λ e. e.seat < count)) (sym begins.joined) below)
     where
       front : (xs ys : List (Entry S)) → Each (λ e. e.seat < count) (xs ++ ys) → Each (λ e. e.seat < count) xs
       front [] ys all = tt
       front (x ∷ xs) ys all = (all.0, front xs ys all.1)
+
+  -- where no entry has the number
+  pub none_seen : (n count : ℕ) (seen h : List (Entry S)) → IsPrefix seen h → Each (λ e. e.seat < count) h → count ≤ n → own n seen ≡ []
+  none_seen n count seen h begins below above = own-none n count seen (seats_seen count seen h begins below) above
 
 module _ {P S : Type 0} (plan : P) (history : List (Entry S)) (count : ℕ) where
   pub fits_set : (views : List (View P S)) (id : ℕ) (w : View P S) → ((j : ℕ) (u : View P S) → j ≢ id → get_elem? views j ≡ some u → Fits plan history count u) → Fits plan history count w

@@ -1,6 +1,7 @@
 -- The steps that make, cut and join seats, and that open and close the desk, keep the rule.
-use Rattle.std.proofs.Common.{◌≡◌, ⊎_elim, ℕ, zero, suc, ◌+◌, ◌<◌, ◌≤◌, List, [], ◌∷◌, ◌++◌, length, set, Option, Some, None, Bool, true, false, cond, nat_eq, refl, sym, ap, ◌∙◌, subst, arith, eqb, length-append}
+use Rattle.std.proofs.Common.{◌≡◌, ◌≢◌, ⊎_elim, ℕ, zero, suc, ◌+◌, ◌<◌, ◌≤◌, List, [], ◌∷◌, ◌++◌, length, set, Option, Some, None, Bool, true, false, cond, nat_eq, refl, sym, ap, ◌∙◌, subst, arith, eqb, length-append}
 use Rattle.std.specs.Prelude.{slice_index, slice_set}
+use Rattle.std.proofs.Math.Nat.{max-le}
 use Rattle.std.proofs.lemmas.Bool.Decides.{nat_tests}
 use mathlib.Core.Option.{some, none, some-injective, some-ne-none}
 use mathlib.Core.Logic.{dite}
@@ -10,19 +11,20 @@ use lib.ListN.{get_elem?}
 use Rattle.history.specs.declared.entry.Entry.{Entry}
 use Rattle.history.specs.Past.{own}
 use Rattle.atomic_table.specs.Table.{State, Me, step, stepped, Act, keeps, Valid, carried_after, Allows, Splits, Joins, Arrives, opening, Final, Seen}
-use Rattle.atomic_table.proofs.Lists.{exchanged, at_snoc, set_else}
+use Rattle.atomic_table.proofs.Lists.{exchanged, at_snoc, set_again, set_else}
 use Rattle.turn_desk.specs.declared.rule.Account.{Account}
 use Rattle.turn_desk.specs.declared.rule.Place.{Place}
 use Rattle.turn_desk.specs.declared.rule.Place.TheVariants.{Home}
 use Rattle.turn_desk.specs.declared.rule.View.{View}
 use Rattle.turn_desk.specs.declared.rule.TheConstants.{CLOSED}
+use Rattle.turn_desk.specs.declared.seat.TheConstants.{MOST_SEATS}
 use Rattle.turn_desk.specs.Views.{times, once_below}
 use Rattle.turn_desk.specs.Rule.{Each, total, count_some, is_taken, made_word, numbers, holds_turn, closes, accounts_of, times_in, IsAccount, Fits}
-use Rattle.turn_desk.specs.Plays.{account, opener, bare, with_accounts, kept_part, cut_part, gathered, numbering, closing, opening_again}
+use Rattle.turn_desk.specs.Plays.{account, opener, bare, with_accounts, with_closing, above_first, kept_part, cut_part, whole_part, count_part, gathered, numbering, closing, opening_again}
 use Rattle.turn_desk.specs.Ending.{IsEnded}
 use Rattle.turn_desk.proofs.Sums.{total-set, total-push, one_within, others_below, times-append, Each-append, Each-weaker}
 use Rattle.turn_desk.proofs.Histories.{prefix_refl, prefix_none}
-use Rattle.turn_desk.proofs.Parts.{once_outside, once_more, numbers-append, times-parts, length-parts, first_some, Each-first_of, Each-rest_of, none_seen, fits_set}
+use Rattle.turn_desk.proofs.Parts.{once_inside, once_outside, once_more, numbers-append, times-parts, length-parts, first_some, Each-first_of, Each-rest_of, seats_seen, none_seen, fits_set}
 use Rattle.turn_desk.proofs.Turns.{Holds, idle, total_same}
 
 -- the number of seats made, where the word is below the mark
@@ -49,6 +51,15 @@ times_le x (n ∷ ns) k e = let others = times_le x ns (length ns) refl in let o
     test_le true = omega arith
     test_le false = omega arith
 
+times_here : (x : ℕ) (ns : List ℕ) → 0 < times x (x ∷ ns)
+times_here x ns = grind (arith, nat_tests)
+
+either_same : (k a n : ℕ) → n ≡ a → either (eqb k a) n k ≡ k
+either_same k a n same = grind (arith, nat_tests)
+
+either_hit : (k a n : ℕ) → k ≡ a → either (eqb k a) n k ≡ n
+either_hit k a n same = grind (arith, nat_tests)
+
 length-numbers : {S : Type 0} (xs : List (Account S)) → length (numbers xs) ≡ length xs
 length-numbers [] = refl
 length-numbers (x ∷ xs) = ap suc (length-numbers xs)
@@ -57,8 +68,8 @@ module _ {T P S : Type 0} (is_legal : P → List (Entry S) → Type 0) (plan_of 
   abbrev Rule : State (Place T) (View P S) → Type 0
   Rule = Holds is_legal plan_of steps_of plan
 
-  numbered : (s : State (Place T) (View P S)) (id n : ℕ) (c : List (ℕ × Place T)) (v : View P S) (h : Rule s) → get_elem? s.views id ≡ some v → made_word h.count h.closers ≡ n → n + 1 < CLOSED
-      → Rule (stepped s 2 (n + 1) id c (with_accounts (v.accounts ++ account n v.seen ∷ []) v) keeps) × (own n v.seen ≡ []) × (times n (numbers v.accounts) ≡ 0)
+  numbered : (s : State (Place T) (View P S)) (id n : ℕ) (c : List (ℕ × Place T)) (v : View P S) (h : Rule s) → get_elem? s.views id ≡ some v → made_word h.count h.closers ≡ n → n < MOST_SEATS
+      → Rule (stepped s 2 (n + 1) id c (with_accounts (v.accounts ++ account n v.seen ∷ []) v) keeps) × (own n v.seen ≡ []) × ((x : ℕ) → n ≤ x → times x (numbers v.accounts) ≡ 0) × Each (λ (y : Entry S). y.seat < n) v.seen
   numbered s id n c v h at e below =
       let w = with_accounts (v.accounts ++ account n v.seen ∷ []) v in
       let now = open_count h.count h.closers n e (omega arith) in
@@ -67,9 +78,7 @@ module _ {T P S : Type 0} (is_legal : P → List (Entry S) → Type 0) (plan_of 
       let nobody : total closes s.views ≡ 0 = h.closed_by ∙ now.0 in
       let no_entry : own n v.seen ≡ [] = none_seen n h.count v.seen h.history mine.seen h.seats (omega arith) in
       let no_entry_at_all : own n h.history ≡ [] = none_seen n h.count h.history h.history (prefix_refl h.history) h.seats (omega arith) in
-      let unused = once_outside n h.count (omega arith) in
-      let once = h.once n in
-      let within = one_within (times_in n) s.views id v at in (
+      let older : Each (λ (y : Entry S). y.seat < n) v.seen = subst (λ k. Each (λ (y : Entry S). y.seat < k) v.seen) count_is (seats_seen h.count v.seen h.history mine.seen h.seats) in (
         record {
           history = h.history;
           turn = h.turn;
@@ -81,7 +90,7 @@ module _ {T P S : Type 0} (is_legal : P → List (Entry S) → Type 0) (plan_of 
           holders = total_same holds_turn s.views id v w at refl ∙ h.holders;
           closed_by = total_same closes s.views id v w at refl ∙ nobody;
           one_closer = omega arith;
-          few = below;
+          few = omega arith;
           once = λ x.
               let moved = total-set (times_in x) s.views id v w at in
               let once_x = h.once x in
@@ -105,6 +114,7 @@ module _ {T P S : Type 0} (is_legal : P → List (Entry S) → Type 0) (plan_of 
                 accounts = theirs.accounts;
                 holding = theirs.holding;
                 closing = λ k e'. let one : closes u ≡ 1 = ap count_some e' in let some_closer = one_within closes s.views j u there in absurd (omega arith);
+                fewest = let most = theirs.fewest in omega arith;
               })
               (record {
                 planned = mine.planned;
@@ -113,20 +123,26 @@ module _ {T P S : Type 0} (is_legal : P → List (Entry S) → Type 0) (plan_of 
                 accounts = Each-append (IsAccount h.history) v.accounts (account n v.seen ∷ []) mine.accounts (record { prefix = mine.seen; whole = no_entry_at_all ∙ sym no_entry }, tt);
                 holding = λ g e'. ((mine.holding g e').0, (let longer = length-append v.accounts (account n v.seen ∷ []) in omega arith));
                 closing = λ k e'. let one : closes v ≡ 1 = ap count_some e' in let some_closer = one_within closes s.views id v at in absurd (omega arith);
+                fewest = let most = mine.fewest in omega arith;
               });
         },
         no_entry,
-        (omega arith),
+        (λ x above.
+            let unused = once_outside x h.count (omega arith) in
+            let once = h.once x in
+            let within = one_within (times_in x) s.views id v at in
+            omega arith),
+        older,
       )
 
-  pub takes_number : (slots id n : ℕ) (m : Me (Place T) (View P S)) → n + 1 < CLOSED → Allows Rule slots id m 2 (λ k. either (eqb k n) (n + 1) k) (numbering (step slots 2 n (n + 1) none) m)
+  pub takes_number : (slots id n : ℕ) (m : Me (Place T) (View P S)) → n < MOST_SEATS → Allows Rule slots id m 2 (λ k. either (eqb k n) (n + 1) k) (numbering (step slots 2 n (n + 1) none) m)
   takes_number slots id n m below s h many at fits =
       let found : slice_index s.words 2 ≡ made_word h.count h.closers = ap (λ ws. slice_index ws 2) h.words in
       exchanged (slice_index s.words 2) n (n + 1)
       (λ k. (w : View P S) × (a : Act (Place T)) × Valid s.homes m.1 a × Rule (stepped s 2 k id m.1 w a) × numbering (step slots 2 n (n + 1) none) m (slice_index s.words 2) (w, carried_after m.1 a))
       (λ hit.
       let taken = numbered s id n m.1 m.0 h at (sym found ∙ hit) below in
-      (with_accounts (m.0.accounts ++ account n m.0.seen ∷ []) m.0, keeps, tt, taken.0, ((λ _. record { after = refl; none = taken.1; new = taken.2 }), (λ apart. absurd (apart hit)))))
+      (with_accounts (m.0.accounts ++ account n m.0.seen ∷ []) m.0, keeps, tt, taken.0, ((λ _. record { after = refl; none = taken.1; new = taken.2; older = taken.3 }), (λ apart. absurd (apart hit)))))
       (λ apart. (m.0, keeps, tt, idle is_legal plan_of steps_of plan s 2 (slice_index s.words 2) id m.1 m.0 h at ((λ k. slice_set (h.words k) 2 (found k)) ∙ sym h.words), ((λ e. absurd (apart e)), (λ _. refl))))
 
   -- a view is cut in two
@@ -153,9 +169,9 @@ module _ {T P S : Type 0} (is_legal : P → List (Entry S) → Type 0) (plan_of 
         each = λ j u there.
             ⊎_elim
             (λ old. fits_set plan h.history h.count s.views id l (λ i y apart e. h.each i y e)
-            (record { planned = mine.planned; seen = mine.seen; heard = mine.heard; accounts = Each-first_of (IsAccount h.history) v.accounts mine.accounts; holding = λ g e. ((mine.holding g e).0, first_some v.accounts (mine.holding g e).1); closing = mine.closing }) j u old)
+            (record { planned = mine.planned; seen = mine.seen; heard = mine.heard; accounts = Each-first_of (IsAccount h.history) v.accounts mine.accounts; holding = λ g e. ((mine.holding g e).0, first_some v.accounts (mine.holding g e).1); closing = mine.closing; fewest = mine.fewest }) j u old)
             (λ (new : r ≡ u). subst (Fits plan h.history h.count) new
-            (record { planned = mine.planned; seen = mine.seen; heard = mine.heard; accounts = Each-rest_of (IsAccount h.history) v.accounts mine.accounts; holding = λ g e. cc; closing = λ n e. cc }))
+            (record { planned = mine.planned; seen = mine.seen; heard = mine.heard; accounts = Each-rest_of (IsAccount h.history) v.accounts mine.accounts; holding = λ g e. cc; closing = λ n e. cc; fewest = mine.fewest }))
             (at_snoc (set s.views id l) r u j there);
       }
 
@@ -203,8 +219,9 @@ module _ {T P S : Type 0} (is_legal : P → List (Entry S) → Type 0) (plan_of 
               accounts = Each-append (IsAccount h.history) w.accounts v.accounts theirs.accounts mine.accounts;
               holding = λ g z. ((mine.holding g z).0, (let some_account = (mine.holding g z).1 in let both = length-append w.accounts v.accounts in omega arith));
               closing = mine.closing;
+              fewest = max-le mine.fewest theirs.fewest;
             }) j u x)
-            (record { planned = λ p z. cc; seen = prefix_none h.history; heard = prefix_none h.history; accounts = tt; holding = λ g z. cc; closing = λ n z. cc });
+            (record { planned = λ p z. cc; seen = prefix_none h.history; heard = prefix_none h.history; accounts = tt; holding = λ g z. cc; closing = λ n z. cc; fewest = omega arith });
       }
 
   with_new : (s : State (Place T) (View P S)) (h : Rule s) (c : Option ℕ) (k : ℕ) → h.closers + count_some c ≡ k → k ≤ 1 → made_word h.count k ≡ CLOSED → ((n : ℕ) → c ≡ Some n → n ≡ h.count)
@@ -230,7 +247,7 @@ module _ {T P S : Type 0} (is_legal : P → List (Entry S) → Type 0) (plan_of 
             ⊎_elim
             (λ old. h.each j u old)
             (λ (new : w ≡ u). subst (Fits plan h.history h.count) new
-            (record { planned = λ p e. cc; seen = prefix_none h.history; heard = prefix_none h.history; accounts = tt; holding = λ g e. cc; closing = is }))
+            (record { planned = λ p e. cc; seen = prefix_none h.history; heard = prefix_none h.history; accounts = tt; holding = λ g e. cc; closing = is; fewest = omega arith }))
             (at_snoc s.views w u j there);
       }
 
@@ -247,7 +264,7 @@ module _ {T P S : Type 0} (is_legal : P → List (Entry S) → Type 0) (plan_of 
         keeps,
         tt,
         with_new s h (Some (slice_index s.words 2)) 1 (omega arith) (omega arith) refl (λ n e. let same : slice_index s.words 2 ≡ n = cc in sym same ∙ number),
-        (omega arith, (λ e. absurd (omega arith)), (λ _. refl)),
+        ((λ e. absurd (omega arith)), (λ _. ((omega arith), refl))),
       ))
       (λ somebody.
       let single : h.closers ≡ 1 = omega arith in
@@ -256,43 +273,95 @@ module _ {T P S : Type 0} (is_legal : P → List (Entry S) → Type 0) (plan_of 
         keeps,
         tt,
         with_new s h None h.closers (omega arith) one mark (λ n e. cc),
-        (omega arith, (λ _. refl), (λ apart. absurd (apart (found ∙ mark)))),
+        ((λ _. refl), (λ apart. absurd (apart (found ∙ mark)))),
       ))
 
-  -- and goes, where the desk isn't closed
-  pub reopens : (slots id n : ℕ) (m : Me (Place T) (View P S)) → m.0.closing ≡ Some n → Allows Rule slots id m 2 (λ _. n) (λ _. opening_again (step slots 2 n 0 none) m n)
-  reopens slots id n m closer s h many at fits =
-      let v = m.0 in
-      let w : View P S = record { plan = v.plan; seen = v.seen; heard = v.heard; accounts = v.accounts; holding = v.holding; closing = None } in
+  -- a seat says that its number lies below the count
+  counted : (x : ℕ) (xs : List (Account S)) (count : ℕ) → ((y : ℕ) → times y (numbers xs) ≤ once_below y count) → above_first xs ≤ count
+  counted x [] count once = omega arith
+  counted x (a ∷ xs) count once = let one = once a.number in let here = times_here a.number (numbers xs) in let below = once_inside a.number count (omega arith) in omega arith
+
+  pub counts : (id : ℕ) (v : View P S) → Splits Rule id v (whole_part v) (count_part v)
+  counts id v s h at =
+      let r = count_part v in
+      let mine = h.each id v at in
+      let same : set s.views id v ≡ s.views = set_again s.views id v at in
+      let within : above_first v.accounts ≤ h.count = counted 0 v.accounts h.count (λ y. let all = h.once y in let some_times = one_within (times_in y) s.views id v at in omega arith) in
+      subst (λ vs. Rule record { words = s.words; homes = s.homes; views = vs ++ r ∷ [] }) (sym same) record {
+        history = h.history;
+        turn = h.turn;
+        count = h.count;
+        closers = h.closers;
+        words = h.words;
+        legal = h.legal;
+        home = h.home;
+        holders = let pushed = total-push holds_turn s.views r in let was = h.holders in omega arith;
+        closed_by = let pushed = total-push closes s.views r in let was = h.closed_by in omega arith;
+        one_closer = h.one_closer;
+        few = h.few;
+        once = λ x. let pushed = total-push (times_in x) s.views r in let was = h.once x in omega arith;
+        accounts = let pushed = total-push accounts_of s.views r in let was = h.accounts in omega arith;
+        seats = h.seats;
+        each = λ j u there.
+            ⊎_elim
+            (λ old. h.each j u old)
+            (λ (new : r ≡ u). subst (Fits plan h.history h.count) new
+            (record { planned = mine.planned; seen = prefix_none h.history; heard = prefix_none h.history; accounts = tt; holding = λ g e. cc; closing = λ n e. cc; fewest = within }))
+            (at_snoc s.views r u j there);
+      }
+
+  opened_again : (s : State (Place T) (View P S)) (id n : ℕ) (c : List (ℕ × Place T)) (v : View P S) (h : Rule s) → get_elem? s.views id ≡ some v → v.closing ≡ Some n
+      → Rule (stepped s 2 n id c (with_closing None v) keeps)
+  opened_again s id n c v h at closer =
+      let w = with_closing None v in
       let mine = h.each id v at in
       let moved = total-set closes s.views id v w at in
       let within = one_within closes s.views id v at in
       let one : closes v ≡ 1 = ap count_some closer in
       let sum = h.closed_by in
-      let most = h.one_closer in (
-        w,
-        keeps,
-        tt,
-        record {
-          history = h.history;
-          turn = h.turn;
-          count = h.count;
-          closers = 0;
-          words = ap (λ ws. slice_set ws 2 n) h.words ∙ ap (λ z. h.turn ∷ length h.history ∷ z ∷ []) (mine.closing n closer);
-          legal = h.legal;
-          home = h.home;
-          holders = total_same holds_turn s.views id v w at refl ∙ h.holders;
-          closed_by = omega arith;
-          one_closer = omega arith;
-          few = h.few;
-          once = λ x. total_same (times_in x) s.views id v w at refl ∙ h.once x;
-          accounts = total_same accounts_of s.views id v w at refl ∙ h.accounts;
-          seats = h.seats;
-          each = fits_set plan h.history h.count s.views id w (λ j u _ there. h.each j u there)
-              (record { planned = mine.planned; seen = mine.seen; heard = mine.heard; accounts = mine.accounts; holding = mine.holding; closing = λ k e. cc });
-        },
-        tt,
-      )
+      let most = h.one_closer in
+      record {
+        history = h.history;
+        turn = h.turn;
+        count = h.count;
+        closers = 0;
+        words = ap (λ ws. slice_set ws 2 n) h.words ∙ ap (λ z. h.turn ∷ length h.history ∷ z ∷ []) (mine.closing n closer);
+        legal = h.legal;
+        home = h.home;
+        holders = total_same holds_turn s.views id v w at refl ∙ h.holders;
+        closed_by = omega arith;
+        one_closer = omega arith;
+        few = h.few;
+        once = λ x. total_same (times_in x) s.views id v w at refl ∙ h.once x;
+        accounts = total_same accounts_of s.views id v w at refl ∙ h.accounts;
+        seats = h.seats;
+        each = fits_set plan h.history h.count s.views id w (λ j u _ there. h.each j u there)
+            (record { planned = mine.planned; seen = mine.seen; heard = mine.heard; accounts = mine.accounts; holding = mine.holding; closing = λ k e. cc; fewest = mine.fewest });
+      }
+
+  -- and the seat that closes the desk goes, where the desk isn't closed
+  pub reopens : (slots id n : ℕ) (m : Me (Place T) (View P S)) → (n ≢ CLOSED → m.0.closing ≡ Some n) → Allows Rule slots id m 2 (λ k. either (eqb k CLOSED) n k) (opening_again (step slots 2 CLOSED n none) m)
+  reopens slots id n m closer s h many at fits =
+      let found : slice_index s.words 2 ≡ made_word h.count h.closers = ap (λ ws. slice_index ws 2) h.words in
+      let mine = h.each id m.0 at in
+      let few = h.few in
+      let heard = mine.fewest in
+      let word : slice_set s.words 2 (slice_index s.words 2) ≡ s.words = (λ k. slice_set (h.words k) 2 (found k)) ∙ sym h.words in
+      dite (ℕ_discrete n CLOSED)
+      (λ mark.
+      let same : either (eqb (slice_index s.words 2) CLOSED) n (slice_index s.words 2) ≡ slice_index s.words 2 = either_same (slice_index s.words 2) CLOSED n mark in
+      (m.0, keeps, tt, idle is_legal plan_of steps_of plan s 2 (either (eqb (slice_index s.words 2) CLOSED) n (slice_index s.words 2)) id m.1 m.0 h at (ap (slice_set s.words 2) same ∙ word), (omega arith, omega arith)))
+      (λ apart.
+      let closing_is = closer apart in
+      let count_is = mine.closing n closing_is in
+      let one : closes m.0 ≡ 1 = ap count_some closing_is in
+      let within = one_within closes s.views id m.0 at in
+      let sum = h.closed_by in
+      let most = h.one_closer in
+      let single : h.closers ≡ 1 = omega arith in
+      let marked : slice_index s.words 2 ≡ CLOSED = found ∙ ap (made_word h.count) single in
+      let new : either (eqb (slice_index s.words 2) CLOSED) n (slice_index s.words 2) ≡ n = either_hit (slice_index s.words 2) CLOSED n marked in
+      (with_closing None m.0, keeps, tt, subst (λ k. Rule (stepped s 2 k id m.1 (with_closing None m.0) keeps)) (sym new) (opened_again s id n m.1 m.0 h at closing_is), (omega arith, omega arith)))
 
   -- a new desk
   pub opens : (d : T) → plan_of d ≡ plan → steps_of d ≡ [] → is_legal plan [] → Rule (opening (0 ∷ 0 ∷ 1 ∷ []) (Home d ∷ []) (opener plan))
@@ -322,16 +391,18 @@ module _ {T P S : Type 0} (is_legal : P → List (Entry S) → Type 0) (plan_of 
         accounts = (record { prefix = prefix_refl []; whole = refl }, tt);
         holding = λ g z. cc;
         closing = λ n z. cc;
+        fewest = omega arith;
       }
       first_fits (suc j) u e = absurd (some-ne-none u (sym e))
 
-  pub ends : (id n : ℕ) (v : View P S) (words : List ℕ) (slots : List (Place T)) → v.closing ≡ Some n → v.holding ≡ None → n ≤ length v.accounts → Final (Seen Rule id v) words slots → (d : T) × (get_elem? slots 0 ≡ some (Home d)) × IsEnded is_legal plan_of steps_of plan v.accounts d
+  pub ends : (id n : ℕ) (v : View P S) (words : List ℕ) (slots : List (Place T)) → (n ≢ MOST_SEATS → v.closing ≡ Some n) → v.holding ≡ None → n ≤ length v.accounts → Final (Seen Rule id v) words slots → (d : T) × (get_elem? slots 0 ≡ some (Home d)) × IsEnded is_legal plan_of steps_of plan v.accounts d
   ends id n v words slots closer unheld enough f =
       let h = f.1.0 in
       let at = f.1.1 in
       let views = f.0.views in
       let mine = h.each id v at in
-      let count_is = mine.closing n closer in
+      let few = h.few in
+      let enough_made : h.count ≤ n = dite (ℕ_discrete n MOST_SEATS) (λ most. omega arith) (λ apart. let count_is = mine.closing n (closer apart) in omega arith) in
       let within = one_within accounts_of views id v at in
       let sum = h.accounts in
       let all_mine : length v.accounts ≡ h.count = omega arith in

@@ -68,7 +68,7 @@ module _ {T P S : Type 0} (is_legal : P → List (Entry S) → Type 0) (plan_of 
         accounts = total_same accounts_of s.views id v w at refl ∙ h.accounts;
         seats = h.seats;
         each = fits_set plan h.history h.count s.views id w (λ j u apart there. h.each j u there)
-            (record { planned = mine.planned; seen = mine.seen; heard = mine.heard; accounts = mine.accounts; holding = λ g e. (sym (ap held_in e) ∙ is, some_account); closing = mine.closing });
+            (record { planned = mine.planned; seen = mine.seen; heard = mine.heard; accounts = mine.accounts; holding = λ g e. (sym (ap held_in e) ∙ is, some_account); closing = mine.closing; fewest = mine.fewest });
       }
 
   pub tries : (slots id new : ℕ) (m : Me (Place T) (View P S)) → 0 < new → 0 < length m.0.accounts
@@ -152,9 +152,10 @@ module _ {T P S : Type 0} (is_legal : P → List (Entry S) → Type 0) (plan_of 
             accounts = raised_accounts h.history v.accounts;
             holding = λ g e. ((mine.holding g e).0, subst (λ n. 0 < n) (sym (length-raised h.history v.accounts)) (mine.holding g e).1);
             closing = mine.closing;
+            fewest = mine.fewest;
           });
         },
-        record { history = h.history; front = found; shows = record { legal = λ p e. subst (λ q. is_legal q h.history) (sym (mine.planned p e)) h.legal; later = mine.seen; learned = mine.heard; whole = mine.accounts; held = λ g e. (mine.holding g e).0 }; after = refl },
+        record { history = h.history; front = found; shows = record { legal = λ p e. subst (λ q. is_legal q h.history) (sym (mine.planned p e)) h.legal; later = mine.seen; learned = mine.heard; whole = mine.accounts; held = λ g e. (mine.holding g e).0 }; once = λ x. (let sum = h.once x in let most = once_le x h.count in let within = one_within (times_in x) s.views id v at in omega arith); after = refl },
       )
 
   -- an entry of the seat that holds the turn
@@ -210,6 +211,7 @@ module _ {T P S : Type 0} (is_legal : P → List (Entry S) → Type 0) (plan_of 
                 accounts = still_whole h.history n e u.accounts (omega arith) theirs.accounts;
                 holding = λ g' e'. let other : holds_turn u ≡ 1 = ap count_some e' in let two = two_within holds_turn s.views id j v u at there (λ same. apart (sym same)) in absurd (omega arith);
                 closing = theirs.closing;
+                fewest = theirs.fewest;
               }))
               (record {
                 planned = mine.planned;
@@ -218,6 +220,7 @@ module _ {T P S : Type 0} (is_legal : P → List (Entry S) → Type 0) (plan_of 
                 accounts = raised_accounts to v.accounts;
                 holding = λ g' e'. (sym (ap held_in e'), subst (λ k. 0 < k) (sym (length-raised to v.accounts)) known.1);
                 closing = mine.closing;
+                fewest = mine.fewest;
               });
         },
         (λ x' carries'. let same : x ≡ x' = carried_same (sym carries ∙ carries') in ap (λ (y : Snapshot T). (with_holding (Some (steps_of y.value)) (raised (steps_of y.value) v), m.1)) same),
@@ -253,7 +256,7 @@ module _ {T P S : Type 0} (is_legal : P → List (Entry S) → Type 0) (plan_of 
           accounts = total_same accounts_of s.views id v w at refl ∙ h.accounts;
           seats = h.seats;
           each = fits_set plan h.history h.count s.views id w (λ j u apart there. h.each j u there)
-              (record { planned = mine.planned; seen = mine.seen; heard = mine.heard; accounts = mine.accounts; holding = λ g' e'. cc; closing = mine.closing });
+              (record { planned = mine.planned; seen = mine.seen; heard = mine.heard; accounts = mine.accounts; holding = λ g' e'. cc; closing = mine.closing; fewest = mine.fewest });
         },
         refl,
       )

@@ -1,7 +1,5 @@
 -- The table of a desk has three words, and one slot.
-use Rattle.std.proofs.Common.{◌≡◌, ℕ, ◌+◌, ◌<◌, arith}
-use Rattle.turn_desk.specs.declared.rule.TheConstants.{CLOSED}
-use Rattle.turn_desk.specs.declared.seat.TheConstants.{MOST_SEATS}
+use Rattle.std.proofs.Common.{◌≡◌, ℕ, ◌<◌, arith}
 
 pub has_turn : (words : ℕ) → words ≡ 3 → 0 < words
 has_turn words three = omega arith
@@ -14,7 +12,3 @@ has_seats words three = omega arith
 
 pub has_slot : (slots : ℕ) → slots ≡ 1 → 0 < slots
 has_slot slots one = omega arith
-
--- a number that a seat may have is far below the mark of a closed desk
-pub below_mark : (n : ℕ) → n < MOST_SEATS → n + 1 < CLOSED
-below_mark n below = omega arith

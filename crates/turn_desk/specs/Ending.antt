@@ -1,11 +1,13 @@
 -- What the seat that closes the desk knows.
-use Rattle.std.specs.Prelude.{◌≡◌, ℕ, ◌<◌, ◌≤◌, List, ◌++◌, Some, None, map, length}
+use Rattle.std.specs.Prelude.{◌≡◌, ◌≢◌, ℕ, ◌<◌, ◌≤◌, List, ◌++◌, All, Option, Some, None, map, length}
 use Rattle.history.specs.declared.entry.Entry.{Entry}
 use Rattle.turn_desk.specs.declared.rule.Account.{Account}
 use Rattle.turn_desk.specs.declared.rule.View.{View}
+use Rattle.turn_desk.specs.declared.rule.TheConstants.{CLOSED}
+use Rattle.turn_desk.specs.declared.seat.TheConstants.{MOST_SEATS}
 use Rattle.turn_desk.specs.Views.{SeatView, times, once_below}
 use Rattle.turn_desk.specs.Rule.{Each, IsAccount, numbers}
-use Rattle.turn_desk.specs.Plays.{account}
+use Rattle.turn_desk.specs.Plays.{account, bare}
 
 -- the view has come to have the accounts of these seats too
 pub record HasGathered {P S : Type 0} (seats : List (SeatView P S)) (v w : View P S) : Type 0 where
@@ -13,12 +15,32 @@ pub record HasGathered {P S : Type 0} (seats : List (SeatView P S)) (v w : View 
   pub held : w.holding ≡ v.holding
   pub closed : w.closing ≡ v.closing
 
+-- no more than `made` seats were made: it closes the desk and has found so many, or there are no more
+abbrev pub Closes : {P S : Type 0} → ℕ → View P S → Type 0
+Closes made v = made ≢ MOST_SEATS → v.closing ≡ Some made
+
 -- it closes the desk, and has as many accounts as seats were made
 pub record IsCloser {P S : Type 0} (v : View P S) : Type 0 where
-  pub count : ℕ
-  pub closes : v.closing ≡ Some count
+  pub made : ℕ
+  pub closes : Closes made v
   pub unheld : v.holding ≡ None
-  pub enough : count ≤ length v.accounts
+  pub enough : made ≤ length v.accounts
+
+-- it has opened to close the desk where it found this at the word of seats: another seat's mark, or their count
+pub record HasOpened {P S : Type 0} (found : ℕ) (plan : Option P) (v : View P S) : Type 0 where
+  pub marked : found ≡ CLOSED → v ≡ bare plan None
+  pub counted : found ≢ CLOSED → (found ≤ MOST_SEATS) × (v ≡ bare plan (Some found))
+
+-- it has heard that more seats were made than the number, and else knows what it knew
+pub record HasHeard {P S : Type 0} (number : ℕ) (v w : View P S) : Type 0 where
+  pub more : number < w.fewest
+  pub fewest : v.fewest ≤ w.fewest
+  pub closed : w.closing ≡ v.closing
+
+-- it has heard so of each of these seats
+pub record HasHeardAll {P S : Type 0} (seats : List (SeatView P S)) (v w : View P S) : Type 0 where
+  pub more : All (λ s. s.number < w.fewest) seats
+  pub closed : w.closing ≡ v.closing
 
 -- the object that a closed desk leaves, by one that has all accounts
 pub record IsEnded {T P S : Type 0} (is_legal : P → List (Entry S) → Type 0) (plan_of : T → P) (steps_of : T → List (Entry S)) (plan : P) (accounts : List (Account S)) (object : T) : Type 0 where

@@ -1,5 +1,5 @@
 -- What each kind of step tells the seat that makes it.
-use Rattle.std.specs.Prelude.{◌≡◌, ◌≢◌, ◌≤◌, ℕ, List, [], ◌∷◌, ◌++◌, Option, Some, None, map, length}
+use Rattle.std.specs.Prelude.{◌≡◌, ◌≢◌, ◌<◌, ◌≤◌, ℕ, List, [], ◌∷◌, ◌++◌, Option, Some, None, map, length, max, ◌+◌}
 use Rattle.std.specs.declared.snapshot.Snapshot.{Snapshot}
 use Rattle.history.specs.declared.entry.Entry.{Entry}
 use Rattle.history.specs.Past.{own}
@@ -10,6 +10,7 @@ use Rattle.turn_desk.specs.declared.rule.Place.{Place}
 use Rattle.turn_desk.specs.declared.rule.Place.TheVariants.{Home, Entered}
 use Rattle.turn_desk.specs.declared.rule.View.{View}
 use Rattle.turn_desk.specs.declared.rule.TheConstants.{CLOSED}
+use Rattle.turn_desk.specs.declared.seat.TheConstants.{MOST_SEATS}
 use Rattle.turn_desk.specs.Views.{times}
 use Rattle.turn_desk.specs.Rule.{Each, IsAccount, numbers}
 
@@ -25,35 +26,50 @@ module _ {S : Type 0} where
   rest_of [] = []
   rest_of (a ∷ others) = others
 
+  -- more seats were made than the number of the first account
+  abbrev pub above_first : List (Account S) → ℕ
+  above_first [] = 0
+  above_first (a ∷ others) = a.number + 1
+
 module _ {P S : Type 0} where
   -- the first seat's view
   abbrev pub opener : P → View P S
-  opener plan = record { plan = Some plan; seen = []; heard = []; accounts = account 0 [] ∷ []; holding = None; closing = None }
+  opener plan = record { plan = Some plan; seen = []; heard = []; accounts = account 0 [] ∷ []; holding = None; closing = None; fewest = 0 }
 
   -- a view with no account, of a seat that closes the desk, or that is spent
   abbrev pub bare : Option P → Option ℕ → View P S
-  bare plan closing = record { plan = plan; seen = []; heard = []; accounts = []; holding = None; closing = closing }
+  bare plan closing = record { plan = plan; seen = []; heard = []; accounts = []; holding = None; closing = closing; fewest = 0 }
 
   -- the whole history was seen
   abbrev pub raised : List (Entry S) → View P S → View P S
-  raised h v = record { plan = v.plan; seen = h; heard = v.heard; accounts = map (λ a. account a.number h) v.accounts; holding = v.holding; closing = v.closing }
+  raised h v = record { plan = v.plan; seen = h; heard = v.heard; accounts = map (λ a. account a.number h) v.accounts; holding = v.holding; closing = v.closing; fewest = v.fewest }
 
   abbrev pub with_holding : Option (List (Entry S)) → View P S → View P S
-  with_holding h v = record { plan = v.plan; seen = v.seen; heard = v.heard; accounts = v.accounts; holding = h; closing = v.closing }
+  with_holding h v = record { plan = v.plan; seen = v.seen; heard = v.heard; accounts = v.accounts; holding = h; closing = v.closing; fewest = v.fewest }
 
   abbrev pub with_accounts : List (Account S) → View P S → View P S
-  with_accounts accounts v = record { plan = v.plan; seen = v.seen; heard = v.heard; accounts = accounts; holding = v.holding; closing = v.closing }
+  with_accounts accounts v = record { plan = v.plan; seen = v.seen; heard = v.heard; accounts = accounts; holding = v.holding; closing = v.closing; fewest = v.fewest }
+
+  abbrev pub with_closing : Option ℕ → View P S → View P S
+  with_closing closing v = record { plan = v.plan; seen = v.seen; heard = v.heard; accounts = v.accounts; holding = v.holding; closing = closing; fewest = v.fewest }
 
   -- a view is cut into one with its first account, and one with the others
   abbrev pub kept_part : View P S → View P S
   kept_part v = with_accounts (first_of v.accounts) v
 
   abbrev pub cut_part : View P S → View P S
-  cut_part v = record { plan = v.plan; seen = v.seen; heard = v.heard; accounts = rest_of v.accounts; holding = None; closing = None }
+  cut_part v = record { plan = v.plan; seen = v.seen; heard = v.heard; accounts = rest_of v.accounts; holding = None; closing = None; fewest = v.fewest }
+
+  -- a view stays whole, and a messenger knows that more seats were made than its number
+  abbrev pub whole_part : View P S → View P S
+  whole_part v = v
+
+  abbrev pub count_part : View P S → View P S
+  count_part v = record { plan = v.plan; seen = []; heard = []; accounts = []; holding = None; closing = None; fewest = above_first v.accounts }
 
   -- the second view's accounts come to the first, which has heard what the second had seen
   abbrev pub gathered : View P S → View P S → View P S
-  gathered v w = record { plan = v.plan; seen = v.seen; heard = w.seen; accounts = w.accounts ++ v.accounts; holding = v.holding; closing = v.closing }
+  gathered v w = record { plan = v.plan; seen = v.seen; heard = w.seen; accounts = w.accounts ++ v.accounts; holding = v.holding; closing = v.closing; fewest = max v.fewest w.fewest }
 
 module _ {P S : Type 0} (is_legal : P → List (Entry S) → Type 0) where
   -- the history h is legal, and goes on from all that the view knows
@@ -82,6 +98,8 @@ module _ {T P S : Type 0} where
     pub history : List (Entry S)
     pub front : r ≡ length history
     pub shows : Shows is_legal m.0 history
+    -- no number stands in two accounts
+    pub once : (x : ℕ) → times x (numbers m.0.accounts) ≤ 1
     pub after : m' ≡ (raised history m.0, m.1)
 
   abbrev pub looked : (P → List (Entry S) → Type 0) → Step (Place T) → Me (Place T) (View P S) → ℕ → Me (Place T) (View P S) → Type 0
@@ -94,16 +112,18 @@ module _ {T P S : Type 0} where
   abbrev pub left : Step (Place T) → Me (Place T) (View P S) → ℕ → Me (Place T) (View P S) → Type 0
   left st m r m' = m' ≡ (with_holding None m.0, [])
 
+  -- the view has come to have an account of a number above all that it knows
   pub record Numbers (n : ℕ) (m m' : Me (Place T) (View P S)) : Type 0 where
     pub after : m' ≡ (with_accounts (m.0.accounts ++ account n m.0.seen ∷ []) m.0, m.1)
     pub none : own n m.0.seen ≡ []
-    pub new : times n (numbers m.0.accounts) ≡ 0
+    pub new : (x : ℕ) → n ≤ x → times x (numbers m.0.accounts) ≡ 0
+    pub older : Each (λ e. e.seat < n) m.0.seen
 
   abbrev pub numbering : Step (Place T) → Me (Place T) (View P S) → ℕ → Me (Place T) (View P S) → Type 0
   numbering st m r m' = (r ≡ st.first → Numbers st.first m m') × (r ≢ st.first → m' ≡ m)
 
   abbrev pub closing : Step (Place T) → Me (Place T) (View P S) → ℕ → Me (Place T) (View P S) → Type 0
-  closing st m r m' = (r ≤ CLOSED) × (r ≡ CLOSED → m' ≡ (bare m.0.plan None, [])) × (r ≢ CLOSED → m' ≡ (bare m.0.plan (Some r), []))
+  closing st m r m' = (r ≡ CLOSED → m' ≡ (bare m.0.plan None, [])) × (r ≢ CLOSED → (r ≤ MOST_SEATS) × (m' ≡ (bare m.0.plan (Some r), [])))
 
   abbrev pub opening_again : Step (Place T) → Me (Place T) (View P S) → ℕ → Me (Place T) (View P S) → Type 0
-  opening_again st m r m' = Unit {0}
+  opening_again st m r m' = (m.0.fewest ≤ MOST_SEATS) × (m.0.fewest ≤ st.second)

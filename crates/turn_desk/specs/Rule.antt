@@ -12,6 +12,7 @@ use Rattle.turn_desk.specs.declared.rule.Place.{Place}
 use Rattle.turn_desk.specs.declared.rule.Place.TheVariants.{Home}
 use Rattle.turn_desk.specs.declared.rule.View.{View}
 use Rattle.turn_desk.specs.declared.rule.TheConstants.{CLOSED}
+use Rattle.turn_desk.specs.declared.seat.TheConstants.{MOST_SEATS}
 use Rattle.turn_desk.specs.Views.{times, once_below}
 
 abbrev pub total : {V : Type 0} → (V → ℕ) → List V → ℕ
@@ -66,6 +67,7 @@ module _ {P S : Type 0} where
     pub accounts : Each (IsAccount history) v.accounts
     pub holding : (h : List (Entry S)) → v.holding ≡ Some h → (h ≡ history) × (0 < length v.accounts)
     pub closing : (n : ℕ) → v.closing ≡ Some n → n ≡ count
+    pub fewest : v.fewest ≤ count
 
 module _ {T P S : Type 0} where
   -- the slot has the object, with just these steps
@@ -83,7 +85,7 @@ module _ {T P S : Type 0} where
     pub holders : total holds_turn s.views ≡ is_taken turn
     pub closed_by : total closes s.views ≡ closers
     pub one_closer : closers ≤ 1
-    pub few : count < CLOSED
+    pub few : count ≤ MOST_SEATS
     pub once : (x : ℕ) → total (times_in x) s.views ≡ once_below x count
     pub accounts : total accounts_of s.views ≡ count
     pub seats : Each (λ e. e.seat < count) history

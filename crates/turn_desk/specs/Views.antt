@@ -1,9 +1,10 @@
 -- What contracts see of a seat and of a desk.
-use Rattle.std.specs.Prelude.{◌≡◌, ℕ, ◌+◌, ◌<◌, List, [], ◌∷◌, All, map, length, Option, Some, nat_eq, nat_lt, if◌then◌else◌}
+use Rattle.std.specs.Prelude.{◌≡◌, ℕ, ◌+◌, ◌<◌, ◌≤◌, List, [], ◌∷◌, All, map, length, Option, Some, nat_eq, nat_lt, if◌then◌else◌}
 use Rattle.history.specs.declared.entry.Entry.{Entry}
 use Rattle.history.specs.Past.{own}
 use Rattle.history.specs.Prefix.{IsPrefix}
 use Rattle.atomic_table.specs.Seated.{TableId}
+use Rattle.turn_desk.specs.declared.seat.TheConstants.{MOST_SEATS}
 
 -- a seat: its desk, that desk's plan, its number, and the history that it has seen
 pub record SeatView (P S : Type 0) : Type 0 where
@@ -41,6 +42,12 @@ times x (n ∷ ns) = (if nat_eq n x then 1 else 0) + times x ns
 -- once for each number below the count
 abbrev pub once_below : ℕ → ℕ → ℕ
 once_below x count = if nat_lt x count then 1 else 0
+
+-- not all seats of a desk that has made so many: they are fewer, and each has one of its numbers
+pub record AreSome {P S : Type 0} (made : ℕ) (seats : List (SeatView P S)) : Type 0 where
+  pub fewer : length seats < made
+  pub numbered : All (λ s. s.number < made) seats
+  pub most : made ≤ MOST_SEATS
 
 -- what a closed desk leaves: the seats were all that were made, and the steps are theirs
 pub record IsWhole {P S : Type 0} (is_legal : P → List (Entry S) → Type 0) (plan : P) (seats : List (SeatView P S)) (steps : List (Entry S)) : Type 0 where

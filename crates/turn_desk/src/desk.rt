@@ -1,16 +1,16 @@
 //! The desk and its calls.
-ghost use Rattle.std.specs.Prelude.{◌≡◌, ◌≢◌, ℕ, ◌<◌, List, [], ◌∷◌, All, length, Some, None, IfOk, IfErr, IsTrue, IsFalse};
+ghost use Rattle.std.specs.Prelude.{◌≡◌, ◌≢◌, ℕ, ◌<◌, min, List, [], ◌∷◌, All, length, Some, None, IfOk, IfErr, IsTrue, IsFalse};
 ghost use Rattle.history.specs.Past.{own, entered};
 ghost use Rattle.history.specs.Prefix.{IsPrefix};
-ghost use Rattle.turn_desk.specs.Views.{IsSeatOf, IsSameSeat, IsWhole};
+ghost use Rattle.turn_desk.specs.Views.{IsSeatOf, IsSameSeat, IsWhole, AreSome};
 ghost use Rattle.turn_desk.specs.Calls.{IsCall};
 ghost use Rattle.turn_desk.specs.Plays.{Takes, with_holding};
 ghost use Rattle.turn_desk.specs.Working.{IsAtWork, IsAway, HasGrown, HasWorked};
-ghost use Rattle.turn_desk.specs.Ending.{HasGathered, IsCloser, IsEnded};
+ghost use Rattle.turn_desk.specs.Ending.{HasGathered, HasOpened, HasHeard, HasHeardAll, IsCloser, IsEnded};
 
 use crate::rule::{
-    CLOSED, Close, Cut, Enter, FREE, FRONT, Gather, HELD, Leave, Look, Mark, Number, OneHistory,
-    Place, Reopen, SEATS, SLOT, TURN, Try, View, WANTED,
+    CLOSED, Close, Count, Cut, Enter, FREE, FRONT, Gather, HELD, Leave, Look, Mark, Number,
+    OneHistory, Place, Reopen, SEATS, SLOT, TURN, Try, View, WANTED,
 };
 use crate::seat::{DeskFault, DeskSeat, MOST_SEATS, Token};
 use crate::seats::SeatList;
@@ -103,6 +103,8 @@ impl<T: Served, A: Allocator> Desk<T, A> {
 
     /// A further seat, which has seen what this one has. At most 1,024 seats are made, numbered from 0.
     ///
+    /// Its number lies above this seat's, and above that of every entry that this seat has seen.
+    ///
     /// The given seat comes back as it was. Where all seats were made, it comes with `SeatsFull`, and no number is used.
     /// It takes no memory, and tries again where another seat came first.
     pub fn another<R: Wait>(
@@ -113,7 +115,8 @@ impl<T: Served, A: Allocator> Desk<T, A> {
         requires { IsSeatOf self.now seat }
         ensures kept { result.0 ≡ seat }
         ensures made { IfOk result.1 (λ new. IsSeatOf self.now new × (new.seen ≡ seat.seen)) }
-        ensures number { IfOk result.1 (λ new. (new.number ≢ seat.number) × (new.number < MOST_SEATS)) }
+        ensures number { IfOk result.1 (λ new. (seat.number < new.number) × (new.number < MOST_SEATS)) }
+        ensures newest { IfOk result.1 (λ new. All (λ e. e.seat < new.number) seat.seen) }
         ensures own { IfOk result.1 (λ new. own new.number new.seen ≡ []) }
         ensures full { IfErr result.1 (λ fault. fault ≡ DeskFault.SeatsFull) }
     {
@@ -137,44 +140,46 @@ impl<T: Served, A: Allocator> Desk<T, A> {
         unreachable!()
     }
 
-    /// Two seats meet: what each had seen, both have seen then, and the one list is a beginning of the other.
+    /// Two seats meet: what each had seen, both have seen then, and both have seen the same. No two seats have one number.
     ///
     /// They come back in the same order. It waits for nobody and takes no memory.
-    pub fn meet(&self, mut a: DeskSeat<T>, mut b: DeskSeat<T>) -> (DeskSeat<T>, DeskSeat<T>)
+    pub fn meet(&self, a: DeskSeat<T>, b: DeskSeat<T>) -> (DeskSeat<T>, DeskSeat<T>)
         requires first { IsSeatOf self.now a }
         requires second { IsSeatOf self.now b }
         ensures seats { IsSameSeat a result.0 × IsSameSeat b result.1 }
+        ensures apart { a.number ≢ b.number }
         ensures first { IsPrefix a.seen result.0.seen × IsPrefix b.seen result.0.seen }
         ensures second { IsPrefix a.seen result.1.seen × IsPrefix b.seen result.1.seen }
-        ensures met { IsPrefix result.0.seen result.1.seen }
+        ensures met { result.0.seen ≡ result.1.seen }
         ensures legal { T.is_legal self.now.plan result.0.seen × T.is_legal self.now.plan result.1.seen }
         ensures own { (own a.number result.0.seen ≡ own a.number a.seen) × (own b.number result.1.seen ≡ own b.number b.seen) }
     {
-        self.tell(&mut b, &mut a);
-        self.tell(&mut a, &mut b);
-        (a, b)
-    }
-
-    // The second seat hears what the first has seen, and then sees the whole history.
-    fn tell(&self, from: &mut DeskSeat<T>, to: &mut DeskSeat<T>)
-        requires from { IsSeatOf self.now from.old }
-        requires to { IsSeatOf self.now to.old }
-        ensures from { from.new ≡ from.old }
-        ensures seat { IsSameSeat to.old to.new }
-        ensures later { IsPrefix to.old.seen to.new.seen }
-        ensures told { IsPrefix from.old.seen to.new.seen }
-        ensures legal { T.is_legal self.now.plan to.new.seen }
-        ensures own { own to.old.number to.new.seen ≡ own to.old.number to.old.seen }
-    {
         let shared = &self.table.shared;
-        let messenger = shared.split_seat::<Cut>(&mut from.token);
-        shared.join_seat::<Gather>(&mut to.token, messenger);
-        shared.load::<Look>(&mut to.token, FRONT);
+        let DeskSeat {
+            number: first,
+            token: mut both,
+        } = a;
+        let DeskSeat {
+            number: second,
+            token,
+        } = b;
+        shared.join_seat::<Gather>(&mut both, token);
+        shared.load::<Look>(&mut both, FRONT);
+        let a = DeskSeat {
+            number: first,
+            token: shared.split_seat::<Cut>(&mut both),
+        };
+        let b = DeskSeat {
+            number: second,
+            token: both,
+        };
+        (a, b)
     }
 
     /// Ends the desk and gives the object back, where all of its seats are given. It waits for nobody and takes no memory.
     ///
-    /// Where some are out, the desk and the seats come back as they were, with `SeatsOut`.
+    /// Where some are out, the desk and the seats come back as they were, with `SeatsOut`: how many seats were given, and how many
+    /// the desk has made, which are more than were given, more than each number given, and at most 1,024.
     pub fn close<B: Allocator>(
         self,
         seats: SeatList<T, B>,
@@ -183,19 +188,12 @@ impl<T: Served, A: Allocator> Desk<T, A> {
         ensures plan { IfOk result (λ object. T.plan object ≡ self.plan) }
         ensures whole { IfOk result (λ object. IsWhole T.is_legal self.plan seats (T.steps object)) }
         ensures kept { IfErr result (λ back. (back.0 ≡ self) × (back.1 ≡ seats)) }
-        ensures out { IfErr result (λ back. (made : ℕ) × (back.2 ≡ DeskFault.SeatsOut (length seats) made) × (length seats < made)) }
+        ensures out { IfErr result (λ back. (made : ℕ) × (back.2 ≡ DeskFault.SeatsOut (length seats) made) × AreSome made seats) }
     {
         let Desk { table } = self;
-        let given = seats.len() as u64;
-        let (made, mut closer) = table.shared.swap_new_seat::<Close>(SEATS, CLOSED);
-        if given < made {
-            if made < CLOSED {
-                table.shared.store::<Reopen>(&mut closer, SEATS, made);
-            }
-            let fault = DeskFault::SeatsOut {
-                given: given as u32,
-                made: made as u32,
-            };
+        let (found, mut closer) = table.shared.swap_new_seat::<Close>(SEATS, CLOSED);
+        if (seats.len() as u64) < made_at(found) {
+            let (seats, fault) = reopen(&table.shared, closer, found, seats);
             return Err((Desk { table }, seats, fault));
         }
         gather(&table.shared, &mut closer, seats.into_vec());
@@ -293,6 +291,72 @@ impl<T: Served, A: Allocator> Desk<T, A> {
             self.table.shared.wake_one(TURN);
         }
     }
+}
+
+// How many seats were made, by what was found at the word of seats. Who closes the desk has it alone, so it isn't the mark of
+// another. The rule doesn't say so: at a mark, no more were made than can be.
+fn made_at(found: u64) -> u64
+    ensures { result ≡ min found MOST_SEATS }
+{
+    found.min(MOST_SEATS as u64)
+}
+
+// Gives the closing up, and says how many seats were given, and how many were made. First the seat that was to close the
+// desk hears of each given seat that its number was made.
+fn reopen<T: Served, B: Allocator>(
+    shared: &Shared<Place<T>, View<T::Plan, T::Step>, Snapshot<T>, OneHistory>,
+    mut closer: Token<T>,
+    found: u64,
+    seats: SeatList<T, B>,
+) -> (SeatList<T, B>, DeskFault)
+    requires desk { (closer.table_id ≡ shared.now.table_id) × (shared.now.table_id.words ≡ 3) }
+    requires seats { All (λ s. s.desk ≡ shared.now.table_id) seats }
+    requires opened { HasOpened found (Some (T.plan shared.now.key.value)) closer.me.0 }
+    ensures seats { result.0 ≡ seats }
+    ensures made { All (λ s. s.number < min found MOST_SEATS) seats }
+    ensures fault { result.1 ≡ DeskFault.SeatsOut (length seats) (min found MOST_SEATS) }
+{
+    let mut seats = seats.into_vec();
+    hear_all(shared, &mut closer, &mut seats);
+    shared.compare_exchange::<Reopen>(&mut closer, SEATS, CLOSED, found);
+    let fault = DeskFault::SeatsOut {
+        given: seats.len() as u32,
+        made: made_at(found) as u32,
+    };
+    (SeatList::from_vec(seats), fault)
+}
+
+// The seat hears of each of the others that its number was made.
+fn hear_all<T: Served, B: Allocator>(
+    shared: &Shared<Place<T>, View<T::Plan, T::Step>, Snapshot<T>, OneHistory>,
+    closer: &mut Token<T>,
+    seats: &mut Vec<DeskSeat<T>, B>,
+)
+    requires desk { (closer.old.table_id ≡ shared.now.table_id) × (shared.now.table_id.words ≡ 3) }
+    requires seats { All (λ s. s.desk ≡ shared.now.table_id) seats.old.items }
+    ensures desk { closer.new.table_id ≡ closer.old.table_id }
+    ensures seats { seats.new.items ≡ seats.old.items }
+    ensures heard { HasHeardAll seats.old.items closer.old.me.0 closer.new.me.0 }
+{
+    for seat in seats.iter_mut() {
+        hear_number(shared, closer, seat);
+    }
+}
+
+// The seat hears of another that its number was made.
+fn hear_number<T: Served>(
+    shared: &Shared<Place<T>, View<T::Plan, T::Step>, Snapshot<T>, OneHistory>,
+    closer: &mut Token<T>,
+    seat: &mut DeskSeat<T>,
+)
+    requires desk { (closer.old.table_id ≡ shared.now.table_id) × (shared.now.table_id.words ≡ 3) }
+    requires seat { seat.old.desk ≡ shared.now.table_id }
+    ensures desk { closer.new.table_id ≡ closer.old.table_id }
+    ensures seat { seat.new ≡ seat.old }
+    ensures heard { HasHeard seat.old.number closer.old.me.0 closer.new.me.0 }
+{
+    let messenger = shared.split_seat::<Count>(&mut seat.token);
+    shared.join_seat::<Gather>(closer, messenger);
 }
 
 // The seat that closes the desk takes in all others.

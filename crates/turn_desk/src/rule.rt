@@ -24,7 +24,7 @@ pub const HELD: u64 = 1;
 
 pub const WANTED: u64 = 2;
 
-/// The word of seats while the desk is being closed. No count is as large.
+/// The word of seats while the desk is being closed. No count is as large, since at most 1,024 seats are made.
 pub const CLOSED: u64 = u32::MAX as u64;
 
 /// The slot's value: the object, nothing while the holder of the turn works with it, or, for the proof alone, what it
@@ -73,6 +73,7 @@ pub struct View<P, S> {
     pub accounts: LinkedList<Account<S>>,
     pub holding: Option<LinkedList<Entry<S>>>,
     pub closing: Option<u64>,
+    pub fewest: u64,
 }
 
 /// One legal history, of which each seat has seen a beginning.
@@ -150,7 +151,7 @@ impl<T: Served> Play<Place<T>, View<T::Plan, T::Step>> for Close {
     ghost then = { closing };
 }
 
-/// Gives the closing up.
+/// Gives the closing up, and says that no fewer seats were made than the seat has heard of.
 pub struct Reopen;
 
 impl<T: Served> Play<Place<T>, View<T::Plan, T::Step>> for Reopen {
@@ -168,6 +169,17 @@ impl<P, S> Split<View<P, S>> for Cut {
     ghost left = { kept_part };
 
     ghost right = { cut_part };
+}
+
+/// A seat stays as it is, and a new one knows that its number lies below the count of seats.
+pub struct Count;
+
+impl<P, S> Split<View<P, S>> for Count {
+    ghost use Rattle.turn_desk.specs.Plays.{whole_part, count_part};
+
+    ghost left = { whole_part };
+
+    ghost right = { count_part };
 }
 
 /// A seat takes in another's accounts, and hears what the other has seen.

@@ -25,7 +25,7 @@ pub enum DeskFault {
     SeatsOut {
         /// How many seats were given.
         given: u32,
-        /// How many seats the desk has made.
+        /// How many seats the desk has made, at most 1,024.
         made: u32,
     },
 

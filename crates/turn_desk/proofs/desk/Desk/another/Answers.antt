@@ -1,8 +1,9 @@
-use Rattle.std.proofs.Common.{sym, ap, ◌∙◌}
+use Rattle.std.proofs.Common.{◌<◌, All, sym, ap, ◌∙◌, subst}
 use Rattle.history.specs.Past.{own}
-use Rattle.turn_desk.proofs.Words.{has_turn, has_seats, below_mark}
+use Rattle.turn_desk.proofs.Words.{has_turn, has_seats}
 use Rattle.turn_desk.proofs.Hands.{kept_first, seated_same, seated_new, same_view, new_view, new_number}
 use Rattle.turn_desk.proofs.Places.{takes_number, cuts}
+use Rattle.turn_desk.proofs.Endings.{All-each}
 use Rattle.turn_desk.proofs.desk.Desk.another.Goals as goal
 
 pub compare_exchange-found-requires : goal.compare_exchange-found-requires
@@ -12,7 +13,7 @@ compare_exchange-found-requires g c =
     let token = c.loop.token in (
       c.loop.invariant.0 ∙ ap (λ s. s.desk) c.seat.view_is ∙ c.requires.made_by ∙ sym (ap (λ d. d.id) c.self.view_is),
       has_seats shared.table_id.words c.self.invariant.0,
-      takes_number t.is_legal t.plan t.steps (t.plan shared.key.value) shared.table_id.slots token.id c.loop.next token.me (below_mark c.loop.next c.if-next.false),
+      takes_number t.is_legal t.plan t.steps (t.plan shared.key.value) shared.table_id.slots token.id c.loop.next token.me c.if-next.false,
     )
 
 pub split_seat-requires : goal.split_seat-requires
@@ -28,9 +29,16 @@ split_seat-requires g c =
 pub returns-then-found-next-clause-number : goal.returns-then-found-next-clause-number
 returns-then-found-next-clause-number g c =
     let taken = c.compare_exchange-found.ensures.2.0 c.if-found-next.true in (
-      (λ same. new_number c.seat.inside.number c.loop.next c.seat.inside.token c.loop.token c.compare_exchange-found.new.seat c.seat.invariant c.loop.invariant.1 taken (same ∙ sym (ap (λ s. s.number) c.seat.view_is))),
+      subst (λ k. k < c.loop.next) (ap (λ s. s.number) c.seat.view_is) (new_number c.seat.inside.number c.loop.next c.seat.inside.token c.loop.token c.compare_exchange-found.new.seat c.seat.invariant c.loop.invariant.1 taken),
       c.if-next.false,
     )
+
+pub returns-then-found-next-clause-newest : goal.returns-then-found-next-clause-newest
+returns-then-found-next-clause-newest g c =
+    let n = c.loop.next in
+    let taken = c.compare_exchange-found.ensures.2.0 c.if-found-next.true in
+    let seen = ap (λ m. m.0.seen) c.loop.invariant.1 ∙ ap (λ s. s.seen) c.seat.view_is in
+    subst (All (λ e. e.seat < n)) seen (All-each (λ e. e.seat < n) c.loop.token.me.0.seen taken.older)
 
 pub invariant_of-new : goal.invariant_of-new
 invariant_of-new g c =
