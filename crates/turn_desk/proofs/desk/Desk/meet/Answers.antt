@@ -43,3 +43,19 @@ pub returns-clause-apart : goal.returns-clause-apart
 returns-clause-apart g c = λ same.
     apart_joined c.a.inside.number c.b.inside.number c.a.inside.token c.b.inside.token c.join_seat.new.seat c.a.invariant c.b.invariant c.join_seat.ensures.2 c.load.ensures.2.once
     (ap (λ s. s.number) c.b.view_is ∙ sym same ∙ sym (ap (λ s. s.number) c.a.view_is))
+
+-- written out so that a wrong body is refused soon (docs/GATE.md)
+pub returns-clause-seats : goal.returns-clause-seats
+returns-clause-seats g c =
+    let split = c.split_seat.ensures in
+    let looked = c.load.ensures in
+    let joined = c.join_seat.ensures in
+    let planned = ap (λ m. m.0.plan) looked.2.after ∙ ap (λ m. m.0.plan) joined.2 ∙ ap (λ s. s.plan) c.a.view_is in
+    let table = looked.0 ∙ joined.0 ∙ ap (λ s. s.desk) c.a.view_is in (
+      record { desk = split.3 ∙ table; plan = ap (λ m. m.0.plan) split.4 ∙ planned; number = ap (λ s. s.number) c.a.view_is },
+      record {
+        desk = split.0 ∙ table ∙ c.requires.first.made_by ∙ sym c.requires.second.made_by;
+        plan = ap (λ m. m.0.plan) split.2 ∙ planned ∙ c.requires.first.planned ∙ sym c.requires.second.planned;
+        number = ap (λ s. s.number) c.b.view_is;
+      },
+    )
