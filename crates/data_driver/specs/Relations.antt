@@ -1,5 +1,5 @@
 -- Limits and words as relations: a number, and the four bounds that it is taken at (of this project).
-use Rattle.std.specs.Prelude.{ℕ, ◌^◌, ℤ, pos, negsuc, nat_lt, if◌then◌else◌, ◌==◌, [], ◌∷◌, List, Option, None, Some}
+use Rattle.std.specs.Prelude.{ℕ, ◌+◌, ◌^◌, ℤ, pos, negsuc, nat_lt, if◌then◌else◌, ◌==◌, [], ◌∷◌, List, Option, None, Some}
 use Rattle.ctrl_calls.specs.declared.relation.Relation.{Relation}
 use Rattle.data_driver.specs.Members.{place_of}
 use Rattle.data_driver.specs.declared.limit.Excess.{Excess}
@@ -13,14 +13,17 @@ use Rattle.data_driver.specs.declared.word.Word.TheVariants.{Joined, Plus, Const
 abbrev pub relation : ℕ → ℤ → ℤ → ℤ → ℤ → Relation
 relation number a b c d = record { number = number; bounds = a ∷ b ∷ c ∷ d ∷ [] }
 
--- a limit as a relation; what refuses and what lowers has a number each
+-- the number of a relation: where it lowers, the one behind that where it refuses
+abbrev pub number_with : Excess → ℕ → ℕ
+number_with Refused refusing = refusing
+number_with Lowered refusing = refusing + 1
+
+-- a limit as a relation
 abbrev pub limit_relation : Limit → Relation
 limit_relation (Sum most) = relation 1 most (pos 0) (pos 0) (pos 0)
 limit_relation (Product first second most) = relation 2 (pos first) (pos second) most (pos 0)
-limit_relation (AtMost member most Refused) = relation 3 (pos member) most (pos 0) (pos 0)
-limit_relation (AtMost member most Lowered) = relation 4 (pos member) most (pos 0) (pos 0)
-limit_relation (AtMostMember member other margin Refused) = relation 5 (pos member) (pos other) margin (pos 0)
-limit_relation (AtMostMember member other margin Lowered) = relation 6 (pos member) (pos other) margin (pos 0)
+limit_relation (AtMost member most excess) = relation (number_with excess 3) (pos member) most (pos 0) (pos 0)
+limit_relation (AtMostMember member other margin excess) = relation (number_with excess 5) (pos member) (pos other) margin (pos 0)
 limit_relation (AtMostWhile member most other when) = relation 7 (pos member) most (pos other) when
 
 -- a word as a relation

@@ -1,7 +1,7 @@
-ghost use Rattle.std.specs.Prelude.{◌≡◌, Some};
+ghost use Rattle.std.specs.Prelude.{◌≡◌, ◌<◌, Some};
 ghost use Rattle.data_driver.specs.Limits.{limit_places, verdict_of};
 ghost use Rattle.data_driver.specs.Members.{missing};
-ghost use Rattle.data_driver.specs.Relations.{at_most as at_most_of, at_most_member as at_most_member_of, at_most_while as at_most_while_of, limit_of, limit_relation, product_of};
+ghost use Rattle.data_driver.specs.Relations.{at_most as at_most_of, at_most_member as at_most_member_of, at_most_while as at_most_while_of, limit_of, limit_relation, number_with, product_of};
 
 use crate::judging::{held, product, refused_above, refused_while, total, with_margin};
 use crate::members::{NoMember, member, missing_of_two, missing_one, place_in};
@@ -14,6 +14,19 @@ pub enum Excess {
     Refused,
     /// The value is lowered to the most; where that is below every value of 64 bits, the row is refused with EINVAL.
     Lowered,
+}
+
+impl Excess {
+    // The number of a relation: where it lowers, the one behind that where it refuses.
+    fn number(self, refusing: u32) -> u32
+        requires { refusing < 7 }
+        ensures { result ≡ number_with self refusing }
+    {
+        match self {
+            Excess::Refused => refusing,
+            Excess::Lowered => refusing + 1,
+        }
+    }
 }
 
 /// What a validator holds the values of a cluster's members to, as data (Linux driver API, "V4L2 Controls", "Control Clusters": `try_ctrl`
@@ -84,25 +97,17 @@ impl Limit {
             Limit::AtMost {
                 member,
                 most,
-                excess: Excess::Refused,
-            } => (3, [i64::from(member), most, 0, 0]),
-            Limit::AtMost {
-                member,
-                most,
-                excess: Excess::Lowered,
-            } => (4, [i64::from(member), most, 0, 0]),
+                excess,
+            } => (excess.number(3), [i64::from(member), most, 0, 0]),
             Limit::AtMostMember {
                 member,
                 other,
                 margin,
-                excess: Excess::Refused,
-            } => (5, [i64::from(member), i64::from(other), margin, 0]),
-            Limit::AtMostMember {
-                member,
-                other,
-                margin,
-                excess: Excess::Lowered,
-            } => (6, [i64::from(member), i64::from(other), margin, 0]),
+                excess,
+            } => (
+                excess.number(5),
+                [i64::from(member), i64::from(other), margin, 0],
+            ),
             Limit::AtMostWhile {
                 member,
                 most,
@@ -114,7 +119,7 @@ impl Limit {
     }
 
     /// The limit that a relation is (of this project); `None` where it is none: its number isn't 1 to 7, or a bound that names a member is
-    /// outside 0 to 255. Bounds that the limit doesn't use may be any.
+    /// outside 0 to 255. The bounds that the limit doesn't use may be any.
     pub fn of(relation: &Relation) -> Option<Limit>
         ensures { result ≡ limit_of relation.now }
     {
@@ -131,8 +136,9 @@ impl Limit {
         }
     }
 
-    /// Why a cluster of so many members can't have this limit: the first place that it names and the cluster doesn't have; `None` where it
-    /// can (of this project).
+    /// Why a cluster can't have this limit: the first place that it names and the cluster doesn't have; `None` where it can (of this project).
+    ///
+    /// - `members`: how many members the cluster has, 1 to 8.
     pub fn refusal(self, members: usize) -> Option<NoMember>
         ensures { result ≡ missing members (limit_places self) }
     {
@@ -145,9 +151,11 @@ impl Limit {
         }
     }
 
-    /// What the limit makes of a row, the values of its cluster's members in member order (Linux driver API, "V4L2 Controls", "Control
-    /// Clusters": `try_ctrl`). A row within the limit is accepted as it is, another one refused with EINVAL, or accepted with the value
-    /// lowered; a row that lacks a member which the limit names is refused with EINVAL.
+    /// What the limit makes of a row (Linux driver API, "V4L2 Controls", "Control Clusters": `try_ctrl`). A row within the limit is accepted
+    /// as it is; another one is refused with EINVAL, or accepted with the value lowered. A row that lacks a member which the limit names is
+    /// refused with EINVAL.
+    ///
+    /// - `row`: the values of a cluster's members, in member order.
     pub fn verdict(self, row: &ClusterRow) -> Verdict
         ensures { result ≡ verdict_of self row.now }
     {

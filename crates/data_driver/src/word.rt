@@ -45,7 +45,7 @@ impl Word {
     }
 
     /// The word that a relation is (of this project); `None` where it is none: its number isn't 11 to 13, a bound that names a member is
-    /// outside 0 to 255, or the constant outside 0 to 4294967295. Bounds that the word doesn't use may be any.
+    /// outside 0 to 255, or the constant outside 0 to 4294967295. The bounds that the word doesn't use may be any.
     pub fn of(relation: &Relation) -> Option<Word>
         ensures { result ≡ told_word relation.now }
     {
@@ -58,8 +58,9 @@ impl Word {
         }
     }
 
-    /// Why a cluster of so many members can't have this word: the first place that it names and the cluster doesn't have; `None` where it
-    /// can (of this project).
+    /// Why a cluster can't have this word: the first place that it names and the cluster doesn't have; `None` where it can (of this project).
+    ///
+    /// - `members`: how many members the cluster has, 1 to 8.
     pub fn refusal(self, members: usize) -> Option<NoMember>
         ensures { result ≡ missing members (word_places self) }
     {
@@ -70,8 +71,10 @@ impl Word {
         }
     }
 
-    /// The word that is told of a row, the values of its cluster's members in member order (Linux driver API, "V4L2 Controls", "Adding
-    /// Notify Callbacks").
+    /// The word that is told of a row (Linux driver API, "V4L2 Controls", "Adding Notify Callbacks"); 0 where the row lacks a member that it
+    /// names.
+    ///
+    /// - `row`: the values of a cluster's members, in member order.
     pub fn told(self, row: &ClusterRow) -> u64
         ensures { result ≡ word_of self row.now }
     {
