@@ -1,0 +1,5 @@
+pub mod Data
+pub mod Limits
+pub mod Members
+pub mod Relations
+pub mod Words

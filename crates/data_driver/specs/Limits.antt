@@ -1,0 +1,76 @@
+-- What a limit makes of a row, the values of a cluster's members (Linux driver API, "V4L2 Controls", "Control Clusters": what `try_ctrl`
+-- answers, and what it leaves in the cluster's values; the limits are of this project).
+use Rattle.std.specs.Prelude.{ℕ, ℤ, pos, negsuc, ◌+ℤ◌, ◌*ℤ◌, int_lt, int_le, ◌&&◌, if◌then◌else◌, [], ◌∷◌, List, Option, None, Some, slice_get, slice_set}
+use Rattle.std.specs.Ordering.{int_eq}
+use Rattle.ctrl_calls.specs.declared.verdict.Verdict.{Verdict}
+use Rattle.ctrl_calls.specs.declared.verdict.Verdict.TheVariants.{Accept, Refuse}
+use Rattle.ctrl_types.specs.declared.errno.Errno.TheVariants.{EINVAL}
+use Rattle.data_driver.specs.declared.limit.Excess.{Excess}
+use Rattle.data_driver.specs.declared.limit.Excess.TheVariants.{Refused, Lowered}
+use Rattle.data_driver.specs.declared.limit.Limit.{Limit}
+use Rattle.data_driver.specs.declared.limit.Limit.TheVariants.{Sum, Product, AtMost, AtMostMember, AtMostWhile}
+
+-- all values together
+abbrev pub total : List ℤ → ℤ
+total [] = pos 0
+total (value ∷ row) = value +ℤ total row
+
+-- one member's value times another's, where the row has both
+abbrev pub product : Option ℤ → Option ℤ → Option ℤ
+product (Some first) (Some second) = Some (first *ℤ second)
+product _ _ = None
+
+-- a member's value and a margin, where the row has the member
+abbrev pub with_margin : Option ℤ → ℤ → Option ℤ
+with_margin (Some value) margin = Some (value +ℤ margin)
+with_margin None margin = None
+
+-- the lesser of two
+abbrev pub lesser : ℤ → ℤ → ℤ
+lesser a b = if int_le a b then a else b
+
+-- the least value of 64 bits
+abbrev pub least : ℤ
+least = negsuc 9223372036854775807
+
+-- a row is refused where the number is above the most, or where it lacks a member that is named
+abbrev pub refused_above : Option ℤ → Option ℤ → List ℤ → Verdict
+refused_above (Some number) (Some most) row = if int_lt most number then Refuse EINVAL else Accept row
+refused_above _ _ row = Refuse EINVAL
+
+-- the value at a place becomes the lesser of it and the most; a row is refused where the most is less than any value, or where it lacks
+-- a member that is named
+abbrev pub lowered_to : ℕ → Option ℤ → Option ℤ → List ℤ → Verdict
+lowered_to place (Some value) (Some most) row =
+    if int_lt most least then Refuse EINVAL else Accept (slice_set row place (lesser value most))
+lowered_to place _ _ row = Refuse EINVAL
+
+-- the value at a place is at most this: the row is refused, or the value lowered
+abbrev pub held : Excess → ℕ → Option ℤ → Option ℤ → List ℤ → Verdict
+held Refused place value most row = refused_above value most row
+held Lowered place value most row = lowered_to place value most row
+
+-- while the other member has that value, a row is refused where the one is above the most; also where it lacks one of them
+abbrev pub refused_while : Option ℤ → ℤ → Option ℤ → ℤ → List ℤ → Verdict
+refused_while (Some value) most (Some other) when row =
+    if int_eq other when && int_lt most value then Refuse EINVAL else Accept row
+refused_while _ most _ when row = Refuse EINVAL
+
+-- what a limit makes of a row
+abbrev pub verdict_of : Limit → List ℤ → Verdict
+verdict_of (Sum most) row = refused_above (Some (total row)) (Some most) row
+verdict_of (Product first second most) row =
+    refused_above (product (slice_get row first) (slice_get row second)) (Some most) row
+verdict_of (AtMost member most excess) row = held excess member (slice_get row member) (Some most) row
+verdict_of (AtMostMember member other margin excess) row =
+    held excess member (slice_get row member) (with_margin (slice_get row other) margin) row
+verdict_of (AtMostWhile member most other when) row =
+    refused_while (slice_get row member) most (slice_get row other) when row
+
+-- the places that a limit names
+abbrev pub limit_places : Limit → List ℕ
+limit_places (Sum most) = []
+limit_places (Product first second most) = first ∷ second ∷ []
+limit_places (AtMost member most excess) = member ∷ []
+limit_places (AtMostMember member other margin excess) = member ∷ other ∷ []
+limit_places (AtMostWhile member most other when) = member ∷ other ∷ []
