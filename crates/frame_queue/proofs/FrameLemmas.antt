@@ -376,7 +376,7 @@ at_end values f none = ap (λ ids. whole (ended values ids f.requests)) empty �
     empty : f.queue ≡ []
     empty = by f.queue none
 
--- a request that was completed already is as it is once the stream is off
+-- once the stream is off, it makes no difference that one that waited or ran was completed before
 ended_first : (values : List CtrlValue) (rs : List RequestData) (id : ℕ) → ((r : RequestData) → find rs id ≡ Some r → is_pending r.state ≡ true)
     → map (ended_request values) (with_request id (completed values) rs) ≡ map (ended_request values) rs
 ended_first values [] id pending = refl
@@ -388,7 +388,7 @@ ended_first values (r ∷ rs) id pending = by (nat_eq id r.id) pending (ended_fi
     by true pending rest = rw (pending r refl) refl
     by false pending rest = ap (λ qs. ended_request values r ∷ qs) (rest pending)
 
--- where no request waits or runs, each is as it is once the stream is off
+-- where no request waits or runs, the end of the stream leaves them all
 none_ends : (values : List CtrlValue) (rs : List RequestData) → HaveOwnIds rs → ((id : ℕ) → is_in is_pending (find rs id) ≡ false) → map (ended_request values) rs ≡ rs
 none_ends values [] own none = refl
 none_ends values (r ∷ rs) own none =
@@ -460,7 +460,7 @@ all_ended values f kept own = by f.running refl
         (queue_ended values (with_changed f.requests id (completed values)) f.queue (completed_kept f id values kept is) (own_changed f.requests.all id (completed values) (λ r. refl) own)
         ∙ ap (λ (rs : List RequestData). record f.requests { all = rs }) (ended_first values f.requests.all id (λ r there. pending r.state (sym (ap (is_in is_running) there) ∙ sym was))))
 
--- once the stream is off an id finds its request as it is then
+-- once the stream is off, an id finds its request as it is then
 find_ended : (values : List CtrlValue) (rs : List RequestData) (id : ℕ) → find (map (ended_request values) rs) id ≡ option_map (ended_request values) (find rs id)
 find_ended values [] id = refl
 find_ended values (r ∷ rs) id = ap (λ i. cond (nat_eq id i) (Some (ended_request values r)) (find (map (ended_request values) rs) id)) (same (is_pending r.state)) ∙ by (nat_eq id r.id) (find_ended values rs id)
@@ -474,7 +474,7 @@ find_ended values (r ∷ rs) id = ap (λ i. cond (nat_eq id i) (Some (ended_requ
     by true rest = refl
     by false rest = rest
 
--- once the stream is off nothing waits, and nothing runs
+-- once the stream is off, nothing waits, and nothing runs
 pub off_kept : (values : List CtrlValue) (f : FramesData) → QueueFitsRequests (after_off f values)
 off_kept values f = record {
   once = tt;

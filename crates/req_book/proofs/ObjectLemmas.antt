@@ -52,7 +52,7 @@ counted n slots (e ∷ es) kept =
     let first = first_in n slots e (requests_of_entries slots es) kept.0 in
     ap length first.2 ∙ ap suc (counted n slots es kept.2)
 
--- an id that an entry shares with none names none
+-- an entry that shares nothing with others has an id that names none of them
 unshared : (e : ℕ × ℕ) (es : List (ℕ × ℕ)) → is_shared e es ≡ false → lookup (nat_eq e.0) es ≡ None
 unshared e [] apart = refl
 unshared e (o ∷ es) apart =

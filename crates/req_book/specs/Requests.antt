@@ -32,7 +32,7 @@ abbrev pub find : List RequestData → ℕ → Option RequestData
 find [] id = None
 find (r ∷ rs) id = if nat_eq id r.id then Some r else find rs id
 
--- No two of them have an id in common: behind each none is found under its id.
+-- No two requests have an id in common: behind each of them none is found under its id.
 abbrev pub HaveOwnIds : List RequestData → Type 0
 HaveOwnIds [] = Unit {0}
 HaveOwnIds (r ∷ rs) = (find rs r.id ≡ None) × HaveOwnIds rs
