@@ -17,7 +17,7 @@ mod writing;
 
 pub use auto_clusters::inactive;
 pub use changes::{is_among, is_changed};
-pub use judging::{validated_row, judge};
+pub use judging::{judge, validated_row};
 pub use new_row::NewRow;
 pub use new_rows::NewRows;
 pub use notifying::{first_words, notify_between, notify_changed};

@@ -11,7 +11,7 @@ ghost use Rattle.ctrl_forecast.specs.Touched.{touched_count};
 use crate::lists::{ClusterList, ValueRow};
 use crate::rising::named_clusters;
 use ctrl_calls::{ClusterRow, Driver, Work};
-use ctrl_clusters::{NewRow, validated_row, is_among, present_row, write_rows};
+use ctrl_clusters::{NewRow, is_among, present_row, validated_row, write_rows};
 use ctrl_handlers::Plan;
 use ctrl_settle::Ctrl;
 use ctrl_types::{CtrlValue, Errno, Pair};

@@ -15,7 +15,7 @@ use crate::control_list::ControlList;
 use crate::refusal::Refusal;
 use crate::view::View;
 use ctrl_calls::{Driver, Work};
-use ctrl_clusters::{NewRow, NewRows, validated_row, member_value};
+use ctrl_clusters::{NewRow, NewRows, member_value, validated_row};
 use ctrl_handlers::Plan;
 use ctrl_types::{CtrlValue, Errno, ExtControl, Pair};
 use std::alloc::{AllocError, Global};

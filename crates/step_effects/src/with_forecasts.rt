@@ -72,8 +72,9 @@ pub fn change_with_forecasts<D: Driver>(
     match step {
         Step::Queue { request } => {
             put_frame(plan, values, grabs, *request, frames, board, work)?;
-            let changed =
-                change_requests_and_events(plan, values, grabs, number, step, frames, events);
+            let changed = change_requests_and_events(
+                plan, values, grabs, number, step, frames, events,
+            );
             if changed.is_err() {
                 take_last(plan, values, grabs, board, work);
             }

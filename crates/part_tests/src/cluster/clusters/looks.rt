@@ -8,7 +8,7 @@ use crate::cluster::common::pairs_of;
 use crate::cluster::driver::Strict;
 use bitflags::Flags as FlagSet;
 use ctrl_calls::{ClusterRow, Work};
-use ctrl_clusters::{validated_row, flags_under, inactive, judge, present_row};
+use ctrl_clusters::{flags_under, inactive, judge, present_row, validated_row};
 use ctrl_forecast::overlay;
 use ctrl_handlers::Plan;
 use ctrl_settle::Ctrl;
