@@ -25,7 +25,7 @@ use Rattle.ctrl_handlers.specs.Plan.{PlanData, control, control_in}
 use Rattle.ctrl_clusters.specs.Rows.{is_grabbed}
 use Rattle.ctrl_lists.specs.declared.refusal.Refusal.{Refusal}
 use Rattle.ctrl_lists.specs.View.{ViewData, named, pairs_of}
-use Rattle.ctrl_lists.specs.Checks.{at_first, first_from, first_refusal, found_at, is_long, is_of_no_class, judging_refusal, pairs_judged, naming_refusal, read_checks, reading_refusal, refused_if, write_checks, writing_refusal}
+use Rattle.ctrl_lists.specs.Checks.{first_from, first_refusal, found_at, is_long, is_of_no_class, judging_refusal, pairs_judged, naming_refusal, read_checks, reading_refusal, refused_if, write_checks, writing_refusal}
 use Rattle.ctrl_lists.specs.Checks as list_checks
 use Rattle.ctrl_lists.specs.Answers.{answered}
 use Rattle.ctrl_lists.specs.Failed.{first_failed, read_names, write_names}

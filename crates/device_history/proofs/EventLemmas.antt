@@ -8,7 +8,7 @@ use Rattle.std.specs.Option.{option_and_then, option_map, option_or}
 use Rattle.history.specs.declared.entry.Entry.{Entry}
 use Rattle.history.specs.Past.{past}
 use Rattle.history.proofs.Pasts.{past_add}
-use Rattle.ctrl_types.specs.Events.{is_nothing, has_flags, allows_feedback, sends_initial}
+use Rattle.ctrl_types.specs.Events.{is_nothing, sends_initial}
 use Rattle.ctrl_types.specs.declared.changes.Changes.{Changes}
 use Rattle.ctrl_types.specs.declared.ids.CtrlId.{CtrlId}
 use Rattle.ctrl_types.specs.declared.ids.FhId.{FhId}
@@ -24,7 +24,6 @@ use Rattle.ctrl_events.proofs.PendingLemmas.{kept_raised, kept_subscribed, kept_
 use Rattle.ctrl_handlers.specs.Plan.{IsPlan, PlanData, control, control_in}
 use Rattle.ctrl_handlers.specs.Visible.{find, first_with_id, visible}
 use Rattle.ctrl_handlers.proofs.ShownLemmas.{visible_known}
-use Rattle.ctrl_clusters.specs.Overlay.{is_among}
 use Rattle.device_history.specs.declared.ask.Step.{Step}
 use Rattle.device_history.specs.declared.ask.Step.TheVariants as steps
 use Rattle.device_history.specs.Steps.{History, Past}

@@ -1,9 +1,7 @@
 -- What becomes of a forecast while a history goes on, and of the frames that it is of.
-use Rattle.std.proofs.Common.{◌≡◌, ℕ, ◌+◌, zero, suc, ◌∙◌, Bool, true, false, cond, inl, inr, List, [], ◌∷◌, ◌++◌, length, map, filter, drop, Option, None, Some, is_some, slice_get, unwrap_or, nat_eq, Ok, refl, sym, ap, subst, arith, append-nil, append_assoc, if◌then◌else◌}
+use Rattle.std.proofs.Common.{◌≡◌, ℕ, ◌+◌, zero, suc, ◌∙◌, Bool, true, false, cond, List, [], ◌∷◌, ◌++◌, length, map, filter, drop, Option, None, Some, is_some, slice_get, unwrap_or, Ok, refl, sym, ap, subst, arith, append-nil, append_assoc, if◌then◌else◌}
 use Rattle.std.specs.Option.{option_map}
 use Rattle.std.proofs.lemmas.Bool.{and_parts}
-use Rattle.std.proofs.lemmas.Bool.Decides.{eqb_tells}
-use Rattle.std.proofs.lemmas.List.{map-append}
 use Rattle.history.specs.declared.entry.Entry.{Entry}
 use Rattle.history.specs.Past.{past}
 use Rattle.history.proofs.Pasts.{past_add}
@@ -23,12 +21,9 @@ use Rattle.ctrl_clusters.specs.Rows.{Values, Grabs}
 use Rattle.ctrl_clusters.specs.Overlay.{overlay}
 use Rattle.ctrl_forecast.specs.declared.board.Forecast.{Forecast}
 use Rattle.ctrl_forecast.specs.Forecasts.{QueuedData, forecast_over, forecasts}
-use Rattle.req_book.specs.declared.state.RequestState.{RequestState}
 use Rattle.req_book.specs.declared.state.RequestState.TheVariants as states
 use Rattle.req_book.specs.Requests.{RequestData, find}
-use Rattle.req_book.proofs.ObjectLemmas.{Tells}
-use Rattle.frame_queue.specs.Frames.{FramesData, is_in, is_queued, begin_answer, buffer_number, first_waiting}
-use Rattle.frame_queue.proofs.FrameLemmas.{rests}
+use Rattle.frame_queue.specs.Frames.{begin_answer, buffer_number, first_waiting}
 use Rattle.device_history.specs.declared.ask.Ask.{Ask}
 use Rattle.device_history.specs.declared.ask.Ask.TheVariants as asks
 use Rattle.device_history.specs.declared.ask.Reply.{Reply}
@@ -38,22 +33,21 @@ use Rattle.device_history.specs.declared.ask.Step.TheVariants as steps
 use Rattle.device_history.specs.Steps.{History, Past}
 use Rattle.device_history.specs.Refusals.{refused, is_full, fault_of}
 use Rattle.device_history.specs.Grabs.{grabbed, grabbed_after}
-use Rattle.device_history.specs.Requests.{is_there, state, asked, asked_after, buffer, buffer_after}
-use Rattle.device_history.specs.Frames.{begun_by, ever_queued, queue, running}
+use Rattle.device_history.specs.Requests.{asked, buffer}
+use Rattle.device_history.specs.Frames.{begun_by, queue, running}
 use Rattle.device_history.specs.Values.{pairs_asked, now, now_after}
-use Rattle.device_history.specs.Snapshots.{request, request_in, requests, frames, begun_refused, begun_pairs}
+use Rattle.device_history.specs.Snapshots.{request, request_in, requests, frames, begun_refused}
 use Rattle.device_history.specs.RequestAnswers.{begin_frame_answer, frame_answer}
 use Rattle.device_history.specs.Lists.{list_pairs, meant, pairs_step, which_or}
 use Rattle.device_history.specs.Answers.{refusal, step_of, answer_of}
 use Rattle.device_history.specs.Legal.{IsLegal, MayFollow}
-use Rattle.device_history.specs.FrameSteps.{FitsFrames, frames_after}
+use Rattle.device_history.specs.FrameSteps.{FitsFrames}
 use Rattle.device_history.specs.Forecasts.{queued_frame, queued_frames, waiting_after, forecast}
 use Rattle.device_history.specs.Stretches.{goes_on, all_go_on, begins}
 use Rattle.device_history.proofs.AllFit.{AllFit}
 use Rattle.device_history.proofs.QueuedFrames.{frames_waiting}
-use Rattle.device_history.proofs.StateLemmas.{asked_more, asked_same, buffer_more}
 use Rattle.device_history.proofs.RequestLemmas.{request_some, first_queued}
-use Rattle.device_history.proofs.FrameLemmas.{idle_rests, store_idle, buffer_idle, next_none, find_request, frames_more, first_waits, begin_is, complete_is}
+use Rattle.device_history.proofs.FrameLemmas.{find_request, first_waits}
 use Rattle.device_history.proofs.GrabLemmas.{grabbed_more}
 use Rattle.device_history.proofs.PastLemmas.{legal_front, legal_last}
 use Rattle.device_history.proofs.FitLemmas.{fits, all_fit}

@@ -1,18 +1,18 @@
 -- When requests, and stores of them, are alike.
-use Rattle.std.proofs.Common.{rules, arith, ◌≡◌, ◌∙◌, ◌<◌, ℕ, zero, suc, length, Bool, List, [], ◌∷◌, Option, None, Some, slice_get, map, int_eq, nat_eq, ◌&&◌, refl, sym, ap}
+use Rattle.std.proofs.Common.{rules, arith, ◌≡◌, ◌∙◌, ◌<◌, ℕ, zero, suc, length, Bool, List, [], ◌∷◌, Option, Some, slice_get, map, int_eq, nat_eq, ◌&&◌, refl, sym, ap}
 use Rattle.std.specs.Bool.{Decides}
 use Rattle.std.specs.Option.{option_eq, option_map, option_and_then}
 use Rattle.std.specs.Cmp.Lexicographic.{pointwise}
-use Rattle.std.proofs.lemmas.Bool.Decides.{Decides-eqb, Decides-int_eq, Decides-and}
+use Rattle.std.proofs.lemmas.Bool.Decides.{Decides-int_eq, Decides-and}
 use Rattle.std.proofs.lemmas.Slice.Eq.{slice_eq-Decides}
-use denote.Enum.Bare.{sameb, same_true, true_same}
+use denote.Enum.Bare.{sameb}
 use Rattle.ctrl_types.specs.Values.{CtrlValue}
 use Rattle.ctrl_types.specs.declared.ids.Pair.{Pair}
 use Rattle.ctrl_types.specs.contracts.ids.PairPartialEq.TheImpl.{eq-value}
 use Rattle.req_book.specs.contracts.state.RequestState.{the_type}
 use Rattle.req_book.specs.declared.state.RequestState.{RequestState}
 use Rattle.req_book.specs.declared.object.Object.{Object}
-use Rattle.slab.specs.Slab.{Slab, get}
+use Rattle.slab.specs.Slab.{Slab}
 use Rattle.req_book.specs.Objects.{AreObjects, request_at, request_of_entry, requests_of_entries, snapshot_seen}
 use Rattle.req_book.proofs.ObjectLemmas.{first_in}
 use Rattle.req_book.specs.Requests.{RequestData, RequestsData}
