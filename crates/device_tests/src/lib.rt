@@ -15,6 +15,8 @@ mod closures;
 #[cfg(test)]
 mod crowds;
 #[cfg(test)]
+mod data;
+#[cfg(test)]
 mod events;
 #[cfg(test)]
 mod flags;
