@@ -81,8 +81,8 @@ choice : (t : Bool) (name : Errno → Check) (o p : Option Errno) → AreOwn nam
 choice true name o p h k = h
 choice false name o p h k = k
 
-choice_of : {X : Type 0} (t : Bool) (name : Errno → Check) (r s : Result X Errno) → AreOwn name (list_checks.errno_of r) → AreOwn name (list_checks.errno_of s)
-    → AreOwn name (list_checks.errno_of (if t then r else s))
+choice_of : {X : Type 0} (t : Bool) (name : Errno → Check) (r s : Result X Errno) → AreOwn name (list_checks.errno_if_refused r) → AreOwn name (list_checks.errno_if_refused s)
+    → AreOwn name (list_checks.errno_if_refused (if t then r else s))
 choice_of true name r s h k = h
 choice_of false name r s h k = k
 
@@ -128,11 +128,11 @@ naming_own plan view entry = choice (is_some (named plan view.handler view.which
 reading_own : (plan : PlanData) (p : Pair) → AreOwn (only checks.EntryReadable) (reading_refusal plan p)
 reading_own plan p = choice (contains (control plan p.control).flags WRITE_ONLY) (only checks.EntryReadable) (Some EACCES) None refl tt
 
-item_own : (c : Control) (v : CtrlValue) → AreOwn writing_part (list_checks.errno_of (item c v))
+item_own : (c : Control) (v : CtrlValue) → AreOwn writing_part (list_checks.errno_if_refused (item c v))
 item_own c v =
     choice_of (int_lt v c.minimum || int_lt c.maximum v) writing_part (Err ERANGE) _ refl (choice_of (bit_at c.skip (unsigned_abs v) == 1) writing_part (Err EINVAL) (Ok v) refl tt)
 
-kind_own : (kind : Kind) (c : Control) (v : CtrlValue) → AreOwn writing_part (list_checks.errno_of (settle_as kind c v))
+kind_own : (kind : Kind) (c : Control) (v : CtrlValue) → AreOwn writing_part (list_checks.errno_if_refused (settle_as kind c v))
 kind_own Integer c v = tt
 kind_own Integer64 c v = tt
 kind_own Boolean c v = tt
@@ -141,7 +141,7 @@ kind_own Button c v = tt
 kind_own Menu c v = item_own c v
 kind_own IntegerMenu c v = item_own c v
 
-settling_own : (c : Control) (v : CtrlValue) → AreOwn writing_part (list_checks.errno_of (settle c v))
+settling_own : (c : Control) (v : CtrlValue) → AreOwn writing_part (list_checks.errno_if_refused (settle c v))
 unfolding settle
 settling_own c v = kind_own c.kind c v
 

@@ -60,13 +60,13 @@ abbrev pub judge_settled : Verdicts → PlanData → List Control → ℕ → Re
 judge_settled verdicts plan controls k (Err errno) = Err errno
 judge_settled verdicts plan controls k (Ok row) = judge verdicts plan controls k row
 
--- What the row of a cluster becomes where these pairs are laid over these values: it is overwritten by the pairs, settles in member order,
+-- The validated row of a cluster where these pairs are laid over these values: its row is overwritten by the pairs, settles in member order,
 -- and is judged.
 unfoldable pub validated_row : Verdicts → PlanData → List Control → Values → List Pair → ℕ → Result (List CtrlValue) Errno
 validated_row verdicts plan controls values pairs k =
     judge_settled verdicts plan controls k (settle_row controls (members plan k) (overwritten values pairs (members plan k)))
 
--- Whether a validator is asked where the row of a cluster becomes what these pairs make of it: its members settle, and it has one.
+-- Whether a validator is asked for the validated row of a cluster: its members settle, and it has one.
 unfoldable pub asks_validator : PlanData → List Control → Values → List Pair → ℕ → Bool
 asks_validator plan controls values pairs k =
     is_some (calls_of plan k).validator && is_ok (settle_row controls (members plan k) (overwritten values pairs (members plan k)))

@@ -32,7 +32,7 @@ row_after verdicts plan controls values grabs pairs k =
     else if names_grabbed grabs pairs (members plan k) then Err EBUSY
     else validated_row verdicts plan controls values pairs k
 
--- the value that an outcome for a cluster's row gives one of the members; a refused one gives none
+-- the value that a cluster's row gives one of the members; a refused one gives none
 abbrev pub result_value : List ℕ → Result (List CtrlValue) Errno → ℕ → Option CtrlValue
 result_value members (Ok row) c = member_value members row c
 result_value members (Err errno) c = None

@@ -44,7 +44,7 @@ pub fn judge<D: Driver>(
     }
 }
 
-/// What a cluster's row becomes where pairs are asked for over a device's values (Linux driver API, "V4L2 Controls", "Control
+/// A cluster's row where pairs are asked for over a device's values, validated (Linux driver API, "V4L2 Controls", "Control
 /// Clusters"): the members' values, overwritten by the pairs, of which the last of a control counts, settle in member order and
 /// are judged.
 ///

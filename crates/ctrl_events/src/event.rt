@@ -64,7 +64,7 @@ pub struct Waiting {
     pub control: u32,
     /// What the raises for the file handle said that changed, since an event of the control was taken or the subscription was ended.
     pub changes: Changes,
-    /// What was told of the control last.
+    /// What the last raise shows of the control.
     pub payload: Payload,
     /// The number of that raise among those for the file handle.
     pub sequence: u32,

@@ -49,7 +49,7 @@ pub fn raise_counts()
     ensures { (c : ℕ) (changes : Changes) (payload : Payload) (from : Option ℕ) (fh : ℕ) (f : FileEvents) → (after_raise c changes payload from fh f).next ≤ f.next + 1 }
 {}
 
-/// At first nothing waits. What is gone of a control waits no longer. A raise takes the place of what waits of its control: the changes of both are
+/// At first nothing waits. What is withdrawn of a control waits no longer. A raise takes the place of what waits of its control: the changes of both are
 /// joined, and it is the last. Once the first is taken, those behind it wait.
 pub fn pending_events()
     ensures start { pending [] ≡ [] }

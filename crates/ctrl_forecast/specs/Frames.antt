@@ -70,7 +70,7 @@ setting verdicts plan controls grabs values = record { verdicts = verdicts; plan
 abbrev pub row_result : Setting → Values → List Pair → ℕ → Result (List CtrlValue) Errno
 row_result s base pairs k = row_after s.verdicts s.plan s.controls base s.grabs pairs k
 
--- the row of an outcome; a refused cluster keeps its own
+-- the row that comes of it; a refused cluster keeps its own
 abbrev pub row_or : List CtrlValue → Result (List CtrlValue) Errno → List CtrlValue
 row_or own (Ok row) = row
 row_or own (Err errno) = own

@@ -29,7 +29,7 @@ touched plan pairs = fold (λ clusters p. with_cluster clusters (cluster_of plan
 abbrev pub entry_in : PlanData → Values → List NewRow → ℕ → ExtControl
 entry_in plan values rows c = record { id = (control plan c).id; value = value_written plan values rows c }
 
--- each row is what its cluster's becomes
+-- each row is the validated row of its cluster
 abbrev pub AreRows : Verdicts → PlanData → List Control → Values → List Pair → List NewRow → Type 0
 AreRows verdicts plan controls values pairs rows = All (λ r. validated_row verdicts plan controls values pairs r.cluster ≡ Ok r.row) rows
 
@@ -40,7 +40,7 @@ pub record TouchedData : Type 0 where
   pub answers : List ExtControl
   pub pairs : List Pair
 
--- Each cluster that pairs touch has, once, the row that it becomes where `laid` is laid over the values. So the clusters are there, and
+-- Each cluster that pairs touch has, once, its validated row where the pairs `laid` are laid over the values. So the clusters are there, and
 -- each row has a value for each member.
 pub record AreJudged (verdicts : Verdicts) (plan : PlanData) (controls : List Control) (values : Values) (laid pairs : List Pair) (rows : List NewRow) : Type 0 where
   pub each_once : clusters_of rows ≡ touched plan pairs

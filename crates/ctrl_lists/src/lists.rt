@@ -296,7 +296,7 @@ pub(crate) fn judge_joined<D: Driver>(
     }
 }
 
-// The rows that the clusters get where `laid` is laid over the values, and what the entries are answered.
+// The rows that the clusters get where the pairs `laid` are laid over the values, and what the entries are answered.
 fn judge_under<D: Driver>(
     alloc: Global,
     plan: &Plan<D>,

@@ -20,7 +20,7 @@ use ctrl_handlers::Plan;
 use ctrl_types::{CtrlValue, Errno, ExtControl, Pair};
 use std::alloc::{AllocError, Global};
 
-/// The rows of the clusters that pairs touch, in the order of their first pairs, where `laid` is laid over the values; or the first
+/// The rows of the clusters that pairs touch, in the order of their first pairs, where the pairs `laid` are laid over the values; or the first
 /// pair whose cluster is refused. Each cluster is judged once.
 pub(crate) fn judge_all<D: Driver>(
     alloc: Global,
