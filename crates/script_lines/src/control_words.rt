@@ -52,8 +52,8 @@ impl ControlWords {
 
     /// Adds a row behind those that are there. The error is that a growth was refused, and then the table is as it was.
     ///
-    /// - `word`: any bytes. A line can only say a word that isn't empty and has no space and no line feed, and an entry with a value
-    ///   only one without `=`. A word that is written as an id is stands for its own control, not for the one with that id.
+    /// - `word`: any bytes. No line can say one with a space or a line feed, no entry with a value one with `=`, and only such an entry
+    ///   an empty one. A word that is written as an id is stands for its own control, not for the one with that id.
     /// - `id`, `number`: those of the control.
     pub fn push(
         &mut self,
