@@ -10,9 +10,9 @@ ghost use Rattle.ctrl_calls.specs.Meanings.{JudgesBy, TellsBy};
 use crate::case::{Case, CaseFault, Program, read_cases};
 use ctl_pair::{Gate, run_pair};
 use ctl_script::{
-    BALANCE_LIMIT, BRIGHTNESS_WORDS, BUTTON_WORDS, GAIN_LIMIT, Outcome, PAIR_WORDS, Sample,
-    balance_verdict, brightness_word, button_word, gain_verdict, pair_word, run_board, run_script,
-    sample_plan,
+    BALANCE_LIMIT, BRIGHTNESS_WORDS, BUTTON_WORDS, ControlWords, GAIN_LIMIT, Outcome, PAIR_WORDS,
+    Sample, balance_verdict, brightness_word, button_word, gain_verdict, pair_word, run_board,
+    run_script, sample_plan, sample_words,
 };
 use ctrl_calls::{Calls, ClusterRow, Driver, Notifier, Validator, Verdict};
 use device_state::Device;
@@ -53,6 +53,7 @@ fn main(rt: HostRuntime) -> io::Result<ExitCode> {
     let Some(cases) = cases_of(&rt, texts.as_slice())? else {
         return Ok(ExitCode::from(1));
     };
+    let known = sample_words(rt.alloc())?;
     let mut differing = 0u32;
     for case in cases.as_slice() {
         let limit: Judge = Box::new(rt.alloc(), |row: ClusterRow| gain_verdict(&row))?;
@@ -63,6 +64,7 @@ fn main(rt: HostRuntime) -> io::Result<ExitCode> {
         let brightness: Teller = Box::new(rt.alloc(), |row: ClusterRow| brightness_word(&row))?;
         let (printed, outcome) = run::<Sample, HostRuntime>(
             &rt,
+            &known,
             case.program,
             case.script.as_slice(),
             (limit, sum),
@@ -108,6 +110,7 @@ fn cases_of<'a, R: AllocGlobal + Print>(
 // first validator and the first notifier, of red and blue the second ones, of the button and of brightness the last notifiers.
 fn run<D: Driver + Send, R: AllocGlobal + Threads + Wait + Sync>(
     rt: &R,
+    known: &ControlWords,
     program: Program,
     script: &[u8],
     judges: (D::Judge, D::Judge),
@@ -157,9 +160,18 @@ where
     let mut printed = Vec::new(alloc);
     let mut reader = script;
     let outcome = match program {
-        Program::Run => run_script(alloc, device, &mut reader, &mut printed).1,
-        Program::Board => run_board(alloc, device, &mut reader, &mut printed).1,
-        Program::Pair => run_pair(rt, alloc, device, &OpenGate, &mut reader, &mut printed).1,
+        Program::Run => run_script(alloc, known, device, &mut reader, &mut printed).1,
+        Program::Board => run_board(alloc, known, device, &mut reader, &mut printed).1,
+        Program::Pair => run_pair(
+            rt,
+            alloc,
+            known,
+            device,
+            &OpenGate,
+            &mut reader,
+            &mut printed,
+        )
+        .1,
     };
     Ok((printed, outcome))
 }

@@ -6,7 +6,7 @@ ghost use Rattle.ctl_pair.specs.Scripts.{HasAdded, HasRead, IsAsk, IsRefused, Is
 
 use crate::client::ScriptClient;
 use ctl_script::{InputFault, first_line, read_input};
-use script_lines::{Command, LineFault, divides, read_line};
+use script_lines::{Command, ControlWords, LineFault, divides, read_line};
 use script_replies::Outcome;
 use std::alloc::Global;
 use std::io::Read;
@@ -14,11 +14,12 @@ use std::io::Read;
 /// The two scripts of an input, with all the memory that they need. The error is the outcome.
 pub fn read_scripts<I: Read>(
     alloc: Global,
+    known: &ControlWords,
     reader: &mut I,
 ) -> Result<(ScriptClient, ScriptClient), Outcome>
     ensures new { IfOk result (λ r. (r.0.said.items ≡ []) × (r.1.said.items ≡ [])) }
-    ensures scripts { IfOk result (λ r. HasRead (I.remaining reader.old) (I.remaining reader.new) (Ok (r.0.script.value.items, r.1.script.value.items))) }
-    ensures fault { IfErr result (IsRefused (I.remaining reader.old) (I.remaining reader.new)) }
+    ensures scripts { IfOk result (λ r. HasRead known.now (I.remaining reader.old) (I.remaining reader.new) (Ok (r.0.script.value.items, r.1.script.value.items))) }
+    ensures fault { IfErr result (IsRefused known.now (I.remaining reader.old) (I.remaining reader.new)) }
 {
     let text = match read_input(alloc, reader) {
         Ok(text) => text,
@@ -26,7 +27,7 @@ pub fn read_scripts<I: Read>(
         Err(InputFault::Reader) => return Err(Outcome::ReadFault),
         Err(InputFault::Memory) => return Err(Outcome::Memory),
     };
-    let (first, second) = match divided(alloc, text.as_slice()) {
+    let (first, second) = match divided(alloc, known, text.as_slice()) {
         Ok(scripts) => scripts,
         Err(outcome) => return Err(outcome),
     };
@@ -40,12 +41,16 @@ pub fn read_scripts<I: Read>(
 }
 
 // The commands before the first line that divides a text, and those behind it.
-fn divided(alloc: Global, text: &[u8]) -> Result<(Vec<Command>, Vec<Command>), Outcome>
+fn divided(
+    alloc: Global,
+    known: &ControlWords,
+    text: &[u8],
+) -> Result<(Vec<Command>, Vec<Command>), Outcome>
     requires { length text.now ≤ 1048576 }
-    ensures scripts { IfOk result (λ r. scripts_in false 1 (lines_in text.now) ≡ Ok (r.0.items, r.1.items)) }
+    ensures scripts { IfOk result (λ r. scripts_in known.now false 1 (lines_in text.now) ≡ Ok (r.0.items, r.1.items)) }
     ensures first { IfOk result (λ r. All IsAsk r.0.items) }
     ensures second { IfOk result (λ r. All IsAsk r.1.items) }
-    ensures fault { IfErr result (IsUndivided (lines_in text.now)) }
+    ensures fault { IfErr result (IsUndivided known.now (lines_in text.now)) }
 {
     let mut scripts = Scripts::new(alloc);
     let mut number = 0;
@@ -54,7 +59,7 @@ fn divided(alloc: Global, text: &[u8]) -> Result<(Vec<Command>, Vec<Command>), O
         let (line, more) = first_line(text);
         number += 1;
         rest = more;
-        match scripts.add_line(alloc, line) {
+        match scripts.add_line(alloc, known, line) {
             Ok(()) => {}
             Err(LineFault::NotACommand) => return Err(Outcome::BadLine(number)),
             Err(LineFault::Memory) => return Err(Outcome::Memory),
@@ -92,33 +97,43 @@ impl Scripts {
     }
 
     // Adds what a line says.
-    fn add_line(&mut self, alloc: Global, line: &[u8]) -> Result<(), LineFault>
+    fn add_line(
+        &mut self,
+        alloc: Global,
+        known: &ControlWords,
+        line: &[u8],
+    ) -> Result<(), LineFault>
         requires { length line.now ≤ 1048576 }
-        ensures added { OnOk result ((number : ℕ) (lines : List (List ℕ)) → behind self.old.first.items self.old.second.items (scripts_in self.old.is_second number (line.now ∷ lines)) ≡ behind self.new.first.items self.new.second.items (scripts_in self.new.is_second (number + 1) lines)) }
-        ensures fault { result ≡ Err LineFault.NotACommand → (number : ℕ) (lines : List (List ℕ)) → scripts_in self.old.is_second number (line.now ∷ lines) ≡ Err (BadLine number) }
+        ensures added { OnOk result ((number : ℕ) (lines : List (List ℕ)) → behind self.old.first.items self.old.second.items (scripts_in known.now self.old.is_second number (line.now ∷ lines)) ≡ behind self.new.first.items self.new.second.items (scripts_in known.now self.new.is_second (number + 1) lines)) }
+        ensures fault { result ≡ Err LineFault.NotACommand → (number : ℕ) (lines : List (List ℕ)) → scripts_in known.now self.old.is_second number (line.now ∷ lines) ≡ Err (BadLine number) }
     {
         if self.is_second {
-            return add_command(alloc, &mut self.second, line);
+            return add_command(alloc, known, &mut self.second, line);
         }
         match divides(alloc, line) {
             Ok(true) => {
                 self.is_second = true;
                 Ok(())
             }
-            Ok(false) => add_command(alloc, &mut self.first, line),
+            Ok(false) => add_command(alloc, known, &mut self.first, line),
             Err(_) => Err(LineFault::Memory),
         }
     }
 }
 
 // Adds the command of a line to a script, if it has one. An audit is none here.
-fn add_command(alloc: Global, script: &mut Vec<Command>, line: &[u8]) -> Result<(), LineFault>
+fn add_command(
+    alloc: Global,
+    known: &ControlWords,
+    script: &mut Vec<Command>,
+    line: &[u8],
+) -> Result<(), LineFault>
     requires { length line.now ≤ 1048576 }
-    ensures added { OnOk result (HasAdded line.now script.old.items script.new.items) }
-    ensures fault { result ≡ Err LineFault.NotACommand → added_by line.now ≡ None }
+    ensures added { OnOk result (HasAdded known.now line.now script.old.items script.new.items) }
+    ensures fault { result ≡ Err LineFault.NotACommand → added_by known.now line.now ≡ None }
     ensures asks { All IsAsk script.old.items → All IsAsk script.new.items }
 {
-    match read_line(alloc, line) {
+    match read_line(alloc, known, line) {
         Ok(None) => Ok(()),
         Ok(Some(Command::Audit)) => Err(LineFault::NotACommand),
         Ok(Some(command)) => match script.push(command) {

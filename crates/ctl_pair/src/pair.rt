@@ -14,6 +14,7 @@ use crate::print::print_pair;
 use ctl_script::{audit_of, with_line, without_line};
 use ctrl_calls::Driver;
 use device_state::Device;
+use script_lines::ControlWords;
 use script_replies::{Outcome, ReplyLine};
 use std::alloc::Global;
 use std::io::{Read, Write};
@@ -23,6 +24,7 @@ use turn_desk::{Gate, Remains, serve_both};
 
 /// Runs two scripts on one device, each at a seat and on a thread of its own, and prints what each was answered (of this project).
 ///
+/// - `known`: the words by which both scripts name the device's controls.
 /// - `device`: what the commands are asked of; it has no steps. The first script is asked at seat 0, the second at seat 1.
 /// - `gate`: is passed by each thread before its k-th command, from 1, while it doesn't have the turn.
 /// - `reader`: gives the input, as it gives that of `run_script`. The first line whose only word is `==` divides it into the two
@@ -48,6 +50,7 @@ use turn_desk::{Gate, Remains, serve_both};
 pub fn run_pair<D: Driver + Send, G: Gate + Sync, R: Threads + Wait + Sync, I: Read, W: Write>(
     rt: &R,
     alloc: Global,
+    known: &ControlWords,
     device: Device<D>,
     gate: &G,
     reader: &mut I,
@@ -61,14 +64,14 @@ where
     ensures desk { IfErr result.0 (λ back. (back.0.plan ≡ device.plan) × All (IsSeatOf back.0) back.1) }
     ensures unasked { result.1 ≢ Outcome.Finished → result.1 ≢ Outcome.WriteFault → IfOk result.0 (λ back. back.steps ≡ []) }
     ensures same { result.1 ≢ Outcome.Finished → result.1 ≢ Outcome.WriteFault → result.1 ≢ Outcome.Memory → result.0 ≡ Ok device }
-    ensures finished { result.1 ≡ Outcome.Finished → (back : DeviceData) × (result.0 ≡ Ok back) × (scripts : List Command × List Command) × HasRead (I.remaining reader.old) (I.remaining reader.new) (Ok scripts) × HasPaired D.verdict D.told device.plan scripts back.steps (W.contents writer.old) (W.contents writer.new) }
-    ensures refused { result.1 ≢ Outcome.Finished → result.1 ≢ Outcome.WriteFault → IsRefused (I.remaining reader.old) (I.remaining reader.new) result.1 }
+    ensures finished { result.1 ≡ Outcome.Finished → (back : DeviceData) × (result.0 ≡ Ok back) × (scripts : List Command × List Command) × HasRead known.now (I.remaining reader.old) (I.remaining reader.new) (Ok scripts) × HasPaired D.verdict D.told device.plan scripts back.steps (W.contents writer.old) (W.contents writer.new) }
+    ensures refused { result.1 ≢ Outcome.Finished → result.1 ≢ Outcome.WriteFault → IsRefused known.now (I.remaining reader.old) (I.remaining reader.new) result.1 }
     ensures fault { result.1 ≢ Outcome.Finished → result.1 ≢ Outcome.WriteFault → Appends (W.contents writer.old) (W.contents writer.new) (outcome_line result.1) }
 {
     let Ok(mut line) = ReplyLine::new(alloc) else {
         return (Ok(device), without_line(writer));
     };
-    match read_scripts(alloc, reader) {
+    match read_scripts(alloc, known, reader) {
         Ok((first, second)) => {
             run_scripts(rt, alloc, device, gate, first, second, writer, &mut line)
         }

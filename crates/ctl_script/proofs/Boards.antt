@@ -10,6 +10,7 @@ use Rattle.device_history.specs.Frames.{all_but, ever_queued, queue}
 use Rattle.device_history.specs.Steps.{Past}
 use Rattle.device_history.proofs.QueueingLemmas.{queued_by, with_last, ever_queued_start, ever_queued_more}
 use Rattle.device_state.specs.Device.{DeviceData}
+use Rattle.script_lines.specs.ControlWords.{ControlWord}
 use Rattle.script_replies.specs.Replies.{outcome_line}
 use Rattle.script_replies.specs.declared.outcome.Outcome.{Outcome}
 use Rattle.script_replies.specs.declared.outcome.Outcome.TheVariants.{Finished, BadLine, TooLong, ReadFault, WriteFault, NoSecond, Memory}
@@ -69,25 +70,25 @@ module _ (verdicts : Verdicts) (plan : PlanData) (older : Past) (before between 
       by (inl e) = subst (λ o. IsShown verdicts plan older o (outcome_line o) before after) (sym e) tt
       by (inr other) = subst (λ o. IsShown verdicts plan older o (outcome_line o) before after) (sym (same other)) (shown_line outcome h (line other))
 
-module _ (verdicts : Verdicts) (tells : Words) (unread left : Option (List ℕ)) (old new : DeviceData) where
+module _ (verdicts : Verdicts) (tells : Words) (known : List ControlWord) (unread left : Option (List ℕ)) (old new : DeviceData) where
   -- a script that has run whole, and the frames
-  pub board_shown : (ran : DeviceData) (said : List Said) (outcome : Outcome) (before after : Option (List ℕ)) → HasEnded verdicts tells unread left old ran said Finished → IsSame ran new
-      → IsShown verdicts ran.plan (past ran.steps) outcome [] before after → HasBoard verdicts tells unread left old new outcome [] before after
+  pub board_shown : (ran : DeviceData) (said : List Said) (outcome : Outcome) (before after : Option (List ℕ)) → HasEnded verdicts tells known unread left old ran said Finished → IsSame ran new
+      → IsShown verdicts ran.plan (past ran.steps) outcome [] before after → HasBoard verdicts tells known unread left old new outcome [] before after
   board_shown ran said outcome before after ended same shown = (said, inr (ran, ended, same, shown))
 
   -- one that ended otherwise
-  pub board_ended : (said : List Said) (outcome : Outcome) (written : Option (List ℕ)) → outcome ≢ Finished → HasEnded verdicts tells unread left old new said outcome
-      → HasBoard verdicts tells unread left old new outcome [] written written
+  pub board_ended : (said : List Said) (outcome : Outcome) (written : Option (List ℕ)) → outcome ≢ Finished → HasEnded verdicts tells known unread left old new said outcome
+      → HasBoard verdicts tells known unread left old new outcome [] written written
   board_ended said outcome written other ended = (said, inl (other, ended, λ _. Appends-nil written))
 
   -- and the line of the outcome
   pub board_told : (outcome result : Outcome) (before between after : Option (List ℕ)) → (result ≢ WriteFault → result ≡ outcome) → (result ≢ WriteFault → Appends between after (outcome_line outcome))
-      → HasBoard verdicts tells unread left old new outcome [] before between → HasBoard verdicts tells unread left old new result (outcome_line result) before after
+      → HasBoard verdicts tells known unread left old new outcome [] before between → HasBoard verdicts tells known unread left old new result (outcome_line result) before after
   board_told outcome result before between after same line (said, inl kept) = (
     said,
     inl (
       (λ e. kept.0 (sym (same (λ w. finished_not_write (sym e ∙ w))) ∙ e)),
-      ended_as verdicts tells unread left old new said outcome result same kept.1,
+      ended_as verdicts tells known unread left old new said outcome result same kept.1,
       (λ other. subst (λ o. Appends before after (outcome_line o)) (sym (same other))
           (Appends-trans before between after [] (outcome_line outcome) (kept.2 (λ w. other (same other ∙ w))) (line other))),
     ),
@@ -96,14 +97,14 @@ module _ (verdicts : Verdicts) (tells : Words) (unread left : Option (List ℕ))
       (said, inr (shown.0, shown.1, shown.2, shown_told verdicts shown.0.plan (past shown.0.steps) before between after outcome result same line shown.3))
 
   -- the device goes on, and there is no second script
-  pub goes_board : (outcome : Outcome) (line : List ℕ) (before after : Option (List ℕ)) → HasBoard verdicts tells unread left old new outcome line before after → GoesOn old new
-  goes_board outcome line before after (said, inl kept) = goes_ended verdicts tells unread left old new said outcome kept.1
+  pub goes_board : (outcome : Outcome) (line : List ℕ) (before after : Option (List ℕ)) → HasBoard verdicts tells known unread left old new outcome line before after → GoesOn old new
+  goes_board outcome line before after (said, inl kept) = goes_ended verdicts tells known unread left old new said outcome kept.1
   goes_board outcome line before after (said, inr shown) =
-      onward old shown.0 new (goes_ended verdicts tells unread left old shown.0 said Finished shown.1) (same_on shown.0 new shown.2)
+      onward old shown.0 new (goes_ended verdicts tells known unread left old shown.0 said Finished shown.1) (same_on shown.0 new shown.2)
 
-  one_board : (line : List ℕ) (before after : Option (List ℕ)) → HasBoard verdicts tells unread left old new NoSecond line before after → ⊥
-  one_board line before after (said, inl kept) = one_script verdicts tells unread left old new said NoSecond kept.1 refl
+  one_board : (line : List ℕ) (before after : Option (List ℕ)) → HasBoard verdicts tells known unread left old new NoSecond line before after → ⊥
+  one_board line before after (said, inl kept) = one_script verdicts tells known unread left old new said NoSecond kept.1 refl
   one_board line before after (said, inr shown) = shown.3
 
-  pub single_board : (outcome : Outcome) (line : List ℕ) (before after : Option (List ℕ)) → HasBoard verdicts tells unread left old new outcome line before after → outcome ≢ NoSecond
-  single_board outcome line before after h e = one_board line before after (subst (λ o. HasBoard verdicts tells unread left old new o line before after) e h)
+  pub single_board : (outcome : Outcome) (line : List ℕ) (before after : Option (List ℕ)) → HasBoard verdicts tells known unread left old new outcome line before after → outcome ≢ NoSecond
+  single_board outcome line before after h e = one_board line before after (subst (λ o. HasBoard verdicts tells known unread left old new o line before after) e h)

@@ -6,6 +6,7 @@ use Rattle.std.proofs.lemmas.List.{map-append}
 use Rattle.ctrl_calls.specs.Meanings.{Verdicts, Words}
 use Rattle.device_history.specs.Refusals.{Answer}
 use Rattle.device_state.specs.Device.{DeviceData}
+use Rattle.script_lines.specs.ControlWords.{ControlWord}
 use Rattle.script_lines.specs.Commands.{words, line_of}
 use Rattle.script_lines.specs.declared.command.Command.{Command}
 use Rattle.script_replies.specs.Replies.{outcome_line}
@@ -59,7 +60,7 @@ behind done script = (done ++ script.0, script.1)
 behind_one : (done : List Command) (command : Command) (script : Script) → behind done (command ∷ script.0, script.1) ≡ behind (done ++ command ∷ []) script
 behind_one done command script = ap (λ l. (l, script.1)) (sym (append_assoc done (command ∷ []) script.0))
 
-module _ (verdicts : Verdicts) (tells : Words) where
+module _ (verdicts : Verdicts) (tells : Words) (known : List ControlWord) where
   abbrev Each : Bound → List Command → List Said → DeviceData → DeviceData → Type 0
   Each = AreSaid verdicts tells
 
@@ -91,7 +92,7 @@ module _ (verdicts : Verdicts) (tells : Words) where
   goes_said bound (c ∷ cs) (one ∷ said) old new each =
       onward old each.0 new (goes_one bound c one old each.0 each.1) (goes_said (bound_behind c (answer_in one) bound) cs said each.0 new each.2)
 
-  pub goes_ended : (unread left : Option (List ℕ)) (old new : DeviceData) (said : List Said) (outcome : Outcome) → HasEnded verdicts tells unread left old new said outcome → GoesOn old new
+  pub goes_ended : (unread left : Option (List ℕ)) (old new : DeviceData) (said : List Said) (outcome : Outcome) → HasEnded verdicts tells known unread left old new said outcome → GoesOn old new
   goes_ended unread left old new said outcome (inl ran) = goes_said unbound ran.2.asked said old new ran.2.each
   goes_ended unread left old new said outcome (inr none) = subst (GoesOn old) (sym none.1) (still old)
 
@@ -99,7 +100,7 @@ module _ (verdicts : Verdicts) (tells : Words) where
   pub record HasGone (lines rest : List (List ℕ)) (number : ℕ) (bound : Bound) (old new : DeviceData) (before after : Option (List ℕ)) : Type 0 where
     pub done : List Command
     pub said : List Said
-    pub split : script_in 1 lines ≡ behind done (script_in number rest)
+    pub split : script_in known 1 lines ≡ behind done (script_in known number rest)
     pub each : Each unbound done said old new
     pub bound_is : bound ≡ bound_of unbound done (answers_in said)
     pub printed : Appends before after (reply_lines said)
@@ -110,13 +111,13 @@ module _ (verdicts : Verdicts) (tells : Words) where
 
   -- then one line more
   pub gone_line : (lines rest : List (List ℕ)) (line : List ℕ) (number : ℕ) (bound bound_after : Bound) (old mid new : DeviceData) (before between after : Option (List ℕ)) (read : Option (Option Command))
-      → line_of (words line) ≡ read → HasGone lines (line ∷ rest) number bound old mid before between → IsLine verdicts tells read bound bound_after mid new between after
+      → line_of known (words line) ≡ read → HasGone lines (line ∷ rest) number bound old mid before between → IsLine verdicts tells read bound bound_after mid new between after
       → HasGone lines rest (number + 1) bound_after old new before after
   gone_line lines rest line number bound bound_after old mid new before between after None reads h is = absurd is
   gone_line lines rest line number bound bound_after old mid new before between after (Some None) reads h is = record {
     done = h.done;
     said = h.said;
-    split = h.split ∙ ap (λ r. behind h.done (read_before number r (script_in (number + 1) rest))) reads;
+    split = h.split ∙ ap (λ r. behind h.done (read_before number r (script_in known (number + 1) rest))) reads;
     each = subst (Each unbound h.done h.said old) (sym is.1) h.each;
     bound_is = is.0 ∙ h.bound_is;
     printed = subst (λ w. Appends before w (reply_lines h.said)) (sym is.2) h.printed;
@@ -127,7 +128,7 @@ module _ (verdicts : Verdicts) (tells : Words) where
       record {
         done = h.done ++ command ∷ [];
         said = h.said ++ one ∷ [];
-        split = h.split ∙ ap (λ r. behind h.done (read_before number r (script_in (number + 1) rest))) reads ∙ behind_one h.done command (script_in (number + 1) rest);
+        split = h.split ∙ ap (λ r. behind h.done (read_before number r (script_in known (number + 1) rest))) reads ∙ behind_one h.done command (script_in known (number + 1) rest);
         each = said_more unbound h.done h.said command one old mid new h.each (subst (λ b. IsSaid verdicts tells b command one mid new) h.bound_is is.1);
         bound_is = is.2 ∙ ap (bound_behind command (answer_in one)) h.bound_is
             ∙ sym (bound_more unbound h.done (answers_in h.said) command (answer_in one) count) ∙ ap (bound_of unbound (h.done ++ command ∷ [])) (sym (map-append answer_in h.said (one ∷ [])));
@@ -136,29 +137,29 @@ module _ (verdicts : Verdicts) (tells : Words) where
 
   -- all lines were read
   pub all_said : (lines : List (List ℕ)) (number : ℕ) (bound : Bound) (old new : DeviceData) (before after : Option (List ℕ)) → HasGone lines [] number bound old new before after
-      → HasSaid verdicts tells (script_in 1 lines) old new Finished before after
+      → HasSaid verdicts tells (script_in known 1 lines) old new Finished before after
   all_said lines number bound old new before after h =
       (h.said, record { asked = h.done; unasked = []; split = ap (λ s. s.0) h.split; each = h.each; end = (refl, ap (λ s. s.1) h.split) }, λ _. h.printed)
 
   -- one is no command
   pub bad_said : (lines rest : List (List ℕ)) (line : List ℕ) (number : ℕ) (bound : Bound) (old new : DeviceData) (before after : Option (List ℕ)) → HasGone lines (line ∷ rest) number bound old new before after
-      → line_of (words line) ≡ None → HasSaid verdicts tells (script_in 1 lines) old new (BadLine number) before after
+      → line_of known (words line) ≡ None → HasSaid verdicts tells (script_in known 1 lines) old new (BadLine number) before after
   bad_said lines rest line number bound old new before after h none =
-      let ends : script_in 1 lines ≡ behind h.done ([], Some number) = h.split ∙ ap (λ r. behind h.done (read_before number r (script_in (number + 1) rest))) none in
+      let ends : script_in known 1 lines ≡ behind h.done ([], Some number) = h.split ∙ ap (λ r. behind h.done (read_before number r (script_in known (number + 1) rest))) none in
       (h.said, record { asked = h.done; unasked = []; split = ap (λ s. s.0) ends; each = h.each; end = (refl, ap (λ s. s.1) ends) }, λ _. h.printed)
 
   -- no memory was left for one
   pub short_said : (lines rest : List (List ℕ)) (number : ℕ) (bound : Bound) (old new : DeviceData) (before after : Option (List ℕ)) → HasGone lines rest number bound old new before after
-      → HasSaid verdicts tells (script_in 1 lines) old new Memory before after
+      → HasSaid verdicts tells (script_in known 1 lines) old new Memory before after
   short_said lines rest number bound old new before after h =
-      (h.said, record { asked = h.done; unasked = (script_in number rest).0; split = ap (λ s. s.0) h.split; each = h.each; end = tt }, λ _. h.printed)
+      (h.said, record { asked = h.done; unasked = (script_in known number rest).0; split = ap (λ s. s.0) h.split; each = h.each; end = tt }, λ _. h.printed)
 
   -- a reply wasn't written
   pub broken_said : (lines rest : List (List ℕ)) (line : List ℕ) (number : ℕ) (bound : Bound) (old mid new : DeviceData) (before between after : Option (List ℕ)) (command : Command) (one : Said)
-      → HasGone lines (line ∷ rest) number bound old mid before between → line_of (words line) ≡ Some (Some command) → IsSaid verdicts tells bound command one mid new
-      → HasSaid verdicts tells (script_in 1 lines) old new WriteFault before after
+      → HasGone lines (line ∷ rest) number bound old mid before between → line_of known (words line) ≡ Some (Some command) → IsSaid verdicts tells bound command one mid new
+      → HasSaid verdicts tells (script_in known 1 lines) old new WriteFault before after
   broken_said lines rest line number bound old mid new before between after command one h reads is =
-      let more = script_in (number + 1) rest in
+      let more = script_in known (number + 1) rest in
       let split = h.split ∙ ap (λ r. behind h.done (read_before number r more)) reads ∙ behind_one h.done command more in (
         h.said ++ one ∷ [],
         record {
@@ -172,19 +173,19 @@ module _ (verdicts : Verdicts) (tells : Words) where
       )
 
   -- A script that was read has ended so.
-  pub ended_said : (unread left : Option (List ℕ)) (script : Script) (old new : DeviceData) (outcome : Outcome) (before after : Option (List ℕ)) → HasScript unread left script
-      → HasSaid verdicts tells script old new outcome before after → HasPrinted verdicts tells unread left old new outcome [] before after
+  pub ended_said : (unread left : Option (List ℕ)) (script : Script) (old new : DeviceData) (outcome : Outcome) (before after : Option (List ℕ)) → HasScript known unread left script
+      → HasSaid verdicts tells script old new outcome before after → HasPrinted verdicts tells known unread left old new outcome [] before after
   ended_said unread left script old new outcome before after has h =
       (h.0, inl (script, has, h.1), λ other. subst (Appends before after) (sym (append-nil (reply_lines h.0))) (h.2 other))
 
   -- an input that isn't run
   pub ended_unread : (unread left : Option (List ℕ)) (device : DeviceData) (outcome : Outcome) (written : Option (List ℕ)) → IsUnread unread outcome
-      → HasPrinted verdicts tells unread left device device outcome [] written written
+      → HasPrinted verdicts tells known unread left device device outcome [] written written
   ended_unread unread left device outcome written why = ([], inr (refl, refl, why), λ _. Appends-nil written)
 
   module _ (unread left : Option (List ℕ)) (old new : DeviceData) where
     abbrev Ended : List Said → Outcome → Type 0
-    Ended said outcome = HasEnded verdicts tells unread left old new said outcome
+    Ended said outcome = HasEnded verdicts tells known unread left old new said outcome
 
     -- a writer that fails may take the place of each outcome
     ended_broken : (said : List Said) (outcome : Outcome) → Ended said outcome → Ended said WriteFault
@@ -200,9 +201,9 @@ module _ (verdicts : Verdicts) (tells : Words) where
         by (inr other) = subst (Ended said) (sym (same other)) h
 
     -- the line of the outcome is written behind the replies
-    pub told_ended : (outcome result : Outcome) (before between after : Option (List ℕ)) → HasPrinted verdicts tells unread left old new outcome [] before between
+    pub told_ended : (outcome result : Outcome) (before between after : Option (List ℕ)) → HasPrinted verdicts tells known unread left old new outcome [] before between
         → (result ≢ WriteFault → result ≡ outcome) → (result ≢ WriteFault → Appends between after (outcome_line outcome))
-        → HasPrinted verdicts tells unread left old new result (outcome_line result) before after
+        → HasPrinted verdicts tells known unread left old new result (outcome_line result) before after
     told_ended outcome result before between after h same line = (
       h.0,
       ended_as h.0 outcome result same h.1,

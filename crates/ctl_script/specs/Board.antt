@@ -9,6 +9,7 @@ use Rattle.device_history.specs.Steps.{Past}
 use Rattle.device_history.specs.Frames.{queue}
 use Rattle.device_history.specs.Forecasts.{forecast_answer}
 use Rattle.device_state.specs.Device.{DeviceData}
+use Rattle.script_lines.specs.ControlWords.{ControlWord}
 use Rattle.script_replies.specs.Replies.{answer_line, no_frames_line}
 use Rattle.script_replies.specs.declared.outcome.Outcome.{Outcome}
 use Rattle.script_replies.specs.declared.outcome.Outcome.TheVariants.{Finished, WriteFault, Memory}
@@ -51,7 +52,7 @@ IsUnshown _ before after = ⊥
 
 -- What a board does: its script ends otherwise than whole, and nothing is printed but this line; or it has run whole, and the frames that are queued then are
 -- printed, which leaves the device.
-abbrev pub HasBoard : Verdicts → Words → Option (List ℕ) → Option (List ℕ) → DeviceData → DeviceData → Outcome → List ℕ → Option (List ℕ) → Option (List ℕ) → Type 0
-HasBoard verdicts tells unread left old new outcome line before after = (said : List Said) × (
-    ((outcome ≢ Finished) × HasEnded verdicts tells unread left old new said outcome × (outcome ≢ WriteFault → Appends before after line))
-    ⊎ ((ran : DeviceData) × HasEnded verdicts tells unread left old ran said Finished × IsSame ran new × IsShown verdicts ran.plan (past ran.steps) outcome line before after))
+abbrev pub HasBoard : Verdicts → Words → List ControlWord → Option (List ℕ) → Option (List ℕ) → DeviceData → DeviceData → Outcome → List ℕ → Option (List ℕ) → Option (List ℕ) → Type 0
+HasBoard verdicts tells known unread left old new outcome line before after = (said : List Said) × (
+    ((outcome ≢ Finished) × HasEnded verdicts tells known unread left old new said outcome × (outcome ≢ WriteFault → Appends before after line))
+    ⊎ ((ran : DeviceData) × HasEnded verdicts tells known unread left old ran said Finished × IsSame ran new × IsShown verdicts ran.plan (past ran.steps) outcome line before after))

@@ -11,6 +11,7 @@ use Rattle.device_history.specs.Refusals.{Answer}
 use Rattle.device_history.specs.Steps.{History}
 use Rattle.device_history.specs.Values.{now}
 use Rattle.device_state.specs.Device.{DeviceData, Handles}
+use Rattle.script_lines.specs.ControlWords.{ControlWord}
 use Rattle.script_lines.specs.Commands.{words, line_of}
 use Rattle.script_lines.specs.declared.command.Command.{Command}
 use Rattle.script_replies.specs.Replies.{answer_line, audit_line}
@@ -41,18 +42,18 @@ read_before number None script = ([], Some number)
 read_before number (Some None) script = script
 read_before number (Some (Some command)) script = (command ∷ script.0, script.1)
 
--- the script of lines that are numbered from this number on
-abbrev pub script_in : ℕ → List (List ℕ) → Script
-script_in number [] = ([], None)
-script_in number (line ∷ lines) = read_before number (line_of (words line)) (script_in (number + 1) lines)
+-- the script of lines that are numbered from this number on, where these words name controls
+abbrev pub script_in : List ControlWord → ℕ → List (List ℕ) → Script
+script_in known number [] = ([], None)
+script_in known number (line ∷ lines) = read_before number (line_of known (words line)) (script_in known (number + 1) lines)
 
 -- an input that was read whole, and its script
-pub record HasScript (unread left : Option (List ℕ)) (script : Script) : Type 0 where
+pub record HasScript (known : List ControlWord) (unread left : Option (List ℕ)) (script : Script) : Type 0 where
   pub input : List ℕ
   pub within : length input ≤ 1048576
   pub consumed : Consumes unread left input
   pub ended : IsAtEnd left
-  pub read : script_in 1 (lines_in input) ≡ script
+  pub read : script_in known 1 (lines_in input) ≡ script
 
 -- what a command came to: what it asked, with the answer, or an audit
 abbrev pub Said : Type 0
@@ -130,11 +131,11 @@ module _ (verdicts : Verdicts) (tells : Words) where
   HasSaid script old new outcome before after = (said : List Said) × WasRun script old new said outcome × (outcome ≢ WriteFault → Appends before after (reply_lines said))
 
   -- An input was read whole and its script has run, or it wasn't and nothing has.
-  abbrev pub HasEnded : Option (List ℕ) → Option (List ℕ) → DeviceData → DeviceData → List Said → Outcome → Type 0
-  HasEnded unread left old new said outcome = ((script : Script) × HasScript unread left script × WasRun script old new said outcome)
+  abbrev pub HasEnded : List ControlWord → Option (List ℕ) → Option (List ℕ) → DeviceData → DeviceData → List Said → Outcome → Type 0
+  HasEnded known unread left old new said outcome = ((script : Script) × HasScript known unread left script × WasRun script old new said outcome)
       ⊎ ((said ≡ []) × (new ≡ old) × IsUnread unread outcome)
 
   -- The same, and its reply lines were printed, and then such more, unless the writer failed.
-  abbrev pub HasPrinted : Option (List ℕ) → Option (List ℕ) → DeviceData → DeviceData → Outcome → List ℕ → Option (List ℕ) → Option (List ℕ) → Type 0
-  HasPrinted unread left old new outcome more before after =
-      (said : List Said) × HasEnded unread left old new said outcome × (outcome ≢ WriteFault → Appends before after (reply_lines said ++ more))
+  abbrev pub HasPrinted : List ControlWord → Option (List ℕ) → Option (List ℕ) → DeviceData → DeviceData → Outcome → List ℕ → Option (List ℕ) → Option (List ℕ) → Type 0
+  HasPrinted known unread left old new outcome more before after =
+      (said : List Said) × HasEnded known unread left old new said outcome × (outcome ≢ WriteFault → Appends before after (reply_lines said ++ more))

@@ -8,6 +8,7 @@ ghost use Rattle.ctl_script.specs.Run.{GoesOn};
 use crate::run::{SEAT, read_and_answer, with_line, without_line};
 use ctrl_calls::Driver;
 use device_state::{Ask, Device};
+use script_lines::ControlWords;
 use script_replies::{Outcome, ReplyLine, write_answer, write_no_frames};
 use std::alloc::Global;
 use std::io;
@@ -16,6 +17,7 @@ use std::io::{Read, Write};
 /// Asks the commands of a script as `run_script` does, but prints none of their replies; at the end it prints what each queued frame will
 /// have, in the order of the queue, or `no frames` where none is queued. It hands the device back (of this project).
 ///
+/// - `known`: the words by which the script names the device's controls.
 /// - `device`: what the commands are asked of, at seat 0; it may have steps.
 /// - `reader`: gives the script, as it gives that of `run_script`.
 /// - `writer`: is given each line whole, and what is left of it after a short write. It isn't flushed.
@@ -24,32 +26,34 @@ use std::io::{Read, Write};
 /// at the end finds no memory, the outcome is `Memory`, and its line follows those of the frames before. The device has the plan that was handed in, and its steps begin with those that it had.
 pub fn run_board<D: Driver, R: Read, W: Write>(
     alloc: Global,
+    known: &ControlWords,
     mut device: Device<D>,
     reader: &mut R,
     writer: &mut W,
 ) -> (Device<D>, Outcome)
-    ensures board { HasBoard D.verdict D.told (R.remaining reader.old) (R.remaining reader.new) device result.0 result.1 (outcome_line result.1) (W.contents writer.old) (W.contents writer.new) }
+    ensures board { HasBoard D.verdict D.told known.now (R.remaining reader.old) (R.remaining reader.new) device result.0 result.1 (outcome_line result.1) (W.contents writer.old) (W.contents writer.new) }
     ensures device { GoesOn device result.0 }
     ensures one_script { result.1 ≢ Outcome.NoSecond }
 {
     let Ok(mut line) = ReplyLine::new(alloc) else {
         return (device, without_line(writer));
     };
-    let outcome = read_and_print(alloc, &mut device, reader, writer, &mut line);
+    let outcome = read_and_print(alloc, known, &mut device, reader, writer, &mut line);
     (device, with_line(writer, &mut line, outcome))
 }
 
 // Asks the commands of a script, and prints the frames that are queued then.
 fn read_and_print<D: Driver, R: Read, W: Write>(
     alloc: Global,
+    known: &ControlWords,
     device: &mut Device<D>,
     reader: &mut R,
     writer: &mut W,
     line: &mut ReplyLine,
 ) -> Outcome
-    ensures { HasBoard D.verdict D.told (R.remaining reader.old) (R.remaining reader.new) device.old device.new result [] (W.contents writer.old) (W.contents writer.new) }
+    ensures { HasBoard D.verdict D.told known.now (R.remaining reader.old) (R.remaining reader.new) device.old device.new result [] (W.contents writer.old) (W.contents writer.new) }
 {
-    match read_and_answer(alloc, device, reader, &mut Unheard, line) {
+    match read_and_answer(alloc, known, device, reader, &mut Unheard, line) {
         Outcome::Finished => print_frames(device, writer, line),
         outcome => outcome,
     }

@@ -22,5 +22,7 @@ pub use run::{first_line, run_script, with_line, without_line};
 pub use sample_device::{
     BALANCE_LIMIT, BRIGHTNESS_WORDS, BUTTON_WORDS, GAIN_LIMIT, PAIR_WORDS, Sample, balance_verdict,
     brightness_word, button_word, gain_verdict, pair_word, sample_builder, sample_plan,
+    sample_words,
 };
+pub use script_lines::ControlWords;
 pub use script_replies::Outcome;

@@ -14,7 +14,7 @@ use crate::input::read_input;
 use crate::names::Bindings;
 use ctrl_calls::Driver;
 use device_state::Device;
-use script_lines::{LineFault, read_line};
+use script_lines::{ControlWords, LineFault, read_line};
 use script_replies::{
     Outcome, ReplyLine, write_answer, write_audit, write_no_memory, write_outcome,
 };
@@ -23,6 +23,7 @@ use std::io::{Read, Write};
 
 /// Answers the commands of a script in order, and hands the device back (of this project).
 ///
+/// - `known`: the words by which the script names the device's controls.
 /// - `device`: what the commands are asked of, at seat 0; it may have steps.
 /// - `reader`: gives the script, at most 1,048,576 bytes in at most 2,097,152 reads; an interrupted read counts as one. It is
 ///   read whole before the first command runs.
@@ -40,18 +41,19 @@ use std::io::{Read, Write};
 /// and its steps begin with those that it had.
 pub fn run_script<D: Driver, R: Read, W: Write>(
     alloc: Global,
+    known: &ControlWords,
     mut device: Device<D>,
     reader: &mut R,
     writer: &mut W,
 ) -> (Device<D>, Outcome)
-    ensures ran { HasPrinted D.verdict D.told (R.remaining reader.old) (R.remaining reader.new) device result.0 result.1 (outcome_line result.1) (W.contents writer.old) (W.contents writer.new) }
+    ensures ran { HasPrinted D.verdict D.told known.now (R.remaining reader.old) (R.remaining reader.new) device result.0 result.1 (outcome_line result.1) (W.contents writer.old) (W.contents writer.new) }
     ensures device { GoesOn device result.0 }
     ensures one_script { result.1 ≢ Outcome.NoSecond }
 {
     let Ok(mut reply) = ReplyLine::new(alloc) else {
         return (device, without_line(writer));
     };
-    let outcome = read_and_answer(alloc, &mut device, reader, writer, &mut reply);
+    let outcome = read_and_answer(alloc, known, &mut device, reader, writer, &mut reply);
     (device, with_line(writer, &mut reply, outcome))
 }
 
@@ -81,15 +83,16 @@ pub fn with_line<W: Write>(writer: &mut W, reply: &mut ReplyLine, outcome: Outco
 // Reads a script whole, and then answers it.
 pub(crate) fn read_and_answer<D: Driver, R: Read, W: Write>(
     alloc: Global,
+    known: &ControlWords,
     device: &mut Device<D>,
     reader: &mut R,
     writer: &mut W,
     reply: &mut ReplyLine,
 ) -> Outcome
-    ensures { HasPrinted D.verdict D.told (R.remaining reader.old) (R.remaining reader.new) device.old device.new result [] (W.contents writer.old) (W.contents writer.new) }
+    ensures { HasPrinted D.verdict D.told known.now (R.remaining reader.old) (R.remaining reader.new) device.old device.new result [] (W.contents writer.old) (W.contents writer.new) }
 {
     match read_input(alloc, reader) {
-        Ok(text) => answer_script(alloc, device, text.as_slice(), writer, reply),
+        Ok(text) => answer_script(alloc, known, device, text.as_slice(), writer, reply),
         Err(InputFault::TooLong) => Outcome::TooLong,
         Err(InputFault::Reader) => Outcome::ReadFault,
         Err(InputFault::Memory) => Outcome::Memory,
@@ -99,13 +102,14 @@ pub(crate) fn read_and_answer<D: Driver, R: Read, W: Write>(
 // Answers the lines of a script in order, up to one that ends the run.
 fn answer_script<D: Driver, W: Write>(
     alloc: Global,
+    known: &ControlWords,
     device: &mut Device<D>,
     text: &[u8],
     writer: &mut W,
     reply: &mut ReplyLine,
 ) -> Outcome
     requires { length text.now ≤ 1048576 }
-    ensures { HasSaid D.verdict D.told (script_in 1 (lines_in text.now)) device.old device.new result (W.contents writer.old) (W.contents writer.new) }
+    ensures { HasSaid D.verdict D.told (script_in known.now 1 (lines_in text.now)) device.old device.new result (W.contents writer.old) (W.contents writer.new) }
 {
     let mut names = Bindings::new(alloc);
     let mut number = 0;
@@ -113,7 +117,7 @@ fn answer_script<D: Driver, W: Write>(
     while let Some(text) = rest {
         let (line, more) = first_line(text);
         number += 1;
-        match answer_line(alloc, device, &mut names, line, writer, reply) {
+        match answer_line(alloc, known, device, &mut names, line, writer, reply) {
             Ok(()) => rest = more,
             Err(LineEnd::NotACommand) => return Outcome::BadLine(number),
             Err(LineEnd::Memory) => return Outcome::Memory,
@@ -153,6 +157,7 @@ enum LineEnd {
 // Answers one line. All that it needs of memory is taken before the device is asked, so that no step is without its reply line.
 fn answer_line<D: Driver, W: Write>(
     alloc: Global,
+    known: &ControlWords,
     device: &mut Device<D>,
     names: &mut Bindings,
     line: &[u8],
@@ -160,10 +165,10 @@ fn answer_line<D: Driver, W: Write>(
     reply: &mut ReplyLine,
 ) -> Result<(), LineEnd>
     requires { length line.now ≤ 1048576 }
-    ensures line { OnOk result (IsLine D.verdict D.told (line_of (words line.now)) (bound_in names.old) (bound_in names.new) device.old device.new (W.contents writer.old) (W.contents writer.new)) }
-    ensures end { IfErr result (IsLastLine D.verdict D.told (line_of (words line.now)) (bound_in names.old) device.old device.new (W.contents writer.old) (W.contents writer.new)) }
+    ensures line { OnOk result (IsLine D.verdict D.told (line_of known.now (words line.now)) (bound_in names.old) (bound_in names.new) device.old device.new (W.contents writer.old) (W.contents writer.new)) }
+    ensures end { IfErr result (IsLastLine D.verdict D.told (line_of known.now (words line.now)) (bound_in names.old) device.old device.new (W.contents writer.old) (W.contents writer.new)) }
 {
-    let command = match read_line(alloc, line) {
+    let command = match read_line(alloc, known, line) {
         Ok(Some(command)) => command,
         Ok(None) => return Ok(()),
         Err(LineFault::NotACommand) => return Err(LineEnd::NotACommand),

@@ -11,9 +11,9 @@ use crate::kept::Kept;
 use command_line::{Mode, ModeFault, mode_of};
 use ctl_pair::{Gate, run_pair};
 use ctl_script::{
-    BALANCE_LIMIT, BRIGHTNESS_WORDS, BUTTON_WORDS, GAIN_LIMIT, Outcome, PAIR_WORDS, Sample,
-    balance_verdict, brightness_word, button_word, gain_verdict, pair_word, run_board, run_script,
-    sample_plan,
+    BALANCE_LIMIT, BRIGHTNESS_WORDS, BUTTON_WORDS, ControlWords, GAIN_LIMIT, Outcome, PAIR_WORDS,
+    Sample, balance_verdict, brightness_word, button_word, gain_verdict, pair_word, run_board,
+    run_script, sample_plan, sample_words,
 };
 use ctrl_calls::{Calls, ClusterRow, Driver, Notifier, Validator, Verdict};
 use device_state::Device;
@@ -122,26 +122,46 @@ where
     let Ok(device) = Device::new(rt.alloc(), plan) else {
         return no_memory(rt);
     };
+    let Ok(known) = sample_words(rt.alloc()) else {
+        return no_memory(rt);
+    };
     let mut reader = Kept::new(rt.alloc(), rt.reader());
     let mut writer = io::writer(rt);
     let outcome = match mode {
-        Mode::Run => run_script(rt.alloc(), device, &mut reader, &mut writer).1,
-        Mode::Pair => run_pair(rt, rt.alloc(), device, &OpenGate, &mut reader, &mut writer).1,
-        Mode::Board => run_board(rt.alloc(), device, &mut reader, &mut writer).1,
+        Mode::Run => run_script(rt.alloc(), &known, device, &mut reader, &mut writer).1,
+        Mode::Pair => {
+            run_pair(
+                rt,
+                rt.alloc(),
+                &known,
+                device,
+                &OpenGate,
+                &mut reader,
+                &mut writer,
+            )
+            .1
+        }
+        Mode::Board => run_board(rt.alloc(), &known, device, &mut reader, &mut writer).1,
     };
     if let Outcome::BadLine(number) = outcome {
-        explain(rt, &reader, number);
+        explain(rt, &known, &reader, number);
     }
     ExitCode::from(outcome.status())
 }
 
 // Says why a line isn't a command, as far as there is memory to find it out. Nothing else depends on it.
-fn explain<R: AllocGlobal + Eprint, I: Read>(rt: &R, reader: &Kept<I>, number: u32) {
+fn explain<R: AllocGlobal + Eprint, I: Read>(
+    rt: &R,
+    known: &ControlWords,
+    reader: &Kept<I>,
+    number: u32,
+) {
     let Some(line) = reader.line(number) else {
         return;
     };
-    if let Ok(Some(Complaint { word, reason })) = reason_of(rt.alloc(), line) {
-        let _ = eprintln!(rt; "line {number}, word {word}: {}", reason.text());
+    if let Ok(Some(Complaint { word, reason })) = reason_of(rt.alloc(), known, line) {
+        let reason = reason.text("the sample device");
+        let _ = eprintln!(rt; "line {number}, word {word}: {reason}");
     }
 }
 

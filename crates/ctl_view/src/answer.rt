@@ -6,7 +6,7 @@ use ctl_script::{Binding, Bindings, ask_of, audit_of};
 use ctrl_calls::Driver;
 use ctrl_types::Fault;
 use device_state::{Ask, Device, Reply};
-use script_lines::{LineFault, read_line};
+use script_lines::{ControlWords, LineFault, read_line};
 use script_replies::Audited;
 use std::alloc::Global;
 
@@ -27,13 +27,14 @@ pub enum Said {
 /// Asks what a line says, as `run_script` of `ctl_script` does, and binds its names. All that it needs of memory is taken before the device is asked.
 pub fn answer_line<D: Driver>(
     alloc: Global,
+    known: &ControlWords,
     device: &mut Device<D>,
     names: &mut Bindings,
     line: &[u8],
 ) -> Result<Said, LineFault>
     requires { length line.now ≤ 1048576 }
 {
-    let Some(command) = read_line(alloc, line)? else {
+    let Some(command) = read_line(alloc, known, line)? else {
         return Ok(Said::Nothing);
     };
     let binding = Binding::of(&command);

@@ -22,7 +22,7 @@ use crate::wanted::Wanted;
 use ctl_script::{
     BALANCE_LIMIT, BRIGHTNESS_WORDS, BUTTON_WORDS, GAIN_LIMIT, InputFault, Outcome, PAIR_WORDS,
     Sample, balance_verdict, brightness_word, button_word, gain_verdict, pair_word, read_input,
-    sample_plan, with_line,
+    sample_plan, sample_words, with_line,
 };
 use ctrl_calls::{Calls, ClusterRow, Driver, Notifier, Validator, Verdict};
 use device_state::Device;
@@ -135,7 +135,10 @@ fn run<D: Driver, R: AllocGlobal + Input + Files + Print + Eprint>(
     let Ok(mut device) = Device::new(rt.alloc(), plan) else {
         return no_memory(rt);
     };
-    let Ok(mut view) = View::new(rt.alloc(), wanted.how, ink) else {
+    let Ok(known) = sample_words(rt.alloc()) else {
+        return no_memory(rt);
+    };
+    let Ok(mut view) = View::new(rt.alloc(), known, wanted.how, ink) else {
         return no_memory(rt);
     };
     let outcome = show(rt, &mut device, &mut view, wanted.file);

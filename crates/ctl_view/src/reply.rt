@@ -2,6 +2,7 @@
 
 use crate::words::{kind_name, put_cluster, put_flags, put_name};
 use bitflags::Flags as FlagSet;
+use ctl_script::ControlWords;
 use ctrl_calls::Driver;
 use ctrl_events::Event;
 use ctrl_types::{Changes, ExtControl, Fault};
@@ -14,15 +15,23 @@ use view_layout::put_wanted;
 /// Writes what an accepted ask was answered: its reply line, with the names of controls and flags. A line feed may stand at its end.
 ///
 /// - `line`: where a reply line is put together.
+/// - `known`: the words of the controls.
 pub fn put_reply<D: Driver, W: Write>(
     out: &mut W,
     line: &mut ReplyLine,
+    known: &ControlWords,
     plan: &Plan<D>,
     ask: &Ask,
     answer: &Result<Reply, Fault>,
 ) -> io::Result<()> {
     match answer {
-        Ok(Reply::Controls(list)) => put_controls(out, plan, list.as_slice(), wanted_by(ask)),
+        Ok(Reply::Controls(list)) => put_controls(
+            out,
+            known,
+            plan,
+            list.as_slice(),
+            wanted_by(ask),
+        ),
         Ok(Reply::Forecast(_)) => write!(out, "ok, in the table"),
         Ok(
             Reply::Frame {
@@ -30,12 +39,12 @@ pub fn put_reply<D: Driver, W: Write>(
                 refused,
                 ..
             },
-        ) => put_frame(out, plan, *buffer, refused.as_slice()),
-        Ok(Reply::Event(event)) => put_event(out, plan, *event),
-        Ok(Reply::Info(info)) => put_info(out, plan, *info),
+        ) => put_frame(out, known, plan, *buffer, refused.as_slice()),
+        Ok(Reply::Event(event)) => put_event(out, known, plan, *event),
+        Ok(Reply::Info(info)) => put_info(out, known, plan, *info),
         Ok(Reply::Id(id)) => {
             write!(out, "ok ")?;
-            put_name(out, plan, *id)
+            put_name(out, known, plan, *id)
         }
         _ => write_answer(out, line, ask, answer),
     }
@@ -52,6 +61,7 @@ pub fn wanted_by(ask: &Ask) -> &[ExtControl] {
 // The values of a list under their names, and what was asked for where another value came of it.
 fn put_controls<D: Driver, W: Write>(
     out: &mut W,
+    known: &ControlWords,
     plan: &Plan<D>,
     list: &[ExtControl],
     wanted: &[ExtControl],
@@ -59,7 +69,7 @@ fn put_controls<D: Driver, W: Write>(
     write!(out, "ok")?;
     for (place, entry) in list.iter().enumerate() {
         write!(out, " ")?;
-        put_name(out, plan, entry.id)?;
+        put_name(out, known, plan, entry.id)?;
         let value = entry.value;
         write!(out, "={value}")?;
         if let Some(asked) = wanted.get(place) {
@@ -72,6 +82,7 @@ fn put_controls<D: Driver, W: Write>(
 // A frame that was begun, and the clusters that keep their values.
 fn put_frame<D: Driver, W: Write>(
     out: &mut W,
+    known: &ControlWords,
     plan: &Plan<D>,
     buffer: u32,
     refused: &[u32],
@@ -79,13 +90,18 @@ fn put_frame<D: Driver, W: Write>(
     write!(out, "ok buffer {buffer}")?;
     for cluster in refused {
         write!(out, ", refused ")?;
-        put_cluster(out, plan, *cluster)?;
+        put_cluster(out, known, plan, *cluster)?;
     }
     Ok(())
 }
 
 // An event that was taken.
-fn put_event<D: Driver, W: Write>(out: &mut W, plan: &Plan<D>, event: Event) -> io::Result<()> {
+fn put_event<D: Driver, W: Write>(
+    out: &mut W,
+    known: &ControlWords,
+    plan: &Plan<D>,
+    event: Event,
+) -> io::Result<()> {
     let Event {
         value,
         sequence,
@@ -93,7 +109,7 @@ fn put_event<D: Driver, W: Write>(out: &mut W, plan: &Plan<D>, event: Event) -> 
         ..
     } = event;
     write!(out, "event ")?;
-    put_name(out, plan, event.id)?;
+    put_name(out, known, plan, event.id)?;
     write!(out, "={value}")?;
     put_changes(out, event.changes)?;
     put_flags(out, event.flags)?;
@@ -112,7 +128,12 @@ fn put_changes<W: Write>(out: &mut W, changes: Changes) -> io::Result<()> {
 }
 
 // What a control is like.
-fn put_info<D: Driver, W: Write>(out: &mut W, plan: &Plan<D>, info: CtrlInfo) -> io::Result<()> {
+fn put_info<D: Driver, W: Write>(
+    out: &mut W,
+    known: &ControlWords,
+    plan: &Plan<D>,
+    info: CtrlInfo,
+) -> io::Result<()> {
     let CtrlInfo {
         minimum,
         maximum,
@@ -122,7 +143,7 @@ fn put_info<D: Driver, W: Write>(out: &mut W, plan: &Plan<D>, info: CtrlInfo) ->
     } = info;
     let kind = kind_name(info.kind);
     write!(out, "ok ")?;
-    put_name(out, plan, info.id)?;
+    put_name(out, known, plan, info.id)?;
     write!(
         out,
         " {kind} {minimum}..{maximum} step {step} default {default_value}"

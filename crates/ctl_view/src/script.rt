@@ -55,11 +55,21 @@ fn show_line<D: Driver, R: AllocGlobal + Eprint, W: Write>(
 ) -> Result<(), Outcome>
     requires { length line.text.now ≤ 1048576 }
 {
-    match answer_line(rt.alloc(), device, &mut view.names, line.text) {
+    match answer_line(rt.alloc(), &view.known, device, &mut view.names, line.text) {
         Ok(said) if view.how == How::Why => explain(rt, device, view, line.number, &said, writer),
         Ok(said) => show_said(rt.alloc(), device, view, line, &said, writer),
         Err(LineFault::Memory) => Err(Outcome::Memory),
-        Err(LineFault::NotACommand) if view.how == How::Why => Err(explain_stray(rt, line)),
-        Err(LineFault::NotACommand) => Err(show_stray(rt.alloc(), view.ink, line, writer)),
+        Err(LineFault::NotACommand) if view.how == How::Why => Err(explain_stray(
+            rt,
+            &view.known,
+            line,
+        )),
+        Err(LineFault::NotACommand) => Err(show_stray(
+            rt.alloc(),
+            &view.known,
+            view.ink,
+            line,
+            writer,
+        )),
     }
 }

@@ -3,9 +3,11 @@
 use crate::answer::Said;
 use crate::reply::put_reply;
 use crate::table::put_table;
+use crate::told::DEVICE;
 use crate::view::View;
 use crate::why::{put_check, put_refusal};
 use ask_reasons::reason_of;
+use ctl_script::ControlWords;
 use ctrl_calls::Driver;
 use ctrl_types::Fault;
 use device_state::{Ask, Device, Reply};
@@ -67,11 +69,18 @@ fn put_accepted<D: Driver>(
 ) -> io::Result<()> {
     view.commands = view.commands.saturating_add(1);
     let mut said: Vec<u8> = Vec::new(alloc);
-    put_reply(&mut said, &mut view.line, device.plan(), ask, answer)?;
+    put_reply(
+        &mut said,
+        &mut view.line,
+        &view.known,
+        device.plan(),
+        ask,
+        answer,
+    )?;
     put_command(page, line, said.as_slice(), "", view.ink)?;
     if view.shows_queue(device, ask) {
         view.shown_at = Some(device.steps().len());
-        put_table(page, alloc, device, view.ink)?;
+        put_table(page, alloc, &view.known, device, view.ink)?;
     }
     Ok(())
 }
@@ -91,20 +100,34 @@ fn put_refused<D: Driver>(
     let ink = view.ink;
     let reason = reason_of(alloc, device, ask)?;
     let mut said: Vec<u8> = Vec::new(alloc);
-    put_refusal(&mut said, &mut view.line, device, ask, fault, reason)?;
+    put_refusal(
+        &mut said,
+        &mut view.line,
+        &view.known,
+        device,
+        ask,
+        fault,
+        reason,
+    )?;
     put_command(page, line, said.as_slice(), ink.bad, ink)?;
     let Some(reason) = reason else {
         return Ok(());
     };
     said.clear();
-    put_check(&mut said, device, ask, reason)?;
+    put_check(&mut said, &view.known, device, ask, reason)?;
     put_spaces(page, INDENT)?;
     put_folded(page, INDENT, said.as_slice(), ink.bad, ink.plain)
 }
 
 /// Shows a line that isn't a command, and why, as far as it is found out. The outcome is that of the script, which ends here.
-pub fn show_stray<W: Write>(alloc: Global, ink: Ink, line: Line<'_>, writer: &mut W) -> Outcome {
-    let Ok(complaint) = reason_of_line(alloc, line.text) else {
+pub fn show_stray<W: Write>(
+    alloc: Global,
+    known: &ControlWords,
+    ink: Ink,
+    line: Line<'_>,
+    writer: &mut W,
+) -> Outcome {
+    let Ok(complaint) = reason_of_line(alloc, known, line.text) else {
         return Outcome::Memory;
     };
     let mut page: Vec<u8> = Vec::new(alloc);
@@ -136,7 +159,7 @@ fn put_stray(
         return Ok(());
     };
     let mut text: Vec<u8> = Vec::new(alloc);
-    let reason = reason.text();
+    let reason = reason.text(DEVICE);
     write!(text, "word {word}: {reason}")?;
     put_spaces(page, INDENT)?;
     put_folded(page, INDENT, text.as_slice(), ink.bad, ink.plain)
@@ -167,7 +190,7 @@ fn put_end<D: Driver>(
 ) -> io::Result<()> {
     let steps = device.steps().len();
     if device.queued_count() > 0 && view.shown_at != Some(steps) {
-        put_table(page, alloc, device, view.ink)?;
+        put_table(page, alloc, &view.known, device, view.ink)?;
     }
     let commands = view.commands;
     let refused = view.refused;

@@ -2,6 +2,7 @@
 
 use crate::frame::{cell_at, frame_at, look_at, stays, widest};
 use crate::words::{put_cluster, word_of};
+use ctl_script::ControlWords;
 use ctrl_calls::Driver;
 use device_state::Device;
 use std::alloc::Global;
@@ -22,6 +23,7 @@ const FRAME: usize = 12;
 pub fn put_table<D: Driver, W: Write>(
     out: &mut W,
     alloc: Global,
+    known: &ControlWords,
     device: &Device<D>,
     ink: Ink,
 ) -> io::Result<()> {
@@ -37,9 +39,9 @@ pub fn put_table<D: Driver, W: Write>(
         let first = block.saturating_mul(room);
         let end = first.saturating_add(room).min(count);
         put_heads(out, alloc, device, first, end, width)?;
-        put_rows(out, alloc, device, first, end, width, ink)?;
+        put_rows(out, alloc, known, device, first, end, width, ink)?;
     }
-    put_refusals(out, alloc, device, ink)?;
+    put_refusals(out, alloc, known, device, ink)?;
     put_legend(out, device, ink)
 }
 
@@ -77,6 +79,7 @@ fn put_heads<D: Driver, W: Write>(
 fn put_rows<D: Driver, W: Write>(
     out: &mut W,
     alloc: Global,
+    known: &ControlWords,
     device: &Device<D>,
     first: usize,
     end: usize,
@@ -89,7 +92,7 @@ fn put_rows<D: Driver, W: Write>(
         }
         let mut text: Vec<u8> = Vec::new(alloc);
         put_look(&mut text, look_at(device.plan(), device.values(), control))?;
-        put_name(out, control)?;
+        put_name(out, known, control)?;
         put_right(out, text.as_slice(), NOW, "", "")?;
         for place in first..end {
             let cell = cell_at(device.plan(), frame_at(device, place), control);
@@ -108,8 +111,8 @@ fn put_rows<D: Driver, W: Write>(
 }
 
 // The name of a control, in its column.
-fn put_name<W: Write>(out: &mut W, control: u32) -> io::Result<()> {
-    let word = word_of(control);
+fn put_name<W: Write>(out: &mut W, known: &ControlWords, control: u32) -> io::Result<()> {
+    let word = word_of(known, control);
     put_spaces(out, INDENT)?;
     write!(out, "{word}")?;
     put_spaces(out, NAMES.saturating_sub(word.len()))
@@ -141,6 +144,7 @@ fn put_right<W: Write>(
 fn put_refusals<D: Driver, W: Write>(
     out: &mut W,
     alloc: Global,
+    known: &ControlWords,
     device: &Device<D>,
     ink: Ink,
 ) -> io::Result<()> {
@@ -148,7 +152,7 @@ fn put_refusals<D: Driver, W: Write>(
         for cluster in frame_at(device, place).refused {
             let mut text: Vec<u8> = Vec::new(alloc);
             write!(text, "frame {place}: ")?;
-            put_cluster(&mut text, device.plan(), *cluster)?;
+            put_cluster(&mut text, known, device.plan(), *cluster)?;
             write!(text, " will be refused")?;
             put_spaces(out, INDENT)?;
             put_folded(out, INDENT, text.as_slice(), ink.bad, ink.plain)?;

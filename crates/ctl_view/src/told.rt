@@ -4,6 +4,7 @@ use crate::answer::Said;
 use crate::view::View;
 use crate::why::{put_check, put_refusal};
 use ask_reasons::reason_of;
+use ctl_script::ControlWords;
 use ctrl_calls::Driver;
 use ctrl_types::Fault;
 use device_state::{Ask, Device};
@@ -13,6 +14,9 @@ use std::alloc::Global;
 use std::io;
 use std::io::Write;
 use view_layout::Line;
+
+/// The device, as it is named for people.
+pub const DEVICE: &str = "the sample device";
 
 /// Prints the reply to a line as `run_script` does, and says on standard error why it is a refusal.
 pub fn explain<D: Driver, R: AllocGlobal + Eprint, W: Write>(
@@ -54,12 +58,20 @@ fn put_why<D: Driver>(
     fault: Fault,
 ) -> io::Result<()> {
     let reason = reason_of(alloc, device, ask)?;
-    put_refusal(text, &mut view.line, device, ask, fault, reason)?;
+    put_refusal(
+        text,
+        &mut view.line,
+        &view.known,
+        device,
+        ask,
+        fault,
+        reason,
+    )?;
     let Some(reason) = reason else {
         return Ok(());
     };
     write!(text, ": ")?;
-    put_check(text, device, ask, reason)
+    put_check(text, &view.known, device, ask, reason)
 }
 
 // Says something of a line on standard error.
@@ -70,9 +82,14 @@ fn tell<R: Eprint>(rt: &R, number: u32, text: &[u8]) {
 }
 
 /// Says on standard error why a line isn't a command, as far as there is memory to find it out. The outcome is that of the script, which ends here.
-pub fn explain_stray<R: AllocGlobal + Eprint>(rt: &R, line: Line<'_>) -> Outcome {
-    if let Ok(Some(Complaint { word, reason })) = reason_of_line(rt.alloc(), line.text) {
-        let _ = eprintln!(rt; "line {}, word {word}: {}", line.number, reason.text());
+pub fn explain_stray<R: AllocGlobal + Eprint>(
+    rt: &R,
+    known: &ControlWords,
+    line: Line<'_>,
+) -> Outcome {
+    if let Ok(Some(Complaint { word, reason })) = reason_of_line(rt.alloc(), known, line.text) {
+        let reason = reason.text(DEVICE);
+        let _ = eprintln!(rt; "line {}, word {word}: {reason}", line.number);
     }
     Outcome::BadLine(line.number)
 }

@@ -1,7 +1,7 @@
 //! What is kept while a script is shown.
 
 use crate::wanted::How;
-use ctl_script::Bindings;
+use ctl_script::{Bindings, ControlWords};
 use ctrl_calls::Driver;
 use device_state::{Ask, Device};
 use script_replies::ReplyLine;
@@ -17,6 +17,8 @@ pub struct View {
     pub how: How,
     /// With which colours.
     pub ink: Ink,
+    /// The words by which the script names the device's controls, and by which they are shown.
+    pub known: ControlWords,
     /// What the names of the script stand for.
     pub names: Bindings,
     /// How many commands were shown.
@@ -29,12 +31,13 @@ pub struct View {
 
 impl View {
     /// No line was read. The error is that a growth was refused.
-    pub fn new(alloc: Global, how: How, ink: Ink) -> Result<View, AllocError> {
+    pub fn new(alloc: Global, known: ControlWords, how: How, ink: Ink) -> Result<View, AllocError> {
         let line = ReplyLine::new(alloc)?;
         Ok(View {
             line,
             how,
             ink,
+            known,
             names: Bindings::new(alloc),
             commands: 0,
             refused: 0,

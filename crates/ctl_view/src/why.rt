@@ -3,6 +3,7 @@
 use crate::reply::wanted_by;
 use crate::words::{control_of, members_beside, put_name, word_of};
 use ask_reasons::{Check, Reason};
+use ctl_script::ControlWords;
 use ctrl_calls::Driver;
 use ctrl_types::{CtrlId, Fault, Pair, last_value};
 use device_state::{Ask, Device, Plan};
@@ -14,9 +15,11 @@ use std::io::Write;
 ///
 /// - `out`: ends with this behind it, without a line feed.
 /// - `line`: where the reply line is put together.
+/// - `known`: the words of the controls.
 pub fn put_refusal<D: Driver>(
     out: &mut Vec<u8>,
     line: &mut ReplyLine,
+    known: &ControlWords,
     device: &Device<D>,
     ask: &Ask,
     fault: Fault,
@@ -28,7 +31,7 @@ pub fn put_refusal<D: Driver>(
     let errno = fault.errno;
     write!(out, ": {errno:?}")?;
     match reason {
-        Some(reason) => put_place(out, device.plan(), ask, reason.entry),
+        Some(reason) => put_place(out, known, device.plan(), ask, reason.entry),
         None => Ok(()),
     }
 }
@@ -36,6 +39,7 @@ pub fn put_refusal<D: Driver>(
 /// Writes the check that an ask was refused by, and what didn't hold.
 pub fn put_check<D: Driver>(
     out: &mut Vec<u8>,
+    known: &ControlWords,
     device: &Device<D>,
     ask: &Ask,
     reason: Reason,
@@ -44,7 +48,7 @@ pub fn put_check<D: Driver>(
     let text = reason.check.text();
     write!(out, "check {number}, {text}")?;
     match (reason.check, id_at(ask, reason.entry)) {
-        (Check::ClusterTakes, Some(id)) => put_row(out, device, ask, id),
+        (Check::ClusterTakes, Some(id)) => put_row(out, known, device, ask, id),
         _ => Ok(()),
     }
 }
@@ -52,6 +56,7 @@ pub fn put_check<D: Driver>(
 // The entry that is refused, and the control that it or the ask names.
 fn put_place<D: Driver>(
     out: &mut Vec<u8>,
+    known: &ControlWords,
     plan: &Plan<D>,
     ask: &Ask,
     entry: Option<u32>,
@@ -59,13 +64,13 @@ fn put_place<D: Driver>(
     match (entry, id_at(ask, entry)) {
         (Some(entry), Some(id)) => {
             write!(out, " at entry {entry} (")?;
-            put_name(out, plan, id)?;
+            put_name(out, known, plan, id)?;
             write!(out, ")")
         }
         (Some(entry), None) => write!(out, " at entry {entry}"),
         (None, Some(id)) => {
             write!(out, " at ")?;
-            put_name(out, plan, id)
+            put_name(out, known, plan, id)
         }
         (None, None) => Ok(()),
     }
@@ -86,13 +91,14 @@ fn id_at(ask: &Ask, entry: Option<u32>) -> Option<CtrlId> {
 // The row that a cluster doesn't take: what is asked of its members, and the present values of the others.
 fn put_row<D: Driver>(
     out: &mut Vec<u8>,
+    known: &ControlWords,
     device: &Device<D>,
     ask: &Ask,
     id: CtrlId,
 ) -> io::Result<()> {
     write!(out, ":")?;
     for member in members_beside(device.plan(), id) {
-        let word = word_of(*member);
+        let word = word_of(known, *member);
         let value = wanted_of(device, ask, *member);
         write!(out, " {word}={value}")?;
     }

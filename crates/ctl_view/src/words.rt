@@ -1,16 +1,16 @@
 //! The words by which people know controls, clusters and flags.
 
 use bitflags::Flags as FlagSet;
+use ctl_script::ControlWords;
 use ctrl_calls::Driver;
 use ctrl_types::{CtrlId, Flags, Kind};
 use device_state::Plan;
-use sample_device::sample_word;
 use std::io;
 use std::io::Write;
 
 /// The word of a control, by its number.
-pub fn word_of(control: u32) -> &'static str {
-    match sample_word(control) {
+pub fn word_of(known: &ControlWords, control: u32) -> &str {
+    match known.word_of(control) {
         Some(word) => str::from_utf8(word).unwrap_or("?"),
         None => "?",
     }
@@ -23,10 +23,15 @@ pub fn control_of<D: Driver>(plan: &Plan<D>, id: CtrlId) -> Option<u32> {
 }
 
 /// Writes the word of a control, by its id; the id where no control has it.
-pub fn put_name<D: Driver, W: Write>(out: &mut W, plan: &Plan<D>, id: CtrlId) -> io::Result<()> {
+pub fn put_name<D: Driver, W: Write>(
+    out: &mut W,
+    known: &ControlWords,
+    plan: &Plan<D>,
+    id: CtrlId,
+) -> io::Result<()> {
     match control_of(plan, id) {
         Some(control) => {
-            let word = word_of(control);
+            let word = word_of(known, control);
             write!(out, "{word}")
         }
         None => {
@@ -39,13 +44,14 @@ pub fn put_name<D: Driver, W: Write>(out: &mut W, plan: &Plan<D>, id: CtrlId) ->
 /// Writes the number of a cluster, and the words of its members.
 pub fn put_cluster<D: Driver, W: Write>(
     out: &mut W,
+    known: &ControlWords,
     plan: &Plan<D>,
     cluster: u32,
 ) -> io::Result<()> {
     write!(out, "cluster {cluster} (")?;
     let mut between = "";
     for member in members_of(plan, cluster) {
-        let word = word_of(*member);
+        let word = word_of(known, *member);
         write!(out, "{between}{word}")?;
         between = ", ";
     }

@@ -1,8 +1,8 @@
-//! The forms of commands, and what of a line isn't in its command's form. Whether a word is what it is to be is asked of `read_line` itself, by
+//! The forms of commands, and what of a line isn't in its command's form. Whether a word is what it is to be is mostly asked of `read_line` itself, by
 //! the shortest command with such a word.
 
 use crate::reason::{Complaint, Reason};
-use script_lines::{LineFault, MAX_NAME, read_line};
+use script_lines::{ControlWords, LineFault, MAX_NAME, read_line};
 use std::alloc::{AllocError, Global};
 
 // What stands at a place behind the first word of a command.
@@ -64,8 +64,13 @@ const FORMS: &[(&[u8], &[Slot], Tail)] = &[
 /// What is wrong with a line that isn't a command: the first word that its command doesn't take, and why. None where nothing is found,
 /// as of a command. The error is that a growth was refused.
 ///
+/// - `known`: the words by which the line may name controls.
 /// - `line`: the line, without its line feed; any bytes.
-pub fn reason_of(alloc: Global, line: &[u8]) -> Result<Option<Complaint>, AllocError> {
+pub fn reason_of(
+    alloc: Global,
+    known: &ControlWords,
+    line: &[u8],
+) -> Result<Option<Complaint>, AllocError> {
     let words: Vec<&[u8]> = line
         .split(|byte| *byte == b' ')
         .filter(|word| !word.is_empty())
@@ -82,7 +87,7 @@ pub fn reason_of(alloc: Global, line: &[u8]) -> Result<Option<Complaint>, AllocE
     }
     for &(word, slots, tail) in FORMS {
         if word == *verb {
-            return in_form(alloc, slots, tail, operands);
+            return in_form(alloc, known, slots, tail, operands);
         }
     }
     Ok(complaint(1, Reason::Command))
@@ -109,6 +114,7 @@ fn stray_byte(words: &[&[u8]]) -> Option<Complaint> {
 // What is wrong with the words behind a command's first.
 fn in_form(
     alloc: Global,
+    known: &ControlWords,
     slots: &[Slot],
     tail: Tail,
     operands: &[&[u8]],
@@ -118,7 +124,7 @@ fn in_form(
         let Some(word) = operands.get(place) else {
             return Ok(complaint(number, Reason::Missing));
         };
-        if let Some(reason) = in_slot(alloc, slot, *word)? {
+        if let Some(reason) = in_slot(alloc, known, slot, *word)? {
             return Ok(complaint(number, reason));
         }
     }
@@ -129,19 +135,20 @@ fn in_form(
         Tail::Nothing => Ok(complaint(first, Reason::Further)),
         Tail::Subscription if says_how(rest) => Ok(None),
         Tail::Subscription => Ok(complaint(first, Reason::Subscription)),
-        Tail::All(slot) => in_slots(alloc, slot, rest, first),
+        Tail::All(slot) => in_slots(alloc, known, slot, rest, first),
     }
 }
 
 // What is wrong with words that are all to be the same, of which the first has this number.
 fn in_slots(
     alloc: Global,
+    known: &ControlWords,
     slot: Slot,
     words: &[&[u8]],
     first: usize,
 ) -> Result<Option<Complaint>, AllocError> {
     for (place, &word) in words.iter().enumerate() {
-        if let Some(reason) = in_slot(alloc, slot, word)? {
+        if let Some(reason) = in_slot(alloc, known, slot, word)? {
             return Ok(complaint(first.saturating_add(place), reason));
         }
     }
@@ -158,17 +165,28 @@ fn says_how(words: &[&[u8]]) -> bool {
     }
 }
 
+// Whether a word says how a grab is to be. No line asks this of `read_line`, as a table may have no word to grab.
+fn is_on_or_off(word: &[u8]) -> bool {
+    let (on, off): (&[u8], &[u8]) = (b"on", b"off");
+    word == on || word == off
+}
+
 // Why a word isn't what it is to be, if it isn't.
-fn in_slot(alloc: Global, slot: Slot, word: &[u8]) -> Result<Option<Reason>, AllocError> {
+fn in_slot(
+    alloc: Global,
+    known: &ControlWords,
+    slot: Slot,
+    word: &[u8],
+) -> Result<Option<Reason>, AllocError> {
     let is_right = match slot {
-        Slot::Name => is_read(alloc, b"close ", word, b"")?,
-        Slot::Number => is_read(alloc, b"told ", word, b"")?,
-        Slot::Control => is_read(alloc, b"query f ", word, b"")?,
-        Slot::Word => is_read(alloc, b"grab ", word, b" on")?,
-        Slot::Id => is_read(alloc, b"next f ", word, b"")?,
-        Slot::Which => is_read(alloc, b"get f ", word, b"")?,
-        Slot::OnOff => is_read(alloc, b"grab gain ", word, b"")?,
-        Slot::Entry => is_read(alloc, b"set f cur ", word, b"")?,
+        Slot::Name => is_read(alloc, known, b"close ", word, b"")?,
+        Slot::Number => is_read(alloc, known, b"told ", word, b"")?,
+        Slot::Control => is_read(alloc, known, b"query f ", word, b"")?,
+        Slot::Word => is_read(alloc, known, b"grab ", word, b" on")?,
+        Slot::Id => is_read(alloc, known, b"next f ", word, b"")?,
+        Slot::Which => is_read(alloc, known, b"get f ", word, b"")?,
+        Slot::OnOff => is_on_or_off(word),
+        Slot::Entry => is_read(alloc, known, b"set f cur ", word, b"")?,
     };
     if is_right {
         return Ok(None);
@@ -183,18 +201,22 @@ fn in_slot(alloc: Global, slot: Slot, word: &[u8]) -> Result<Option<Reason>, All
         Slot::Id => Reason::Id,
         Slot::Which => Reason::Which,
         Slot::OnOff => Reason::OnOff,
-        Slot::Entry => return in_entry(alloc, word),
+        Slot::Entry => return in_entry(alloc, known, word),
     };
     Ok(Some(reason))
 }
 
 // Why a word isn't a control with a value.
-fn in_entry(alloc: Global, word: &[u8]) -> Result<Option<Reason>, AllocError> {
+fn in_entry(
+    alloc: Global,
+    known: &ControlWords,
+    word: &[u8],
+) -> Result<Option<Reason>, AllocError> {
     let Some(at) = word.iter().position(|byte| *byte == b'=') else {
         return Ok(Some(Reason::Equals));
     };
     let (control, _) = word.split_at(at);
-    if is_read(alloc, b"query f ", control, b"")? {
+    if is_read(alloc, known, b"query f ", control, b"")? {
         Ok(Some(Reason::Value))
     } else {
         Ok(Some(Reason::Control))
@@ -202,7 +224,13 @@ fn in_entry(alloc: Global, word: &[u8]) -> Result<Option<Reason>, AllocError> {
 }
 
 // Whether a line of these three parts is a command.
-fn is_read(alloc: Global, before: &[u8], word: &[u8], behind: &[u8]) -> Result<bool, AllocError> {
+fn is_read(
+    alloc: Global,
+    known: &ControlWords,
+    before: &[u8],
+    word: &[u8],
+    behind: &[u8],
+) -> Result<bool, AllocError> {
     let mut line = Vec::from_slice(alloc, before)?;
     line.extend_from_slice(word)?;
     line.extend_from_slice(behind)?;
@@ -210,7 +238,7 @@ fn is_read(alloc: Global, before: &[u8], word: &[u8], behind: &[u8]) -> Result<b
         // no line of a script is so long
         return Ok(false);
     }
-    match read_line(alloc, line.as_slice()) {
+    match read_line(alloc, known, line.as_slice()) {
         Ok(_) => Ok(true),
         Err(LineFault::NotACommand) => Ok(false),
         Err(LineFault::Memory) => Err(AllocError),

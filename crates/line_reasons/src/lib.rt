@@ -5,4 +5,4 @@ mod forms;
 mod reason;
 
 pub use forms::reason_of;
-pub use reason::{Complaint, Reason};
+pub use reason::{Complaint, Reason, ReasonText};

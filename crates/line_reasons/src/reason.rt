@@ -1,3 +1,5 @@
+use std::fmt;
+
 /// What a word of a line has that no command has there.
 #[derive(Clone, Copy, Debug, PartialEq, Eq)]
 pub enum Reason {
@@ -21,7 +23,7 @@ pub enum Reason {
     Number,
     /// It is to be a control.
     Control,
-    /// It is to be a word of the sample device.
+    /// It is to be a word of the device.
     Word,
     /// It is to be an id.
     Id,
@@ -38,9 +40,35 @@ pub enum Reason {
 }
 
 impl Reason {
-    /// The reason in words.
-    pub fn text(self) -> &'static str {
-        match self {
+    /// The reason in words, as it is printed for people.
+    ///
+    /// - `device`: whose words name controls, as it stands behind `a word of`.
+    pub fn text(self, device: &str) -> ReasonText<'_> {
+        ReasonText {
+            reason: self,
+            device,
+        }
+    }
+}
+
+/// A reason in words.
+#[derive(Clone, Copy)]
+pub struct ReasonText<'a> {
+    reason: Reason,
+    device: &'a str,
+}
+
+impl fmt::Display for ReasonText<'_> {
+    fn fmt<W: fmt::Write>(&self, f: &mut fmt::Formatter<W>) -> fmt::Result {
+        let device = self.device;
+        let text = match self.reason {
+            Reason::Control => {
+                return write!(
+                    f,
+                    "a control belongs here: a word of {device}, or 0x and 1 to 8 hexadecimal digits"
+                );
+            }
+            Reason::Word => return write!(f, "a word of {device} belongs here"),
             Reason::CarriageReturn => {
                 "a carriage return at the end of the line; lines end with a line feed alone"
             }
@@ -52,10 +80,6 @@ impl Reason {
             Reason::Name => "a name is of ASCII letters and digits",
             Reason::LargeNumber => "a number is at most 4294967295, and has at most 10 digits",
             Reason::Number => "a decimal number without a sign belongs here",
-            Reason::Control => {
-                "a control belongs here: a word of the sample device, or 0x and 1 to 8 hexadecimal digits"
-            }
-            Reason::Word => "a word of the sample device belongs here",
             Reason::Id => "an id belongs here: 0x and 1 to 8 hexadecimal digits",
             Reason::Which => {
                 "cur, def, user, camera, req: with a name, or 0x and 1 to 8 hexadecimal digits belongs here"
@@ -68,7 +92,8 @@ impl Reason {
             Reason::Subscription => {
                 "only initial, feedback, or initial feedback may stand behind the control"
             }
-        }
+        };
+        f.write_str(text)
     }
 }
 

@@ -11,4 +11,4 @@ pub use driver::{
     brightness_word, button_word, gain_verdict, pair_word,
 };
 pub use plan::{sample_builder, sample_plan};
-pub use words::{place_of_word, sample_id, sample_number, sample_word};
+pub use words::sample_words;

@@ -7,7 +7,7 @@ use Rattle.ctrl_types.specs.declared.ids.CtrlId.{CtrlId}
 use Rattle.ctrl_types.specs.declared.ids.ExtControl.{ExtControl}
 use Rattle.ctrl_types.specs.declared.sub_flags.SubFlags.{SubFlags}
 use Rattle.ctrl_types.specs.declared.sub_flags.TheConstants.SubFlags.{SEND_INITIAL, ALLOW_FEEDBACK}
-use Rattle.sample_device.specs.Words.{sample_number}
+use Rattle.script_lines.specs.ControlWords.{ControlWord, known_number}
 use Rattle.script_lines.specs.Lexemes.{after, control_id, decimal_i64, decimal_u32, hexadecimal_u32}
 use Rattle.script_lines.specs.Names.{name_of}
 use Rattle.script_lines.specs.declared.command.Command.{Command}
@@ -55,14 +55,14 @@ with_value (Some id) None = None
 with_value None value = None
 
 -- a control before an equals sign at this place, and its value behind it
-abbrev pub entry_at : List ℕ → Option ℕ → Option ExtControl
-entry_at word None = None
-entry_at word (Some at) = with_value (control_id (take at word)) (decimal_i64 (drop (at + 1) word))
+abbrev pub entry_at : List ControlWord → List ℕ → Option ℕ → Option ExtControl
+entry_at known word None = None
+entry_at known word (Some at) = with_value (control_id known (take at word)) (decimal_i64 (drop (at + 1) word))
 
 -- an entry of a list: a control, with a value or not
-abbrev pub entry_of : EntryForm → List ℕ → Option ExtControl
-entry_of Control word = option_map (λ id. record { id = id; value = pos 0 }) (control_id word)
-entry_of ControlWithValue word = entry_at word (position (λ b. b == 61) word)
+abbrev pub entry_of : List ControlWord → EntryForm → List ℕ → Option ExtControl
+entry_of known Control word = option_map (λ id. record { id = id; value = pos 0 }) (control_id known word)
+entry_of known ControlWithValue word = entry_at known word (position (λ b. b == 61) word)
 
 abbrev pub onto : Option ExtControl → Option (List ExtControl) → Option (List ExtControl)
 onto (Some entry) (Some list) = Some (entry ∷ list)
@@ -70,9 +70,9 @@ onto (Some entry) None = None
 onto None list = None
 
 -- the entries that some words write, if each writes one
-abbrev pub list_of : EntryForm → List (List ℕ) → Option (List ExtControl)
-list_of form [] = Some []
-list_of form (w ∷ ws) = onto (entry_of form w) (list_of form ws)
+abbrev pub list_of : List ControlWord → EntryForm → List (List ℕ) → Option (List ExtControl)
+list_of known form [] = Some []
+list_of known form (w ∷ ws) = onto (entry_of known form w) (list_of known form ws)
 
 abbrev pub open_parts : Option Name → Option ℕ → Option Command
 open_parts (Some fh) (Some handler) = Some (Open fh handler)
@@ -91,10 +91,10 @@ list_parts make (Some fh) None list = None
 list_parts make None which list = None
 
 -- the operands of a command on a list
-abbrev pub list_command_of : (Name → WhichWord → List ExtControl → Command) → EntryForm → List (List ℕ) → Option Command
-list_command_of make form [] = None
-list_command_of make form (fh ∷ []) = None
-list_command_of make form (fh ∷ which ∷ entries) = list_parts make (name_of fh) (which_of which) (list_of form entries)
+abbrev pub list_command_of : List ControlWord → (Name → WhichWord → List ExtControl → Command) → EntryForm → List (List ℕ) → Option Command
+list_command_of known make form [] = None
+list_command_of known make form (fh ∷ []) = None
+list_command_of known make form (fh ∷ which ∷ entries) = list_parts make (name_of fh) (which_of which) (list_of known form entries)
 
 -- the operand of `close`
 abbrev pub close_of : List (List ℕ) → Option Command
@@ -113,10 +113,10 @@ grab_parts (Some control) (Some on) = Some (Grab control on)
 grab_parts (Some control) None = None
 grab_parts None on = None
 
--- the operands of `grab`: a word of the sample device, which stands for its control's number, and `on` or `off`
-abbrev pub grab_of : List (List ℕ) → Option Command
-grab_of (control ∷ form ∷ []) = grab_parts (sample_number control) (on_or_off form)
-grab_of _ = None
+-- the operands of `grab`: a known word, which stands for its control's number, and `on` or `off`
+abbrev pub grab_of : List ControlWord → List (List ℕ) → Option Command
+grab_of known (control ∷ form ∷ []) = grab_parts (known_number known control) (on_or_off form)
+grab_of known _ = None
 
 abbrev pub both : Option Name → Option CtrlId → Option (Name × CtrlId)
 both (Some fh) (Some id) = Some (fh, id)
@@ -124,13 +124,13 @@ both (Some fh) None = None
 both None id = None
 
 -- a file handle and a control
-abbrev pub handle_and_control : List (List ℕ) → Option (Name × CtrlId)
-handle_and_control (fh ∷ control ∷ []) = both (name_of fh) (control_id control)
-handle_and_control _ = None
+abbrev pub handle_and_control : List ControlWord → List (List ℕ) → Option (Name × CtrlId)
+handle_and_control known (fh ∷ control ∷ []) = both (name_of fh) (control_id known control)
+handle_and_control known _ = None
 
 -- the operands of `query`
-abbrev pub query_of : List (List ℕ) → Option Command
-query_of operands = option_map (λ p. Query p.0 p.1) (handle_and_control operands)
+abbrev pub query_of : List ControlWord → List (List ℕ) → Option Command
+query_of known operands = option_map (λ p. Query p.0 p.1) (handle_and_control known operands)
 
 abbrev pub next_parts : Option Name → Option ℕ → Option Command
 next_parts (Some fh) (Some id) = Some (Next fh (record { 0 = id }))
@@ -149,9 +149,9 @@ menu_parts (Some fh) None index = None
 menu_parts None id index = None
 
 -- the operands of `menu`
-abbrev pub menu_of : List (List ℕ) → Option Command
-menu_of (fh ∷ control ∷ index ∷ []) = menu_parts (name_of fh) (control_id control) (decimal_u32 index)
-menu_of _ = None
+abbrev pub menu_of : List ControlWord → List (List ℕ) → Option Command
+menu_of known (fh ∷ control ∷ index ∷ []) = menu_parts (name_of fh) (control_id known control) (decimal_u32 index)
+menu_of known _ = None
 
 -- the operand of `told`
 abbrev pub told_of : List (List ℕ) → Option Command
@@ -215,14 +215,14 @@ subscribe_parts (Some fh) None flags = None
 subscribe_parts None id flags = None
 
 -- the operands of `sub`
-abbrev pub subscribe_of : List (List ℕ) → Option Command
-subscribe_of [] = None
-subscribe_of (fh ∷ []) = None
-subscribe_of (fh ∷ control ∷ words) = subscribe_parts (name_of fh) (control_id control) (sub_flags words)
+abbrev pub subscribe_of : List ControlWord → List (List ℕ) → Option Command
+subscribe_of known [] = None
+subscribe_of known (fh ∷ []) = None
+subscribe_of known (fh ∷ control ∷ words) = subscribe_parts (name_of fh) (control_id known control) (sub_flags words)
 
 -- the operands of `unsub`
-abbrev pub unsubscribe_of : List (List ℕ) → Option Command
-unsubscribe_of operands = option_map (λ p. Unsubscribe p.0 p.1) (handle_and_control operands)
+abbrev pub unsubscribe_of : List ControlWord → List (List ℕ) → Option Command
+unsubscribe_of known operands = option_map (λ p. Unsubscribe p.0 p.1) (handle_and_control known operands)
 
 -- the operand of `take`
 abbrev pub take_of : List (List ℕ) → Option Command
@@ -249,28 +249,28 @@ abbrev pub verb_of : List ℕ → Option Verb
 verb_of word = option_and_then (slice_get verbs_meant) (position (bytes_eq word) verb_words)
 
 -- the command that a verb and its operands write
-abbrev pub command_of : Option Verb → List (List ℕ) → Option Command
-command_of (Some verbs.Open) operands = open_of operands
-command_of (Some verbs.Close) operands = close_of operands
-command_of (Some verbs.Get) operands = list_command_of (λ fh which list. Get fh which list) Control operands
-command_of (Some verbs.Set) operands = list_command_of (λ fh which list. Set fh which list) ControlWithValue operands
-command_of (Some verbs.Try) operands = list_command_of (λ fh which list. Try fh which list) ControlWithValue operands
-command_of (Some verbs.Grab) operands = grab_of operands
-command_of (Some verbs.Query) operands = query_of operands
-command_of (Some verbs.Next) operands = next_of operands
-command_of (Some verbs.Menu) operands = menu_of operands
-command_of (Some verbs.Told) operands = told_of operands
-command_of (Some verbs.Buffer) operands = buffer_of operands
-command_of (Some (verbs.OfRequest verb)) operands = request_of verb operands
-command_of (Some verbs.Row) operands = row_of operands
-command_of (Some verbs.Begin) operands = bare_of Begin operands
-command_of (Some verbs.Complete) operands = bare_of Complete operands
-command_of (Some verbs.Off) operands = bare_of Off operands
-command_of (Some verbs.Subscribe) operands = subscribe_of operands
-command_of (Some verbs.Unsubscribe) operands = unsubscribe_of operands
-command_of (Some verbs.Take) operands = take_of operands
-command_of (Some verbs.Audit) operands = bare_of Audit operands
-command_of None operands = None
+abbrev pub command_of : List ControlWord → Option Verb → List (List ℕ) → Option Command
+command_of known (Some verbs.Open) operands = open_of operands
+command_of known (Some verbs.Close) operands = close_of operands
+command_of known (Some verbs.Get) operands = list_command_of known (λ fh which list. Get fh which list) Control operands
+command_of known (Some verbs.Set) operands = list_command_of known (λ fh which list. Set fh which list) ControlWithValue operands
+command_of known (Some verbs.Try) operands = list_command_of known (λ fh which list. Try fh which list) ControlWithValue operands
+command_of known (Some verbs.Grab) operands = grab_of known operands
+command_of known (Some verbs.Query) operands = query_of known operands
+command_of known (Some verbs.Next) operands = next_of operands
+command_of known (Some verbs.Menu) operands = menu_of known operands
+command_of known (Some verbs.Told) operands = told_of operands
+command_of known (Some verbs.Buffer) operands = buffer_of operands
+command_of known (Some (verbs.OfRequest verb)) operands = request_of verb operands
+command_of known (Some verbs.Row) operands = row_of operands
+command_of known (Some verbs.Begin) operands = bare_of Begin operands
+command_of known (Some verbs.Complete) operands = bare_of Complete operands
+command_of known (Some verbs.Off) operands = bare_of Off operands
+command_of known (Some verbs.Subscribe) operands = subscribe_of known operands
+command_of known (Some verbs.Unsubscribe) operands = unsubscribe_of known operands
+command_of known (Some verbs.Take) operands = take_of operands
+command_of known (Some verbs.Audit) operands = bare_of Audit operands
+command_of known None operands = None
 
 -- What was read of a line is what it writes; only want of memory may take its place.
 abbrev pub IsRead : {T : Type 0} → Result T LineFault → Option T → Type 0
@@ -279,8 +279,8 @@ IsRead (Err NotACommand) written = written ≡ None
 IsRead (Err Memory) written = ⊤
 
 -- a line without a word, or whose first word begins with `#`, is skipped
-abbrev pub line_of : List (List ℕ) → Option (Option Command)
-line_of [] = Some None
-line_of (verb ∷ operands) =
+abbrev pub line_of : List ControlWord → List (List ℕ) → Option (Option Command)
+line_of known [] = Some None
+line_of known (verb ∷ operands) =
     if slice_index verb 0 == 35 then Some None
-    else option_map (λ command. Some command) (command_of (verb_of verb) operands)
+    else option_map (λ command. Some command) (command_of known (verb_of verb) operands)

@@ -6,7 +6,7 @@ use Rattle.std.specs.Option.{option_map, option_and_then, option_or}
 use Rattle.std.specs.Str.{bytes_eq}
 use Rattle.std.specs.Str.Parse.{digits_value}
 use Rattle.ctrl_types.specs.declared.ids.CtrlId.{CtrlId}
-use Rattle.sample_device.specs.Words.{sample_id}
+use Rattle.script_lines.specs.ControlWords.{ControlWord, known_id}
 
 -- The number that at least one digit and at most `most` of them write.
 abbrev pub numeral : ℕ → ℕ → List ℕ → Option ℕ
@@ -45,6 +45,6 @@ decimal_i64 word = signed_numeral (after (codes "-") word) word
 abbrev pub hexadecimal_u32 : List ℕ → Option ℕ
 hexadecimal_u32 word = option_and_then (numeral 16 8) (after (codes "0x") word)
 
--- the id that a word names a control by: a word of the sample device, or the id itself
-abbrev pub control_id : List ℕ → Option CtrlId
-control_id word = option_or (sample_id word) (option_map (λ n. record { 0 = n }) (hexadecimal_u32 word))
+-- the id that a word names a control by: that of a known word, or the id itself
+abbrev pub control_id : List ControlWord → List ℕ → Option CtrlId
+control_id known word = option_or (known_id known word) (option_map (λ n. record { 0 = n }) (hexadecimal_u32 word))

@@ -1,4 +1,4 @@
-pub use Rattle.sample_device.specs.Words
+pub mod ControlWords
 pub mod Commands
 pub mod Lexemes
 pub mod Names

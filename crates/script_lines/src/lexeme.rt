@@ -1,8 +1,9 @@
-ghost use Rattle.std.specs.Prelude.{◌≡◌, ◌^◌, ◌≤◌};
+ghost use Rattle.std.specs.Prelude.{◌≡◌, ◌^◌, ◌≤◌, position};
+ghost use Rattle.std.specs.Str.{bytes_eq};
 ghost use Rattle.script_lines.specs.Lexemes.{numeral as numeral_of, decimal_u32 as decimal_u32_of, decimal_i64 as decimal_i64_of, hexadecimal_u32 as hexadecimal_u32_of, control_id as control_id_of};
 
+use crate::control_words::ControlWords;
 use ctrl_types::CtrlId;
-use sample_device::sample_id;
 
 /// The number that a word of at least one and at most `most` digits writes.
 pub fn numeral(word: &[u8], radix: u32, most: usize) -> Option<u64>
@@ -47,12 +48,25 @@ pub fn hexadecimal_u32(word: &[u8]) -> Option<u32>
     u32::try_from(numeral(digits, 16, 8)?).ok()
 }
 
-/// The id that a word names a control by: a word of the sample device, or the id itself.
-pub fn control_id(word: &[u8]) -> Option<CtrlId>
-    ensures { result ≡ control_id_of word.now }
+/// The id that a word names a control by: that of a known word, or the id itself.
+pub fn control_id(known: &ControlWords, word: &[u8]) -> Option<CtrlId>
+    ensures { result ≡ control_id_of known.now word.now }
 {
-    match sample_id(word) {
+    match known.id_of(word) {
         Some(id) => Some(id),
         None => hexadecimal_u32(word).map(CtrlId),
     }
+}
+
+/// The first of some words that is this one, by its place; none where it isn't among them.
+pub fn place_of_word(words: &[&[u8]], word: &[u8]) -> Option<usize>
+    ensures { result ≡ position (λ w. bytes_eq word.now w.now) words.now }
+{
+    words.iter().position(|one| is_same(*one, word))
+}
+
+fn is_same(one: &[u8], word: &[u8]) -> bool
+    ensures { result ≡ bytes_eq word.now one.now }
+{
+    word == one
 }

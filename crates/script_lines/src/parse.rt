@@ -4,27 +4,31 @@ ghost use Rattle.script_lines.specs.Dividing.{divides as divides_of};
 ghost use Rattle.script_lines.specs.declared.command.Command.TheVariants as commands;
 
 use crate::command::{Command, WhichWord};
+use crate::control_words::ControlWords;
 use crate::entry_list::EntryList;
 use crate::fault::LineFault;
-use crate::lexeme::{control_id, decimal_i64, decimal_u32, hexadecimal_u32};
+use crate::lexeme::{control_id, decimal_i64, decimal_u32, hexadecimal_u32, place_of_word};
 use crate::name::Name;
 use bitflags::Flags as FlagSet;
 use ctrl_types::{CtrlId, ExtControl, SubFlags};
-use sample_device::{place_of_word, sample_number};
 use std::alloc::{AllocError, Global};
 
 /// Reads a line, without its line feed and of fewer than 2^32 - 1 bytes: the command, or nothing where the line is to be skipped, since
 /// it has no word or its first word begins with `#`. `NotACommand` where it is neither; `Memory` where a growth was refused.
-pub fn read_line(alloc: Global, line: &[u8]) -> Result<Option<Command>, LineFault>
+pub fn read_line(
+    alloc: Global,
+    known: &ControlWords,
+    line: &[u8],
+) -> Result<Option<Command>, LineFault>
     requires { length line.now + 1 < 2 ^ 32 }
-    ensures { IsRead result (line_of (words_in line.now)) }
+    ensures { IsRead result (line_of known.now (words_in line.now)) }
 {
     let Ok(words) = words_of(alloc, line) else {
         return Err(LineFault::Memory);
     };
     match words.as_slice() {
         [] => Ok(None),
-        [verb, operands @ ..] => read_words(alloc, *verb, operands),
+        [verb, operands @ ..] => read_words(alloc, known, *verb, operands),
     }
 }
 
@@ -39,14 +43,19 @@ pub fn divides(alloc: Global, line: &[u8]) -> Result<bool, AllocError>
     }
 }
 
-fn read_words(alloc: Global, verb: &[u8], operands: &[&[u8]]) -> Result<Option<Command>, LineFault>
+fn read_words(
+    alloc: Global,
+    known: &ControlWords,
+    verb: &[u8],
+    operands: &[&[u8]],
+) -> Result<Option<Command>, LineFault>
     requires { length operands.now < 2 ^ 32 }
-    ensures { IsRead result (line_of (verb.now ∷ map (λ w. w.now) operands.now)) }
+    ensures { IsRead result (line_of known.now (verb.now ∷ map (λ w. w.now) operands.now)) }
 {
     if let [b'#', ..] = verb {
         return Ok(None);
     }
-    match read_command(alloc, verb, operands) {
+    match read_command(alloc, known, verb, operands) {
         Ok(command) => Ok(Some(command)),
         Err(fault) => Err(fault),
     }
@@ -162,20 +171,25 @@ fn read_verb(word: &[u8]) -> Option<Verb>
     VERBS.get(place).copied()
 }
 
-fn read_command(alloc: Global, verb: &[u8], operands: &[&[u8]]) -> Result<Command, LineFault>
+fn read_command(
+    alloc: Global,
+    known: &ControlWords,
+    verb: &[u8],
+    operands: &[&[u8]],
+) -> Result<Command, LineFault>
     requires { length operands.now < 2 ^ 32 }
-    ensures { IsRead result (command_of (verb_of verb.now) (map (λ w. w.now) operands.now)) }
+    ensures { IsRead result (command_of known.now (verb_of verb.now) (map (λ w. w.now) operands.now)) }
 {
     match read_verb(verb) {
         Some(Verb::Open) => read_open(operands),
         Some(Verb::Close) => read_close(operands),
-        Some(Verb::Get) => read_get(alloc, operands),
-        Some(Verb::Set) => read_set(alloc, operands),
-        Some(Verb::Try) => read_try(alloc, operands),
-        Some(Verb::Grab) => read_grab(operands),
-        Some(Verb::Query) => read_query(operands),
+        Some(Verb::Get) => read_get(alloc, known, operands),
+        Some(Verb::Set) => read_set(alloc, known, operands),
+        Some(Verb::Try) => read_try(alloc, known, operands),
+        Some(Verb::Grab) => read_grab(known, operands),
+        Some(Verb::Query) => read_query(known, operands),
         Some(Verb::Next) => read_next(operands),
-        Some(Verb::Menu) => read_menu(operands),
+        Some(Verb::Menu) => read_menu(known, operands),
         Some(Verb::Told) => read_told(operands),
         Some(Verb::Buffer) => read_buffer(operands),
         Some(Verb::OfRequest(verb)) => read_of_request(verb, operands),
@@ -183,8 +197,8 @@ fn read_command(alloc: Global, verb: &[u8], operands: &[&[u8]]) -> Result<Comman
         Some(Verb::Begin) => read_bare(Command::Begin, operands),
         Some(Verb::Complete) => read_bare(Command::Complete, operands),
         Some(Verb::Off) => read_bare(Command::Off, operands),
-        Some(Verb::Subscribe) => read_subscribe(operands),
-        Some(Verb::Unsubscribe) => read_unsubscribe(operands),
+        Some(Verb::Subscribe) => read_subscribe(known, operands),
+        Some(Verb::Unsubscribe) => read_unsubscribe(known, operands),
         Some(Verb::Take) => read_take(operands),
         Some(Verb::Audit) => read_bare(Command::Audit, operands),
         None => Err(LineFault::NotACommand),
@@ -215,13 +229,13 @@ fn read_close(operands: &[&[u8]]) -> Result<Command, LineFault>
     }
 }
 
-fn read_grab(operands: &[&[u8]]) -> Result<Command, LineFault>
-    ensures { IsRead result (grab_of (map (λ w. w.now) operands.now)) }
+fn read_grab(known: &ControlWords, operands: &[&[u8]]) -> Result<Command, LineFault>
+    ensures { IsRead result (grab_of known.now (map (λ w. w.now) operands.now)) }
 {
     let [control, form] = operands else {
         return Err(LineFault::NotACommand);
     };
-    match (sample_number(*control), on_or_off(*form)) {
+    match (known.number_of(*control), on_or_off(*form)) {
         (Some(control), Some(on)) => Ok(Command::Grab { control, on }),
         _ => Err(LineFault::NotACommand),
     }
@@ -237,23 +251,23 @@ fn on_or_off(word: &[u8]) -> Option<bool>
     }
 }
 
-fn read_query(operands: &[&[u8]]) -> Result<Command, LineFault>
-    ensures { IsRead result (query_of (map (λ w. w.now) operands.now)) }
+fn read_query(known: &ControlWords, operands: &[&[u8]]) -> Result<Command, LineFault>
+    ensures { IsRead result (query_of known.now (map (λ w. w.now) operands.now)) }
 {
-    match handle_and_control(operands) {
+    match handle_and_control(known, operands) {
         Some((fh, id)) => Ok(Command::Query { fh, id }),
         None => Err(LineFault::NotACommand),
     }
 }
 
 // A file handle and a control, and nothing else.
-fn handle_and_control(operands: &[&[u8]]) -> Option<(Name, CtrlId)>
-    ensures { result ≡ handle_and_control_of (map (λ w. w.now) operands.now) }
+fn handle_and_control(known: &ControlWords, operands: &[&[u8]]) -> Option<(Name, CtrlId)>
+    ensures { result ≡ handle_and_control_of known.now (map (λ w. w.now) operands.now) }
 {
     let [fh, control] = operands else {
         return None;
     };
-    match (Name::read(*fh), control_id(*control)) {
+    match (Name::read(*fh), control_id(known, *control)) {
         (Some(fh), Some(id)) => Some((fh, id)),
         _ => None,
     }
@@ -271,13 +285,17 @@ fn read_next(operands: &[&[u8]]) -> Result<Command, LineFault>
     }
 }
 
-fn read_menu(operands: &[&[u8]]) -> Result<Command, LineFault>
-    ensures { IsRead result (menu_of (map (λ w. w.now) operands.now)) }
+fn read_menu(known: &ControlWords, operands: &[&[u8]]) -> Result<Command, LineFault>
+    ensures { IsRead result (menu_of known.now (map (λ w. w.now) operands.now)) }
 {
     let [fh, control, index] = operands else {
         return Err(LineFault::NotACommand);
     };
-    match (Name::read(*fh), control_id(*control), decimal_u32(*index)) {
+    match (
+        Name::read(*fh),
+        control_id(known, *control),
+        decimal_u32(*index),
+    ) {
         (Some(fh), Some(id), Some(index)) => Ok(Command::Menu { fh, id, index }),
         _ => Err(LineFault::NotACommand),
     }
@@ -354,13 +372,17 @@ fn read_bare(command: Command, operands: &[&[u8]]) -> Result<Command, LineFault>
     }
 }
 
-fn read_subscribe(operands: &[&[u8]]) -> Result<Command, LineFault>
-    ensures { IsRead result (subscribe_of (map (λ w. w.now) operands.now)) }
+fn read_subscribe(known: &ControlWords, operands: &[&[u8]]) -> Result<Command, LineFault>
+    ensures { IsRead result (subscribe_of known.now (map (λ w. w.now) operands.now)) }
 {
     let [fh, control, words @ ..] = operands else {
         return Err(LineFault::NotACommand);
     };
-    match (Name::read(*fh), control_id(*control), sub_flags(words)) {
+    match (
+        Name::read(*fh),
+        control_id(known, *control),
+        sub_flags(words),
+    ) {
         (Some(fh), Some(id), Some(flags)) => Ok(Command::Subscribe { fh, id, flags }),
         _ => Err(LineFault::NotACommand),
     }
@@ -397,10 +419,10 @@ fn sub_flag(word: &[u8]) -> Option<SubFlags>
     }
 }
 
-fn read_unsubscribe(operands: &[&[u8]]) -> Result<Command, LineFault>
-    ensures { IsRead result (unsubscribe_of (map (λ w. w.now) operands.now)) }
+fn read_unsubscribe(known: &ControlWords, operands: &[&[u8]]) -> Result<Command, LineFault>
+    ensures { IsRead result (unsubscribe_of known.now (map (λ w. w.now) operands.now)) }
 {
-    match handle_and_control(operands) {
+    match handle_and_control(known, operands) {
         Some((fh, id)) => Ok(Command::Unsubscribe { fh, id }),
         None => Err(LineFault::NotACommand),
     }
@@ -418,9 +440,9 @@ fn read_take(operands: &[&[u8]]) -> Result<Command, LineFault>
     }
 }
 
-fn read_get(alloc: Global, operands: &[&[u8]]) -> Result<Command, LineFault>
+fn read_get(alloc: Global, known: &ControlWords, operands: &[&[u8]]) -> Result<Command, LineFault>
     requires { length operands.now < 2 ^ 32 }
-    ensures { IsRead result (list_command_of (λ fh which list. commands.Get fh which list) EntryForm.Control (map (λ w. w.now) operands.now)) }
+    ensures { IsRead result (list_command_of known.now (λ fh which list. commands.Get fh which list) EntryForm.Control (map (λ w. w.now) operands.now)) }
 {
     let [fh, which, entries @ ..] = operands else {
         return Err(LineFault::NotACommand);
@@ -428,13 +450,13 @@ fn read_get(alloc: Global, operands: &[&[u8]]) -> Result<Command, LineFault>
     let (Some(fh), Some(which)) = (Name::read(*fh), read_which(*which)) else {
         return Err(LineFault::NotACommand);
     };
-    let list = read_list(alloc, EntryForm::Control, entries)?;
+    let list = read_list(alloc, known, EntryForm::Control, entries)?;
     Ok(Command::Get { fh, which, list })
 }
 
-fn read_set(alloc: Global, operands: &[&[u8]]) -> Result<Command, LineFault>
+fn read_set(alloc: Global, known: &ControlWords, operands: &[&[u8]]) -> Result<Command, LineFault>
     requires { length operands.now < 2 ^ 32 }
-    ensures { IsRead result (list_command_of (λ fh which list. commands.Set fh which list) EntryForm.ControlWithValue (map (λ w. w.now) operands.now)) }
+    ensures { IsRead result (list_command_of known.now (λ fh which list. commands.Set fh which list) EntryForm.ControlWithValue (map (λ w. w.now) operands.now)) }
 {
     let [fh, which, entries @ ..] = operands else {
         return Err(LineFault::NotACommand);
@@ -442,13 +464,13 @@ fn read_set(alloc: Global, operands: &[&[u8]]) -> Result<Command, LineFault>
     let (Some(fh), Some(which)) = (Name::read(*fh), read_which(*which)) else {
         return Err(LineFault::NotACommand);
     };
-    let list = read_list(alloc, EntryForm::ControlWithValue, entries)?;
+    let list = read_list(alloc, known, EntryForm::ControlWithValue, entries)?;
     Ok(Command::Set { fh, which, list })
 }
 
-fn read_try(alloc: Global, operands: &[&[u8]]) -> Result<Command, LineFault>
+fn read_try(alloc: Global, known: &ControlWords, operands: &[&[u8]]) -> Result<Command, LineFault>
     requires { length operands.now < 2 ^ 32 }
-    ensures { IsRead result (list_command_of (λ fh which list. commands.Try fh which list) EntryForm.ControlWithValue (map (λ w. w.now) operands.now)) }
+    ensures { IsRead result (list_command_of known.now (λ fh which list. commands.Try fh which list) EntryForm.ControlWithValue (map (λ w. w.now) operands.now)) }
 {
     let [fh, which, entries @ ..] = operands else {
         return Err(LineFault::NotACommand);
@@ -456,7 +478,7 @@ fn read_try(alloc: Global, operands: &[&[u8]]) -> Result<Command, LineFault>
     let (Some(fh), Some(which)) = (Name::read(*fh), read_which(*which)) else {
         return Err(LineFault::NotACommand);
     };
-    let list = read_list(alloc, EntryForm::ControlWithValue, entries)?;
+    let list = read_list(alloc, known, EntryForm::ControlWithValue, entries)?;
     Ok(Command::Try { fh, which, list })
 }
 
@@ -496,15 +518,20 @@ enum EntryForm {
     ControlWithValue,
 }
 
-fn read_list(alloc: Global, form: EntryForm, words: &[&[u8]]) -> Result<EntryList, LineFault>
+fn read_list(
+    alloc: Global,
+    known: &ControlWords,
+    form: EntryForm,
+    words: &[&[u8]],
+) -> Result<EntryList, LineFault>
     requires { length words.now < 2 ^ 32 }
-    ensures { IsRead result (list_of form (map (λ w. w.now) words.now)) }
+    ensures { IsRead result (list_of known.now form (map (λ w. w.now) words.now)) }
 {
     let Ok(mut list) = Vec::with_capacity(alloc, words.len()) else {
         return Err(LineFault::Memory);
     };
     for word in words {
-        let Some(entry) = read_entry(form, *word) else {
+        let Some(entry) = read_entry(known, form, *word) else {
             return Err(LineFault::NotACommand);
         };
         list.push_reserved(entry);
@@ -512,24 +539,24 @@ fn read_list(alloc: Global, form: EntryForm, words: &[&[u8]]) -> Result<EntryLis
     Ok(EntryList::from_vec(list))
 }
 
-fn read_entry(form: EntryForm, word: &[u8]) -> Option<ExtControl>
-    ensures { result ≡ entry_of form word.now }
+fn read_entry(known: &ControlWords, form: EntryForm, word: &[u8]) -> Option<ExtControl>
+    ensures { result ≡ entry_of known.now form word.now }
 {
     match form {
         EntryForm::Control => Some(ExtControl {
-            id: control_id(word)?,
+            id: control_id(known, word)?,
             value: 0,
         }),
-        EntryForm::ControlWithValue => read_valued_entry(word),
+        EntryForm::ControlWithValue => read_valued_entry(known, word),
     }
 }
 
 // An entry with a value: what stands before the first `=`, and what behind it.
-fn read_valued_entry(word: &[u8]) -> Option<ExtControl>
-    ensures { result ≡ entry_at word.now (position (λ b. b == 61) word.now) }
+fn read_valued_entry(known: &ControlWords, word: &[u8]) -> Option<ExtControl>
+    ensures { result ≡ entry_at known.now word.now (position (λ b. b == 61) word.now) }
 {
     let at = equals_sign(word)?;
-    match (control_id(&word[..at]), decimal_i64(&word[at + 1..])) {
+    match (control_id(known, &word[..at]), decimal_i64(&word[at + 1..])) {
         (Some(id), Some(value)) => Some(ExtControl { id, value }),
         _ => None,
     }

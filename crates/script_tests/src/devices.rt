@@ -4,7 +4,7 @@ ghost use Rattle.std.specs.Prelude.{⊤, ◌≡◌, [], IfOk};
 ghost use Rattle.ctrl_calls.specs.declared.verdict.Verdict.TheVariants.{Accept};
 
 use bitflags::Flags as FlagSet;
-use ctl_script::sample_builder;
+use ctl_script::{ControlWords, sample_builder, sample_words};
 use ctrl_calls::{Calls, ClusterRow, Driver, Judging, Notifies, Telling, Validates, Verdict};
 use ctrl_settle::Ctrl;
 use ctrl_types::{CtrlId, Flags, Kind};
@@ -68,6 +68,23 @@ pub fn kept_device(alloc: Global, kept: Kept) -> Result<Device<Silent>, AllocErr
         Kept::Sample => sample(alloc),
         Kept::Menus => device_of(alloc, menus(alloc)),
     }
+}
+
+/// The words of its controls. The error is want of memory.
+pub fn kept_words(alloc: Global, kept: Kept) -> Result<ControlWords, AllocError> {
+    match kept {
+        Kept::Sample => sample_words(alloc),
+        Kept::Menus => menu_words(alloc),
+    }
+}
+
+// The first word stands twice: its first row counts.
+fn menu_words(alloc: Global) -> Result<ControlWords, AllocError> {
+    let mut words = ControlWords::new(alloc);
+    words.push(alloc, b"mode", CtrlId(1), 0)?;
+    words.push(alloc, b"link_rate", CtrlId(2), 1)?;
+    words.push(alloc, b"mode", CtrlId(2), 1)?;
+    Ok(words)
 }
 
 /// A fresh sample device without closures.

@@ -1,6 +1,8 @@
 //! What is wrong with lines that aren't commands.
 
+use ctl_script::sample_words;
 use line_reasons::{Complaint, Reason, reason_of};
+use std::alloc::AllocError;
 
 // Lines, the number of the word that is wrong, and why it is.
 const WRONG: &[(&str, usize, Reason)] = &[
@@ -56,19 +58,23 @@ const RIGHT: &[&str] = &[
 ];
 
 #[test]
-fn wrong_lines(rt: HostRuntime) {
+fn wrong_lines(rt: HostRuntime) -> Result<(), AllocError> {
+    let known = sample_words(rt.alloc())?;
     for &(line, word, reason) in WRONG {
-        let found = reason_of(rt.alloc(), line.as_bytes());
+        let found = reason_of(rt.alloc(), &known, line.as_bytes());
         assert!(rt; found == Ok(Some(Complaint { word, reason })), "{line:?}");
     }
+    Ok(())
 }
 
 #[test]
-fn right_lines(rt: HostRuntime) {
+fn right_lines(rt: HostRuntime) -> Result<(), AllocError> {
+    let known = sample_words(rt.alloc())?;
     for line in RIGHT {
         assert!(rt;
-            reason_of(rt.alloc(), line.as_bytes()) == Ok(None),
+            reason_of(rt.alloc(), &known, line.as_bytes()) == Ok(None),
             "{line:?}"
         );
     }
+    Ok(())
 }

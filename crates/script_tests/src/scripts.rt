@@ -185,25 +185,29 @@ const LONG: Script = Script {
     outcome: Outcome::BadLine(2),
 };
 
-/// Items of menus: empty, of 32 bytes, skipped, never given, and the least and the greatest number.
+/// Items of menus: empty, of 32 bytes, skipped, never given, and the least and the greatest number; by words of the device's own, of which
+/// `mode` stands twice, and none is the sample's.
 const ITEMS: Script = Script {
     kept: Kept::Menus,
     lines: &[
         ("open f 0", "ok", true),
-        ("menu f 0x1 0", "ok ", false),
+        ("menu f mode 0", "ok ", false),
         ("menu f 0x1 1", "ok a name of thirty-two bytes, yes.", false),
         ("menu f 0x1 2", "error 22", false),
         ("menu f 0x1 3", "error 22", false),
         ("menu f 0x1 4", "ok last", false),
-        ("menu f 0x2 0", "ok -9223372036854775808", false),
+        ("menu f link_rate 0", "ok -9223372036854775808", false),
         ("menu f 0x2 1", "ok 25", false),
         ("menu f 0x2 3", "error 22", false),
         ("menu f 0x2 4", "ok 9223372036854775807", false),
-        ("menu f power 0", "error 22", false),
         ("next f 0x0", "ok 0x00000001", false),
+        ("grab link_rate on", "ok", true),
+        ("set f cur mode=1", "ok 1", true),
+        ("set f cur link_rate=1", "error 16 index 1", false),
+        ("query f power", "line 15: not a command", false),
     ],
     is_cut: false,
-    outcome: Outcome::Finished,
+    outcome: Outcome::BadLine(15),
 };
 
 const SCRIPTS: &[Script] = &[

@@ -1,6 +1,6 @@
 //! Readers and writers over memory that fail when they are told to, and what a run with them came to.
 
-use crate::devices::{Kept, kept_device};
+use crate::devices::{Kept, kept_device, kept_words};
 use ctl_script::{Outcome, run_script};
 use std::alloc::{AllocError, Global};
 use std::io;
@@ -96,6 +96,7 @@ pub struct Ran {
 /// Runs a script on a fresh device.
 pub fn run(alloc: Global, kept: Kept, text: &[u8], streams: Streams) -> Result<Ran, AllocError> {
     let bytes = Vec::with_capacity(alloc, 1024)?;
+    let known = kept_words(alloc, kept)?;
     let device = kept_device(alloc, kept)?;
     let mut source = Source {
         text,
@@ -109,7 +110,7 @@ pub fn run(alloc: Global, kept: Kept, text: &[u8], streams: Streams) -> Result<R
         writes: 0,
         fault: streams.write_fault,
     };
-    let (device, outcome) = run_script(alloc, device, &mut source, &mut sink);
+    let (device, outcome) = run_script(alloc, &known, device, &mut source, &mut sink);
     Ok(Ran {
         bytes: sink.bytes,
         outcome,

@@ -2,7 +2,7 @@
 
 use crate::devices::sample;
 use ctl_pair::{Gate, run_pair};
-use ctl_script::Outcome;
+use ctl_script::{Outcome, sample_words};
 use std::alloc::AllocError;
 use std::sync::atomic::AtomicU64;
 use std::sync::atomic::Ordering::SeqCst;
@@ -68,8 +68,17 @@ fn scripts_meet_at_the_gate(rt: HostRuntime) -> Result<(), AllocError> {
     let gate = Meeting::new();
     let mut reader = SCRIPTS;
     let mut printed = Vec::new(rt.alloc());
+    let known = sample_words(rt.alloc())?;
     let device = sample(rt.alloc())?;
-    let (left, outcome) = run_pair(&rt, rt.alloc(), device, &gate, &mut reader, &mut printed);
+    let (left, outcome) = run_pair(
+        &rt,
+        rt.alloc(),
+        &known,
+        device,
+        &gate,
+        &mut reader,
+        &mut printed,
+    );
     let has_printed = printed.as_slice() == PRINTED && outcome == Outcome::Finished;
     assert!(rt; gate.was_held() && left.is_ok() && has_printed);
     Ok(())

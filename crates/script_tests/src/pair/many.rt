@@ -6,7 +6,7 @@ use crate::pair::closures::{Course, goes};
 use crate::pair::sample::NoGate;
 use crate::scripts::lines_in;
 use ctl_pair::run_pair;
-use ctl_script::Outcome;
+use ctl_script::{Outcome, sample_words};
 use ctrl_calls::Driver;
 use device_state::{Device, Step};
 use history::Entry;
@@ -84,9 +84,18 @@ where
     D::Teller: Send,
     requires { device.steps ≡ [] }
 {
+    let known = sample_words(alloc)?;
     let mut reader = text;
     let mut printed = Vec::new(alloc);
-    let (left, outcome) = run_pair(rt, alloc, device, &NoGate, &mut reader, &mut printed);
+    let (left, outcome) = run_pair(
+        rt,
+        alloc,
+        &known,
+        device,
+        &NoGate,
+        &mut reader,
+        &mut printed,
+    );
     let Ok(device) = left else {
         return Err(AllocError);
     };

@@ -4,7 +4,7 @@ use crate::devices::sample;
 use crate::pair::gate::SCRIPTS;
 use crate::pair::sample::NoGate;
 use ctl_pair::run_pair;
-use ctl_script::Outcome;
+use ctl_script::{Outcome, sample_words};
 use std::alloc::{AllocError, Global};
 use std::io;
 use std::io::{ErrorKind, Read, Write};
@@ -121,8 +121,9 @@ fn goes<R: Threads + Wait + Sync>(
         bytes: Vec::new(alloc),
         room: course.room,
     };
+    let known = sample_words(alloc)?;
     let device = sample(alloc)?;
-    let (left, outcome) = run_pair(rt, alloc, device, &NoGate, &mut reader, &mut writer);
+    let (left, outcome) = run_pair(rt, alloc, &known, device, &NoGate, &mut reader, &mut writer);
     let Ok(device) = left else {
         return Err(AllocError);
     };

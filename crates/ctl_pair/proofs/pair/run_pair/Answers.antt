@@ -13,11 +13,11 @@ returns-in-Ok-read_scripts-clause-finished g c = λ f.
 -- an input without two scripts isn't told as `Finished`
 pub returns-clause-finished : goal.returns-clause-finished
 returns-clause-finished g c = λ f.
-    absurd (refused_not_finished c.with_line.result c.in-Err.outcome c.with_line.ensures.same (g.I.Read.remaining c.args.reader.now) (g.I.Read.remaining c.read_scripts.new.reader) c.in-Err.ensures.fault f)
+    absurd (refused_not_finished c.with_line.result c.in-Err.outcome c.with_line.ensures.same c.args.known.now (g.I.Read.remaining c.args.reader.now) (g.I.Read.remaining c.read_scripts.new.reader) c.in-Err.ensures.fault f)
 
 pub returns-clause-refused : goal.returns-clause-refused
 returns-clause-refused g c = λ other written.
-    subst (IsRefused (g.I.Read.remaining c.args.reader.now) (g.I.Read.remaining c.read_scripts.new.reader)) (sym (c.with_line.ensures.same written)) c.in-Err.ensures.fault
+    subst (IsRefused c.args.known.now (g.I.Read.remaining c.args.reader.now) (g.I.Read.remaining c.read_scripts.new.reader)) (sym (c.with_line.ensures.same written)) c.in-Err.ensures.fault
 
 pub returns-clause-fault : goal.returns-clause-fault
 returns-clause-fault g c = λ other written.

@@ -11,7 +11,7 @@ lines_left (Some text) = length text.now + 1
 
 abbrev pub invariant-loop-rest : goal.invariant-loop-rest
 invariant-loop-rest g l = (l.number + lines_left l.rest ≤ 1048577)
-    × HasGone g.D.Validates.verdict g.D.Notifies.told (lines_in l.fn.text) (lines_behind l.rest) (l.number + 1) (bound_in l.names) l.fn.device l.device
+    × HasGone g.D.Validates.verdict g.D.Notifies.told l.known (lines_in l.fn.text) (lines_behind l.rest) (l.number + 1) (bound_in l.names) l.fn.device l.device
     (g.W.Write.contents l.fn.writer) (g.W.Write.contents l.writer)
 
 abbrev pub decreases-loop-rest : goal.decreases-loop-rest

@@ -5,4 +5,4 @@ use Rattle.script_lines.proofs.parse.read_menu.Goals as goal
 
 -- another count of operands
 pub returns-in_default : goal.returns-in_default
-returns-in_default c = not_three c.args.operands.now (λ three. grind (arith, common_steps))
+returns-in_default c = not_three c.args.known.now c.args.operands.now (λ three. grind (arith, common_steps))
