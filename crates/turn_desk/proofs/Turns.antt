@@ -14,7 +14,7 @@ use Rattle.turn_desk.specs.declared.rule.Place.{Place}
 use Rattle.turn_desk.specs.declared.rule.Place.TheVariants.{Home, Entered}
 use Rattle.turn_desk.specs.declared.rule.View.{View}
 use Rattle.turn_desk.specs.Views.{times}
-use Rattle.turn_desk.specs.Rule.{Each, total, count_some, is_taken, numbers, holds_turn, closes, accounts_of, times_in, Fits, IsKept}
+use Rattle.turn_desk.specs.Rule.{Each, total, count_some, is_taken, numbers, holds_turn, closes, accounts_of, times_in, Fits, IsRunningRule}
 use Rattle.turn_desk.specs.Plays.{account, raised, with_holding, Shows, tried, stayed, looked, entering, left}
 use Rattle.turn_desk.proofs.Sums.{total-set, one_within, two_within, Each-append}
 use Rattle.turn_desk.proofs.Histories.{prefix_refl, prefix_push}
@@ -39,7 +39,7 @@ times_self n = grind (arith, nat_tests)
 
 module _ {T P S : Type 0} (is_legal : P → List (Entry S) → Type 0) (plan_of : T → P) (steps_of : T → List (Entry S)) (plan : P) where
   abbrev pub Holds : State (Place T) (View P S) → Type 0
-  Holds = IsKept is_legal plan_of steps_of plan
+  Holds = IsRunningRule is_legal plan_of steps_of plan
 
   -- a step that leaves the words and the views as they were
   pub idle : (s : State (Place T) (View P S)) (i n id : ℕ) (c : List (ℕ × Place T)) (v : View P S) → Holds s → get_elem? s.views id ≡ some v → slice_set s.words i n ≡ s.words → Holds (stepped s i n id c v keeps)

@@ -80,10 +80,10 @@ pub struct View<P, S> {
 pub struct OneHistory;
 
 impl<T: Served> TableRule<Place<T>, View<T::Plan, T::Step>, Snapshot<T>> for OneHistory {
-    ghost use Rattle.turn_desk.specs.Rule.{IsKept};
+    ghost use Rattle.turn_desk.specs.Rule.{IsRunningRule};
     ghost use Rattle.turn_desk.specs.Plays.{opener};
 
-    ghost holds = { λ key. IsKept T.is_legal T.plan T.steps (T.plan key.value) };
+    ghost holds = { λ key. IsRunningRule T.is_legal T.plan T.steps (T.plan key.value) };
 
     ghost first = { λ key. opener (T.plan key.value) };
 }
