@@ -11,7 +11,11 @@ use script_replies::Outcome;
 use std::alloc::Global;
 use std::io::Read;
 
-/// The two scripts of an input, with all the memory that they need. The error is the outcome.
+/// The two scripts of an input (of this project), with all the memory that they need. The error is the outcome.
+///
+/// - `alloc`: where they lie.
+/// - `known`: the words by which the scripts may name controls.
+/// - `reader`: the input, which is read to its end, but no further than a script may be long.
 pub fn read_scripts<I: Read>(
     alloc: Global,
     known: &ControlWords,

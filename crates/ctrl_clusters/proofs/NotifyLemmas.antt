@@ -51,22 +51,22 @@ pub changes_not : (plan : PlanData) (values : Values) (pairs : List Pair) (rows 
 changes_not plan values pairs rows k none = rw none (changes_none plan values pairs (members plan k))
 
 -- the same as of all clusters, of those below a number
-pub record AreRenewedBelow (says : Words) (plan : PlanData) (changed : ℕ → Bool) (rows : ℕ → List CtrlValue) (n : ℕ) (old new : List ℕ) : Type 0 where
+pub record AreNotifiedBelow (says : Words) (plan : PlanData) (changed : ℕ → Bool) (rows : ℕ → List CtrlValue) (n : ℕ) (old new : List ℕ) : Type 0 where
   pub each : length new ≡ length old
   pub own : (k : ℕ) → k < n → changed k ≡ true → MaySay says (calls_of plan k).notifier (rows k) (slice_index new k)
   pub others : (k : ℕ) → (k < n → changed k ≡ false) → slice_index new k ≡ slice_index old k
 
-pub renewed_start : (says : Words) (plan : PlanData) (changed : ℕ → Bool) (rows : ℕ → List CtrlValue) (words : List ℕ) → AreRenewedBelow says plan changed rows 0 words words
-renewed_start says plan changed rows words = record {
+pub notified_start : (says : Words) (plan : PlanData) (changed : ℕ → Bool) (rows : ℕ → List CtrlValue) (words : List ℕ) → AreNotifiedBelow says plan changed rows 0 words words
+notified_start says plan changed rows words = record {
   each = refl;
   own = λ k lt ch. absurd (omega (arith, lt));
   others = λ k same. refl;
 }
 
 -- one more cluster is notified where it changed
-pub renewed_next : (says : Words) (plan : PlanData) (changed : ℕ → Bool) (rows : ℕ → List CtrlValue) (n : ℕ) (old words new : List ℕ) → AreRenewedBelow says plan changed rows n old words
-    → IsNotified says plan n (changed n) (rows n) words new → AreRenewedBelow says plan changed rows (n + 1) old new
-renewed_next says plan changed rows n old words new before is = record {
+pub notified_next : (says : Words) (plan : PlanData) (changed : ℕ → Bool) (rows : ℕ → List CtrlValue) (n : ℕ) (old words new : List ℕ) → AreNotifiedBelow says plan changed rows n old words
+    → IsNotified says plan n (changed n) (rows n) words new → AreNotifiedBelow says plan changed rows (n + 1) old new
+notified_next says plan changed rows n old words new before is = record {
   each = is.each ∙ before.each;
   own = λ k lt ch. own k lt ch (eqb_tells k n);
   others = λ k same. is.others k (λ e. subst (λ (i : ℕ). changed i ≡ false) e (same (omega (arith, e)))) ∙ before.others k (λ lt. same (omega (arith, lt)));
@@ -81,8 +81,8 @@ renewed_next says plan changed rows n old words new before is = record {
         below k n lt other = omega (arith, lt, other)
 
 -- a cluster that doesn't change isn't notified
-pub renewed_not : (says : Words) (plan : PlanData) (k : ℕ) (changed : Bool) (row : List CtrlValue) (words : List ℕ) → changed ≡ false → IsNotified says plan k changed row words words
-renewed_not says plan k changed row words same = record {
+pub notified_not : (says : Words) (plan : PlanData) (k : ℕ) (changed : Bool) (row : List CtrlValue) (words : List ℕ) → changed ≡ false → IsNotified says plan k changed row words words
+notified_not says plan k changed row words same = record {
   each = refl;
   own = λ ch. absurd (differ (sym same ∙ ch));
   others = λ j h. refl;

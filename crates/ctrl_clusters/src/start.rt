@@ -21,7 +21,7 @@ pub fn default_values(alloc: Global, controls: &[Ctrl]) -> Result<Vec<CtrlValue>
         .collect(alloc)
 }
 
-/// Each control is let go (Linux driver API, `v4l2_ctrl_grab`).
+/// No control is grabbed (Linux driver API, `v4l2_ctrl_grab`).
 ///
 /// - `alloc`: where the grabs lie.
 /// - `controls`: the controls, in the order of their numbers.

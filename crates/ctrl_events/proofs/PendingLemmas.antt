@@ -27,7 +27,7 @@ each_last : (P : Waiting → Type 0) (ws : List Waiting) (w : Waiting) → Each 
 each_last P [] w each own = (own, tt)
 each_last P (v ∷ ws) w each own = (each.0, each_last P ws w each.1 own)
 
--- the raises of a control once what waits of one is gone
+-- the raises of a control once what waits of one is withdrawn
 fresh_gone : (c d : ℕ) (hs : List Happening) → raises_since d (withdrawn c ∷ hs) ≡ cond (nat_eq c d) [] (raises_since d hs)
 unfolding raises_since since_withdrawn
 fresh_gone c d hs = by (nat_eq c d)
@@ -64,7 +64,7 @@ left_out : (c : ℕ) (g : ℕ → List Waiting) (f : Waiting → Option Waiting)
 left_out c g f [] each = refl
 left_out c g f (w ∷ ws) each = ap (λ o. cons_option o (filter_map f ws)) each.0 ∙ one_left c w (g w.control) (filter_map f ws) (filter_map (λ v. waiting_of (g v.control) v) ws) (left_out c g f ws each.1)
 
--- what is gone of a control waits no longer
+-- what is withdrawn of a control waits no longer
 pub pending_gone : (hs : List Happening) (c : ℕ) → pending (withdrawn c ∷ hs) ≡ other_events c (pending hs)
 unfolding pending raises
 pending_gone hs c = left_out c (λ d. raises_since d hs) (λ w. waiting_of (raises_since w.control (withdrawn c ∷ hs)) w) (raises hs) (every _ each (raises hs))

@@ -1,6 +1,6 @@
 use ctrl_types::{Changes, CtrlId, CtrlValue, Flags, Kind, SubFlags};
 
-/// What an event tells of a control, read after the step that raised it (Linux userspace API, "struct v4l2_event_ctrl").
+/// What an event shows of a control, read after the step that raised it (Linux userspace API, "struct v4l2_event_ctrl").
 #[derive(Clone, Copy, Debug, PartialEq, Eq)]
 pub struct Payload {
     /// The control's id.

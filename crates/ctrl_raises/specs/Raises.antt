@@ -61,7 +61,7 @@ abbrev pub changed_between : PlanData → MomentData → MomentData → List Pai
 changed_between plan before after pairs c =
     changes_of (is_changed plan before.values pairs c (value_at after.values c)) (differ (flags_under plan before.values before.grabs c) (flags_under plan after.values after.grabs c))
 
--- what a subscription tells of a control at once: its flags, and its value where it can be read
+-- what a subscription raises of a control at once: its flags, and its value where it can be read
 abbrev pub initial_changes : Control → Changes
 initial_changes ctrl = changes_of (not (contains ctrl.flags WRITE_ONLY)) true
 

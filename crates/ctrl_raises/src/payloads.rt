@@ -14,7 +14,7 @@ use ctrl_events::Payload;
 use ctrl_handlers::Plan;
 use ctrl_types::{Changes, Flags};
 
-/// What an event tells of a control at a moment (Linux userspace API, "struct v4l2_event_ctrl"): its value is 0 where it can't be read (of this
+/// The payload of a control's event at a moment (Linux userspace API, "struct v4l2_event_ctrl"): the value is 0 where it can't be read (of this
 /// project).
 ///
 /// - `plan`: what the device is built of.
@@ -46,7 +46,7 @@ pub fn payload_at<D: Driver>(plan: &Plan<D>, at: &Moment, control: u32) -> Paylo
     }
 }
 
-/// What a subscription tells of a control at once, where its flags say so (Linux userspace API, "ioctl VIDIOC_SUBSCRIBE_EVENT, VIDIOC_UNSUBSCRIBE_EVENT"): CH_FLAGS, and
+/// What a subscription raises of a control at once, where its flags say so (Linux userspace API, "ioctl VIDIOC_SUBSCRIBE_EVENT, VIDIOC_UNSUBSCRIBE_EVENT"): CH_FLAGS, and
 /// CH_VALUE where it can be read.
 ///
 /// - `plan`: what the device is built of.

@@ -1,4 +1,4 @@
-//! What changes from one moment to another, and whom events tell of it.
+//! What changes from one moment to another, and for whom it is raised.
 
 ghost use Rattle.std.specs.Prelude.{◌≡◌, ◌<◌, ◌≤◌, ◌+◌, ℕ, length};
 ghost use Rattle.std.specs.List.{range_with_len};

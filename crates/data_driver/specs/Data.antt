@@ -11,13 +11,13 @@ use Rattle.data_driver.specs.declared.limit.Limit.{Limit}
 use Rattle.data_driver.specs.declared.word.Word.{Word}
 
 -- a limit, where there is one, judges the row; else it is accepted as it is
-abbrev pub judged : Option Limit → List ℤ → Verdict
-judged (Some limit) row = verdict_of limit row
-judged None row = Accept row
+abbrev pub verdict_by : Option Limit → List ℤ → Verdict
+verdict_by (Some limit) row = verdict_of limit row
+verdict_by None row = Accept row
 
 -- what the validators make of a row: what the limit does that their relation is
 abbrev pub data_verdict : Verdicts
-data_verdict relation row = judged (limit_of relation) row
+data_verdict relation row = verdict_by (limit_of relation) row
 
 -- a word, where there is one, says what is told of a row; else it is 0
 abbrev pub said : Option Word → List ℤ → ℕ
@@ -29,8 +29,8 @@ abbrev pub data_told : Words
 data_told relation row word = word ≡ said (told_word relation) row
 
 -- the places that a limit and a word name, each where there is one
-abbrev pub named : Option Limit → Option Word → List ℕ
-named (Some limit) (Some word) = limit_places limit ++ word_places word
-named (Some limit) None = limit_places limit
-named None (Some word) = word_places word
-named None None = []
+abbrev pub places_named : Option Limit → Option Word → List ℕ
+places_named (Some limit) (Some word) = limit_places limit ++ word_places word
+places_named (Some limit) None = limit_places limit
+places_named None (Some word) = word_places word
+places_named None None = []

@@ -11,9 +11,9 @@ use Rattle.data_driver.specs.declared.limit.Limit.{Limit}
 use Rattle.data_driver.specs.declared.limit.Limit.TheVariants.{Sum, Product, AtMost, AtMostMember, AtMostWhile}
 
 -- all values together
-abbrev pub total : List ℤ → ℤ
-total [] = pos 0
-total (value ∷ row) = value +ℤ total row
+abbrev pub sum_of_values : List ℤ → ℤ
+sum_of_values [] = pos 0
+sum_of_values (value ∷ row) = value +ℤ sum_of_values row
 
 -- one member's value times another's, where the row has both
 abbrev pub product : Option ℤ → Option ℤ → Option ℤ
@@ -38,7 +38,7 @@ abbrev pub refused_above : Option ℤ → Option ℤ → List ℤ → Verdict
 refused_above (Some number) (Some most) row = if int_lt most number then Refuse EINVAL else Accept row
 refused_above _ _ row = Refuse EINVAL
 
--- the value at a place becomes the lesser of it and the most; a row is refused where the most is less than any value, or where it lacks
+-- the value at a place becomes the lesser of it and the most; a row is refused where the most is below every value of 64 bits, or where it lacks
 -- a member that is named
 abbrev pub lowered_to : ℕ → Option ℤ → Option ℤ → List ℤ → Verdict
 lowered_to place (Some value) (Some most) row =
@@ -46,9 +46,9 @@ lowered_to place (Some value) (Some most) row =
 lowered_to place _ _ row = Refuse EINVAL
 
 -- the value at a place is at most this: the row is refused, or the value lowered
-abbrev pub held : Excess → ℕ → Option ℤ → Option ℤ → List ℤ → Verdict
-held Refused place value most row = refused_above value most row
-held Lowered place value most row = lowered_to place value most row
+abbrev pub limited_to : Excess → ℕ → Option ℤ → Option ℤ → List ℤ → Verdict
+limited_to Refused place value most row = refused_above value most row
+limited_to Lowered place value most row = lowered_to place value most row
 
 -- while the other member has that value, a row is refused where the one is above the most; also where it lacks one of them
 abbrev pub refused_while : Option ℤ → ℤ → Option ℤ → ℤ → List ℤ → Verdict
@@ -58,12 +58,12 @@ refused_while _ most _ when row = Refuse EINVAL
 
 -- what a limit makes of a row
 abbrev pub verdict_of : Limit → List ℤ → Verdict
-verdict_of (Sum most) row = refused_above (Some (total row)) (Some most) row
+verdict_of (Sum most) row = refused_above (Some (sum_of_values row)) (Some most) row
 verdict_of (Product first second most) row =
     refused_above (product (slice_get row first) (slice_get row second)) (Some most) row
-verdict_of (AtMost member most excess) row = held excess member (slice_get row member) (Some most) row
+verdict_of (AtMost member most excess) row = limited_to excess member (slice_get row member) (Some most) row
 verdict_of (AtMostMember member other margin excess) row =
-    held excess member (slice_get row member) (with_margin (slice_get row other) margin) row
+    limited_to excess member (slice_get row member) (with_margin (slice_get row other) margin) row
 verdict_of (AtMostWhile member most other when) row =
     refused_while (slice_get row member) most (slice_get row other) when row
 

@@ -10,9 +10,9 @@ abbrev pub low_bits : ℤ → ℕ
 low_bits value = unsigned_abs (int_rem_euclid value (pos (2 ^ 32)))
 
 -- 256 times the low bits of one value and those of another; 0 where the row lacks one of them
-abbrev pub joined : Option ℤ → Option ℤ → ℕ
-joined (Some first) (Some second) = 256 * low_bits first + low_bits second
-joined _ _ = 0
+abbrev pub joined_word : Option ℤ → Option ℤ → ℕ
+joined_word (Some first) (Some second) = 256 * low_bits first + low_bits second
+joined_word _ _ = 0
 
 -- a number as a word: 0 where it's below that
 abbrev pub or_zero : ℤ → ℕ
@@ -26,7 +26,7 @@ plus None more = 0
 
 -- the word that is told of a row
 abbrev pub word_of : Word → List ℤ → ℕ
-word_of (Joined first second) row = joined (slice_get row first) (slice_get row second)
+word_of (Joined first second) row = joined_word (slice_get row first) (slice_get row second)
 word_of (Plus member more) row = plus (slice_get row member) more
 word_of (Constant word) row = word
 

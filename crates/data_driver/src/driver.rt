@@ -1,6 +1,6 @@
 ghost use Rattle.std.specs.Prelude.{⊤, ◌≡◌, Some, None, IfOk, IfErr};
 ghost use Rattle.std.specs.Option.{option_map};
-ghost use Rattle.data_driver.specs.Data.{data_told, data_verdict, named};
+ghost use Rattle.data_driver.specs.Data.{data_told, data_verdict, places_named};
 ghost use Rattle.data_driver.specs.Limits.{verdict_of};
 ghost use Rattle.data_driver.specs.Members.{missing};
 ghost use Rattle.data_driver.specs.Relations.{limit_relation, word_relation};
@@ -63,7 +63,7 @@ impl Notifies for Data {
 /// The calls of a cluster of so many members (Linux driver API, "V4L2 Controls", "Control Clusters"): a validator by the limit and a notifier
 /// by the word, each where there is one. A cluster without a limit takes each row as it is.
 ///
-/// - `members`: how many members the cluster has, 1 to 8.
+/// - `members`: how many members the cluster has, 1 to 8; nothing compares it with the cluster that the calls are given to.
 /// - `limit`: what the validator holds rows to.
 /// - `word`: what the notifier says of rows.
 ///
@@ -73,9 +73,9 @@ pub fn data_calls(
     limit: Option<Limit>,
     word: Option<Word>,
 ) -> Result<Calls<Data>, NoMember>
-    ensures fitting { IfOk result (λ _. missing members (named limit word) ≡ None) }
+    ensures fitting { IfOk result (λ _. missing members (places_named limit word) ≡ None) }
     ensures ok { IfOk result (λ calls. calls ≡ record { validator = option_map limit_relation limit; notifier = option_map word_relation word }) }
-    ensures err { IfErr result (λ fault. missing members (named limit word) ≡ Some fault) }
+    ensures err { IfErr result (λ fault. missing members (places_named limit word) ≡ Some fault) }
 {
     if let Some(fault) = first_fault(members, limit, word) {
         return Err(fault);
@@ -87,7 +87,7 @@ pub fn data_calls(
 }
 
 fn first_fault(members: usize, limit: Option<Limit>, word: Option<Word>) -> Option<NoMember>
-    ensures { result ≡ missing members (named limit word) }
+    ensures { result ≡ missing members (places_named limit word) }
 {
     if let Some(limit) = limit {
         if let Some(fault) = limit.refusal(members) {

@@ -1,7 +1,7 @@
 //! What limits make of a row, and the numbers that they compare.
 
 ghost use Rattle.std.specs.Prelude.{◌≡◌, ◌<◌, pos, negsuc, ◌≤ℤ◌, length, slice_get};
-ghost use Rattle.data_driver.specs.Limits.{held as held_of, least, lesser as lesser_of, lowered_to as lowered_to_of, product as product_of, refused_above as refused_above_of, refused_while as refused_while_of, total as total_of, with_margin as with_margin_of};
+ghost use Rattle.data_driver.specs.Limits.{limited_to as limited_to_of, least, lesser as lesser_of, lowered_to as lowered_to_of, product as product_of, refused_above as refused_above_of, refused_while as refused_while_of, sum_of_values as total_of, with_margin as with_margin_of};
 
 use crate::limit::Excess;
 use crate::members::member;
@@ -9,7 +9,7 @@ use ctrl_calls::{ClusterRow, Verdict};
 use ctrl_types::Errno;
 
 // All values together: eight values of 64 bits fit.
-pub(crate) fn total(row: &ClusterRow) -> i128
+pub(crate) fn sum_of_values(row: &ClusterRow) -> i128
     ensures { result ≡ total_of row.now }
 {
     let mut sum = 0i128;
@@ -48,8 +48,8 @@ pub(crate) fn refused_above(number: Option<i128>, most: Option<i128>, row: &Clus
 }
 
 // The value at the place is at most this: the row is refused, or the value lowered.
-pub(crate) fn held(excess: Excess, place: u8, most: Option<i128>, row: &ClusterRow) -> Verdict
-    ensures { result ≡ held_of excess place (slice_get row.now place) most row.now }
+pub(crate) fn limited_to(excess: Excess, place: u8, most: Option<i128>, row: &ClusterRow) -> Verdict
+    ensures { result ≡ limited_to_of excess place (slice_get row.now place) most row.now }
 {
     let value = member(row, place);
     match excess {
@@ -70,7 +70,7 @@ fn lowered_to(place: u8, value: Option<i64>, most: Option<i128>, row: &ClusterRo
     }
 }
 
-// The lesser of two, which is a value where both aren't below every one.
+// The lesser of two. It fits, since the most isn't below every value.
 fn lesser(value: i64, most: i128) -> i64
     requires { least ≤ℤ most }
     ensures { result ≡ lesser_of value most }

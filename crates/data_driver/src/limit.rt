@@ -3,7 +3,9 @@ ghost use Rattle.data_driver.specs.Limits.{limit_places, verdict_of};
 ghost use Rattle.data_driver.specs.Members.{missing};
 ghost use Rattle.data_driver.specs.Relations.{at_most as at_most_of, at_most_member as at_most_member_of, at_most_while as at_most_while_of, limit_of, limit_relation, number_with, product_of};
 
-use crate::judging::{held, product, refused_above, refused_while, total, with_margin};
+use crate::judging::{
+    limited_to, product, refused_above, refused_while, sum_of_values, with_margin,
+};
 use crate::members::{NoMember, member, missing_of_two, missing_one, place_in};
 use ctrl_calls::{ClusterRow, Relation, Verdict};
 
@@ -12,7 +14,9 @@ use ctrl_calls::{ClusterRow, Relation, Verdict};
 pub enum Excess {
     /// The row is refused with EINVAL.
     Refused,
-    /// The value is lowered to the most; where that is below every value of 64 bits, the row is refused with EINVAL.
+    /// The value is lowered to the most; where that is below every value of 64 bits, the row is refused with EINVAL (22). A lowered value
+    /// that the control doesn't take as it is, below its range or off its grid, has the cluster refused with EINVAL, as with every
+    /// validator.
     Lowered,
 }
 
@@ -160,7 +164,11 @@ impl Limit {
         ensures { result ≡ verdict_of self row.now }
     {
         match self {
-            Limit::Sum { most } => refused_above(Some(total(row)), Some(i128::from(most)), row),
+            Limit::Sum { most } => refused_above(
+                Some(sum_of_values(row)),
+                Some(i128::from(most)),
+                row,
+            ),
             Limit::Product {
                 first,
                 second,
@@ -174,13 +182,13 @@ impl Limit {
                 member,
                 most,
                 excess,
-            } => held(excess, member, Some(i128::from(most)), row),
+            } => limited_to(excess, member, Some(i128::from(most)), row),
             Limit::AtMostMember {
                 member: place,
                 other,
                 margin,
                 excess,
-            } => held(excess, place, with_margin(member(row, other), margin), row),
+            } => limited_to(excess, place, with_margin(member(row, other), margin), row),
             Limit::AtMostWhile {
                 member: place,
                 most,

@@ -6,7 +6,7 @@ use thiserror::Error;
 
 /// What is wrong with a limit or a word: it names a place outside its cluster (of this project).
 #[derive(Clone, Copy, Debug, PartialEq, Eq, Error)]
-#[error("a cluster of {members} members has no member {place}")]
+#[error("there is no member {place} in a cluster of size {members}")]
 pub struct NoMember {
     /// The place that is named, the master's being 0.
     pub place: u8,

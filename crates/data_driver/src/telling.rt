@@ -1,10 +1,10 @@
 //! What words say of values.
 
 ghost use Rattle.std.specs.Prelude.{◌≡◌, ◌<◌, ◌^◌};
-ghost use Rattle.data_driver.specs.Words.{joined as joined_of, low_bits as low_bits_of, plus as plus_of};
+ghost use Rattle.data_driver.specs.Words.{joined_word as joined_word_of, low_bits as low_bits_of, plus as plus_of};
 
-pub(crate) fn joined(first: Option<i64>, second: Option<i64>) -> u64
-    ensures { result ≡ joined_of first second }
+pub(crate) fn joined_word(first: Option<i64>, second: Option<i64>) -> u64
+    ensures { result ≡ joined_word_of first second }
 {
     match (first, second) {
         (Some(first), Some(second)) => 256 * low_bits(first) + low_bits(second),

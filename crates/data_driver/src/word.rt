@@ -1,10 +1,10 @@
 ghost use Rattle.std.specs.Prelude.{◌≡◌, Some};
 ghost use Rattle.data_driver.specs.Members.{missing};
-ghost use Rattle.data_driver.specs.Relations.{constant as constant_of, joined_of, plus_of, told_word, word_relation};
+ghost use Rattle.data_driver.specs.Relations.{constant as constant_of, joined_word_of, plus_of, told_word, word_relation};
 ghost use Rattle.data_driver.specs.Words.{word_of, word_places};
 
 use crate::members::{NoMember, member, missing_of_two, missing_one, place_in};
-use crate::telling::{joined, plus};
+use crate::telling::{joined_word, plus};
 use ctrl_calls::{ClusterRow, Relation};
 
 /// What a notifier says of a row, as data (Linux driver API, "V4L2 Controls", "Adding Notify Callbacks"; that a word is answered, and which,
@@ -79,7 +79,7 @@ impl Word {
         ensures { result ≡ word_of self row.now }
     {
         match self {
-            Word::Joined { first, second } => joined(member(row, first), member(row, second)),
+            Word::Joined { first, second } => joined_word(member(row, first), member(row, second)),
             Word::Plus {
                 member: place,
                 more,
@@ -90,7 +90,7 @@ impl Word {
 }
 
 fn joined_word(first: Option<u8>, second: Option<u8>) -> Option<Word>
-    ensures { result ≡ joined_of first second }
+    ensures { result ≡ joined_word_of first second }
 {
     match (first, second) {
         (Some(first), Some(second)) => Some(Word::Joined { first, second }),

@@ -285,7 +285,7 @@ gone_closed verdicts plan older fh (steps.Reinit r) hs may shut = refl
 gone_closed verdicts plan older fh (steps.Free r) hs may shut = refl
 gone_closed verdicts plan older fh (steps.Subscribe f c flags) hs may shut = refl
 
--- what happened stays, where a step tells nothing and nothing is gone
+-- what happened stays, where a step raises nothing and nothing is withdrawn
 happened_same : (verdicts : Verdicts) (plan : PlanData) (e : Entry Step) (older : Past) (fh : FhId) → all_raised_for verdicts plan e older fh ≡ [] → with_withdrawn fh e.step (happened verdicts plan older fh) ≡ happened verdicts plan older fh
     → happened verdicts plan (e ∷ older) fh ≡ happened verdicts plan older fh
 unfolding happened with_raises

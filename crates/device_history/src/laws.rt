@@ -209,7 +209,7 @@ pub fn kept_events()
     ensures few { (verdicts : Verdicts) (plan : PlanData) (older : Past) (fh : FhId) → next_sequence verdicts plan older fh ≤ length plan.controls * length older }
 {}
 
-/// At first nothing was raised for a file handle; one more entry raises behind that what it tells it of, in the order of control numbers, with
+/// At first nothing was raised for a file handle; one more entry raises behind that what `all_raised_for` says, in the order of control numbers, with
 /// payloads that are read after it, each with the next number.
 #[tactic(auto, using(crate::proofs::RaiseLaw::raises_start, crate::proofs::RaiseLaw::raises_add))]
 pub fn added_raises()
@@ -218,8 +218,8 @@ pub fn added_raises()
         ≡ raises verdicts plan (past steps) fh ++ raises_from (length (raises verdicts plan (past steps) fh)) (payload verdicts plan (past (steps ++ e ∷ []))) (all_raised_for verdicts plan e (past steps) fh) }
 {}
 
-/// What a set, a begin and a grab raise is what changes between the values and grabs before and those after; what a subscription tells at once is
-/// read of those after.
+/// What a set, a begin and a grab raise is what changes between the values and grabs before and those after; the payload of what a
+/// subscription raises is read of those after.
 pub fn raised_events()
     ensures set { (verdicts : Verdicts) (plan : PlanData) (e : Entry Step) (older : Past) (before after : MomentData) (from : FhId) (pairs : List Pair) (fh : FhId) (cs : List ℕ) (f : FileEvents) → e.step ≡ Set from pairs → AreAround verdicts plan e older before after
         → raised_all (changed_between plan before after pairs) (payload_at plan after) (λ c. needing_feedback (Some from.0) pairs (changed_between plan before after pairs c) c) fh.0 cs f ≡ raised_by verdicts plan e older fh cs f }

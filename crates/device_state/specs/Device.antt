@@ -81,7 +81,7 @@ may_ask verdicts plan past (asks.Cancel id) = asks_at_most plan (frames verdicts
 may_ask verdicts plan past (asks.Grab c on) = grab_asks plan past (cluster_of plan c)
 may_ask verdicts plan past _ = 0
 
--- how many a set and a try ask where they are accepted: the clusters with a validator among them
+-- how many validators a set and a try ask at least, where they are accepted: one for each cluster that they touch and that has one; every other ask none
 abbrev pub must_ask : PlanData → Past → Ask → ℕ
 must_ask plan past (asks.SetCtrls fh which request list) = judged_count plan (touched plan (list_pairs plan past fh which list))
 must_ask plan past (asks.TryCtrls fh which request list) = judged_count plan (touched plan (list_pairs plan past fh which list))

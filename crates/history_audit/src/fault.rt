@@ -4,9 +4,9 @@ use thiserror::Error;
 #[derive(Debug, Drop, Error)]
 pub enum AuditFault {
     /// A step may not follow those before it.
-    #[error("the step {index} may not follow those before it")]
+    #[error("step {index} may not follow those before it")]
     NotLegal {
-        /// Its place in the history, from 0 to 1000000: no more steps are kept.
+        /// Its place in the history, from 0 to 1,000,000: no more steps are kept.
         index: u32,
     },
     /// A growth was refused.

@@ -113,7 +113,7 @@ impl<'a, D: Driver> Replay<'a, D> {
         })
     }
 
-    /// How many steps were replayed, at most 1000000. It takes no memory.
+    /// How many steps were replayed, at most 1,000,000. It takes no memory.
     pub fn replayed(&self) -> u32
         ensures { result ≡ length self.now.steps }
     {

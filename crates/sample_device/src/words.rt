@@ -5,7 +5,8 @@ use ctrl_types::CtrlId;
 use script_lines::ControlWords;
 use std::alloc::{AllocError, Global};
 
-/// The words by which scripts name the controls of the sample device. The error is that a growth was refused.
+/// The words by which scripts name the controls of the sample device (of this project), in memory that is taken from `alloc`. The error is that a growth was
+/// refused.
 pub fn sample_words(alloc: Global) -> Result<ControlWords, AllocError>
     ensures { IfOk result (λ words. words ≡ sample_words_are) }
 {

@@ -52,8 +52,9 @@ impl ControlWords {
 
     /// Adds a row behind those that are there. The error is that a growth was refused, and then the table is as it was.
     ///
-    /// - `word`: any bytes. No line can say one with a space or a line feed, no entry with a value one with `=`, and only such an entry
-    ///   an empty one. A word that is written as an id is stands for its own control, not for the one with that id.
+    /// - `alloc`: where the word lies.
+    /// - `word`: any bytes. A line can't say a word with a space or a line feed; an entry with a value can't say one with `=`, and only such an
+    ///   entry can say an empty one. A word of the form of an id (`0x..`) stands for its own control, not for the one with that id.
     /// - `id`, `number`: those of the control.
     pub fn push(
         &mut self,

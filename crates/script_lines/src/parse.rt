@@ -13,8 +13,12 @@ use bitflags::Flags as FlagSet;
 use ctrl_types::{CtrlId, ExtControl, SubFlags};
 use std::alloc::{AllocError, Global};
 
-/// Reads a line, without its line feed and of fewer than 2^32 - 1 bytes: the command, or nothing where the line is to be skipped, since
-/// it has no word or its first word begins with `#`. `NotACommand` where it is neither; `Memory` where a growth was refused.
+/// Reads a line (of this project): the command, or nothing where the line is to be skipped, since it has no word or its first word begins with
+/// `#`. `NotACommand` where it is neither; `Memory` where a growth was refused.
+///
+/// - `alloc`: where the command lies.
+/// - `known`: the words by which the line may name controls.
+/// - `line`: the line, without its line feed and of fewer than 2^32 - 1 bytes.
 pub fn read_line(
     alloc: Global,
     known: &ControlWords,

@@ -38,13 +38,13 @@ pub apart_in : (n x k : ℕ) → cond (nat_eq n x) 1 0 + k ≡ 0 → n ≢ x
 apart_in n x k h = grind (arith, nat_tests)
 
 module _ {S : Type 0} where
-  pub numbers-raised : (h : List (Entry S)) (xs : List (Account S)) → numbers (map (λ a. account a.number h) xs) ≡ numbers xs
-  numbers-raised h [] = refl
-  numbers-raised h (a ∷ xs) = ap (λ l. a.number ∷ l) (numbers-raised h xs)
+  pub numbers-caught_up : (h : List (Entry S)) (xs : List (Account S)) → numbers (map (λ a. account a.number h) xs) ≡ numbers xs
+  numbers-caught_up h [] = refl
+  numbers-caught_up h (a ∷ xs) = ap (λ l. a.number ∷ l) (numbers-caught_up h xs)
 
-  pub length-raised : (h : List (Entry S)) (xs : List (Account S)) → length (map (λ a. account a.number h) xs) ≡ length xs
-  length-raised h [] = refl
-  length-raised h (a ∷ xs) = ap suc (length-raised h xs)
+  pub length-caught_up : (h : List (Entry S)) (xs : List (Account S)) → length (map (λ a. account a.number h) xs) ≡ length xs
+  length-caught_up h [] = refl
+  length-caught_up h (a ∷ xs) = ap suc (length-caught_up h xs)
 
   pub raised_accounts : (h : List (Entry S)) (xs : List (Account S)) → Each (IsAccount h) (map (λ a. account a.number h) xs)
   raised_accounts h [] = tt

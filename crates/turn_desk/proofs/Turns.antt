@@ -15,10 +15,10 @@ use Rattle.turn_desk.specs.declared.rule.Place.TheVariants.{Home, Entered}
 use Rattle.turn_desk.specs.declared.rule.View.{View}
 use Rattle.turn_desk.specs.Views.{times}
 use Rattle.turn_desk.specs.Rule.{Each, total, count_some, is_taken, numbers, holds_turn, closes, accounts_of, times_in, Fits, IsRunningRule}
-use Rattle.turn_desk.specs.Plays.{account, raised, with_holding, Shows, tried, stayed, looked, entering, left}
+use Rattle.turn_desk.specs.Plays.{account, caught_up, with_holding, Shows, tried, stayed, looked, entering, left}
 use Rattle.turn_desk.proofs.Sums.{total-set, one_within, two_within, Each-append}
 use Rattle.turn_desk.proofs.Histories.{prefix_refl, prefix_push}
-use Rattle.turn_desk.proofs.Parts.{taken_one, taken_le, once_inside, once_le, numbers-raised, length-raised, raised_accounts, still_whole, fits_set}
+use Rattle.turn_desk.proofs.Parts.{taken_one, taken_le, once_inside, once_le, numbers-caught_up, length-caught_up, raised_accounts, still_whole, fits_set}
 
 pub total_same : {V : Type 0} (f : V → ℕ) (views : List V) (id : ℕ) (v w : V) → get_elem? views id ≡ some v → f w ≡ f v → total f (set views id w) ≡ total f views
 total_same f views id v w at same = let moved = total-set f views id v w at in omega arith
@@ -124,7 +124,7 @@ module _ {T P S : Type 0} (is_legal : P → List (Entry S) → Type 0) (plan_of 
   pub looks : (slots id : ℕ) (m : Me (Place T) (View P S)) → Allows Holds slots id m 1 (λ n. n) (looked is_legal (step slots 1 0 0 none) m)
   looks slots id m s h many at fits =
       let v = m.0 in
-      let w = raised h.history v in
+      let w = caught_up h.history v in
       let mine = h.each id v at in
       let found : slice_index s.words 1 ≡ length h.history = ap (λ ws. slice_index ws 1) h.words in (
         w,
@@ -142,15 +142,15 @@ module _ {T P S : Type 0} (is_legal : P → List (Entry S) → Type 0) (plan_of 
           closed_by = total_same closes s.views id v w at refl ∙ h.closed_by;
           one_closer = h.one_closer;
           few = h.few;
-          once = λ x. total_same (times_in x) s.views id v w at (ap (times x) (numbers-raised h.history v.accounts)) ∙ h.once x;
-          accounts = total_same accounts_of s.views id v w at (length-raised h.history v.accounts) ∙ h.accounts;
+          once = λ x. total_same (times_in x) s.views id v w at (ap (times x) (numbers-caught_up h.history v.accounts)) ∙ h.once x;
+          accounts = total_same accounts_of s.views id v w at (length-caught_up h.history v.accounts) ∙ h.accounts;
           seats = h.seats;
           each = fits_set plan h.history h.count s.views id w (λ j u apart there. h.each j u there) (record {
             planned = mine.planned;
             seen = prefix_refl h.history;
             heard = mine.heard;
             accounts = raised_accounts h.history v.accounts;
-            holding = λ g e. ((mine.holding g e).0, subst (λ n. 0 < n) (sym (length-raised h.history v.accounts)) (mine.holding g e).1);
+            holding = λ g e. ((mine.holding g e).0, subst (λ n. 0 < n) (sym (length-caught_up h.history v.accounts)) (mine.holding g e).1);
             closing = mine.closing;
             fewest = mine.fewest;
           });
@@ -166,7 +166,7 @@ module _ {T P S : Type 0} (is_legal : P → List (Entry S) → Type 0) (plan_of 
   enters slots id m x p g l n e carries planned holding accounts grown lawful short s h many at fits =
       let v = m.0 in
       let to = steps_of x.value in
-      let w = with_holding (Some to) (raised to v) in
+      let w = with_holding (Some to) (caught_up to v) in
       let mine = h.each id v at in
       let entry : Entry S = record { seat = n; step = e } in
       let known = mine.holding g holding in
@@ -197,8 +197,8 @@ module _ {T P S : Type 0} (is_legal : P → List (Entry S) → Type 0) (plan_of 
           closed_by = total_same closes s.views id v w at refl ∙ h.closed_by;
           one_closer = h.one_closer;
           few = h.few;
-          once = λ y. total_same (times_in y) s.views id v w at (ap (times y) (numbers-raised to v.accounts)) ∙ h.once y;
-          accounts = total_same accounts_of s.views id v w at (length-raised to v.accounts) ∙ h.accounts;
+          once = λ y. total_same (times_in y) s.views id v w at (ap (times y) (numbers-caught_up to v.accounts)) ∙ h.once y;
+          accounts = total_same accounts_of s.views id v w at (length-caught_up to v.accounts) ∙ h.accounts;
           seats = subst (Each (λ (y : Entry S). y.seat < h.count)) (sym more) (Each-append (λ (y : Entry S). y.seat < h.count) h.history (entry ∷ []) h.seats (inside, tt));
           each = fits_set plan to h.count s.views id w
               (λ j u apart there. subst (λ xs. Fits plan xs h.count u) (sym more) (
@@ -218,12 +218,12 @@ module _ {T P S : Type 0} (is_legal : P → List (Entry S) → Type 0) (plan_of 
                 seen = prefix_refl to;
                 heard = subst (IsPrefix v.heard) (sym more) (prefix_push (entry ∷ []) mine.heard);
                 accounts = raised_accounts to v.accounts;
-                holding = λ g' e'. (sym (ap held_in e'), subst (λ k. 0 < k) (sym (length-raised to v.accounts)) known.1);
+                holding = λ g' e'. (sym (ap held_in e'), subst (λ k. 0 < k) (sym (length-caught_up to v.accounts)) known.1);
                 closing = mine.closing;
                 fewest = mine.fewest;
               });
         },
-        (λ x' carries'. let same : x ≡ x' = carried_same (sym carries ∙ carries') in ap (λ (y : Snapshot T). (with_holding (Some (steps_of y.value)) (raised (steps_of y.value) v), m.1)) same),
+        (λ x' carries'. let same : x ≡ x' = carried_same (sym carries ∙ carries') in ap (λ (y : Snapshot T). (with_holding (Some (steps_of y.value)) (caught_up (steps_of y.value) v), m.1)) same),
       )
 
   -- the turn is left, and the slot with the object in it

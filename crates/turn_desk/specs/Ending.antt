@@ -15,14 +15,14 @@ pub record HasGathered {P S : Type 0} (seats : List (SeatView P S)) (v w : View 
   pub held : w.holding ≡ v.holding
   pub closed : w.closing ≡ v.closing
 
--- no more than `made` seats were made: it closes the desk and has found so many, or there are no more
-abbrev pub Closes : {P S : Type 0} → ℕ → View P S → Type 0
-Closes made v = made ≢ MOST_SEATS → v.closing ≡ Some made
+-- no more than `made` seats were made: it closes the desk and has found so many, or as many were made as can be
+abbrev pub MadeAtMost : {P S : Type 0} → ℕ → View P S → Type 0
+MadeAtMost made v = made ≢ MOST_SEATS → v.closing ≡ Some made
 
--- it closes the desk, and has as many accounts as seats were made
+-- it can end the desk: no more than `made` seats were made, it doesn't hold the turn, and it has as many accounts at least
 pub record IsCloser {P S : Type 0} (v : View P S) : Type 0 where
   pub made : ℕ
-  pub closes : Closes made v
+  pub closes : MadeAtMost made v
   pub unheld : v.holding ≡ None
   pub enough : made ≤ length v.accounts
 
@@ -31,7 +31,7 @@ pub record HasOpened {P S : Type 0} (found : ℕ) (plan : Option P) (v : View P 
   pub marked : found ≡ CLOSED → v ≡ bare plan None
   pub counted : found ≢ CLOSED → (found ≤ MOST_SEATS) × (v ≡ bare plan (Some found))
 
--- it has heard that more seats were made than the number, and else knows what it knew
+-- it has heard that more seats were made than the number, has forgotten no count, and closes as it did
 pub record HasHeard {P S : Type 0} (number : ℕ) (v w : View P S) : Type 0 where
   pub more : number < w.fewest
   pub fewest : v.fewest ≤ w.fewest

@@ -41,8 +41,8 @@ module _ {P S : Type 0} where
   bare plan closing = record { plan = plan; seen = []; heard = []; accounts = []; holding = None; closing = closing; fewest = 0 }
 
   -- the whole history was seen
-  abbrev pub raised : List (Entry S) → View P S → View P S
-  raised h v = record { plan = v.plan; seen = h; heard = v.heard; accounts = map (λ a. account a.number h) v.accounts; holding = v.holding; closing = v.closing; fewest = v.fewest }
+  abbrev pub caught_up : List (Entry S) → View P S → View P S
+  caught_up h v = record { plan = v.plan; seen = h; heard = v.heard; accounts = map (λ a. account a.number h) v.accounts; holding = v.holding; closing = v.closing; fewest = v.fewest }
 
   abbrev pub with_holding : Option (List (Entry S)) → View P S → View P S
   with_holding h v = record { plan = v.plan; seen = v.seen; heard = v.heard; accounts = v.accounts; holding = h; closing = v.closing; fewest = v.fewest }
@@ -100,14 +100,14 @@ module _ {T P S : Type 0} where
     pub shows : Shows is_legal m.0 history
     -- no number stands in two accounts
     pub once : (x : ℕ) → times x (numbers m.0.accounts) ≤ 1
-    pub after : m' ≡ (raised history m.0, m.1)
+    pub after : m' ≡ (caught_up history m.0, m.1)
 
   abbrev pub looked : (P → List (Entry S) → Type 0) → Step (Place T) → Me (Place T) (View P S) → ℕ → Me (Place T) (View P S) → Type 0
   looked is_legal st m r m' = Looks is_legal m r m'
 
   -- the entry that the object in the slot has taken was entered
   abbrev pub entering : (T → List (Entry S)) → Step (Place T) → Me (Place T) (View P S) → ℕ → Me (Place T) (View P S) → Type 0
-  entering steps_of st m r m' = (x : Snapshot T) → m.1 ≡ (0, Entered x) ∷ [] → m' ≡ (with_holding (Some (steps_of x.value)) (raised (steps_of x.value) m.0), m.1)
+  entering steps_of st m r m' = (x : Snapshot T) → m.1 ≡ (0, Entered x) ∷ [] → m' ≡ (with_holding (Some (steps_of x.value)) (caught_up (steps_of x.value) m.0), m.1)
 
   abbrev pub left : Step (Place T) → Me (Place T) (View P S) → ℕ → Me (Place T) (View P S) → Type 0
   left st m r m' = m' ≡ (with_holding None m.0, [])

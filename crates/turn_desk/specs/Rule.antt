@@ -74,6 +74,7 @@ module _ {T P S : Type 0} where
   abbrev pub IsHome : (T → P) → (T → List (Entry S)) → P → List (Entry S) → List (Maybe (Place T)) → Type 0
   IsHome plan_of steps_of plan history homes = (d : T) × (get_elem? homes 0 ≡ some (some (Home d))) × (plan_of d ≡ plan) × (steps_of d ≡ history)
 
+  -- The running rule: there is one legal history that the words, the slot and all views fit.
   pub record IsRunningRule (is_legal : P → List (Entry S) → Type 0) (plan_of : T → P) (steps_of : T → List (Entry S)) (plan : P) (s : State (Place T) (View P S)) : Type 0 where
     pub history : List (Entry S)
     pub turn : ℕ

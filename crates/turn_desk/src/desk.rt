@@ -293,8 +293,8 @@ impl<T: Served, A: Allocator> Desk<T, A> {
     }
 }
 
-// How many seats were made, by what was found at the word of seats. Who closes the desk has it alone, so it isn't the mark of
-// another. The rule doesn't say so: at a mark, no more were made than can be.
+// How many seats were made, by what was found at the word of seats; 1,024 at the mark of another closing. None is ever found, since
+// who closes has the desk alone, but the rule doesn't exclude it, and 1,024 is then right as a bound.
 fn made_at(found: u64) -> u64
     ensures { result ≡ min found MOST_SEATS }
 {

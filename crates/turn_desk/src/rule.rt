@@ -73,6 +73,7 @@ pub struct View<P, S> {
     pub accounts: LinkedList<Account<S>>,
     pub holding: Option<LinkedList<Entry<S>>>,
     pub closing: Option<u64>,
+    /// No fewer seats were made, as far as it has heard.
     pub fewest: u64,
 }
 
@@ -171,7 +172,7 @@ impl<P, S> Split<View<P, S>> for Cut {
     ghost right = { cut_part };
 }
 
-/// A seat stays as it is, and a new one knows that its number lies below the count of seats.
+/// A seat stays as it is, and a messenger knows that this seat's number lies below the count of seats.
 pub struct Count;
 
 impl<P, S> Split<View<P, S>> for Count {
@@ -182,7 +183,7 @@ impl<P, S> Split<View<P, S>> for Count {
     ghost right = { count_part };
 }
 
-/// A seat takes in another's accounts, and hears what the other has seen.
+/// A seat takes in another's accounts, and hears what the other has seen, and how many seats it knew of.
 pub struct Gather;
 
 impl<P, S> Join<View<P, S>> for Gather {

@@ -58,7 +58,7 @@ const WHILE: Limit = Limit::AtMostWhile {
     when: 2,
 };
 
-// A limit, a row, and the row that it accepts in its place; where it refuses that, none.
+// A limit, a row, and the row that it accepts in its place; none where it is refused.
 const LIMITS: &[(Limit, &[CtrlValue], Option<&[CtrlValue]>)] = &[
     (SUM, &[200, 184], Some(&[200, 184])),
     (SUM, &[200, 185], None),

@@ -2,12 +2,12 @@ use Rattle.std.proofs.Common.{◌≡◌}
 use Rattle.ctrl_handlers.specs.Plan.{members}
 use Rattle.ctrl_clusters.specs.Rows.{row_of}
 use Rattle.ctrl_clusters.specs.Changes.{members_change}
-use Rattle.ctrl_clusters.proofs.NotifyLemmas.{AreRenewedBelow, notified_below}
+use Rattle.ctrl_clusters.proofs.NotifyLemmas.{AreNotifiedBelow, notified_below}
 use Rattle.ctrl_clusters.proofs.notifying.notify_between.Given as goal
 
 -- the clusters so far were notified
 abbrev pub invariant-loop-cluster : goal.invariant-loop-cluster
 invariant-loop-cluster g l = record {
-  words : AreRenewedBelow g.D.Notifies.told l.plan (members_change l.plan l.before l.after l.pairs) (λ k. row_of l.after (members l.plan k)) l.cluster l.initial.words.items l.words.items;
+  words : AreNotifiedBelow g.D.Notifies.told l.plan (members_change l.plan l.before l.after l.pairs) (λ k. row_of l.after (members l.plan k)) l.cluster l.initial.words.items l.words.items;
   work : l.work ≡ record l.initial.work { told = notified_below l.plan (members_change l.plan l.before l.after l.pairs) l.cluster };
 }

@@ -1,12 +1,12 @@
 use Rattle.std.proofs.Common.{◌≡◌}
 use Rattle.ctrl_clusters.specs.Changes.{cluster_changes}
 use Rattle.ctrl_clusters.specs.NewRows.{row_or_empty}
-use Rattle.ctrl_clusters.proofs.NotifyLemmas.{AreRenewedBelow, notified_below}
+use Rattle.ctrl_clusters.proofs.NotifyLemmas.{AreNotifiedBelow, notified_below}
 use Rattle.ctrl_clusters.proofs.notifying.notify_changed.Given as goal
 
 -- the clusters so far were notified
 abbrev pub invariant-loop-cluster : goal.invariant-loop-cluster
 invariant-loop-cluster g l = record {
-  words : AreRenewedBelow g.D.Notifies.told l.plan (cluster_changes l.plan l.values l.pairs l.rows.rows) (row_or_empty l.rows.rows) l.cluster l.initial.words.items l.words.items;
+  words : AreNotifiedBelow g.D.Notifies.told l.plan (cluster_changes l.plan l.values l.pairs l.rows.rows) (row_or_empty l.rows.rows) l.cluster l.initial.words.items l.words.items;
   work : l.work ≡ record l.initial.work { told = notified_below l.plan (cluster_changes l.plan l.values l.pairs l.rows.rows) l.cluster };
 }

@@ -1,7 +1,7 @@
 use Rattle.std.proofs.Common.{◌≡◌, false, refl, sym, ◌∙◌}
 use Rattle.ctrl_clusters.specs.Changes.{cluster_changes}
 use Rattle.ctrl_clusters.proofs.NewRowLemmas.{given_long}
-use Rattle.ctrl_clusters.proofs.NotifyLemmas.{changes_not, renewed_not, count_not}
+use Rattle.ctrl_clusters.proofs.NotifyLemmas.{changes_not, notified_not, count_not}
 use Rattle.ctrl_clusters.proofs.notifying.notify_touched.Goals as goal
 
 pub notify_of-requires-clause-row : goal.notify_of-requires-clause-row
@@ -13,7 +13,7 @@ pub returns-in_default-clause-words : goal.returns-in_default-clause-words
 returns-in_default-clause-words g c =
     let same : cluster_changes c.args.plan.now c.args.values.now c.args.pairs.now c.args.rows.now.rows c.args.cluster ≡ false =
     changes_not c.args.plan.now c.args.values.now c.args.pairs.now c.args.rows.now.rows c.args.cluster (sym c.among.ensures ∙ c.in_default.is) in
-    renewed_not g.D.Notifies.told c.args.plan.now c.args.cluster _ _ c.args.words.now.items same
+    notified_not g.D.Notifies.told c.args.plan.now c.args.cluster _ _ c.args.words.now.items same
 
 pub returns-in_default-clause-work : goal.returns-in_default-clause-work
 returns-in_default-clause-work g c =
