@@ -70,9 +70,9 @@ abbrev pub constant : ℤ → Option Word
 constant (pos word) = if nat_lt word (2 ^ 32) then Some (Constant word) else None
 constant (negsuc _) = None
 
-abbrev pub joined_word_of : Option ℕ → Option ℕ → Option Word
-joined_word_of (Some first) (Some second) = Some (Joined first second)
-joined_word_of _ _ = None
+abbrev pub joining : Option ℕ → Option ℕ → Option Word
+joining (Some first) (Some second) = Some (Joined first second)
+joining _ _ = None
 
 abbrev pub plus_of : Option ℕ → ℤ → Option Word
 plus_of (Some member) more = Some (Plus member more)
@@ -81,7 +81,7 @@ plus_of None more = None
 -- the word of a number and its bounds
 abbrev pub word_at : ℕ → ℤ → ℤ → Option Word
 word_at number a b =
-    if number == 11 then joined_word_of (place_of a) (place_of b)
+    if number == 11 then joining (place_of a) (place_of b)
     else if number == 12 then plus_of (place_of a) b
     else if number == 13 then constant a
     else None

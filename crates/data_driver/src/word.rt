@@ -1,6 +1,6 @@
 ghost use Rattle.std.specs.Prelude.{◌≡◌, Some};
 ghost use Rattle.data_driver.specs.Members.{missing};
-ghost use Rattle.data_driver.specs.Relations.{constant as constant_of, joined_word_of, plus_of, told_word, word_relation};
+ghost use Rattle.data_driver.specs.Relations.{constant as constant_of, joining as joining_of, plus_of, told_word, word_relation};
 ghost use Rattle.data_driver.specs.Words.{word_of, word_places};
 
 use crate::members::{NoMember, member, missing_of_two, missing_one, place_in};
@@ -51,7 +51,7 @@ impl Word {
     {
         let [a, b, _, _] = relation.bounds;
         match relation.number {
-            11 => joined_word(place_in(a), place_in(b)),
+            11 => joining(place_in(a), place_in(b)),
             12 => plus_word(place_in(a), b),
             13 => constant(a),
             _ => None,
@@ -89,8 +89,8 @@ impl Word {
     }
 }
 
-fn joined_word(first: Option<u8>, second: Option<u8>) -> Option<Word>
-    ensures { result ≡ joined_word_of first second }
+fn joining(first: Option<u8>, second: Option<u8>) -> Option<Word>
+    ensures { result ≡ joining_of first second }
 {
     match (first, second) {
         (Some(first), Some(second)) => Some(Word::Joined { first, second }),
