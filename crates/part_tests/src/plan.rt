@@ -3,6 +3,7 @@
 
 mod calls;
 mod data;
+mod files;
 mod items;
 mod plans;
 mod settling;

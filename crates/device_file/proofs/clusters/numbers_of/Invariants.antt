@@ -1,0 +1,8 @@
+use Rattle.std.proofs.Common.{◌≡◌, [], drop, map}
+use Rattle.toml.specs.View.{view}
+use Rattle.device_file.specs.Clusters.{numbers_with}
+use Rattle.device_file.proofs.clusters.numbers_of.Given as goal
+
+-- the numbers so far, and those of the names that are left
+abbrev pub invariant-loop-place : goal.invariant-loop-place
+invariant-loop-place l = numbers_with l.words l.members.items (map view (drop l.place l.names)) ≡ numbers_with l.words [] (map view l.names)

@@ -1,0 +1,138 @@
+//! Faults in words.
+
+use crate::fault::FileFault;
+use crate::key::Key;
+use crate::lines::{key_in, line_in, syntax_line};
+use crate::place::{Place, table_at};
+use crate::problem::Problem;
+use std::alloc::{AllocError, Global};
+use std::fmt::Write;
+use toml::{Table, Value};
+
+/// Why a file describes no device, in one line for people, without an end: the line of the file, the table with its name, the key with its
+/// value, and what is wrong. Want of memory is said as such. The error is that a growth was refused.
+///
+/// - `text`: the file that was read; of another one the words may be any.
+/// - `fault`: what was answered.
+pub fn explain(alloc: Global, text: &[u8], fault: &FileFault) -> Result<String, AllocError> {
+    match fault.problem {
+        Problem::TooLong | Problem::Memory => return format!(in alloc; "{}", fault.problem),
+        Problem::Syntax(error) => return syntax_words(alloc, text, &error),
+        _ => {}
+    }
+    match toml::table_from_slice(alloc, text) {
+        Ok(file) => words_in(alloc, text, &file, fault),
+        Err(error) => {
+            if error.is_memory() {
+                Err(AllocError)
+            } else {
+                format!(in alloc; "{}", fault.problem)
+            }
+        }
+    }
+}
+
+fn syntax_words(alloc: Global, text: &[u8], error: &toml::de::Error) -> Result<String, AllocError> {
+    match syntax_line(text, error) {
+        Some(line) => format!(in alloc; "line {line}: {}", error.message()),
+        None => format!(in alloc; "{}", error.message()),
+    }
+}
+
+fn words_in(
+    alloc: Global,
+    text: &[u8],
+    file: &Table,
+    fault: &FileFault,
+) -> Result<String, AllocError> {
+    let mut out = String::new(alloc);
+    if let Some(line) = line_in(alloc, text, file, fault)? {
+        write!(out, "line {line}: ")?;
+    }
+    write_place(&mut out, file, fault.place)?;
+    write_key(&mut out, file, fault)?;
+    write!(out, "{}", fault.problem)?;
+    Ok(out)
+}
+
+// The table, by its number and its name.
+fn write_place(out: &mut String, file: &Table, place: Place) -> Result<(), AllocError> {
+    match place {
+        Place::File => Ok(()),
+        Place::Handler(number) => {
+            write!(out, "handler {number}")?;
+            write_name(out, file, place)?;
+            write!(out, ": ")
+        }
+        Place::Control(handler, number) => {
+            write!(out, "control {number}")?;
+            write_name(out, file, place)?;
+            write!(out, " of handler {handler}")?;
+            write_name(out, file, Place::Handler(handler))?;
+            write!(out, ": ")
+        }
+        Place::Cluster(number) => write!(out, "cluster {number}: "),
+        Place::Limit(number) => write!(out, "limit of cluster {number}: "),
+        Place::Told(number) => write!(out, "told of cluster {number}: "),
+    }
+}
+
+fn write_name(out: &mut String, file: &Table, place: Place) -> Result<(), AllocError> {
+    match name_at(file, place) {
+        Some(name) => write!(out, " {:?}", brief(name)),
+        None => Ok(()),
+    }
+}
+
+fn name_at(file: &Table, place: Place) -> Option<&str> {
+    let value = table_at(file, place)?.get(Key::Name.word())?;
+    value.as_str()
+}
+
+// The key, and its value or the one that is wrong of its values, where that is short.
+fn write_key(out: &mut String, file: &Table, fault: &FileFault) -> Result<(), AllocError> {
+    let Some(key) = key_in(file, fault) else {
+        return Ok(());
+    };
+    match fault.key {
+        Key::Other(_) => write!(out, "{:?}: ", brief(key)),
+        _ => write_known(out, file, fault, key),
+    }
+}
+
+fn write_known(
+    out: &mut String,
+    file: &Table,
+    fault: &FileFault,
+    key: &str,
+) -> Result<(), AllocError> {
+    write!(out, "{key}")?;
+    if let (Some(element), Key::Menu) = (fault.element, fault.key) {
+        write!(out, " item {element}")?;
+    }
+    if let Some(value) = value_of(file, fault, key) {
+        write_value(out, value)?;
+    }
+    write!(out, ": ")
+}
+
+fn value_of<'a>(file: &'a Table, fault: &FileFault, key: &str) -> Option<&'a Value> {
+    let value = table_at(file, fault.place)?.get(key)?;
+    match fault.element {
+        None => Some(value),
+        Some(element) => value.as_array()?.as_slice().get(element),
+    }
+}
+
+fn write_value(out: &mut String, value: &Value) -> Result<(), AllocError> {
+    match value {
+        Value::String(text) => write!(out, " {:?}", brief(text.as_str())),
+        Value::Integer(number) => write!(out, " {number}"),
+        _ => Ok(()),
+    }
+}
+
+// A text, where it isn't too long for a line.
+fn brief(text: &str) -> &str {
+    if text.len() <= 64 { text } else { ".." }
+}

@@ -1,0 +1,225 @@
+//! What a cluster is held to, and what is told of it.
+
+ghost use Rattle.std.specs.Prelude.{◌≡◌, Some, IfOk, codes, map};
+ghost use Rattle.toml.specs.View.{view, table_view};
+ghost use Rattle.device_file.specs.Keys.{key_word};
+ghost use Rattle.device_file.specs.Limits.{HasLimit, HasWord, IsKind, excess_at, excess_of, is_text, member_at, place_of_text};
+
+use crate::fault::KeyFault;
+use crate::key::Key;
+use crate::problem::Problem;
+use crate::reading::{needed_number, needed_text, no_others, number_or, text};
+use data_driver::{Excess, Limit, Word};
+use toml::{Table, Value};
+
+// The limit of a table; the members of its cluster are these.
+pub(crate) fn limit_of(table: &Table, members: &[Value]) -> Result<Limit, KeyFault>
+    ensures { IfOk result (HasLimit (table_view table.now) (map view members.now)) }
+{
+    let kind = needed_text(table, Key::Kind)?;
+    if kind == "sum" {
+        return sum_of(table, members);
+    }
+    if kind == "product" {
+        return product_of(table, members);
+    }
+    if kind == "at_most" {
+        return at_most_of(table, members);
+    }
+    if kind == "at_most_member" {
+        return at_most_member_of(table, members);
+    }
+    if kind == "at_most_while" {
+        return at_most_while_of(table, members);
+    }
+    Err(KeyFault::new(Key::Kind, Problem::UnknownLimit))
+}
+
+fn sum_of(table: &Table, _members: &[Value]) -> Result<Limit, KeyFault>
+    requires { IsKind (table_view table.now) (codes "sum") }
+    ensures { IfOk result (HasLimit (table_view table.now) (map view _members.now)) }
+{
+    no_others(table, &[Key::Kind, Key::Most])?;
+    Ok(Limit::Sum {
+        most: needed_number(table, Key::Most)?,
+    })
+}
+
+fn product_of(table: &Table, members: &[Value]) -> Result<Limit, KeyFault>
+    requires { IsKind (table_view table.now) (codes "product") }
+    ensures { IfOk result (HasLimit (table_view table.now) (map view members.now)) }
+{
+    no_others(table, &[Key::Kind, Key::First, Key::Second, Key::Most])?;
+    Ok(Limit::Product {
+        first: member_in(table, Key::First, members)?,
+        second: member_in(table, Key::Second, members)?,
+        most: needed_number(table, Key::Most)?,
+    })
+}
+
+fn at_most_of(table: &Table, members: &[Value]) -> Result<Limit, KeyFault>
+    requires { IsKind (table_view table.now) (codes "at_most") }
+    ensures { IfOk result (HasLimit (table_view table.now) (map view members.now)) }
+{
+    no_others(table, &[Key::Kind, Key::Member, Key::Most, Key::Excess])?;
+    Ok(Limit::AtMost {
+        member: member_in(table, Key::Member, members)?,
+        most: needed_number(table, Key::Most)?,
+        excess: excess_in(table)?,
+    })
+}
+
+fn at_most_member_of(table: &Table, members: &[Value]) -> Result<Limit, KeyFault>
+    requires { IsKind (table_view table.now) (codes "at_most_member") }
+    ensures { IfOk result (HasLimit (table_view table.now) (map view members.now)) }
+{
+    no_others(
+        table,
+        &[
+            Key::Kind,
+            Key::Member,
+            Key::OtherMember,
+            Key::Margin,
+            Key::Excess,
+        ],
+    )?;
+    Ok(Limit::AtMostMember {
+        member: member_in(table, Key::Member, members)?,
+        other: member_in(table, Key::OtherMember, members)?,
+        margin: number_or(table, Key::Margin, 0)?,
+        excess: excess_in(table)?,
+    })
+}
+
+fn at_most_while_of(table: &Table, members: &[Value]) -> Result<Limit, KeyFault>
+    requires { IsKind (table_view table.now) (codes "at_most_while") }
+    ensures { IfOk result (HasLimit (table_view table.now) (map view members.now)) }
+{
+    no_others(
+        table,
+        &[
+            Key::Kind,
+            Key::Member,
+            Key::Most,
+            Key::OtherMember,
+            Key::When,
+        ],
+    )?;
+    Ok(Limit::AtMostWhile {
+        member: member_in(table, Key::Member, members)?,
+        most: needed_number(table, Key::Most)?,
+        other: member_in(table, Key::OtherMember, members)?,
+        when: needed_number(table, Key::When)?,
+    })
+}
+
+// The word of a table; the members of its cluster are these.
+pub(crate) fn word_of(table: &Table, members: &[Value]) -> Result<Word, KeyFault>
+    ensures { IfOk result (HasWord (table_view table.now) (map view members.now)) }
+{
+    let kind = needed_text(table, Key::Kind)?;
+    if kind == "joined" {
+        return joined_of(table, members);
+    }
+    if kind == "plus" {
+        return plus_of(table, members);
+    }
+    if kind == "constant" {
+        return constant_of(table, members);
+    }
+    Err(KeyFault::new(Key::Kind, Problem::UnknownTold))
+}
+
+fn joined_of(table: &Table, members: &[Value]) -> Result<Word, KeyFault>
+    requires { IsKind (table_view table.now) (codes "joined") }
+    ensures { IfOk result (HasWord (table_view table.now) (map view members.now)) }
+{
+    no_others(table, &[Key::Kind, Key::First, Key::Second])?;
+    Ok(Word::Joined {
+        first: member_in(table, Key::First, members)?,
+        second: member_in(table, Key::Second, members)?,
+    })
+}
+
+fn plus_of(table: &Table, members: &[Value]) -> Result<Word, KeyFault>
+    requires { IsKind (table_view table.now) (codes "plus") }
+    ensures { IfOk result (HasWord (table_view table.now) (map view members.now)) }
+{
+    no_others(table, &[Key::Kind, Key::Member, Key::More])?;
+    Ok(Word::Plus {
+        member: member_in(table, Key::Member, members)?,
+        more: needed_number(table, Key::More)?,
+    })
+}
+
+fn constant_of(table: &Table, _members: &[Value]) -> Result<Word, KeyFault>
+    requires { IsKind (table_view table.now) (codes "constant") }
+    ensures { IfOk result (HasWord (table_view table.now) (map view _members.now)) }
+{
+    no_others(table, &[Key::Kind, Key::Word])?;
+    match u32::try_from(needed_number(table, Key::Word)?) {
+        Ok(word) => Ok(Word::Constant(word)),
+        Err(_) => Err(KeyFault::new(Key::Word, Problem::NotWord)),
+    }
+}
+
+// The place of the member that a key names.
+fn member_in(table: &Table, key: Key, members: &[Value]) -> Result<u8, KeyFault>
+    ensures { IfOk result (λ place. member_at (key_word key) (table_view table.now) (map view members.now) ≡ Some place) }
+{
+    let word = needed_text(table, key)?;
+    match place_of(members, word) {
+        Some(place) => match u8::try_from(place) {
+            Ok(place) => Ok(place),
+            Err(_) => Err(KeyFault::new(key, Problem::UnknownMember)),
+        },
+        None => Err(KeyFault::new(key, Problem::UnknownMember)),
+    }
+}
+
+// The place of a text among these values.
+fn place_of(values: &[Value], word: &str) -> Option<usize>
+    ensures { result ≡ place_of_text word.now (map view values.now) }
+{
+    for place in 0..values.len() {
+        if is_word(&values[place], word) {
+            return Some(place);
+        }
+    }
+    None
+}
+
+fn is_word(value: &Value, word: &str) -> bool
+    ensures { result ≡ is_text word.now (view value.now) }
+{
+    match value.as_str() {
+        Some(text) => text == word,
+        None => false,
+    }
+}
+
+// What becomes of a value above a limit; it is refused where the key isn't there.
+fn excess_in(table: &Table) -> Result<Excess, KeyFault>
+    ensures { IfOk result (λ excess. excess_at (table_view table.now) ≡ Some excess) }
+{
+    match text(table, Key::Excess) {
+        Ok(Some(word)) => match excess_named(word) {
+            Some(excess) => Ok(excess),
+            None => Err(KeyFault::new(Key::Excess, Problem::UnknownExcess)),
+        },
+        Ok(None) => Ok(Excess::Refused),
+        Err(fault) => Err(fault),
+    }
+}
+
+fn excess_named(word: &str) -> Option<Excess>
+    ensures { result ≡ excess_of (Some word.now) }
+{
+    if word == "refused" {
+        return Some(Excess::Refused);
+    }
+    if word == "lowered" {
+        return Some(Excess::Lowered);
+    }
+    None
+}

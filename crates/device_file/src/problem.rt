@@ -1,0 +1,173 @@
+use ctrl_types::Kind;
+use std::fmt;
+
+/// What sort of value a key has to have.
+#[derive(Clone, Copy)]
+pub enum Sort {
+    /// A text.
+    Text,
+    /// A whole number of 64 bits.
+    Integer,
+    /// True or false.
+    Truth,
+    /// An array.
+    Array,
+    /// An array of tables.
+    Tables,
+    /// A table.
+    Table,
+    /// An array or a table of menu items.
+    Menu,
+}
+
+/// What is wrong with a key of a device file, or with the table that it stands in.
+#[derive(Clone, Copy)]
+pub enum Problem {
+    /// The file has more than 1 MiB.
+    TooLong,
+    /// The file isn't TOML, or isn't UTF-8.
+    Syntax(toml::de::Error),
+    /// The key means nothing here.
+    UnknownKey,
+    /// The key has to be there, and isn't.
+    Missing,
+    /// The value isn't of this sort.
+    Not(Sort),
+    /// The value isn't a number from 0 to 2 ^ 32 - 1.
+    NotWord,
+    /// The number is negative.
+    Negative,
+    /// An index isn't a number from 0 to 63.
+    NotIndex,
+    /// A key of a table of items isn't an index.
+    NotItemIndex,
+    /// A control's name isn't one that scripts can say.
+    NotName,
+    /// Another one has this name.
+    NameTaken,
+    /// No earlier handler has this name.
+    UnknownHandler,
+    /// No control has this name.
+    UnknownControl,
+    /// No member of the cluster has this name.
+    UnknownMember,
+    /// This isn't the name of a type.
+    UnknownType,
+    /// This isn't the name of a flag that a file may give.
+    UnknownFlag,
+    /// This isn't the name of a limit.
+    UnknownLimit,
+    /// This isn't the name of a word.
+    UnknownTold,
+    /// This isn't what becomes of a value above a limit.
+    UnknownExcess,
+    /// There are 16 handlers already.
+    ManyHandlers,
+    /// There are 256 controls already.
+    ManyControls,
+    /// The handler has a control of this id.
+    IdTaken,
+    /// The minimum lies above the maximum.
+    BadRange,
+    /// The step of a number is 0.
+    ZeroStep,
+    /// Bounds, step or skipped items aren't of the control's type.
+    NotOfType(Kind),
+    /// The control doesn't take its default as it is.
+    BadDefault,
+    /// An item is neither a text nor a number.
+    NotItem,
+    /// The control takes no such item at this index.
+    NoItem,
+    /// The name of an item has more than 32 bytes.
+    LongItem,
+    /// A cluster has no members, or more than 8.
+    ClusterSize,
+    /// A member is in a cluster already, or named twice.
+    InCluster,
+    /// A growth was refused.
+    Memory,
+}
+
+impl fmt::Display for Sort {
+    fn fmt<W: fmt::Write>(&self, f: &mut fmt::Formatter<W>) -> fmt::Result {
+        f.write_str(match self {
+            Sort::Text => "a string",
+            Sort::Integer => "a whole number of 64 bits",
+            Sort::Truth => "true or false",
+            Sort::Array => "an array",
+            Sort::Tables => "an array of tables",
+            Sort::Table => "a table",
+            Sort::Menu => "an array of items, or a table of items by their indexes",
+        })
+    }
+}
+
+// What each type takes, where that is wrong.
+fn taken(kind: Kind) -> &'static str {
+    match kind {
+        Kind::Integer => "an integer has min and max of 32 bits, and nothing to skip",
+        Kind::Integer64 => "an integer64 has nothing to skip",
+        Kind::Boolean => "a boolean has min 0, max 1 and step 1, and nothing to skip",
+        Kind::Button => "a button has min, max and step 0, and nothing to skip",
+        Kind::Bitmask => {
+            "a bitmask has min 0, as max its mask of 1 to 32 bits, step 0, and nothing to skip"
+        }
+        Kind::Menu | Kind::IntegerMenu => "a menu has min and max from 0 to 63, and step 1",
+    }
+}
+
+impl Problem {
+    // The words of what has no parts.
+    fn words(&self) -> &'static str {
+        match self {
+            Problem::TooLong => "the file has more than 1 MiB",
+            Problem::UnknownKey => "this table has no such key",
+            Problem::Missing => "is missing",
+            Problem::NotWord => "has to be a number from 0 to 0xffff_ffff",
+            Problem::Negative => "has to be 0 or more",
+            Problem::NotIndex => "has to be indexes from 0 to 63",
+            Problem::NotItemIndex => "the key of an item is its index",
+            Problem::NotName => "has to be one or more bytes without space, = or the end of a line",
+            Problem::NameTaken => "this name is taken",
+            Problem::UnknownHandler => "no handler further up has this name",
+            Problem::UnknownControl => "no control has this name",
+            Problem::UnknownMember => "no member of this cluster has this name",
+            Problem::UnknownType => {
+                "has to be integer, boolean, menu, button, integer64, bitmask or integer_menu"
+            }
+            Problem::UnknownFlag => {
+                "has to name disabled, read_only, update, slider, write_only, execute_on_write or modify_layout"
+            }
+            Problem::UnknownLimit => {
+                "has to be sum, product, at_most, at_most_member or at_most_while"
+            }
+            Problem::UnknownTold => "has to be joined, plus or constant",
+            Problem::UnknownExcess => "has to be refused or lowered",
+            Problem::ManyHandlers => "a device has at most 16 handlers",
+            Problem::ManyControls => "a device has at most 256 controls",
+            Problem::IdTaken => "the handler has another control of this id",
+            Problem::BadRange => "min lies above max",
+            Problem::ZeroStep => "the step of a number is 1 or more",
+            Problem::BadDefault => "the control doesn't take this value as it is",
+            Problem::NotItem => "an item is a name or a number",
+            Problem::NoItem => "the control has no such item at this index",
+            Problem::LongItem => "the name of an item has at most 32 bytes",
+            Problem::ClusterSize => "a cluster has 1 to 8 members",
+            Problem::InCluster => "a member is in a cluster already, or named twice",
+            Problem::Memory => "no memory",
+            Problem::Syntax(_) | Problem::Not(_) | Problem::NotOfType(_) => "",
+        }
+    }
+}
+
+impl fmt::Display for Problem {
+    fn fmt<W: fmt::Write>(&self, f: &mut fmt::Formatter<W>) -> fmt::Result {
+        match self {
+            Problem::Syntax(error) => f.write_str(error.message()),
+            Problem::Not(sort) => write!(f, "has to be {sort}"),
+            Problem::NotOfType(kind) => f.write_str(taken(*kind)),
+            other => f.write_str(other.words()),
+        }
+    }
+}
