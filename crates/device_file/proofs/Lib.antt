@@ -1,1 +1,5 @@
+mod Files
+mod Flags
+mod Indexes
 mod Lists
+mod WellFormed

@@ -1,98 +1,108 @@
--- The cluster that a table describes (Linux driver API, "V4L2 Controls", "Control Clusters").
-use Rattle.std.specs.Prelude.{◌≡◌, ℕ, ℤ, List, [], ◌∷◌, ◌++◌, length, map, take, Option, Some, None}
-use Rattle.std.specs.Option.{option_and_then, option_map}
-use Rattle.toml.specs.Data.{Data, Members, as_str, as_table, get_member}
+-- The clusters of a file (Linux driver API, "V4L2 Controls", "Control Clusters").
+use Rattle.std.specs.Prelude.{ℕ, ◌+◌, ◌==◌, ◌||◌, nat_lt, if◌then◌else◌, ℤ, List, [], ◌∷◌, ◌++◌, length, Option, Some, None, is_some, Result, Ok, Err, ok_or, option_map}
+use Rattle.toml.specs.Data.{Data, Members, as_str}
 use Rattle.ctrl_calls.specs.declared.relation.Relations.{Relations}
-use Rattle.ctrl_handlers.specs.ClusterData.{ClusterData}
+use Rattle.ctrl_calls.specs.declared.row.TheConstants.{MAX_MEMBERS}
+use Rattle.ctrl_handlers.specs.Builder.{cluster_refusal}
 use Rattle.ctrl_handlers.specs.Plan.{PlanData, with_cluster}
+use Rattle.data_driver.specs.Data.{places_named}
+use Rattle.data_driver.specs.Members.{missing}
 use Rattle.data_driver.specs.Relations.{limit_relation, word_relation}
-use Rattle.script_lines.specs.ControlWords.{ControlWord, known_number}
 use Rattle.data_driver.specs.declared.limit.Limit.{Limit}
 use Rattle.data_driver.specs.declared.word.Word.{Word}
-use Rattle.device_file.specs.Keys.{key_word}
-use Rattle.device_file.specs.Limits.{HasLimit, HasWord}
-use Rattle.device_file.specs.Reading.{elements_at, number_at}
+use Rattle.script_lines.specs.ControlWords.{ControlWord, known_number}
+use Rattle.device_file.specs.Faults.{◌>>=◌, at_place, wrong, wrong_at}
+use Rattle.device_file.specs.Limits.{limit_of_table, word_of_table}
+use Rattle.device_file.specs.Reading.{elements_at, elements_in, number_in, table_in, table_with, value_at}
+use Rattle.device_file.specs.Refusals.{cluster_fault, unless_refused}
+use Rattle.device_file.specs.declared.fault.FileFault.{FileFault}
+use Rattle.device_file.specs.declared.fault.KeyFault.{KeyFault}
+use Rattle.device_file.specs.declared.key.Key.{Key}
 use Rattle.device_file.specs.declared.key.Key.TheVariants as keys
+use Rattle.device_file.specs.declared.place.Place.TheVariants as places
+use Rattle.device_file.specs.declared.problem.Problem.TheVariants as problems
+use Rattle.device_file.specs.declared.problem.Sort.TheVariants as sorts
 
--- the names of a cluster's members
-abbrev pub member_names : Members → List Data
-member_names cluster = elements_at (key_word keys.Members) cluster
+-- the keys of a cluster
+abbrev pub cluster_keys : List Key
+cluster_keys = keys.Members ∷ keys.Manual ∷ keys.Limit ∷ keys.Told ∷ []
 
--- the limit is what a table gives
-abbrev pub IsLimitBy : Option Members → List Data → Limit → Type 0
-IsLimitBy (Some given) names limit = HasLimit given names limit
-IsLimitBy None names limit = ⊥
+-- the limit of a cluster, where it has one
+abbrev pub limit_by : List Data → Option Data → Result (Option Limit) KeyFault
+limit_by names None = Ok None
+limit_by names (Some d) = do
+  table ← table_in d
+  limit ← limit_of_table names table
+  Ok (Some limit)
 
--- the limit is what stands at a key, where something does
-abbrev pub IsLimitOf : Members → Option Data → Option Limit → Type 0
-IsLimitOf cluster None None = Unit {0}
-IsLimitOf cluster (Some d) (Some limit) = IsLimitBy (as_table d) (member_names cluster) limit
-IsLimitOf cluster _ _ = ⊥
+abbrev pub limit_in : Members → Result (Option Limit) KeyFault
+limit_in cluster = limit_by (elements_at keys.Members cluster) (value_at keys.Limit cluster)
 
-abbrev pub HasLimitAt : Members → Option Limit → Type 0
-HasLimitAt cluster limit = IsLimitOf cluster (get_member (key_word keys.Limit) cluster) limit
+-- what is told of a cluster, where something is
+abbrev pub word_by : List Data → Option Data → Result (Option Word) KeyFault
+word_by names None = Ok None
+word_by names (Some d) = do
+  table ← table_in d
+  word ← word_of_table names table
+  Ok (Some word)
 
--- the same of a word
-abbrev pub IsWordBy : Option Members → List Data → Word → Type 0
-IsWordBy (Some given) names word = HasWord given names word
-IsWordBy None names word = ⊥
+abbrev pub word_in : Members → Result (Option Word) KeyFault
+word_in cluster = word_by (elements_at keys.Members cluster) (value_at keys.Told cluster)
 
-abbrev pub IsWordOf : Members → Option Data → Option Word → Type 0
-IsWordOf cluster None None = Unit {0}
-IsWordOf cluster (Some d) (Some word) = IsWordBy (as_table d) (member_names cluster) word
-IsWordOf cluster _ _ = ⊥
+-- the number of the control that an element of `members` names
+abbrev pub number_named : List ControlWord → ℕ → Option (List ℕ) → Result ℕ KeyFault
+number_named words place (Some name) = ok_or (known_number words name) (wrong_at keys.Members place problems.UnknownControl)
+number_named words place None = Err (wrong_at keys.Members place (problems.Not sorts.Text))
 
-abbrev pub HasWordAt : Members → Option Word → Type 0
-HasWordAt cluster word = IsWordOf cluster (get_member (key_word keys.Told) cluster) word
+abbrev pub number_by : List ControlWord → ℕ → Data → Result ℕ KeyFault
+number_by words place d = number_named words place (as_str d)
+
+-- these numbers, and behind them those of the controls that some elements of `members` name, from this place on
+abbrev pub numbers_with : List ControlWord → List ℕ → ℕ → List Data → Result (List ℕ) KeyFault
+numbers_with words ns place [] = Ok ns
+numbers_with words ns place (d ∷ ds) = do
+  n ← number_by words place d
+  numbers_with words (ns ++ n ∷ []) (place + 1) ds
+
+-- that a cluster has 1 to 8 members
+abbrev pub unless_misfit : List Data → Result (Unit {0}) KeyFault
+unless_misfit names = if length names == 0 || nat_lt MAX_MEMBERS (length names) then Err (wrong keys.Members problems.ClusterSize) else Ok tt
+
+-- the numbers of a cluster's members
+abbrev pub members_in : List ControlWord → Members → Result (List ℕ) KeyFault
+members_in words cluster = do
+  names ← elements_in keys.Members sorts.Array cluster
+  _ ← unless_misfit names
+  numbers_with words [] 0 names
 
 -- the relations of a limit and a word, each where there is one
 abbrev pub calls_of : Option Limit → Option Word → Relations
 calls_of limit word = record { validator = option_map limit_relation limit; notifier = option_map word_relation word }
 
--- the number of the control that a value names
-abbrev pub number_by : List ControlWord → Data → Option ℕ
-number_by known d = option_and_then (known_number known) (as_str d)
+-- a plan with one more cluster, of these members, manual value, limit and word
+abbrev pub with_members : PlanData → List ℕ → Option ℤ → Option Limit → Option Word → Result PlanData KeyFault
+with_members plan members manual limit word =
+    if is_some (missing (length members) (places_named limit word)) then Err (wrong keys.Members problems.UnknownMember)
+    else unless_refused cluster_fault (cluster_refusal plan members) (with_cluster plan members manual (calls_of limit word))
 
--- these numbers, and behind them those of the controls that some values name
-abbrev pub numbers_with : List ControlWord → List ℕ → List Data → Option (List ℕ)
-numbers_with known ns [] = Some ns
-numbers_with known ns (d ∷ ds) = option_and_then (λ n. numbers_with known (ns ++ n ∷ []) ds) (number_by known d)
+-- a plan with the cluster of a table, which has this limit and this word
+abbrev pub with_calls : List ControlWord → PlanData → Members → Option Limit → Option Word → Result PlanData KeyFault
+with_calls words plan cluster limit word = do
+  manual ← number_in keys.Manual cluster
+  members ← members_in words cluster
+  with_members plan members manual limit word
 
--- the numbers of a cluster's members
-abbrev pub members_at : List ControlWord → Members → Option (List ℕ)
-members_at known cluster = numbers_with known [] (member_names cluster)
+-- a plan with the cluster of this number
+abbrev pub with_cluster_of : List ControlWord → PlanData → ℕ → Data → Result PlanData FileFault
+with_cluster_of words plan number value = do
+  cluster ← at_place (places.Cluster number) (table_with cluster_keys value)
+  limit ← at_place (places.Limit number) (limit_in cluster)
+  word ← at_place (places.Told number) (word_in cluster)
+  at_place (places.Cluster number) (with_calls words plan cluster limit word)
 
--- a plan with the cluster of a table, whose closures have these relations
-abbrev pub with_cluster_at : PlanData → List ControlWord → Members → Relations → Option PlanData
-with_cluster_at plan known cluster calls =
-    option_map (λ members. with_cluster plan members (number_at (key_word keys.Manual) cluster) calls) (members_at known cluster)
-
--- a cluster without its closures: its members, and its manual value where it is an auto cluster
-pub record Shape : Type 0 where
-  pub members : List ℕ
-  pub manual : Option ℤ
-
-abbrev pub shape : ClusterData → Shape
-shape cluster = record { members = cluster.members; manual = cluster.manual }
-
--- these clusters, and behind them the one that a table, or a value, describes
-abbrev pub shape_behind : List ControlWord → List Shape → Members → Option (List Shape)
-shape_behind known shapes cluster =
-    option_map (λ members. shapes ++ record { members = members; manual = number_at (key_word keys.Manual) cluster } ∷ []) (members_at known cluster)
-
-abbrev pub with_shape_by : List ControlWord → List Shape → Data → Option (List Shape)
-with_shape_by known shapes d = option_and_then (shape_behind known shapes) (as_table d)
-
--- these clusters, and behind them those that some values describe
-abbrev pub shapes_with : List ControlWord → List Shape → List Data → Option (List Shape)
-shapes_with known shapes [] = Some shapes
-shapes_with known shapes (d ∷ ds) = option_and_then (λ more. shapes_with known more ds) (with_shape_by known shapes d)
-
--- the clusters of a file, whose controls have these words
-abbrev pub clusters_of : List ControlWord → Members → Option (List Shape)
-clusters_of known file = shapes_with known [] (elements_at (key_word keys.Cluster) file)
-
--- the first clusters are these
-abbrev pub BeginWith : Option (List Shape) → List ClusterData → Type 0
-BeginWith (Some shapes) clusters = take (length shapes) (map shape clusters) ≡ shapes
-BeginWith None clusters = ⊥
+-- a plan with the clusters that some values describe, from this number on
+abbrev pub with_clusters : List ControlWord → PlanData → ℕ → List Data → Result PlanData FileFault
+with_clusters words plan number [] = Ok plan
+with_clusters words plan number (v ∷ vs) = do
+  more ← with_cluster_of words plan number v
+  with_clusters words more (number + 1) vs

@@ -1,22 +1,57 @@
 -- The control that a table describes; its keys are the fields of `struct v4l2_ctrl_config` (Linux driver API, "V4L2 Controls").
-use Rattle.std.specs.Prelude.{ℕ, ◌^◌, ◌-◌, ◌*◌, ◌%◌, ℤ, pos, negsuc, bit_or, nat_lt, if◌then◌else◌, List, [], ◌∷◌, length, Option, Some, None}
-use Rattle.std.specs.Option.{option_and_then, option_map}
+use Rattle.std.specs.Prelude.{ℕ, ◌+◌, ◌-◌, ◌*◌, ◌%◌, ◌^◌, ◌==◌, ◌&&◌, ◌||◌, ℤ, pos, negsuc, int_le, int_lt, bit_or, Bool, true, false, not, nat_lt, if◌then◌else◌, List, [], ◌∷◌, length, Option, Some, None, Result, Ok, Err}
+use Rattle.std.specs.List.{list_any}
+use Rattle.std.specs.Option.{ok_or, option_and_then, option_map}
+use Rattle.std.specs.Ordering.{int_eq}
 use Rattle.toml.specs.Data.{Data, Members, as_integer, as_str}
-use Rattle.ctrl_types.specs.declared.kind.Kind.{Kind}
-use Rattle.ctrl_types.specs.declared.kind.Kind.TheVariants.{Boolean, Menu, Button, Bitmask, IntegerMenu}
-use Rattle.ctrl_settle.specs.Control.{Control, described}
+use Rattle.ctrl_types.specs.declared.errno.Errno.{Errno}
 use Rattle.ctrl_types.specs.declared.flags.Flags.{Flags}
 use Rattle.ctrl_types.specs.declared.ids.CtrlId.{CtrlId}
-use Rattle.device_file.specs.Keys.{key_word}
+use Rattle.ctrl_types.specs.declared.kind.Kind.{Kind}
+use Rattle.ctrl_types.specs.declared.kind.Kind.TheVariants.{Integer, Boolean, Menu, Button, Integer64, Bitmask, IntegerMenu}
+use Rattle.ctrl_settle.specs.Control.{Control, described}
+use Rattle.ctrl_settle.specs.Faults.{has_grid}
+use Rattle.ctrl_settle.specs.Settle.{settle}
+use Rattle.device_file.specs.Faults.{◌>>=◌, wrong, wrong_at}
 use Rattle.device_file.specs.Names.{flag_named, kind_named}
-use Rattle.device_file.specs.Reading.{elements_at, number_at, number_or, text_at, truth_at}
+use Rattle.device_file.specs.Reading.{elements_at, elements_in, needed_number_in, needed_text_in, number_or_in, truth_in}
+use Rattle.device_file.specs.declared.fault.KeyFault.{KeyFault}
+use Rattle.device_file.specs.declared.key.Key.{Key}
 use Rattle.device_file.specs.declared.key.Key.TheVariants as keys
+use Rattle.device_file.specs.declared.problem.Problem.{Problem}
+use Rattle.device_file.specs.declared.problem.Problem.TheVariants as problems
+use Rattle.device_file.specs.declared.problem.Sort.TheVariants as sorts
+
+-- a number of 32 bits that isn't negative
+abbrev pub in_32_bits : ℤ → Option ℕ
+in_32_bits (pos number) = if nat_lt number (2 ^ 32) then Some number else None
+in_32_bits (negsuc _) = None
+
+-- a number that isn't negative
+abbrev pub natural : ℤ → Option ℕ
+natural (pos number) = Some number
+natural (negsuc _) = None
+
+-- the id that a table gives
+abbrev pub id_with : ℕ → CtrlId
+id_with number = record { 0 = number }
+
+abbrev pub id_in : Members → Result CtrlId KeyFault
+id_in table = do
+  number ← needed_number_in keys.Id table
+  ok_or (option_map id_with (in_32_bits number)) (wrong keys.Id problems.NotWord)
 
 -- the type that a table names
-abbrev pub kind_at : Members → Option Kind
-kind_at table = option_and_then kind_named (text_at (key_word keys.Type) table)
+abbrev pub kind_in : Members → Result Kind KeyFault
+kind_in table = do
+  text ← needed_text_in keys.Type table
+  ok_or (kind_named text) (wrong keys.Type problems.UnknownType)
 
--- the maximum where a table has none: that of a menu is the place of the last item of its array
+-- the place of the last item of an array, which is the usual maximum of a menu
+abbrev pub last_item : Members → ℤ
+last_item table = pos (length (elements_at keys.Menu table) - 1)
+
+-- the maximum where a table has none
 abbrev pub usual_maximum : Kind → ℤ → ℤ
 usual_maximum Boolean last = pos 1
 usual_maximum Menu last = last
@@ -24,88 +59,153 @@ usual_maximum IntegerMenu last = last
 usual_maximum _ last = pos 0
 
 -- the step where a table has none
-abbrev pub usual_step : Kind → ℤ
-usual_step Button = pos 0
-usual_step Bitmask = pos 0
-usual_step _ = pos 1
+abbrev pub usual_step : Kind → ℕ
+usual_step Button = 0
+usual_step Bitmask = 0
+usual_step _ = 1
 
--- the bits of both
-abbrev pub both : Option ℕ → Option ℕ → Option ℕ
-both (Some a) (Some b) = Some (bit_or a b)
-both _ _ = None
+-- the step that a table gives
+abbrev pub step_in : Kind → Members → Result ℕ KeyFault
+step_in kind table = do
+  number ← number_or_in keys.Step (pos (usual_step kind)) table
+  ok_or (natural number) (wrong keys.Step problems.Negative)
 
--- these bits and those of some elements, where each element is one
-abbrev pub bits_with : Option ℕ → (Data → Option ℕ) → List Data → Option ℕ
-bits_with bits bit [] = bits
-bits_with bits bit (d ∷ ds) = bits_with (both bits (bit d)) bit ds
-
-abbrev pub bits_in : (Data → Option ℕ) → List Data → Option ℕ
-bits_in bit ds = bits_with (Some 0) bit ds
+-- these bits, and those of some elements of a key's array, the first of which has this place; each has to be one
+abbrev pub bits_from : (Data → Option ℕ) → Key → Problem → ℕ → ℕ → List Data → Result ℕ KeyFault
+bits_from bit key problem bits place [] = Ok bits
+bits_from bit key problem bits place (d ∷ ds) = do
+  more ← ok_or (bit d) (wrong_at key place problem)
+  bits_from bit key problem (bit_or bits more) (place + 1) ds
 
 -- the bit of an index of 0 to 63: 1, shifted to the left in 64 bits
 abbrev pub bit_at : ℕ → Option ℕ
 bit_at index = if nat_lt index 64 then Some ((1 * 2 ^ index) % 2 ^ 64) else None
 
-abbrev pub index_bit : ℤ → Option ℕ
-index_bit (pos index) = bit_at index
-index_bit (negsuc _) = None
+abbrev pub skipped : Data → Option ℕ
+skipped d = option_and_then bit_at (option_and_then natural (as_integer d))
 
-abbrev pub skipped_in : Data → Option ℕ
-skipped_in d = option_and_then index_bit (as_integer d)
+-- the items that a table skips, as bits
+abbrev pub skip_bits_of : List Data → Result ℕ KeyFault
+skip_bits_of ds = bits_from skipped keys.Skip problems.NotIndex 0 0 ds
+
+abbrev pub skip_in : Members → Result ℕ KeyFault
+skip_in table = do
+  elements ← elements_in keys.Skip sorts.Array table
+  skip_bits_of elements
 
 -- the bit of the flag that a value names
-abbrev pub flag_in : Data → Option ℕ
-flag_in d = option_and_then flag_named (as_str d)
+abbrev pub flag_of : Data → Option ℕ
+flag_of d = option_and_then flag_named (as_str d)
 
--- bits as flags
+-- the flags that a table gives
+abbrev pub flag_bits_of : List Data → Result ℕ KeyFault
+flag_bits_of ds = bits_from flag_of keys.Flags problems.UnknownFlag 0 0 ds
+
 abbrev pub flags_with : ℕ → Flags
 flags_with bits = record { 0 = bits }
 
--- the flags that a table gives
-abbrev pub flags_at : Members → Option Flags
-flags_at table = option_map flags_with (bits_in flag_in (elements_at (key_word keys.Flags) table))
+abbrev pub flags_in : Members → Result Flags KeyFault
+flags_in table = do
+  elements ← elements_in keys.Flags sorts.Array table
+  bits ← flag_bits_of elements
+  Ok (flags_with bits)
 
--- the items that a table skips, as bits
-abbrev pub skip_at : Members → Option ℕ
-skip_at table = bits_in skipped_in (elements_at (key_word keys.Skip) table)
+-- what a table says of a control, key by key
+abbrev pub description_in : Members → Result Control KeyFault
+description_in table = do
+  id ← id_in table
+  kind ← kind_in table
+  minimum ← number_or_in keys.Min (pos 0) table
+  maximum ← number_or_in keys.Max (usual_maximum kind (last_item table)) table
+  step ← step_in kind table
+  default_value ← number_or_in keys.Default (pos 0) table
+  skip ← skip_in table
+  flags ← flags_in table
+  is_private ← truth_in keys.Private table
+  Ok (described id kind minimum maximum step default_value skip flags is_private)
 
--- a number that isn't negative
-abbrev pub natural : ℤ → Option ℕ
-natural (pos number) = Some number
-natural (negsuc _) = None
+-- the numbers from one to another
+pub record Range : Type 0 where
+  pub least : ℤ
+  pub most : ℤ
 
--- a number as an id
-abbrev pub id_of : ℤ → Option CtrlId
-id_of (pos number) = Some (record { 0 = number })
-id_of (negsuc _) = None
+abbrev pub range : ℤ → ℤ → Range
+range least most = record { least = least; most = most }
 
-abbrev pub id_at : Members → Option CtrlId
-id_at table = option_and_then id_of (number_at (key_word keys.Id) table)
+abbrev pub lies_in : Range → ℤ → Bool
+lies_in these number = int_le these.least number && int_le number these.most
 
--- what a table gives, or as usual for the type where it gives nothing
-abbrev pub minimum_at : Members → ℤ
-minimum_at table = number_or (pos 0) (number_at (key_word keys.Min) table)
+-- what a type takes as minimum
+abbrev pub minimums : Kind → Range
+minimums Integer = range (negsuc (2 ^ 31 - 1)) (pos (2 ^ 31 - 1))
+minimums Integer64 = range (negsuc (2 ^ 63 - 1)) (pos (2 ^ 63 - 1))
+minimums Menu = range (pos 0) (pos 63)
+minimums IntegerMenu = range (pos 0) (pos 63)
+minimums _ = range (pos 0) (pos 0)
 
-abbrev pub maximum_at : Kind → Members → ℤ
-maximum_at kind table =
-    number_or (usual_maximum kind (pos (length (elements_at (key_word keys.Menu) table) - 1))) (number_at (key_word keys.Max) table)
+-- and as maximum
+abbrev pub maximums : Kind → Range
+maximums Boolean = range (pos 1) (pos 1)
+maximums Bitmask = range (pos 1) (pos (2 ^ 32 - 1))
+maximums kind = minimums kind
 
-abbrev pub step_at : Kind → Members → Option ℕ
-step_at kind table = natural (number_or (usual_step kind) (number_at (key_word keys.Step) table))
+-- only a menu has items to skip
+abbrev pub can_skip : Kind → Bool
+can_skip Menu = true
+can_skip IntegerMenu = true
+can_skip _ = false
 
-abbrev pub default_at : Members → ℤ
-default_at table = number_or (pos 0) (number_at (key_word keys.Default) table)
+abbrev pub fits_skip : Control → Bool
+fits_skip c = can_skip c.kind || (c.skip == 0)
 
--- the control of a type with what a table gives
-abbrev pub control_with : Kind → Members → Option CtrlId → Option ℕ → Option ℕ → Option Flags → Option Control
-control_with kind table (Some id) (Some step) (Some skip) (Some flags) =
-    Some (described id kind (minimum_at table) (maximum_at kind table) step (default_at table) skip flags (truth_at (key_word keys.Private) table))
-control_with kind table _ _ _ _ = None
+-- a number has any step, another type one alone
+abbrev pub fits_step : Control → Bool
+fits_step c = has_grid c.kind || (c.step == usual_step c.kind)
 
-abbrev pub control_of_kind : Option Kind → Members → Option Control
-control_of_kind (Some kind) table = control_with kind table (id_at table) (step_at kind table) (skip_at table) (flags_at table)
-control_of_kind None table = None
+-- whether skipped items, bounds and step are of the control's type
+abbrev pub fits_type : Control → Bool
+fits_type c = fits_skip c && (lies_in (minimums c.kind) c.minimum && (lies_in (maximums c.kind) c.maximum && fits_step c))
+
+-- the first of them that isn't, where one isn't
+abbrev pub misfit : Control → Key
+misfit c =
+    if not (fits_skip c) then keys.Skip
+    else if not (lies_in (minimums c.kind) c.minimum) then keys.Min
+    else if not (lies_in (maximums c.kind) c.maximum) then keys.Max
+    else keys.Step
+
+-- whether a control takes its default as it is
+abbrev pub is_value : ℤ → Result ℤ Errno → Bool
+is_value v (Ok w) = int_eq w v
+is_value v (Err _) = false
+
+abbrev pub takes_default : Control → Bool
+takes_default c = is_value c.default_value (settle c c.default_value)
+
+-- a control, where nothing is wrong with what its table says together
+abbrev pub checked : Control → Result Control KeyFault
+checked c =
+    if int_lt c.maximum c.minimum then Err (wrong keys.Min problems.BadRange)
+    else if has_grid c.kind && (c.step == 0) then Err (wrong keys.Step problems.ZeroStep)
+    else if not (fits_type c) then Err (wrong (misfit c) (problems.NotOfType c.kind))
+    else if not (takes_default c) then Err (wrong keys.Default problems.BadDefault)
+    else Ok c
 
 -- the control that a table describes
-abbrev pub control_at : Members → Option Control
-control_at table = control_of_kind (kind_at table) table
+abbrev pub control_at : Members → Result Control KeyFault
+control_at table = do
+  control ← description_in table
+  checked control
+
+-- scripts can say a word: it has one or more bytes, and none is a space, `=` or the end of a line
+abbrev pub divides : ℕ → Bool
+divides byte = byte == 32 || (byte == 61 || byte == 10)
+
+abbrev pub is_sayable : List ℕ → Bool
+is_sayable word = nat_lt 0 (length word) && not (list_any divides word)
+
+-- what scripts call the control of a table
+abbrev pub name_at : Members → Result (List ℕ) KeyFault
+name_at table = do
+  name ← needed_text_in keys.Name table
+  if is_sayable name then Ok name else Err (wrong keys.Name problems.NotName)

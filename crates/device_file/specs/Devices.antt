@@ -1,66 +1,77 @@
--- The controls of a file, and the words by which scripts name them: handler by handler, each handler's in their order.
-use Rattle.std.specs.Prelude.{ℕ, List, [], ◌∷◌, ◌++◌, length, Option, Some, None}
-use Rattle.std.specs.Option.{option_and_then, option_map}
-use Rattle.toml.specs.Data.{Data, Members, as_table}
-use Rattle.ctrl_types.specs.declared.ids.CtrlId.{CtrlId}
-use Rattle.ctrl_settle.specs.Control.{Control}
-use Rattle.script_lines.specs.ControlWords.{ControlWord}
-use Rattle.device_file.specs.Controls.{control_at, id_at}
-use Rattle.device_file.specs.Keys.{key_word}
-use Rattle.device_file.specs.Reading.{elements_at, text_at}
+-- What a file comes to: a device, or its first fault (of this project).
+use Rattle.std.specs.Prelude.{◌≡◌, ◌<◌, ◌≤◌, ◌⊎◌, ℕ, IsUtf8, List, [], ◌∷◌, length, Option, Some, None, option_map, Result, Ok, Err}
+use Rattle.toml.specs.Data.{Members}
+use Rattle.toml.specs.Parse.{parse_document}
+use Rattle.toml.specs.declared.de.error.Error.{Error}
+use Rattle.ctrl_handlers.specs.Plan.{finished, no_plan}
+use Rattle.device_file.specs.Clusters.{with_clusters}
+use Rattle.device_file.specs.Faults.{◌>>=◌, at_place, wrong}
+use Rattle.device_file.specs.Handlers.{DeviceData, device, with_handlers}
+use Rattle.device_file.specs.Reading.{elements_in, no_others_in}
+use Rattle.device_file.specs.declared.device.TheConstants.{MAX_FILE}
+use Rattle.device_file.specs.declared.fault.FileFault.{FileFault}
+use Rattle.device_file.specs.declared.fault.FileFault.TheVariants as files
+use Rattle.device_file.specs.declared.key.Key.{Key}
 use Rattle.device_file.specs.declared.key.Key.TheVariants as keys
+use Rattle.device_file.specs.declared.place.Place.TheVariants as places
+use Rattle.device_file.specs.declared.problem.Problem.{Problem}
+use Rattle.device_file.specs.declared.problem.Problem.TheVariants as problems
+use Rattle.device_file.specs.declared.problem.Sort.TheVariants as sorts
 
--- these controls, and behind them the one that a table, or a value, describes
-abbrev pub control_behind : List Control → Members → Option (List Control)
-control_behind cs table = option_map (λ c. cs ++ c ∷ []) (control_at table)
+-- the keys of a file
+abbrev pub file_keys : List Key
+file_keys = keys.Handler ∷ keys.Cluster ∷ []
 
-abbrev pub with_control_by : List Control → Data → Option (List Control)
-with_control_by cs d = option_and_then (control_behind cs) (as_table d)
+-- a device with the clusters of a file
+abbrev pub with_clusters_of : Members → DeviceData → Result DeviceData FileFault
+with_clusters_of file d = do
+  tables ← at_place places.File (elements_in keys.Cluster sorts.Tables file)
+  plan ← with_clusters d.words d.plan 0 tables
+  Ok (device plan d.words)
 
--- these controls, and behind them those that some values describe
-abbrev pub controls_with : List Control → List Data → Option (List Control)
-controls_with cs [] = Some cs
-controls_with cs (d ∷ ds) = option_and_then (λ more. controls_with more ds) (with_control_by cs d)
+-- a device whose plan is finished: each control that is in no cluster is one of its own
+abbrev pub finished_device : DeviceData → DeviceData
+finished_device d = device (finished d.plan) d.words
 
--- the tables of a handler's controls
-abbrev pub tables_of : Option Members → List Data
-tables_of (Some handler) = elements_at (key_word keys.Control) handler
-tables_of None = []
+-- What a file's table describes, or its first fault: it has no other keys; then come its handlers with their controls, and then its clusters.
+abbrev pub device_of : Members → Result DeviceData FileFault
+device_of file = do
+  _ ← at_place places.File (no_others_in file_keys file)
+  tables ← at_place places.File (elements_in keys.Handler sorts.Tables file)
+  handlers ← with_handlers [] (device no_plan []) 0 tables
+  clusters ← with_clusters_of file handlers
+  Ok (finished_device clusters)
 
--- these controls, and behind them those of some handlers
-abbrev pub controls_behind : List Control → List Data → Option (List Control)
-controls_behind cs [] = Some cs
-controls_behind cs (d ∷ ds) = option_and_then (λ more. controls_behind more ds) (controls_with cs (tables_of (as_table d)))
+-- the same of a text; nothing, where it isn't TOML
+abbrev pub described : List ℕ → Option (Result DeviceData FileFault)
+described text = option_map device_of (parse_document text)
 
--- the controls of a file
-abbrev pub controls_of : Members → Option (List Control)
-controls_of file = controls_behind [] (elements_at (key_word keys.Handler) file)
+-- the file as a whole is wrong, in this way
+abbrev pub in_file : Problem → FileFault
+in_file problem = files.Table places.File (wrong keys.Table problem)
 
--- the word for a control of this number
-abbrev pub word_with : ℕ → Option (List ℕ) → Option CtrlId → Option ControlWord
-word_with number (Some word) (Some id) = Some (record { word = word; id = id; number = number })
-word_with number _ _ = None
+-- a text has more than 1 MiB, and that is said
+pub record IsTooLong (text : List ℕ) (fault : FileFault) : Type 0 where
+  pub long : MAX_FILE < length text
+  pub said : fault ≡ in_file problems.TooLong
 
-abbrev pub word_at : ℕ → Members → Option ControlWord
-word_at number table = word_with number (text_at (key_word keys.Name) table) (id_at table)
+-- it isn't TOML in UTF-8, and what the TOML reader says is said
+pub record IsNoToml (text : List ℕ) (fault : FileFault) : Type 0 where
+  pub short : length text ≤ MAX_FILE
+  pub no_document : IsUtf8 text → parse_document text ≡ None
+  pub error : Error
+  pub said : fault ≡ in_file (problems.Syntax error)
 
--- these words, and behind them the one for the control of a table, or a value; the control's number is that of the words before its own
-abbrev pub word_behind : List ControlWord → Members → Option (List ControlWord)
-word_behind ws table = option_map (λ w. ws ++ w ∷ []) (word_at (length ws) table)
+-- it is TOML, and this is the first fault of what its table says
+pub record IsFirstFault (text : List ℕ) (fault : FileFault) : Type 0 where
+  pub short : length text ≤ MAX_FILE
+  pub first : described text ≡ Some (Err fault)
 
-abbrev pub with_word_by : List ControlWord → Data → Option (List ControlWord)
-with_word_by ws d = option_and_then (word_behind ws) (as_table d)
+-- A text describes a device: it has at most 1 MiB, is TOML, and this is what its table says.
+pub record Describes (text : List ℕ) (it : DeviceData) : Type 0 where
+  pub short : length text ≤ MAX_FILE
+  pub said : described text ≡ Some (Ok it)
 
--- these words, and behind them those for the controls that some values describe
-abbrev pub words_with : List ControlWord → List Data → Option (List ControlWord)
-words_with ws [] = Some ws
-words_with ws (d ∷ ds) = option_and_then (λ more. words_with more ds) (with_word_by ws d)
-
--- these words, and behind them those of some handlers
-abbrev pub words_behind : List ControlWord → List Data → Option (List ControlWord)
-words_behind ws [] = Some ws
-words_behind ws (d ∷ ds) = option_and_then (λ more. words_behind more ds) (words_with ws (tables_of (as_table d)))
-
--- the words of a file
-abbrev pub words_of : Members → Option (List ControlWord)
-words_of file = words_behind [] (elements_at (key_word keys.Handler) file)
+-- Why a text is refused: memory is wanting, which says nothing of it; or it is too long, isn't TOML, or has this fault first.
+abbrev pub IsRefusedWith : List ℕ → FileFault → Type 0
+IsRefusedWith text fault = (fault ≡ files.Memory) ⊎ IsTooLong text fault ⊎ IsNoToml text fault ⊎ IsFirstFault text fault

@@ -1,52 +1,33 @@
 //! The clusters of a file.
 
-ghost use Rattle.std.specs.Prelude.{◌≡◌, ◌++◌, [], ◌∷◌, map, Some, IfOk};
+ghost use Rattle.std.specs.Prelude.{◌≡◌, ◌++◌, [], ◌∷◌, map, Ok, IfOk, IfErr};
 ghost use Rattle.toml.specs.View.{view, table_view};
-ghost use Rattle.device_file.specs.Clusters.{HasLimitAt, HasWordAt, calls_of, member_names, members_at, number_by, numbers_with, shape, shape_behind, shapes_with, with_cluster_at, with_shape_by};
-ghost use Rattle.device_file.specs.Keys.{key_word};
-ghost use Rattle.device_file.specs.Reading.{elements_at};
-ghost use Rattle.device_file.specs.declared.key.Key.TheVariants as keys;
-ghost use Rattle.toml.specs.Data.{as_table};
-ghost use Rattle.ctrl_handlers.specs.Plan.{with_cluster};
+ghost use Rattle.device_file.specs.Clusters.{limit_in as cluster_limit, members_in as cluster_members, number_by, numbers_with, with_calls, with_cluster_of, with_clusters, with_members, word_in as cluster_word};
+ghost use Rattle.device_file.specs.Faults.{FileStops, Stops};
+ghost use Rattle.device_file.specs.declared.fault.ReadError.TheVariants.{Memory};
 
-use crate::fault::{FileFault, KeyFault};
+use crate::fault::{FileFault, KeyFault, ReadError};
 use crate::key::Key;
 use crate::limits::{limit_of, word_of};
 use crate::place::Place;
 use crate::problem::{Problem, Sort};
-use crate::reading::{elements, find, no_others, number, table};
-use ctrl_handlers::{PlanBuilder, PlanFault};
+use crate::reading::{elements, elements_of, find, number, table, table_with};
+use crate::refusals::refused_cluster;
+use ctrl_handlers::PlanBuilder;
 use data_driver::{Data, Limit, Word, data_calls};
 use script_lines::ControlWords;
 use std::alloc::Global;
 use toml::{Table, Value};
 
-const KEYS: &[Key] = &[Key::Members, Key::Manual, Key::Limit, Key::Told];
-
-// Adds the clusters of a file, whose controls have these words.
+// Adds the clusters that these values describe; the controls have these words.
 pub(crate) fn add_clusters(
-    alloc: Global,
-    builder: &mut PlanBuilder<Data>,
-    file: &Table,
-    words: &ControlWords,
-) -> Result<(), FileFault>
-    ensures controls { builder.new.controls ≡ builder.old.controls }
-    ensures clusters { IfOk result (λ _. shapes_with words.now (map shape builder.old.clusters) (elements_at (key_word keys.Cluster) (table_view file.now)) ≡ Some (map shape builder.new.clusters)) }
-{
-    match elements(file, Key::Cluster, Sort::Tables) {
-        Ok(tables) => add_each(alloc, builder, tables, words),
-        Err(fault) => Err(fault.at(Place::File)),
-    }
-}
-
-fn add_each(
     alloc: Global,
     builder: &mut PlanBuilder<Data>,
     tables: &[Value],
     words: &ControlWords,
 ) -> Result<(), FileFault>
-    ensures controls { builder.new.controls ≡ builder.old.controls }
-    ensures clusters { IfOk result (λ _. shapes_with words.now (map shape builder.old.clusters) (map view tables.now) ≡ Some (map shape builder.new.clusters)) }
+    ensures ok { IfOk result (λ _. with_clusters words.now builder.old 0 (map view tables.now) ≡ Ok builder.new) }
+    ensures err { IfErr result (FileStops (with_clusters words.now builder.old 0 (map view tables.now))) }
 {
     for number in 0..tables.len() {
         add_cluster(alloc, builder, number, &tables[number], words)?;
@@ -54,6 +35,7 @@ fn add_each(
     Ok(())
 }
 
+// Adds a cluster, whose table has no other keys.
 fn add_cluster(
     alloc: Global,
     builder: &mut PlanBuilder<Data>,
@@ -61,11 +43,12 @@ fn add_cluster(
     value: &Value,
     words: &ControlWords,
 ) -> Result<(), FileFault>
-    ensures controls { builder.new.controls ≡ builder.old.controls }
-    ensures cluster { IfOk result (λ _. with_shape_by words.now (map shape builder.old.clusters) (view value.now) ≡ Some (map shape builder.new.clusters)) }
+    ensures ok { IfOk result (λ _. with_cluster_of words.now builder.old number (view value.now) ≡ Ok builder.new) }
+    ensures err { IfErr result (FileStops (with_cluster_of words.now builder.old number (view value.now))) }
 {
     let place = Place::Cluster(number);
-    let cluster = match cluster_table(value) {
+    let keys = &[Key::Members, Key::Manual, Key::Limit, Key::Told];
+    let cluster = match table_with(value, keys) {
         Ok(cluster) => cluster,
         Err(fault) => return Err(fault.at(place)),
     };
@@ -79,48 +62,29 @@ fn add_cluster(
     };
     match build_cluster(alloc, builder, cluster, limit, word, words) {
         Ok(()) => Ok(()),
-        Err(fault) => Err(fault.at(place)),
-    }
-}
-
-// The table of a cluster, which has no other keys.
-fn cluster_table(value: &Value) -> Result<&Table, KeyFault>
-    ensures { IfOk result (λ cluster. as_table (view value.now) ≡ Some (table_view cluster.now)) }
-{
-    let cluster = table(value)?;
-    no_others(cluster, KEYS)?;
-    Ok(cluster)
-}
-
-// The names of the members; not said to be names, nor to be few.
-fn names_in(cluster: &Table) -> &[Value]
-    ensures { map view result.now ≡ member_names (table_view cluster.now) }
-{
-    match elements(cluster, Key::Members, Sort::Array) {
-        Ok(names) => names,
-        Err(_) => &[],
+        Err(error) => Err(error.at(place)),
     }
 }
 
 fn limit_in(cluster: &Table) -> Result<Option<Limit>, KeyFault>
-    ensures { IfOk result (HasLimitAt (table_view cluster.now)) }
+    ensures { result ≡ cluster_limit (table_view cluster.now) }
 {
     match find(cluster, Key::Limit) {
         None => Ok(None),
         Some(value) => {
-            let limit = limit_of(table(value)?, names_in(cluster))?;
+            let limit = limit_of(table(value)?, elements_of(cluster, Key::Members))?;
             Ok(Some(limit))
         }
     }
 }
 
 fn word_in(cluster: &Table) -> Result<Option<Word>, KeyFault>
-    ensures { IfOk result (HasWordAt (table_view cluster.now)) }
+    ensures { result ≡ cluster_word (table_view cluster.now) }
 {
     match find(cluster, Key::Told) {
         None => Ok(None),
         Some(value) => {
-            let word = word_of(table(value)?, names_in(cluster))?;
+            let word = word_of(table(value)?, elements_of(cluster, Key::Members))?;
             Ok(Some(word))
         }
     }
@@ -134,51 +98,62 @@ fn build_cluster(
     limit: Option<Limit>,
     word: Option<Word>,
     words: &ControlWords,
-) -> Result<(), KeyFault>
-    ensures controls { builder.new.controls ≡ builder.old.controls }
-    ensures cluster { IfOk result (λ _. with_cluster_at builder.old words.now (table_view cluster.now) (calls_of limit word) ≡ Some builder.new) }
-    ensures shape { IfOk result (λ _. shape_behind words.now (map shape builder.old.clusters) (table_view cluster.now) ≡ Some (map shape builder.new.clusters)) }
+) -> Result<(), ReadError>
+    ensures ok { IfOk result (λ _. with_calls words.now builder.old (table_view cluster.now) limit word ≡ Ok builder.new) }
+    ensures err { IfErr result (Stops (with_calls words.now builder.old (table_view cluster.now) limit word)) }
 {
-    let manual = number(cluster, Key::Manual)?;
+    let manual = match number(cluster, Key::Manual) {
+        Ok(manual) => manual,
+        Err(fault) => return Err(ReadError::Key(fault)),
+    };
     let members = members_in(alloc, cluster, words)?;
     put_cluster(builder, members.as_slice(), manual, limit, word)
 }
 
-// The numbers of the members.
-fn members_in(alloc: Global, cluster: &Table, words: &ControlWords) -> Result<Vec<u32>, KeyFault>
-    ensures { IfOk result (λ members. members_at words.now (table_view cluster.now) ≡ Some members.items) }
+// The numbers of the 1 to 8 members.
+fn members_in(alloc: Global, cluster: &Table, words: &ControlWords) -> Result<Vec<u32>, ReadError>
+    ensures ok { IfOk result (λ members. cluster_members words.now (table_view cluster.now) ≡ Ok members.items) }
+    ensures err { IfErr result (Stops (cluster_members words.now (table_view cluster.now))) }
 {
-    let names = elements(cluster, Key::Members, Sort::Array)?;
+    let names = match elements(cluster, Key::Members, Sort::Array) {
+        Ok(names) => names,
+        Err(fault) => return Err(ReadError::Key(fault)),
+    };
     if names.is_empty() || names.len() > 8 {
-        return Err(KeyFault::new(Key::Members, Problem::ClusterSize));
+        return Err(ReadError::Key(KeyFault::new(Key::Members, Problem::ClusterSize)));
     }
     numbers_of(alloc, names, words)
 }
 
 // The numbers of the controls that these values name.
-fn numbers_of(alloc: Global, names: &[Value], words: &ControlWords) -> Result<Vec<u32>, KeyFault>
-    ensures { IfOk result (λ members. numbers_with words.now [] (map view names.now) ≡ Some members.items) }
+fn numbers_of(alloc: Global, names: &[Value], words: &ControlWords) -> Result<Vec<u32>, ReadError>
+    ensures ok { IfOk result (λ members. numbers_with words.now [] 0 (map view names.now) ≡ Ok members.items) }
+    ensures err { IfErr result (Stops (numbers_with words.now [] 0 (map view names.now))) }
 {
     let mut members = Vec::new(alloc);
     for place in 0..names.len() {
-        let member = number_of(&names[place], place, words)?;
+        let member = match number_of(&names[place], place, words) {
+            Ok(member) => member,
+            Err(fault) => return Err(ReadError::Key(fault)),
+        };
         push(&mut members, member)?;
     }
     Ok(members)
 }
 
-fn push(members: &mut Vec<u32>, member: u32) -> Result<(), KeyFault>
-    ensures { IfOk result (λ _. members.new.items ≡ members.old.items ++ member ∷ []) }
+fn push(members: &mut Vec<u32>, member: u32) -> Result<(), ReadError>
+    ensures ok { IfOk result (λ _. members.new.items ≡ members.old.items ++ member ∷ []) }
+    ensures err { IfErr result (λ error. error ≡ Memory) }
 {
     match members.push(member) {
         Ok(()) => Ok(()),
-        Err(_) => Err(KeyFault::new(Key::Table, Problem::Memory)),
+        Err(_) => Err(ReadError::Memory),
     }
 }
 
 // The number of the control that a value names.
 fn number_of(value: &Value, place: usize, words: &ControlWords) -> Result<u32, KeyFault>
-    ensures { IfOk result (λ number. number_by words.now (view value.now) ≡ Some number) }
+    ensures { result ≡ number_by words.now place (view value.now) }
 {
     match value.as_str() {
         Some(name) => match words.number_of(name.as_bytes()) {
@@ -195,12 +170,12 @@ fn put_cluster(
     manual: Option<i64>,
     limit: Option<Limit>,
     word: Option<Word>,
-) -> Result<(), KeyFault>
-    ensures controls { builder.new.controls ≡ builder.old.controls }
-    ensures cluster { IfOk result (λ _. builder.new ≡ with_cluster builder.old members.now manual (calls_of limit word)) }
+) -> Result<(), ReadError>
+    ensures ok { IfOk result (λ _. with_members builder.old members.now manual limit word ≡ Ok builder.new) }
+    ensures err { IfErr result (Stops (with_members builder.old members.now manual limit word)) }
 {
     let Ok(calls) = data_calls(members.len(), limit, word) else {
-        return Err(KeyFault::new(Key::Members, Problem::UnknownMember));
+        return Err(ReadError::Key(KeyFault::new(Key::Members, Problem::UnknownMember)));
     };
     let added = match manual {
         Some(manual) => builder.auto_cluster(members, manual, calls),
@@ -209,13 +184,5 @@ fn put_cluster(
     match added {
         Ok(_) => Ok(()),
         Err((_, fault)) => Err(refused_cluster(fault)),
-    }
-}
-
-// What a builder's refusal of a cluster is in a file.
-fn refused_cluster(fault: PlanFault) -> KeyFault {
-    match fault {
-        PlanFault::ClusterSize => KeyFault::new(Key::Members, Problem::ClusterSize),
-        fault => KeyFault::of_plan(fault, Key::Members, Problem::InCluster),
     }
 }

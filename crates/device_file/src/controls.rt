@@ -1,19 +1,19 @@
 //! A control as its table describes it.
 
-ghost use Rattle.std.specs.Prelude.{◌≡◌, ◌-◌, Some, pos, length, map, IfOk, IfSome};
+ghost use Rattle.std.specs.Prelude.{◌≡◌, Err, IfOk, map, pos};
+ghost use Rattle.std.specs.List.{list_any};
+ghost use Rattle.std.specs.Result.{result_map_both};
 ghost use Rattle.toml.specs.View.{view, table_view};
 ghost use Rattle.ctrl_settle.specs.Config.{control_of};
-ghost use Rattle.ctrl_settle.specs.Faults.{IsWellFormed};
-ghost use Rattle.device_file.specs.Keys.{key_word};
+ghost use Rattle.ctrl_settle.specs.Faults.{CanDeclare, IsFirstFault, IsWellFormed};
+ghost use Rattle.device_file.specs.Controls.{Range, bit_at, can_skip, checked, control_at, description_in, flag_bits_of, flag_of, flags_in, id_in, is_sayable, kind_in, last_item, lies_in, maximums, minimums, misfit, divides, name_at, range, skip_bits_of, skip_in, skipped, step_in, usual_maximum, usual_step};
 ghost use Rattle.device_file.specs.declared.key.Key.TheVariants as keys;
-ghost use Rattle.device_file.specs.Controls.{bit_at, bits_in, control_at, flag_in, flags_at, id_at, kind_at, skip_at, skipped_in, step_at, usual_maximum, usual_step};
-ghost use Rattle.device_file.specs.Reading.{elements_at, text_at};
 
 use crate::fault::KeyFault;
 use crate::key::Key;
 use crate::names::{flag_named, kind_named};
 use crate::problem::{Problem, Sort};
-use crate::reading::{elements, needed_number, needed_text, number_or, truth};
+use crate::reading::{elements, elements_of, needed_number, needed_text, number_or, truth};
 use bitflags::Flags as FlagSet;
 use ctrl_settle::{Ctrl, CtrlConfig, CtrlFault};
 use ctrl_types::{CtrlId, Flags, Kind};
@@ -36,8 +36,7 @@ pub(crate) const CONTROL_KEYS: &[Key] = &[
 
 // The control of a table.
 pub(crate) fn control_in(table: &Table) -> Result<Ctrl, KeyFault>
-    ensures described { IfOk result (λ ctrl. control_at (table_view table.now) ≡ Some ctrl) }
-    ensures id { IfOk result (λ ctrl. id_at (table_view table.now) ≡ Some ctrl.id) }
+    ensures described { result ≡ control_at (table_view table.now) }
     ensures well_formed { IfOk result IsWellFormed }
 {
     let config = config_in(table)?;
@@ -48,55 +47,94 @@ pub(crate) fn control_in(table: &Table) -> Result<Ctrl, KeyFault>
 }
 
 // Which key of a control that is refused is wrong, and how.
-fn fault_of(config: &CtrlConfig, fault: CtrlFault) -> KeyFault {
+fn fault_of(config: &CtrlConfig, fault: CtrlFault) -> KeyFault
+    requires declared { CanDeclare config.now.flags }
+    requires first { IsFirstFault (control_of config.now) fault }
+    ensures { checked (control_of config.now) ≡ Err result }
+{
     match fault {
         CtrlFault::BadRange => KeyFault::new(Key::Min, Problem::BadRange),
         CtrlFault::ZeroStep => KeyFault::new(Key::Step, Problem::ZeroStep),
+        CtrlFault::KindBounds => KeyFault::new(wrong_key(config), Problem::NotOfType(config.kind)),
         CtrlFault::BadDefault => KeyFault::new(Key::Default, Problem::BadDefault),
-        CtrlFault::KindBounds => KeyFault::new(misfit(config), Problem::NotOfType(config.kind)),
     }
 }
 
-// The first of skip, min, max and step that isn't of the type, where one isn't.
-fn misfit(config: &CtrlConfig) -> Key {
-    let (least, low, high) = match config.kind {
-        Kind::Integer => (
-            i64::from(i32::MIN),
-            i64::from(i32::MIN),
-            i64::from(i32::MAX),
-        ),
-        Kind::Integer64 => (i64::MIN, i64::MIN, i64::MAX),
-        Kind::Boolean => (0, 1, 1),
-        Kind::Button => (0, 0, 0),
-        Kind::Bitmask => (0, 1, 0xffff_ffff),
-        Kind::Menu | Kind::IntegerMenu => (0, 0, 63),
-    };
-    let is_menu = matches!(config.kind, Kind::Menu | Kind::IntegerMenu);
-    if config.skip != 0 && !is_menu {
+// The first of skip, min and max that isn't of the type; step where these are.
+fn wrong_key(config: &CtrlConfig) -> Key
+    ensures { result ≡ misfit (control_of config.now) }
+{
+    if config.skip != 0 && !is_menu(config.kind) {
         Key::Skip
-    } else if config.minimum < least {
+    } else if !minimum_fits(config) {
         Key::Min
-    } else if config.maximum < low || config.maximum > high {
+    } else if !maximum_fits(config) {
         Key::Max
-    } else if config.minimum > high || (config.minimum > 0 && !is_menu) {
-        Key::Min
     } else {
         Key::Step
     }
 }
 
-fn config_in(table: &Table) -> Result<CtrlConfig, KeyFault>
-    ensures described { IfOk result (λ config. control_at (table_view table.now) ≡ Some (control_of config)) }
-    ensures id { IfOk result (λ config. id_at (table_view table.now) ≡ Some config.id) }
+fn is_menu(kind: Kind) -> bool
+    ensures { result ≡ can_skip kind }
 {
-    let id = id_in(table)?;
-    let kind = kind_in(table)?;
+    match kind {
+        Kind::Menu => true,
+        Kind::IntegerMenu => true,
+        _ => false,
+    }
+}
+
+fn minimum_fits(config: &CtrlConfig) -> bool
+    ensures { result ≡ lies_in (minimums config.now.kind) config.now.minimum }
+{
+    let (least, most) = minimums_of(config.kind);
+    least <= config.minimum && config.minimum <= most
+}
+
+fn maximum_fits(config: &CtrlConfig) -> bool
+    ensures { result ≡ lies_in (maximums config.now.kind) config.now.maximum }
+{
+    let (least, most) = maximums_of(config.kind);
+    least <= config.maximum && config.maximum <= most
+}
+
+// The least and the greatest number that a type takes as minimum.
+fn minimums_of(kind: Kind) -> (i64, i64)
+    ensures { range result.0 result.1 ≡ minimums kind }
+{
+    match kind {
+        Kind::Integer => (-0x8000_0000, 0x7fff_ffff),
+        Kind::Integer64 => (i64::MIN, i64::MAX),
+        Kind::Menu => (0, 63),
+        Kind::IntegerMenu => (0, 63),
+        _ => (0, 0),
+    }
+}
+
+// And as maximum.
+fn maximums_of(kind: Kind) -> (i64, i64)
+    ensures { range result.0 result.1 ≡ maximums kind }
+{
+    match kind {
+        Kind::Boolean => (1, 1),
+        Kind::Bitmask => (1, 0xffff_ffff),
+        kind => minimums_of(kind),
+    }
+}
+
+fn config_in(table: &Table) -> Result<CtrlConfig, KeyFault>
+    ensures described { result_map_both control_of (λ e. e) result ≡ description_in (table_view table.now) }
+    ensures declared { IfOk result (λ config. CanDeclare config.flags) }
+{
+    let id = id_of(table)?;
+    let kind = kind_of(table)?;
     let minimum = number_or(table, Key::Min, 0)?;
-    let maximum = number_or(table, Key::Max, maximum_of(kind, last_in(table)))?;
-    let step = step_in(table, kind)?;
+    let maximum = number_or(table, Key::Max, maximum_of(kind, last_of(table)))?;
+    let step = step_of(table, kind)?;
     let default_value = number_or(table, Key::Default, 0)?;
-    let skip = skip_in(table)?;
-    let flags = flags_in(table)?;
+    let skip = skip_of(table)?;
+    let flags = flags_of(table)?;
     let is_private = truth(table, Key::Private)?;
     Ok(CtrlConfig {
         id,
@@ -111,8 +149,8 @@ fn config_in(table: &Table) -> Result<CtrlConfig, KeyFault>
     })
 }
 
-fn id_in(table: &Table) -> Result<CtrlId, KeyFault>
-    ensures { IfOk result (λ id. id_at (table_view table.now) ≡ Some id) }
+fn id_of(table: &Table) -> Result<CtrlId, KeyFault>
+    ensures { result ≡ id_in (table_view table.now) }
 {
     match u32::try_from(needed_number(table, Key::Id)?) {
         Ok(id) => Ok(CtrlId(id)),
@@ -120,8 +158,8 @@ fn id_in(table: &Table) -> Result<CtrlId, KeyFault>
     }
 }
 
-fn kind_in(table: &Table) -> Result<Kind, KeyFault>
-    ensures { IfOk result (λ kind. kind_at (table_view table.now) ≡ Some kind) }
+fn kind_of(table: &Table) -> Result<Kind, KeyFault>
+    ensures { result ≡ kind_in (table_view table.now) }
 {
     match needed_text(table, Key::Type) {
         Ok(text) => match kind_named(text) {
@@ -133,13 +171,10 @@ fn kind_in(table: &Table) -> Result<Kind, KeyFault>
 }
 
 // The place of the last item that an array gives a menu; 0 where there is none.
-fn last_in(table: &Table) -> i64
-    ensures { result ≡ pos (length (elements_at (key_word keys.Menu) (table_view table.now)) - 1) }
+fn last_of(table: &Table) -> i64
+    ensures { result ≡ last_item (table_view table.now) }
 {
-    match elements(table, Key::Menu, Sort::Menu) {
-        Ok(items) => items.len().saturating_sub(1) as i64,
-        Err(_) => 0,
-    }
+    elements_of(table, Key::Menu).len().saturating_sub(1) as i64
 }
 
 // The maximum of a control whose table has none; a menu's is the place of its last item.
@@ -155,8 +190,8 @@ fn maximum_of(kind: Kind, last: i64) -> i64
 }
 
 // The step of a control whose table has none.
-fn step_of(kind: Kind) -> i64
-    ensures { result ≡ usual_step kind }
+fn usual_step_of(kind: Kind) -> i64
+    ensures { result ≡ pos (usual_step kind) }
 {
     match kind {
         Kind::Button => 0,
@@ -166,28 +201,28 @@ fn step_of(kind: Kind) -> i64
 }
 
 // The step of a control; that of its type where the table has none.
-fn step_in(table: &Table, kind: Kind) -> Result<u64, KeyFault>
-    ensures { IfOk result (λ step. step_at kind (table_view table.now) ≡ Some step) }
+fn step_of(table: &Table, kind: Kind) -> Result<u64, KeyFault>
+    ensures { result ≡ step_in kind (table_view table.now) }
 {
-    match u64::try_from(number_or(table, Key::Step, step_of(kind))?) {
+    match u64::try_from(number_or(table, Key::Step, usual_step_of(kind))?) {
         Ok(step) => Ok(step),
         Err(_) => Err(KeyFault::new(Key::Step, Problem::Negative)),
     }
 }
 
 // The bits of the items that are skipped.
-fn skip_in(table: &Table) -> Result<u64, KeyFault>
-    ensures { IfOk result (λ skip. skip_at (table_view table.now) ≡ Some skip) }
+fn skip_of(table: &Table) -> Result<u64, KeyFault>
+    ensures { result ≡ skip_in (table_view table.now) }
 {
     skip_bits(elements(table, Key::Skip, Sort::Array)?)
 }
 
 fn skip_bits(values: &[Value]) -> Result<u64, KeyFault>
-    ensures { IfOk result (λ skip. bits_in skipped_in (map view values.now) ≡ Some skip) }
+    ensures { result ≡ skip_bits_of (map view values.now) }
 {
     let mut skip = 0u64;
     for place in 0..values.len() {
-        match skipped(&values[place]) {
+        match skipped_by(&values[place]) {
             Some(bit) => skip |= bit,
             None => return Err(KeyFault::of_element(Key::Skip, place, Problem::NotIndex)),
         }
@@ -196,11 +231,11 @@ fn skip_bits(values: &[Value]) -> Result<u64, KeyFault>
 }
 
 // The bit of an index of 0 to 63.
-fn skipped(value: &Value) -> Option<u64>
-    ensures { IfSome result (λ bit. skipped_in (view value.now) ≡ Some bit) }
+fn skipped_by(value: &Value) -> Option<u64>
+    ensures { result ≡ skipped (view value.now) }
 {
     match value.as_integer() {
-        Some(index) => match u32::try_from(index) {
+        Some(index) => match u64::try_from(index) {
             Ok(index) => bit_of(index),
             Err(_) => None,
         },
@@ -208,7 +243,7 @@ fn skipped(value: &Value) -> Option<u64>
     }
 }
 
-fn bit_of(index: u32) -> Option<u64>
+fn bit_of(index: u64) -> Option<u64>
     ensures { result ≡ bit_at index }
 {
     if index < 64 {
@@ -218,19 +253,21 @@ fn bit_of(index: u32) -> Option<u64>
     }
 }
 
-fn flags_in(table: &Table) -> Result<Flags, KeyFault>
-    ensures { IfOk result (λ flags. flags_at (table_view table.now) ≡ Some flags) }
+// The flags of a control: none that comes and goes as the device runs.
+fn flags_of(table: &Table) -> Result<Flags, KeyFault>
+    ensures flags { result ≡ flags_in (table_view table.now) }
+    ensures declared { IfOk result CanDeclare }
 {
     let bits = flag_bits(elements(table, Key::Flags, Sort::Array)?)?;
     Ok(Flags::from_bits_retain(bits))
 }
 
 fn flag_bits(values: &[Value]) -> Result<u32, KeyFault>
-    ensures { IfOk result (λ bits. bits_in flag_in (map view values.now) ≡ Some bits) }
+    ensures { result ≡ flag_bits_of (map view values.now) }
 {
     let mut bits = 0u32;
     for place in 0..values.len() {
-        match flag(&values[place]) {
+        match flag_by(&values[place]) {
             Some(bit) => bits |= bit,
             None => return Err(KeyFault::of_element(Key::Flags, place, Problem::UnknownFlag)),
         }
@@ -239,8 +276,8 @@ fn flag_bits(values: &[Value]) -> Result<u32, KeyFault>
 }
 
 // The bit of a flag's name.
-fn flag(value: &Value) -> Option<u32>
-    ensures { result ≡ flag_in (view value.now) }
+fn flag_by(value: &Value) -> Option<u32>
+    ensures { result ≡ flag_of (view value.now) }
 {
     match value.as_str() {
         Some(text) => flag_named(text),
@@ -250,7 +287,7 @@ fn flag(value: &Value) -> Option<u32>
 
 // What scripts call the control of a table.
 pub(crate) fn name_in(table: &Table) -> Result<&str, KeyFault>
-    ensures { IfOk result (λ name. text_at (key_word keys.Name) (table_view table.now) ≡ Some name.now) }
+    ensures { result_map_both (λ name. name.now) (λ e. e) result ≡ name_at (table_view table.now) }
 {
     match needed_text(table, Key::Name) {
         Ok(name) => {
@@ -264,6 +301,15 @@ pub(crate) fn name_in(table: &Table) -> Result<&str, KeyFault>
     }
 }
 
-fn is_word(name: &[u8]) -> bool {
-    !name.is_empty() && !name.iter().any(|byte| matches!(*byte, b' ' | b'=' | b'\n'))
+fn is_word(name: &[u8]) -> bool
+    ensures { result ≡ is_sayable name.now }
+{
+    !name.is_empty() && !is_divided(name)
+}
+
+fn is_divided(name: &[u8]) -> bool
+    ensures { result ≡ list_any divides name.now }
+{
+    name.iter()
+        .any(|byte| *byte == b' ' || *byte == b'=' || *byte == b'\n')
 }

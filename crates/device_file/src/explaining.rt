@@ -1,6 +1,6 @@
 //! Faults in words.
 
-use crate::fault::FileFault;
+use crate::fault::{FileFault, KeyFault};
 use crate::key::Key;
 use crate::lines::{key_in, line_in, syntax_line};
 use crate::place::{Place, table_at};
@@ -15,13 +15,25 @@ use toml::{Table, Value};
 /// - `text`: the file that was read; of another one the words may be any.
 /// - `fault`: what was answered.
 pub fn explain(alloc: Global, text: &[u8], fault: &FileFault) -> Result<String, AllocError> {
+    match fault {
+        FileFault::Memory => format!(in alloc; "no memory"),
+        FileFault::Table { place, fault } => table_words(alloc, text, *place, fault),
+    }
+}
+
+fn table_words(
+    alloc: Global,
+    text: &[u8],
+    place: Place,
+    fault: &KeyFault,
+) -> Result<String, AllocError> {
     match fault.problem {
-        Problem::TooLong | Problem::Memory => return format!(in alloc; "{}", fault.problem),
+        Problem::TooLong => return format!(in alloc; "{}", fault.problem),
         Problem::Syntax(error) => return syntax_words(alloc, text, &error),
         _ => {}
     }
     match toml::table_from_slice(alloc, text) {
-        Ok(file) => words_in(alloc, text, &file, fault),
+        Ok(file) => words_in(alloc, text, &file, place, fault),
         Err(error) => {
             if error.is_memory() {
                 Err(AllocError)
@@ -43,14 +55,15 @@ fn words_in(
     alloc: Global,
     text: &[u8],
     file: &Table,
-    fault: &FileFault,
+    place: Place,
+    fault: &KeyFault,
 ) -> Result<String, AllocError> {
     let mut out = String::new(alloc);
-    if let Some(line) = line_in(alloc, text, file, fault)? {
+    if let Some(line) = line_in(alloc, text, file, place, fault.key)? {
         write!(out, "line {line}: ")?;
     }
-    write_place(&mut out, file, fault.place)?;
-    write_key(&mut out, file, fault)?;
+    write_place(&mut out, file, place)?;
+    write_key(&mut out, file, place, fault)?;
     write!(out, "{}", fault.problem)?;
     Ok(out)
 }
@@ -90,44 +103,57 @@ fn name_at(file: &Table, place: Place) -> Option<&str> {
 }
 
 // The key, and its value or the one that is wrong of its values, where that is short.
-fn write_key(out: &mut String, file: &Table, fault: &FileFault) -> Result<(), AllocError> {
-    let Some(key) = key_in(file, fault) else {
+fn write_key(
+    out: &mut String,
+    file: &Table,
+    place: Place,
+    fault: &KeyFault,
+) -> Result<(), AllocError> {
+    let Some(key) = key_in(file, place, fault.key) else {
         return Ok(());
     };
     match fault.key {
         Key::Other(_) => write!(out, "{:?}: ", brief(key)),
-        _ => write_known(out, file, fault, key),
+        _ => write_known(out, file, place, fault, key),
     }
 }
 
 fn write_known(
     out: &mut String,
     file: &Table,
-    fault: &FileFault,
+    place: Place,
+    fault: &KeyFault,
     key: &str,
 ) -> Result<(), AllocError> {
     write!(out, "{key}")?;
     if let (Some(element), Key::Menu) = (fault.element, fault.key) {
         write!(out, " item {element}")?;
     }
-    if let Some(value) = value_of(file, fault, key) {
-        write_value(out, value)?;
+    if let Some(value) = value_of(file, place, fault.element, key) {
+        write_value(out, fault.key, value)?;
     }
     write!(out, ": ")
 }
 
-fn value_of<'a>(file: &'a Table, fault: &FileFault, key: &str) -> Option<&'a Value> {
-    let value = table_at(file, fault.place)?.get(key)?;
-    match fault.element {
+fn value_of<'a>(
+    file: &'a Table,
+    place: Place,
+    element: Option<usize>,
+    key: &str,
+) -> Option<&'a Value> {
+    let value = table_at(file, place)?.get(key)?;
+    match element {
         None => Some(value),
         Some(element) => value.as_array()?.as_slice().get(element),
     }
 }
 
-fn write_value(out: &mut String, value: &Value) -> Result<(), AllocError> {
-    match value {
-        Value::String(text) => write!(out, " {:?}", brief(text.as_str())),
-        Value::Integer(number) => write!(out, " {number}"),
+// A text or a number; an id as the headers of the kernel have it.
+fn write_value(out: &mut String, key: Key, value: &Value) -> Result<(), AllocError> {
+    match (key, value) {
+        (_, Value::String(text)) => write!(out, " {:?}", brief(text.as_str())),
+        (Key::Id, Value::Integer(number)) if *number >= 0 => write!(out, " 0x{number:08x}"),
+        (_, Value::Integer(number)) => write!(out, " {number}"),
         _ => Ok(()),
     }
 }

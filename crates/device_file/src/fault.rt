@@ -1,26 +1,29 @@
+ghost use Rattle.std.specs.Prelude.{◌≡◌};
+ghost use Rattle.device_file.specs.Faults.{stop_at, wrong, wrong_at};
+ghost use Rattle.device_file.specs.declared.fault.FileFault.TheVariants as files;
+ghost use Rattle.device_file.specs.declared.fault.ReadError.TheVariants.{Memory};
+
 use crate::key::Key;
 use crate::place::Place;
 use crate::problem::Problem;
-use ctrl_handlers::PlanFault;
 use std::alloc::AllocError;
 
-// What is wrong with a key of a table.
+/// What is wrong in a table of a device file.
 #[derive(Clone, Copy)]
-pub(crate) struct KeyFault {
-    pub(crate) key: Key,
-    // which element of an array, from 0, or the index of an item
-    pub(crate) element: Option<usize>,
-    pub(crate) problem: Problem,
-}
-
-impl From<AllocError> for KeyFault {
-    fn from(_error: AllocError) -> KeyFault {
-        KeyFault::new(Key::Table, Problem::Memory)
-    }
+pub struct KeyFault {
+    /// The key, or the table itself.
+    pub key: Key,
+    /// Which element of the key's array is wrong, from 0, or the index of which menu item; where it is one of them.
+    pub element: Option<usize>,
+    /// What is wrong.
+    pub problem: Problem,
 }
 
 impl KeyFault {
-    pub(crate) fn new(key: Key, problem: Problem) -> KeyFault {
+    // A problem of a key.
+    pub(crate) fn new(key: Key, problem: Problem) -> KeyFault
+        ensures { result ≡ wrong key problem }
+    {
         KeyFault {
             key,
             element: None,
@@ -29,7 +32,9 @@ impl KeyFault {
     }
 
     // A problem of one element of an array, or of the item at an index.
-    pub(crate) fn of_element(key: Key, element: usize, problem: Problem) -> KeyFault {
+    pub(crate) fn of_element(key: Key, element: usize, problem: Problem) -> KeyFault
+        ensures { result ≡ wrong_at key element problem }
+    {
         KeyFault {
             key,
             element: Some(element),
@@ -37,40 +42,60 @@ impl KeyFault {
         }
     }
 
-    // What a plan builder's refusal is in a file: this problem, where it isn't want of memory.
-    pub(crate) fn of_plan(fault: PlanFault, key: Key, problem: Problem) -> KeyFault {
-        match fault {
-            PlanFault::Memory => KeyFault::new(Key::Table, Problem::Memory),
-            _ => KeyFault::new(key, problem),
-        }
+    // The same as a fault of the file, whose table stands there.
+    pub(crate) fn at(self, place: Place) -> FileFault
+        ensures { result ≡ files.Table place self }
+    {
+        FileFault::Table { place, fault: self }
     }
+}
 
-    pub(crate) fn at(self, place: Place) -> FileFault {
-        FileFault {
-            place,
-            key: self.key,
-            element: self.element,
-            problem: self.problem,
+// Why a table isn't read.
+#[derive(Clone, Copy)]
+pub(crate) enum ReadError {
+    // A growth was refused, which says nothing of the file.
+    Memory,
+    // There is a fault, and this is the first.
+    Key(KeyFault),
+}
+
+impl ReadError {
+    // The same of the file, whose table stands there.
+    pub(crate) fn at(self, place: Place) -> FileFault
+        ensures { result ≡ stop_at place self }
+    {
+        match self {
+            ReadError::Memory => FileFault::Memory,
+            ReadError::Key(fault) => fault.at(place),
         }
     }
 }
 
-/// Why a file describes no device: where, and what is wrong there. `explain` has it in words, and `line_of` finds the line.
+impl From<AllocError> for ReadError {
+    ghost from_gives = { λ _ error. error ≡ Memory };
+
+    fn from(_error: AllocError) -> ReadError {
+        ReadError::Memory
+    }
+}
+
+/// Why a file describes no device. `explain` has it in words, and `line_of` finds the line.
 #[derive(Clone, Copy)]
-pub struct FileFault {
-    /// The table.
-    pub place: Place,
-    /// The key in it, or the table itself.
-    pub key: Key,
-    /// Which element of the key's array is wrong, from 0, or the index of which menu item; where it is one of them.
-    pub element: Option<usize>,
-    /// What is wrong.
-    pub problem: Problem,
+pub enum FileFault {
+    /// A growth was refused, which says nothing of the file.
+    Memory,
+    /// A table of the file is wrong; of all faults this is the first.
+    Table {
+        /// Which table.
+        place: Place,
+        /// What is wrong in it.
+        fault: KeyFault,
+    },
 }
 
 impl FileFault {
     /// Whether memory was wanting, which says nothing of the file.
     pub fn is_memory(&self) -> bool {
-        matches!(self.problem, Problem::Memory)
+        matches!(self, FileFault::Memory)
     }
 }

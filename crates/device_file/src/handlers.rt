@@ -1,91 +1,70 @@
 //! The handlers of a file, with their controls.
 
-ghost use Rattle.std.specs.Prelude.{◌≡◌, ◌+◌, ◌++◌, [], ◌∷◌, length, map, Some, IfOk, IfSome};
-ghost use Rattle.toml.specs.Data.{as_table};
+ghost use Rattle.std.specs.Prelude.{◌≡◌, ◌+◌, ◌<◌, ◌≤◌, [], length, map, position, Ok, IfOk, IfErr};
+ghost use Rattle.std.specs.Result.{result_map_both};
 ghost use Rattle.toml.specs.View.{view, table_view};
-ghost use Rattle.ctrl_handlers.specs.Plan.{with_control};
-ghost use Rattle.device_file.specs.Controls.{control_at, id_at};
-ghost use Rattle.device_file.specs.Items.{AddsItems};
-ghost use Rattle.device_file.specs.Devices.{control_behind, controls_behind, controls_of, controls_with, tables_of, with_control_by, with_word_by, words_behind, words_of, words_with};
-ghost use Rattle.device_file.specs.Keys.{key_word};
-ghost use Rattle.device_file.specs.Reading.{text_at};
-ghost use Rattle.device_file.specs.declared.key.Key.TheVariants as keys;
+ghost use Rattle.ctrl_handlers.specs.declared.limits.TheConstants.{MAX_HANDLERS};
+ghost use Rattle.device_file.specs.Faults.{FileStops, Stops};
+ghost use Rattle.device_file.specs.Handlers.{added_in as number_added, device, handler_in, handler_named, has_name as is_named, new_name as name_for, with_built, with_control_of, with_controls, with_handler_of, with_handlers, with_named, with_new_handler, with_other, with_others};
 
 use crate::controls::{CONTROL_KEYS, control_in, name_in};
-use crate::fault::{FileFault, KeyFault};
+use crate::fault::{FileFault, KeyFault, ReadError};
 use crate::items::add_items;
 use crate::key::Key;
 use crate::place::Place;
 use crate::problem::{Problem, Sort};
-use crate::reading::{elements, needed_text, no_others, table, text};
-use ctrl_handlers::{PlanBuilder, PlanFault};
+use crate::reading::{elements, needed_text, table_with, text};
+use crate::refusals::{refused_adding, refused_control, refused_handler};
+use ctrl_handlers::PlanBuilder;
 use ctrl_settle::Ctrl;
-use ctrl_types::CtrlId;
 use data_driver::Data;
 use script_lines::ControlWords;
 use std::alloc::Global;
 use toml::{Table, Value};
 
-const KEYS: &[Key] = &[Key::Name, Key::Adds, Key::Control];
-
-// Adds the handlers of a file and their controls, and the words for these.
+// Adds the handlers that these values describe with their controls, and the words for these.
 pub(crate) fn add_handlers(
-    alloc: Global,
-    builder: &mut PlanBuilder<Data>,
-    file: &Table,
-    words: &mut ControlWords,
-) -> Result<(), FileFault>
-    requires none { builder.old.controls ≡ [] }
-    requires no_words { words.old ≡ [] }
-    ensures controls { IfOk result (λ _. controls_of (table_view file.now) ≡ Some builder.new.controls) }
-    ensures words { IfOk result (λ _. words_of (table_view file.now) ≡ Some words.new) }
-    ensures clusters { IfOk result (λ _. builder.new.clusters ≡ builder.old.clusters) }
-{
-    match elements(file, Key::Handler, Sort::Tables) {
-        Ok(tables) => add_each(alloc, builder, tables, words),
-        Err(fault) => Err(fault.at(Place::File)),
-    }
-}
-
-fn add_each(
     alloc: Global,
     builder: &mut PlanBuilder<Data>,
     tables: &[Value],
     words: &mut ControlWords,
 ) -> Result<(), FileFault>
-    requires as_many { length builder.old.controls ≡ length words.old }
-    ensures controls { IfOk result (λ _. controls_behind builder.old.controls (map view tables.now) ≡ Some builder.new.controls) }
-    ensures words { IfOk result (λ _. words_behind words.old (map view tables.now) ≡ Some words.new) }
-    ensures clusters { IfOk result (λ _. builder.new.clusters ≡ builder.old.clusters) }
+    requires none { builder.old.handlers ≡ [] }
+    ensures ok { IfOk result (λ _. with_handlers [] (device builder.old words.old) 0 (map view tables.now) ≡ Ok (device builder.new words.new)) }
+    ensures err { IfErr result (FileStops (with_handlers [] (device builder.old words.old) 0 (map view tables.now))) }
 {
     for number in 0..tables.len() {
         let earlier = &tables[..number];
-        add_handler(alloc, builder, earlier, &tables[number], words)?;
+        add_handler(alloc, builder, earlier, number, &tables[number], words)?;
     }
     Ok(())
 }
 
+// Adds the handler of this number with its controls; these stand further up.
 fn add_handler(
     alloc: Global,
     builder: &mut PlanBuilder<Data>,
     earlier: &[Value],
+    number: usize,
     value: &Value,
     words: &mut ControlWords,
 ) -> Result<(), FileFault>
-    requires as_many { length builder.old.controls ≡ length words.old }
-    ensures controls { IfOk result (λ _. controls_with builder.old.controls (tables_of (as_table (view value.now))) ≡ Some builder.new.controls) }
-    ensures words { IfOk result (λ _. words_with words.old (tables_of (as_table (view value.now))) ≡ Some words.new) }
-    ensures clusters { IfOk result (λ _. builder.new.clusters ≡ builder.old.clusters) }
-    ensures as_many { IfOk result (λ _. length builder.new.controls ≡ length words.new) }
+    requires many { length builder.old.handlers ≡ number }
+    requires few { number ≤ MAX_HANDLERS }
+    requires above { length earlier.now ≤ number }
+    ensures many { IfOk result (λ _. length builder.new.handlers ≡ number + 1) }
+    ensures few { IfOk result (λ _. number + 1 ≤ MAX_HANDLERS) }
+    ensures ok { IfOk result (λ _. with_handler_of (map view earlier.now) (device builder.old words.old) number (view value.now) ≡ Ok (device builder.new words.new)) }
+    ensures err { IfErr result (FileStops (with_handler_of (map view earlier.now) (device builder.old words.old) number (view value.now))) }
 {
-    let place = Place::Handler(earlier.len());
-    let handler = match handler_table(value, earlier) {
+    let place = Place::Handler(number);
+    let handler = match handler_table(earlier, value) {
         Ok(handler) => handler,
         Err(fault) => return Err(fault.at(place)),
     };
-    let number = match put_handler(builder, handler, earlier) {
+    let number = match put_handler(builder, earlier, handler) {
         Ok(number) => number,
-        Err(fault) => return Err(fault.at(place)),
+        Err(error) => return Err(error.at(place)),
     };
     match elements(handler, Key::Control, Sort::Tables) {
         Ok(tables) => add_controls(alloc, builder, number, tables, words),
@@ -94,11 +73,10 @@ fn add_handler(
 }
 
 // The table of a handler, which has no other keys, and a name that no earlier one has.
-fn handler_table<'a>(value: &'a Value, earlier: &[Value]) -> Result<&'a Table, KeyFault>
-    ensures { IfOk result (λ handler. as_table (view value.now) ≡ Some (table_view handler.now)) }
+fn handler_table<'a>(earlier: &[Value], value: &'a Value) -> Result<&'a Table, KeyFault>
+    ensures { result_map_both (λ handler. table_view handler.now) (λ fault. fault) result ≡ handler_in (map view earlier.now) (view value.now) }
 {
-    let handler = table(value)?;
-    no_others(handler, KEYS)?;
+    let handler = table_with(value, &[Key::Name, Key::Adds, Key::Control])?;
     let name = needed_text(handler, Key::Name)?;
     match place_of(earlier, name) {
         Some(_) => Err(KeyFault::new(Key::Name, Problem::NameTaken)),
@@ -107,11 +85,21 @@ fn handler_table<'a>(value: &'a Value, earlier: &[Value]) -> Result<&'a Table, K
 }
 
 // Which of some handlers has a name.
-fn place_of(handlers: &[Value], name: &str) -> Option<usize> {
+fn place_of(handlers: &[Value], name: &str) -> Option<usize>
+    ensures { result ≡ handler_named (map view handlers.now) name.now }
+{
+    first_named(handlers, name)
+}
+
+fn first_named(handlers: &[Value], name: &str) -> Option<usize>
+    ensures { result ≡ position (λ handler. is_named name.now (view handler)) handlers.now }
+{
     handlers.iter().position(|handler| has_name(handler, name))
 }
 
-fn has_name(handler: &Value, name: &str) -> bool {
+fn has_name(handler: &Value, name: &str) -> bool
+    ensures { result ≡ is_named name.now (view handler.now) }
+{
     match handler.as_table() {
         Some(handler) => match text(handler, Key::Name) {
             Ok(Some(text)) => text == name,
@@ -124,22 +112,25 @@ fn has_name(handler: &Value, name: &str) -> bool {
 // Adds a handler, which adds others; its number.
 fn put_handler(
     builder: &mut PlanBuilder<Data>,
-    handler: &Table,
     earlier: &[Value],
-) -> Result<u32, KeyFault>
-    ensures controls { builder.new.controls ≡ builder.old.controls }
-    ensures clusters { builder.new.clusters ≡ builder.old.clusters }
+    handler: &Table,
+) -> Result<u32, ReadError>
+    requires few { length builder.old.handlers ≤ MAX_HANDLERS }
+    requires above { length earlier.now ≤ length builder.old.handlers }
+    ensures number { IfOk result (λ number. number ≡ length builder.old.handlers) }
+    ensures many { IfOk result (λ _. length builder.new.handlers ≡ length builder.old.handlers + 1) }
+    ensures few { IfOk result (λ _. length builder.old.handlers + 1 ≤ MAX_HANDLERS) }
+    ensures ok { IfOk result (λ _. with_new_handler (map view earlier.now) builder.old (length builder.old.handlers) (table_view handler.now) ≡ Ok builder.new) }
+    ensures err { IfErr result (Stops (with_new_handler (map view earlier.now) builder.old (length builder.old.handlers) (table_view handler.now))) }
 {
     let number = match builder.handler() {
         Ok(number) => number,
-        Err(fault) => return Err(KeyFault::of_plan(fault, Key::Table, Problem::ManyHandlers)),
+        Err(fault) => return Err(refused_handler(fault)),
     };
-    add_others(
-        builder,
-        number,
-        elements(handler, Key::Adds, Sort::Array)?,
-        earlier,
-    )?;
+    match elements(handler, Key::Adds, Sort::Array) {
+        Ok(names) => add_others(builder, number, names, earlier)?,
+        Err(fault) => return Err(ReadError::Key(fault)),
+    }
     Ok(number)
 }
 
@@ -149,9 +140,13 @@ fn add_others(
     number: u32,
     names: &[Value],
     earlier: &[Value],
-) -> Result<(), KeyFault>
-    ensures controls { builder.new.controls ≡ builder.old.controls }
-    ensures clusters { builder.new.clusters ≡ builder.old.clusters }
+) -> Result<(), ReadError>
+    requires few { length earlier.now ≤ MAX_HANDLERS }
+    requires above { length earlier.now ≤ number }
+    requires there { number < length builder.old.handlers }
+    ensures many { IfOk result (λ _. length builder.new.handlers ≡ length builder.old.handlers) }
+    ensures ok { IfOk result (λ _. with_others (map view earlier.now) builder.old number 0 (map view names.now) ≡ Ok builder.new) }
+    ensures err { IfErr result (Stops (with_others (map view earlier.now) builder.old number 0 (map view names.now))) }
 {
     for place in 0..names.len() {
         add_other(builder, number, place, &names[place], earlier)?;
@@ -166,32 +161,40 @@ fn add_other(
     place: usize,
     name: &Value,
     earlier: &[Value],
-) -> Result<(), KeyFault>
-    ensures controls { builder.new.controls ≡ builder.old.controls }
-    ensures clusters { builder.new.clusters ≡ builder.old.clusters }
+) -> Result<(), ReadError>
+    requires few { length earlier.now ≤ MAX_HANDLERS }
+    requires above { length earlier.now ≤ number }
+    requires there { number < length builder.old.handlers }
+    ensures many { IfOk result (λ _. length builder.new.handlers ≡ length builder.old.handlers) }
+    ensures ok { IfOk result (λ _. with_other (map view earlier.now) builder.old number place (view name.now) ≡ Ok builder.new) }
+    ensures err { IfErr result (Stops (with_other (map view earlier.now) builder.old number place (view name.now))) }
 {
-    let added = added_in(place, name, earlier)?;
+    let added = match added_in(place, name, earlier) {
+        Ok(added) => added,
+        Err(fault) => return Err(ReadError::Key(fault)),
+    };
     match builder.add_handler(number, added) {
         Ok(()) => Ok(()),
-        Err(fault) => Err(KeyFault::of_plan(fault, Key::Adds, Problem::UnknownHandler)),
+        Err(fault) => Err(refused_adding(fault, place)),
     }
 }
 
 // The number of the earlier handler that a value names.
-fn added_in(place: usize, name: &Value, earlier: &[Value]) -> Result<u32, KeyFault> {
+fn added_in(place: usize, name: &Value, earlier: &[Value]) -> Result<u32, KeyFault>
+    requires few { length earlier.now ≤ MAX_HANDLERS }
+    ensures number { result ≡ number_added (map view earlier.now) place (view name.now) }
+    ensures below { IfOk result (λ added. added < length earlier.now) }
+{
     let Some(word) = name.as_str() else {
         return Err(KeyFault::of_element(Key::Adds, place, Problem::Not(Sort::Text)));
     };
     match place_of(earlier, word) {
-        Some(added) => match u32::try_from(added) {
-            Ok(added) => Ok(added),
-            Err(_) => Err(KeyFault::of_element(Key::Adds, place, Problem::UnknownHandler)),
-        },
+        Some(added) => Ok(added as u32),
         None => Err(KeyFault::of_element(Key::Adds, place, Problem::UnknownHandler)),
     }
 }
 
-// Adds the controls of a handler, and their words.
+// Adds these controls of a handler, and their words.
 fn add_controls(
     alloc: Global,
     builder: &mut PlanBuilder<Data>,
@@ -199,37 +202,17 @@ fn add_controls(
     tables: &[Value],
     words: &mut ControlWords,
 ) -> Result<(), FileFault>
-    requires as_many { length builder.old.controls ≡ length words.old }
-    ensures controls { IfOk result (λ _. controls_with builder.old.controls (map view tables.now) ≡ Some builder.new.controls) }
-    ensures words { IfOk result (λ _. words_with words.old (map view tables.now) ≡ Some words.new) }
-    ensures clusters { IfOk result (λ _. builder.new.clusters ≡ builder.old.clusters) }
-    ensures as_many { IfOk result (λ _. length builder.new.controls ≡ length words.new) }
+    ensures many { IfOk result (λ _. length builder.new.handlers ≡ length builder.old.handlers) }
+    ensures ok { IfOk result (λ _. with_controls (device builder.old words.old) handler 0 (map view tables.now) ≡ Ok (device builder.new words.new)) }
+    ensures err { IfErr result (FileStops (with_controls (device builder.old words.old) handler 0 (map view tables.now))) }
 {
     for number in 0..tables.len() {
-        add_numbered(alloc, builder, handler, number, &tables[number], words)?;
+        match add_control(alloc, builder, handler, &tables[number], words) {
+            Ok(()) => {}
+            Err(error) => return Err(error.at(Place::Control(handler as usize, number))),
+        }
     }
     Ok(())
-}
-
-// Adds the control that has this number in its handler.
-fn add_numbered(
-    alloc: Global,
-    builder: &mut PlanBuilder<Data>,
-    handler: u32,
-    number: usize,
-    value: &Value,
-    words: &mut ControlWords,
-) -> Result<(), FileFault>
-    requires as_many { length builder.old.controls ≡ length words.old }
-    ensures controls { IfOk result (λ _. with_control_by builder.old.controls (view value.now) ≡ Some builder.new.controls) }
-    ensures words { IfOk result (λ _. with_word_by words.old (view value.now) ≡ Some words.new) }
-    ensures clusters { IfOk result (λ _. builder.new.clusters ≡ builder.old.clusters) }
-    ensures as_many { IfOk result (λ _. length builder.new.controls ≡ length words.new) }
-{
-    match add_control(alloc, builder, handler, value, words) {
-        Ok(()) => Ok(()),
-        Err(fault) => Err(fault.at(Place::Control(handler as usize, number))),
-    }
 }
 
 // Adds a control with its items, and its word.
@@ -239,24 +222,24 @@ fn add_control(
     handler: u32,
     value: &Value,
     words: &mut ControlWords,
-) -> Result<(), KeyFault>
-    requires as_many { length builder.old.controls ≡ length words.old }
-    ensures controls { IfOk result (λ _. with_control_by builder.old.controls (view value.now) ≡ Some builder.new.controls) }
-    ensures words { IfOk result (λ _. with_word_by words.old (view value.now) ≡ Some words.new) }
-    ensures clusters { IfOk result (λ _. builder.new.clusters ≡ builder.old.clusters) }
-    ensures as_many { IfOk result (λ _. length builder.new.controls ≡ length words.new) }
+) -> Result<(), ReadError>
+    ensures many { IfOk result (λ _. length builder.new.handlers ≡ length builder.old.handlers) }
+    ensures ok { IfOk result (λ _. with_control_of (device builder.old words.old) handler (view value.now) ≡ Ok (device builder.new words.new)) }
+    ensures err { IfErr result (Stops (with_control_of (device builder.old words.old) handler (view value.now))) }
 {
-    let control = table(value)?;
-    no_others(control, CONTROL_KEYS)?;
-    let name = new_name(control, words)?;
-    let (id, number) = build_control(builder, handler, control)?;
-    words.push(alloc, name.as_bytes(), id, number)?;
-    Ok(())
+    let control = match table_with(value, CONTROL_KEYS) {
+        Ok(control) => control,
+        Err(fault) => return Err(ReadError::Key(fault)),
+    };
+    match new_name(control, words) {
+        Ok(name) => add_named(alloc, builder, handler, control, name, words),
+        Err(fault) => Err(ReadError::Key(fault)),
+    }
 }
 
 // What scripts call the control of a table; no other control has the name.
 fn new_name<'a>(control: &'a Table, words: &ControlWords) -> Result<&'a str, KeyFault>
-    ensures { IfOk result (λ name. text_at (key_word keys.Name) (table_view control.now) ≡ Some name.now) }
+    ensures { result_map_both (λ name. name.now) (λ fault. fault) result ≡ name_for words.now (table_view control.now) }
 {
     match name_in(control) {
         Ok(name) => {
@@ -270,32 +253,47 @@ fn new_name<'a>(control: &'a Table, words: &ControlWords) -> Result<&'a str, Key
     }
 }
 
-// Adds the control of a table with its items; its id and its number.
+// Adds the control of a table, which scripts call so.
+fn add_named(
+    alloc: Global,
+    builder: &mut PlanBuilder<Data>,
+    handler: u32,
+    control: &Table,
+    name: &str,
+    words: &mut ControlWords,
+) -> Result<(), ReadError>
+    ensures many { IfOk result (λ _. length builder.new.handlers ≡ length builder.old.handlers) }
+    ensures ok { IfOk result (λ _. with_named (device builder.old words.old) handler (table_view control.now) name.now ≡ Ok (device builder.new words.new)) }
+    ensures err { IfErr result (Stops (with_named (device builder.old words.old) handler (table_view control.now) name.now)) }
+{
+    let ctrl = match control_in(control) {
+        Ok(ctrl) => ctrl,
+        Err(fault) => return Err(ReadError::Key(fault)),
+    };
+    let number = build_control(builder, handler, control, ctrl)?;
+    match words.push(alloc, name.as_bytes(), ctrl.id(), number) {
+        Ok(()) => Ok(()),
+        Err(_) => Err(ReadError::Memory),
+    }
+}
+
+// Adds a control with the items of its table; its number.
 fn build_control(
     builder: &mut PlanBuilder<Data>,
     handler: u32,
     control: &Table,
-) -> Result<(CtrlId, u32), KeyFault>
-    ensures number { IfOk result (λ it. it.1 ≡ length builder.old.controls) }
-    ensures id { IfOk result (λ it. id_at (table_view control.now) ≡ Some it.0) }
-    ensures more { IfOk result (λ it. control_behind builder.old.controls (table_view control.now) ≡ Some builder.new.controls) }
-    ensures many { IfOk result (λ it. length builder.new.controls ≡ length builder.old.controls + 1) }
-    ensures clusters { IfOk result (λ _. builder.new.clusters ≡ builder.old.clusters) }
-    ensures items { IfOk result (λ it. IfSome (control_at (table_view control.now)) (λ c. AddsItems (table_view control.now) it.1 (with_control builder.old handler c) builder.new)) }
-{
-    let ctrl = control_in(control)?;
-    let id = ctrl.id();
-    let number = put_control(builder, handler, ctrl)?;
-    add_items(builder, number, control)?;
-    Ok((id, number))
-}
-
-fn put_control(builder: &mut PlanBuilder<Data>, handler: u32, ctrl: Ctrl) -> Result<u32, KeyFault>
-    ensures { IfOk result (λ n. (n ≡ length builder.old.controls) × (builder.new ≡ with_control builder.old handler ctrl)) }
+    ctrl: Ctrl,
+) -> Result<u32, ReadError>
+    ensures many { IfOk result (λ _. length builder.new.handlers ≡ length builder.old.handlers) }
+    ensures number { IfOk result (λ number. number ≡ length builder.old.controls) }
+    ensures ok { IfOk result (λ _. with_built builder.old handler (table_view control.now) ctrl ≡ Ok builder.new) }
+    ensures err { IfErr result (Stops (with_built builder.old handler (table_view control.now) ctrl)) }
 {
     match builder.control(handler, ctrl) {
-        Ok(number) => Ok(number),
-        Err(PlanFault::DuplicateId) => Err(KeyFault::new(Key::Id, Problem::IdTaken)),
-        Err(fault) => Err(KeyFault::of_plan(fault, Key::Table, Problem::ManyControls)),
+        Ok(number) => {
+            add_items(builder, number, control)?;
+            Ok(number)
+        }
+        Err(fault) => Err(refused_control(fault)),
     }
 }

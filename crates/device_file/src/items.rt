@@ -1,19 +1,21 @@
 //! The items of a control's menu.
 
-ghost use Rattle.std.specs.Prelude.{◌≡◌, IfOk, map};
+ghost use Rattle.std.specs.Prelude.{◌≡◌, length, map, Ok, IfOk, IfErr};
+ghost use Rattle.toml.specs.Data.{as_array, as_str, as_table};
 ghost use Rattle.toml.specs.View.{view, table_view};
-ghost use Rattle.device_file.specs.Keys.{key_word};
-ghost use Rattle.device_file.specs.declared.key.Key.TheVariants as keys;
-ghost use Rattle.device_file.specs.Items.{AddsItems, AddsMenu, KeepsAllButItems, is_empty_text, with_given, with_list, with_listed};
+ghost use Rattle.ctrl_handlers.specs.Builder.{name_refusal, number_refusal};
 ghost use Rattle.ctrl_handlers.specs.Plan.{with_item};
-ghost use Rattle.menu_items.specs.declared.item.MenuItem.TheVariants.{Number};
-ghost use Rattle.toml.specs.Data.{as_array, as_str};
+ghost use Rattle.menu_items.specs.declared.item.MenuItem.TheVariants.{Name, Number};
+ghost use Rattle.device_file.specs.Faults.{Stops};
+ghost use Rattle.device_file.specs.Refusals.{item_fault, unless_refused};
+ghost use Rattle.device_file.specs.Items.{index_named, is_empty_text, with_given, with_items, with_list, with_listed, with_menu_of, with_member, with_table};
 
-use crate::fault::KeyFault;
+use crate::fault::{KeyFault, ReadError};
 use crate::key::Key;
 use crate::problem::{Problem, Sort};
 use crate::reading::{find, values_of};
-use ctrl_handlers::{PlanBuilder, PlanFault};
+use crate::refusals::refused_item;
+use ctrl_handlers::PlanBuilder;
 use data_driver::Data;
 use toml::{Table, Value};
 
@@ -22,9 +24,10 @@ pub(crate) fn add_items(
     builder: &mut PlanBuilder<Data>,
     control: u32,
     table: &Table,
-) -> Result<(), KeyFault>
-    ensures kept { KeepsAllButItems builder.old builder.new }
-    ensures items { IfOk result (λ _. AddsItems (table_view table.now) control builder.old builder.new) }
+) -> Result<(), ReadError>
+    ensures many { IfOk result (λ _. length builder.new.handlers ≡ length builder.old.handlers) }
+    ensures ok { IfOk result (λ _. with_items builder.old control (table_view table.now) ≡ Ok builder.new) }
+    ensures err { IfErr result (Stops (with_items builder.old control (table_view table.now))) }
 {
     match find(table, Key::Menu) {
         None => Ok(()),
@@ -32,28 +35,27 @@ pub(crate) fn add_items(
     }
 }
 
-fn add_menu(builder: &mut PlanBuilder<Data>, control: u32, menu: &Value) -> Result<(), KeyFault>
-    ensures kept { KeepsAllButItems builder.old builder.new }
-    ensures items { IfOk result (λ _. AddsMenu (as_array (view menu.now)) control builder.old builder.new) }
+fn add_menu(builder: &mut PlanBuilder<Data>, control: u32, menu: &Value) -> Result<(), ReadError>
+    ensures many { IfOk result (λ _. length builder.new.handlers ≡ length builder.old.handlers) }
+    ensures ok { IfOk result (λ _. with_menu_of builder.old control (as_array (view menu.now)) (as_table (view menu.now)) ≡ Ok builder.new) }
+    ensures err { IfErr result (Stops (with_menu_of builder.old control (as_array (view menu.now)) (as_table (view menu.now)))) }
 {
     match menu.as_array() {
         Some(items) => add_list(builder, control, values_of(items)),
         None => match menu.as_table() {
             Some(items) => add_table(builder, control, items),
-            None => Err(KeyFault::new(Key::Menu, Problem::Not(Sort::Menu))),
+            None => Err(ReadError::Key(KeyFault::new(Key::Menu, Problem::Not(Sort::Menu)))),
         },
     }
 }
 
-fn add_list(builder: &mut PlanBuilder<Data>, control: u32, items: &[Value]) -> Result<(), KeyFault>
-    ensures kept { KeepsAllButItems builder.old builder.new }
-    ensures items { IfOk result (λ _. builder.new ≡ with_list builder.old control 0 (map view items.now)) }
+fn add_list(builder: &mut PlanBuilder<Data>, control: u32, items: &[Value]) -> Result<(), ReadError>
+    ensures many { IfOk result (λ _. length builder.new.handlers ≡ length builder.old.handlers) }
+    ensures ok { IfOk result (λ _. with_list builder.old control 0 (map view items.now) ≡ Ok builder.new) }
+    ensures err { IfErr result (Stops (with_list builder.old control 0 (map view items.now))) }
 {
     for place in 0..items.len() {
-        let Ok(index) = u32::try_from(place) else {
-            return Err(KeyFault::of_element(Key::Menu, place, Problem::NoItem));
-        };
-        add_listed(builder, control, index, &items[place])?;
+        add_listed(builder, control, place, &items[place])?;
     }
     Ok(())
 }
@@ -62,12 +64,16 @@ fn add_list(builder: &mut PlanBuilder<Data>, control: u32, items: &[Value]) -> R
 fn add_listed(
     builder: &mut PlanBuilder<Data>,
     control: u32,
-    index: u32,
+    place: usize,
     item: &Value,
-) -> Result<(), KeyFault>
-    ensures kept { KeepsAllButItems builder.old builder.new }
-    ensures item { IfOk result (λ _. builder.new ≡ with_listed builder.old control index (view item.now)) }
+) -> Result<(), ReadError>
+    ensures many { IfOk result (λ _. length builder.new.handlers ≡ length builder.old.handlers) }
+    ensures ok { IfOk result (λ _. with_listed builder.old control place (view item.now) ≡ Ok builder.new) }
+    ensures err { IfErr result (Stops (with_listed builder.old control place (view item.now))) }
 {
+    let Ok(index) = u32::try_from(place) else {
+        return Err(ReadError::Key(KeyFault::of_element(Key::Menu, place, Problem::NoItem)));
+    };
     if is_hole(item) {
         return Ok(());
     }
@@ -84,16 +90,43 @@ fn is_hole(item: &Value) -> bool
     }
 }
 
-fn add_table(builder: &mut PlanBuilder<Data>, control: u32, items: &Table) -> Result<(), KeyFault>
-    ensures kept { KeepsAllButItems builder.old builder.new }
+fn add_table(builder: &mut PlanBuilder<Data>, control: u32, items: &Table) -> Result<(), ReadError>
+    ensures many { IfOk result (λ _. length builder.new.handlers ≡ length builder.old.handlers) }
+    ensures ok { IfOk result (λ _. with_table builder.old control (table_view items.now) ≡ Ok builder.new) }
+    ensures err { IfErr result (Stops (with_table builder.old control (table_view items.now))) }
 {
-    for (index, item) in items.iter() {
-        let Ok(index) = index.as_str().parse::<u32>() else {
-            return Err(KeyFault::new(Key::Menu, Problem::NotItemIndex));
-        };
-        add_item(builder, control, index, item)?;
+    for (key, item) in items.iter() {
+        add_member(builder, control, key.as_str(), item)?;
     }
     Ok(())
+}
+
+// Adds the item of a table at the index that its key writes.
+fn add_member(
+    builder: &mut PlanBuilder<Data>,
+    control: u32,
+    key: &str,
+    item: &Value,
+) -> Result<(), ReadError>
+    ensures many { IfOk result (λ _. length builder.new.handlers ≡ length builder.old.handlers) }
+    ensures ok { IfOk result (λ _. with_member builder.old control key.now (view item.now) ≡ Ok builder.new) }
+    ensures err { IfErr result (Stops (with_member builder.old control key.now (view item.now))) }
+{
+    match index_of(key) {
+        Ok(index) => add_item(builder, control, index, item),
+        Err(fault) => Err(ReadError::Key(fault)),
+    }
+}
+
+// The index that a key of a table of items writes.
+#[tactic(auto, using(crate::proofs::Indexes::index_ok, crate::proofs::Indexes::index_err))]
+fn index_of(key: &str) -> Result<u32, KeyFault>
+    ensures { result ≡ index_named key.now }
+{
+    match key.parse::<u32>() {
+        Ok(index) => Ok(index),
+        Err(_) => Err(KeyFault::new(Key::Menu, Problem::NotItemIndex)),
+    }
 }
 
 fn add_item(
@@ -101,19 +134,37 @@ fn add_item(
     control: u32,
     index: u32,
     item: &Value,
-) -> Result<(), KeyFault>
-    ensures kept { KeepsAllButItems builder.old builder.new }
-    ensures item { IfOk result (λ _. builder.new ≡ with_given builder.old control index (view item.now)) }
+) -> Result<(), ReadError>
+    ensures many { IfOk result (λ _. length builder.new.handlers ≡ length builder.old.handlers) }
+    ensures ok { IfOk result (λ _. with_given builder.old control index (view item.now) ≡ Ok builder.new) }
+    ensures err { IfErr result (Stops (with_given builder.old control index (view item.now))) }
 {
     match item.as_str() {
-        Some(name) => match builder.menu_name(control, index, name) {
-            Ok(()) => Ok(()),
-            Err(fault) => Err(refused_item(fault, index)),
-        },
+        Some(name) => add_name(builder, control, index, name),
         None => match item.as_integer() {
             Some(number) => add_number(builder, control, index, number),
-            None => Err(KeyFault::of_element(Key::Menu, index as usize, Problem::NotItem)),
+            None => Err(ReadError::Key(KeyFault::of_element(
+                Key::Menu,
+                index as usize,
+                Problem::NotItem,
+            ))),
         },
+    }
+}
+
+fn add_name(
+    builder: &mut PlanBuilder<Data>,
+    control: u32,
+    index: u32,
+    name: &str,
+) -> Result<(), ReadError>
+    ensures many { IfOk result (λ _. length builder.new.handlers ≡ length builder.old.handlers) }
+    ensures ok { IfOk result (λ _. unless_refused (item_fault index) (name_refusal builder.old control index name.now) (with_item builder.old control index (Name name.now)) ≡ Ok builder.new) }
+    ensures err { IfErr result (Stops (unless_refused (item_fault index) (name_refusal builder.old control index name.now) (with_item builder.old control index (Name name.now)))) }
+{
+    match builder.menu_name(control, index, name) {
+        Ok(()) => Ok(()),
+        Err(fault) => Err(refused_item(fault, index)),
     }
 }
 
@@ -122,22 +173,13 @@ fn add_number(
     control: u32,
     index: u32,
     number: i64,
-) -> Result<(), KeyFault>
-    ensures kept { KeepsAllButItems builder.old builder.new }
-    ensures item { IfOk result (λ _. builder.new ≡ with_item builder.old control index (Number number)) }
+) -> Result<(), ReadError>
+    ensures many { IfOk result (λ _. length builder.new.handlers ≡ length builder.old.handlers) }
+    ensures ok { IfOk result (λ _. unless_refused (item_fault index) (number_refusal builder.old control index) (with_item builder.old control index (Number number)) ≡ Ok builder.new) }
+    ensures err { IfErr result (Stops (unless_refused (item_fault index) (number_refusal builder.old control index) (with_item builder.old control index (Number number)))) }
 {
     match builder.menu_number(control, index, number) {
         Ok(()) => Ok(()),
         Err(fault) => Err(refused_item(fault, index)),
     }
-}
-
-// What a builder's refusal of an item is in a file.
-fn refused_item(fault: PlanFault, index: u32) -> KeyFault {
-    let problem = match fault {
-        PlanFault::Memory => return KeyFault::new(Key::Table, Problem::Memory),
-        PlanFault::Limit => Problem::LongItem,
-        _ => Problem::NoItem,
-    };
-    KeyFault::of_element(Key::Menu, index as usize, problem)
 }

@@ -16,10 +16,11 @@ mod names;
 mod place;
 mod problem;
 mod reading;
+mod refusals;
 
 pub use device::{DeviceFile, MAX_FILE, read_device};
 pub use explaining::explain;
-pub use fault::FileFault;
+pub use fault::{FileFault, KeyFault};
 pub use key::Key;
 pub use lines::line_of;
 pub use place::Place;

@@ -1,9 +1,8 @@
 //! What a cluster is held to, and what is told of it.
 
-ghost use Rattle.std.specs.Prelude.{◌≡◌, Some, IfOk, codes, map};
+ghost use Rattle.std.specs.Prelude.{◌≡◌, Some, map};
 ghost use Rattle.toml.specs.View.{view, table_view};
-ghost use Rattle.device_file.specs.Keys.{key_word};
-ghost use Rattle.device_file.specs.Limits.{HasLimit, HasWord, IsKind, excess_at, excess_of, is_text, member_at, place_of_text};
+ghost use Rattle.device_file.specs.Limits.{at_most_in, at_most_member_in, at_most_while_in, constant_in, excess_in, excess_of, is_text, joined_in, limit_of_table, member_in, place_of_text, plus_in, product_in, sum_in, word_of_table};
 
 use crate::fault::KeyFault;
 use crate::key::Key;
@@ -14,7 +13,7 @@ use toml::{Table, Value};
 
 // The limit of a table; the members of its cluster are these.
 pub(crate) fn limit_of(table: &Table, members: &[Value]) -> Result<Limit, KeyFault>
-    ensures { IfOk result (HasLimit (table_view table.now) (map view members.now)) }
+    ensures { result ≡ limit_of_table (map view members.now) (table_view table.now) }
 {
     let kind = needed_text(table, Key::Kind)?;
     if kind == "sum" {
@@ -36,8 +35,7 @@ pub(crate) fn limit_of(table: &Table, members: &[Value]) -> Result<Limit, KeyFau
 }
 
 fn sum_of(table: &Table, _members: &[Value]) -> Result<Limit, KeyFault>
-    requires { IsKind (table_view table.now) (codes "sum") }
-    ensures { IfOk result (HasLimit (table_view table.now) (map view _members.now)) }
+    ensures { result ≡ sum_in (map view _members.now) (table_view table.now) }
 {
     no_others(table, &[Key::Kind, Key::Most])?;
     Ok(Limit::Sum {
@@ -46,32 +44,29 @@ fn sum_of(table: &Table, _members: &[Value]) -> Result<Limit, KeyFault>
 }
 
 fn product_of(table: &Table, members: &[Value]) -> Result<Limit, KeyFault>
-    requires { IsKind (table_view table.now) (codes "product") }
-    ensures { IfOk result (HasLimit (table_view table.now) (map view members.now)) }
+    ensures { result ≡ product_in (map view members.now) (table_view table.now) }
 {
     no_others(table, &[Key::Kind, Key::First, Key::Second, Key::Most])?;
     Ok(Limit::Product {
-        first: member_in(table, Key::First, members)?,
-        second: member_in(table, Key::Second, members)?,
+        first: member_of(table, Key::First, members)?,
+        second: member_of(table, Key::Second, members)?,
         most: needed_number(table, Key::Most)?,
     })
 }
 
 fn at_most_of(table: &Table, members: &[Value]) -> Result<Limit, KeyFault>
-    requires { IsKind (table_view table.now) (codes "at_most") }
-    ensures { IfOk result (HasLimit (table_view table.now) (map view members.now)) }
+    ensures { result ≡ at_most_in (map view members.now) (table_view table.now) }
 {
     no_others(table, &[Key::Kind, Key::Member, Key::Most, Key::Excess])?;
     Ok(Limit::AtMost {
-        member: member_in(table, Key::Member, members)?,
+        member: member_of(table, Key::Member, members)?,
         most: needed_number(table, Key::Most)?,
-        excess: excess_in(table)?,
+        excess: excess_at(table)?,
     })
 }
 
 fn at_most_member_of(table: &Table, members: &[Value]) -> Result<Limit, KeyFault>
-    requires { IsKind (table_view table.now) (codes "at_most_member") }
-    ensures { IfOk result (HasLimit (table_view table.now) (map view members.now)) }
+    ensures { result ≡ at_most_member_in (map view members.now) (table_view table.now) }
 {
     no_others(
         table,
@@ -84,16 +79,15 @@ fn at_most_member_of(table: &Table, members: &[Value]) -> Result<Limit, KeyFault
         ],
     )?;
     Ok(Limit::AtMostMember {
-        member: member_in(table, Key::Member, members)?,
-        other: member_in(table, Key::OtherMember, members)?,
+        member: member_of(table, Key::Member, members)?,
+        other: member_of(table, Key::OtherMember, members)?,
         margin: number_or(table, Key::Margin, 0)?,
-        excess: excess_in(table)?,
+        excess: excess_at(table)?,
     })
 }
 
 fn at_most_while_of(table: &Table, members: &[Value]) -> Result<Limit, KeyFault>
-    requires { IsKind (table_view table.now) (codes "at_most_while") }
-    ensures { IfOk result (HasLimit (table_view table.now) (map view members.now)) }
+    ensures { result ≡ at_most_while_in (map view members.now) (table_view table.now) }
 {
     no_others(
         table,
@@ -106,16 +100,16 @@ fn at_most_while_of(table: &Table, members: &[Value]) -> Result<Limit, KeyFault>
         ],
     )?;
     Ok(Limit::AtMostWhile {
-        member: member_in(table, Key::Member, members)?,
+        member: member_of(table, Key::Member, members)?,
         most: needed_number(table, Key::Most)?,
-        other: member_in(table, Key::OtherMember, members)?,
+        other: member_of(table, Key::OtherMember, members)?,
         when: needed_number(table, Key::When)?,
     })
 }
 
 // The word of a table; the members of its cluster are these.
 pub(crate) fn word_of(table: &Table, members: &[Value]) -> Result<Word, KeyFault>
-    ensures { IfOk result (HasWord (table_view table.now) (map view members.now)) }
+    ensures { result ≡ word_of_table (map view members.now) (table_view table.now) }
 {
     let kind = needed_text(table, Key::Kind)?;
     if kind == "joined" {
@@ -131,30 +125,27 @@ pub(crate) fn word_of(table: &Table, members: &[Value]) -> Result<Word, KeyFault
 }
 
 fn joined_of(table: &Table, members: &[Value]) -> Result<Word, KeyFault>
-    requires { IsKind (table_view table.now) (codes "joined") }
-    ensures { IfOk result (HasWord (table_view table.now) (map view members.now)) }
+    ensures { result ≡ joined_in (map view members.now) (table_view table.now) }
 {
     no_others(table, &[Key::Kind, Key::First, Key::Second])?;
     Ok(Word::Joined {
-        first: member_in(table, Key::First, members)?,
-        second: member_in(table, Key::Second, members)?,
+        first: member_of(table, Key::First, members)?,
+        second: member_of(table, Key::Second, members)?,
     })
 }
 
 fn plus_of(table: &Table, members: &[Value]) -> Result<Word, KeyFault>
-    requires { IsKind (table_view table.now) (codes "plus") }
-    ensures { IfOk result (HasWord (table_view table.now) (map view members.now)) }
+    ensures { result ≡ plus_in (map view members.now) (table_view table.now) }
 {
     no_others(table, &[Key::Kind, Key::Member, Key::More])?;
     Ok(Word::Plus {
-        member: member_in(table, Key::Member, members)?,
+        member: member_of(table, Key::Member, members)?,
         more: needed_number(table, Key::More)?,
     })
 }
 
 fn constant_of(table: &Table, _members: &[Value]) -> Result<Word, KeyFault>
-    requires { IsKind (table_view table.now) (codes "constant") }
-    ensures { IfOk result (HasWord (table_view table.now) (map view _members.now)) }
+    ensures { result ≡ constant_in (map view _members.now) (table_view table.now) }
 {
     no_others(table, &[Key::Kind, Key::Word])?;
     match u32::try_from(needed_number(table, Key::Word)?) {
@@ -164,8 +155,8 @@ fn constant_of(table: &Table, _members: &[Value]) -> Result<Word, KeyFault>
 }
 
 // The place of the member that a key names.
-fn member_in(table: &Table, key: Key, members: &[Value]) -> Result<u8, KeyFault>
-    ensures { IfOk result (λ place. member_at (key_word key) (table_view table.now) (map view members.now) ≡ Some place) }
+fn member_of(table: &Table, key: Key, members: &[Value]) -> Result<u8, KeyFault>
+    ensures { result ≡ member_in key (map view members.now) (table_view table.now) }
 {
     let word = needed_text(table, key)?;
     match place_of(members, word) {
@@ -199,8 +190,8 @@ fn is_word(value: &Value, word: &str) -> bool
 }
 
 // What becomes of a value above a limit; it is refused where the key isn't there.
-fn excess_in(table: &Table) -> Result<Excess, KeyFault>
-    ensures { IfOk result (λ excess. excess_at (table_view table.now) ≡ Some excess) }
+fn excess_at(table: &Table) -> Result<Excess, KeyFault>
+    ensures { result ≡ excess_in (table_view table.now) }
 {
     match text(table, Key::Excess) {
         Ok(Some(word)) => match excess_named(word) {

@@ -3,7 +3,7 @@
 
 ghost use Rattle.std.specs.Prelude.{◌<◌, length};
 
-use crate::fault::FileFault;
+use crate::fault::{FileFault, KeyFault};
 use crate::key::Key;
 use crate::place::{Place, table_at, value_at};
 use crate::problem::Problem;
@@ -17,13 +17,25 @@ use toml::{Table, Value};
 /// - `text`: the file that was read; of another one the line may be any.
 /// - `fault`: what was answered.
 pub fn line_of(alloc: Global, text: &[u8], fault: &FileFault) -> Result<Option<usize>, AllocError> {
+    match fault {
+        FileFault::Memory => Ok(None),
+        FileFault::Table { place, fault } => table_line(alloc, text, *place, fault),
+    }
+}
+
+fn table_line(
+    alloc: Global,
+    text: &[u8],
+    place: Place,
+    fault: &KeyFault,
+) -> Result<Option<usize>, AllocError> {
     match fault.problem {
-        Problem::TooLong | Problem::Memory => return Ok(None),
+        Problem::TooLong => return Ok(None),
         Problem::Syntax(error) => return Ok(syntax_line(text, &error)),
         _ => {}
     }
     match toml::table_from_slice(alloc, text) {
-        Ok(file) => line_in(alloc, text, &file, fault),
+        Ok(file) => line_in(alloc, text, &file, place, fault.key),
         Err(error) => {
             if error.is_memory() {
                 Err(AllocError)
@@ -42,32 +54,33 @@ pub(crate) fn syntax_line(text: &[u8], error: &toml::de::Error) -> Option<usize>
     Some(ends.saturating_add(1))
 }
 
-// The line in a file that was read.
+// The line of a table's key in a file that was read.
 pub(crate) fn line_in(
     alloc: Global,
     text: &[u8],
     file: &Table,
-    fault: &FileFault,
+    place: Place,
+    key: Key,
 ) -> Result<Option<usize>, AllocError> {
-    let key = key_in(file, fault);
+    let key = key_in(file, place, key);
     let wanted = match key {
-        Some(_) if is_there(file, fault.place, key) => key,
+        Some(_) if is_there(file, place, key) => key,
         _ => None,
     };
-    if matches!(fault.place, Place::File) && wanted.is_none() {
+    if matches!(place, Place::File) && wanted.is_none() {
         return Ok(None);
     }
     let statements = count(text);
-    let first = first_with(alloc, text, statements, fault.place, wanted)?;
+    let first = first_with(alloc, text, statements, place, wanted)?;
     Ok(Some(cut(text, first).line))
 }
 
-// A fault's key as it stands in the file; none where it is the table itself.
-pub(crate) fn key_in<'a>(file: &'a Table, fault: &FileFault) -> Option<&'a str> {
-    match fault.key {
+// A key as it stands in a table of the file; none where it is the table itself.
+pub(crate) fn key_in(file: &Table, place: Place, key: Key) -> Option<&str> {
+    match key {
         Key::Table => None,
         Key::Other(number) => {
-            let mut keys = table_at(file, fault.place)?.keys();
+            let mut keys = table_at(file, place)?.keys();
             Some(keys.nth(number)?.as_str())
         }
         key => Some(key.word()),

@@ -85,8 +85,6 @@ pub enum Problem {
     ClusterSize,
     /// A member is in a cluster already, or named twice.
     InCluster,
-    /// A growth was refused.
-    Memory,
 }
 
 impl fmt::Display for Sort {
@@ -149,13 +147,13 @@ impl Problem {
             Problem::IdTaken => "the handler has another control of this id",
             Problem::BadRange => "min lies above max",
             Problem::ZeroStep => "the step of a number is 1 or more",
-            Problem::BadDefault => "the control doesn't take this value as it is",
+            Problem::BadDefault =>
+                "the control doesn't take it as it is: it has to lie from min to max, on a step, and not be skipped; left out it is 0",
             Problem::NotItem => "an item is a name or a number",
             Problem::NoItem => "the control has no such item at this index",
             Problem::LongItem => "the name of an item has at most 32 bytes",
             Problem::ClusterSize => "a cluster has 1 to 8 members",
             Problem::InCluster => "a member is in a cluster already, or named twice",
-            Problem::Memory => "no memory",
             Problem::Syntax(_) | Problem::Not(_) | Problem::NotOfType(_) => "",
         }
     }

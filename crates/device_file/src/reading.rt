@@ -1,10 +1,12 @@
 //! The values of a table's keys.
 
-ghost use Rattle.std.specs.Prelude.{◌≡◌, [], Some, IfOk, IfErr, option_map, map};
-ghost use Rattle.toml.specs.Data.{as_table, get_member};
+ghost use Rattle.std.specs.Prelude.{◌≡◌, not, option_map, map, position, string_bytes};
+ghost use Rattle.std.specs.BTreeMap.{keys};
+ghost use Rattle.std.specs.Result.{result_map_both};
+ghost use Rattle.toml.specs.Data.{get_member};
 ghost use Rattle.toml.specs.View.{array_view, view, table_view};
-ghost use Rattle.device_file.specs.Keys.{key_word};
-ghost use Rattle.device_file.specs.Reading.{elements_at, listed, number_at, number_or as number_or_of, text_at, truth_at};
+ghost use Rattle.device_file.specs.Reading.{elements_at, elements_in, is_key_of, listed, needed_number_in, needed_text_in, no_others_in, number_in, number_or_in, table_in, text_in, truth_in, value_at};
+ghost use Rattle.device_file.specs.Reading.{table_with as keyed};
 
 use crate::fault::KeyFault;
 use crate::key::Key;
@@ -20,14 +22,14 @@ fn member<'a>(table: &'a Table, key: &str) -> Option<&'a Value>
 
 // The value of a key, where it is there.
 pub(crate) fn find(table: &Table, key: Key) -> Option<&Value>
-    ensures { option_map (λ v. view v.now) result ≡ get_member (key_word key) (table_view table.now) }
+    ensures { option_map (λ v. view v.now) result ≡ value_at key (table_view table.now) }
 {
     member(table, key.word())
 }
 
 // The text of a key, where it is there.
 pub(crate) fn text(table: &Table, key: Key) -> Result<Option<&str>, KeyFault>
-    ensures { IfOk result (λ t. option_map (λ s. s.now) t ≡ text_at (key_word key) (table_view table.now)) }
+    ensures { result_map_both (λ t. option_map (λ s. s.now) t) (λ e. e) result ≡ text_in key (table_view table.now) }
 {
     match find(table, key) {
         None => Ok(None),
@@ -40,7 +42,7 @@ pub(crate) fn text(table: &Table, key: Key) -> Result<Option<&str>, KeyFault>
 
 // The text of a key that has to be there.
 pub(crate) fn needed_text(table: &Table, key: Key) -> Result<&str, KeyFault>
-    ensures { IfOk result (λ t. text_at (key_word key) (table_view table.now) ≡ Some t.now) }
+    ensures { result_map_both (λ t. t.now) (λ e. e) result ≡ needed_text_in key (table_view table.now) }
 {
     match text(table, key) {
         Ok(Some(text)) => Ok(text),
@@ -51,7 +53,7 @@ pub(crate) fn needed_text(table: &Table, key: Key) -> Result<&str, KeyFault>
 
 // The number of a key, where it is there.
 pub(crate) fn number(table: &Table, key: Key) -> Result<Option<i64>, KeyFault>
-    ensures { IfOk result (λ n. n ≡ number_at (key_word key) (table_view table.now)) }
+    ensures { result ≡ number_in key (table_view table.now) }
 {
     match find(table, key) {
         None => Ok(None),
@@ -64,7 +66,7 @@ pub(crate) fn number(table: &Table, key: Key) -> Result<Option<i64>, KeyFault>
 
 // The number of a key that has to be there.
 pub(crate) fn needed_number(table: &Table, key: Key) -> Result<i64, KeyFault>
-    ensures { IfOk result (λ n. number_at (key_word key) (table_view table.now) ≡ Some n) }
+    ensures { result ≡ needed_number_in key (table_view table.now) }
 {
     match number(table, key) {
         Ok(Some(number)) => Ok(number),
@@ -75,7 +77,7 @@ pub(crate) fn needed_number(table: &Table, key: Key) -> Result<i64, KeyFault>
 
 // The number of a key, or this one where the key isn't there.
 pub(crate) fn number_or(table: &Table, key: Key, other: i64) -> Result<i64, KeyFault>
-    ensures { IfOk result (λ n. n ≡ number_or_of other (number_at (key_word key) (table_view table.now))) }
+    ensures { result ≡ number_or_in key other (table_view table.now) }
 {
     match number(table, key) {
         Ok(Some(number)) => Ok(number),
@@ -86,7 +88,7 @@ pub(crate) fn number_or(table: &Table, key: Key, other: i64) -> Result<i64, KeyF
 
 // Whether a key is true; false where it isn't there.
 pub(crate) fn truth(table: &Table, key: Key) -> Result<bool, KeyFault>
-    ensures { IfOk result (λ b. b ≡ truth_at (key_word key) (table_view table.now)) }
+    ensures { result ≡ truth_in key (table_view table.now) }
 {
     match find(table, key) {
         None => Ok(false),
@@ -99,14 +101,26 @@ pub(crate) fn truth(table: &Table, key: Key) -> Result<bool, KeyFault>
 
 // The elements of an array; none where the key isn't there.
 pub(crate) fn elements(table: &Table, key: Key, sort: Sort) -> Result<&[Value], KeyFault>
-    ensures ok { IfOk result (λ vs. map view vs.now ≡ elements_at (key_word key) (table_view table.now)) }
-    ensures err { IfErr result (λ _. elements_at (key_word key) (table_view table.now) ≡ []) }
+    ensures { result_map_both (λ vs. map view vs.now) (λ e. e) result ≡ elements_in key sort (table_view table.now) }
 {
     match find(table, key) {
         None => Ok(&[]),
         Some(value) => match value.as_array() {
             Some(array) => Ok(values_of(array)),
             None => Err(KeyFault::new(key, Problem::Not(sort))),
+        },
+    }
+}
+
+// The elements of an array; none where anything else is there.
+pub(crate) fn elements_of(table: &Table, key: Key) -> &[Value]
+    ensures { map view result.now ≡ elements_at key (table_view table.now) }
+{
+    match find(table, key) {
+        None => &[],
+        Some(value) => match value.as_array() {
+            Some(array) => values_of(array),
+            None => &[],
         },
     }
 }
@@ -120,7 +134,7 @@ pub(crate) fn values_of(array: &Vec<Value>) -> &[Value]
 
 // The table that a value is.
 pub(crate) fn table(value: &Value) -> Result<&Table, KeyFault>
-    ensures { IfOk result (λ table. as_table (view value.now) ≡ Some (table_view table.now)) }
+    ensures { result_map_both (λ t. table_view t.now) (λ e. e) result ≡ table_in (view value.now) }
 {
     match value.as_table() {
         Some(table) => Ok(table),
@@ -129,13 +143,33 @@ pub(crate) fn table(value: &Value) -> Result<&Table, KeyFault>
 }
 
 // That a table has no key but these.
-pub(crate) fn no_others(table: &Table, known: &[Key]) -> Result<(), KeyFault> {
-    match table.keys().position(|key| !is_known(known, key.as_str())) {
+pub(crate) fn no_others(table: &Table, known: &[Key]) -> Result<(), KeyFault>
+    ensures { result ≡ no_others_in known.now (table_view table.now) }
+{
+    match other_place(table, known) {
         Some(place) => Err(KeyFault::new(Key::Other(place), Problem::UnknownKey)),
         None => Ok(()),
     }
 }
 
-fn is_known(known: &[Key], word: &str) -> bool {
-    known.iter().any(|key| key.word() == word)
+// The place of the first key that is none of these.
+fn other_place(table: &Table, known: &[Key]) -> Option<usize>
+    ensures { result ≡ position (λ key. not (is_key_of known.now (string_bytes key))) (keys table.now) }
+{
+    table.keys().position(|key| !is_known(known, key.as_str()))
+}
+
+fn is_known(known: &[Key], text: &str) -> bool
+    ensures { result ≡ is_key_of known.now text.now }
+{
+    known.iter().any(|key| key.word() == text)
+}
+
+// The table that a value is, which has no key but these.
+pub(crate) fn table_with<'a>(value: &'a Value, known: &[Key]) -> Result<&'a Table, KeyFault>
+    ensures { result_map_both (λ t. table_view t.now) (λ e. e) result ≡ keyed known.now (view value.now) }
+{
+    let table = table(value)?;
+    no_others(table, known)?;
+    Ok(table)
 }

@@ -5,4 +5,4 @@ use Rattle.device_file.proofs.clusters.numbers_of.Given as goal
 
 -- the numbers so far, and those of the names that are left
 abbrev pub invariant-loop-place : goal.invariant-loop-place
-invariant-loop-place l = numbers_with l.words l.members.items (map view (drop l.place l.names)) ≡ numbers_with l.words [] (map view l.names)
+invariant-loop-place l = numbers_with l.words l.members.items l.place (map view (drop l.place l.names)) ≡ numbers_with l.words [] 0 (map view l.names)

@@ -1,0 +1,43 @@
+-- What a plan builder's refusals are in a file.
+use Rattle.std.specs.Prelude.{ℕ, Option, Some, None, Result, Ok, Err}
+use Rattle.ctrl_handlers.specs.declared.fault.PlanFault.{PlanFault}
+use Rattle.ctrl_handlers.specs.declared.fault.PlanFault.TheVariants.{ClusterSize, DuplicateId, InCluster, LaterHandler, Limit, Memory, UnknownNumber}
+use Rattle.device_file.specs.Faults.{wrong, wrong_at}
+use Rattle.device_file.specs.declared.fault.KeyFault.{KeyFault}
+use Rattle.device_file.specs.declared.fault.ReadError.{ReadError}
+use Rattle.device_file.specs.declared.fault.ReadError.TheVariants as errors
+use Rattle.device_file.specs.declared.key.Key.TheVariants as keys
+use Rattle.device_file.specs.declared.problem.Problem.TheVariants as problems
+
+-- what a call of the builder makes; where it is refused, the fault that the refusal is
+abbrev pub unless_refused : {A : Type 0} → (PlanFault → KeyFault) → Option PlanFault → A → Result A KeyFault
+unless_refused fault_of None made = Ok made
+unless_refused fault_of (Some refusal) made = Err (fault_of refusal)
+
+-- an error of the builder: memory is wanting, or the fault that the refusal is
+abbrev pub refused : (PlanFault → KeyFault) → PlanFault → ReadError
+refused fault_of Memory = errors.Memory
+refused fault_of refusal = errors.Key (fault_of refusal)
+
+-- a further handler
+abbrev pub handler_fault : PlanFault → KeyFault
+handler_fault _ = wrong keys.Table problems.ManyHandlers
+
+-- what an element of `adds` names
+abbrev pub adding_fault : ℕ → PlanFault → KeyFault
+adding_fault place _ = wrong_at keys.Adds place problems.UnknownHandler
+
+-- a further control: the handler has one of this id; else there are as many as there can be
+abbrev pub control_fault : PlanFault → KeyFault
+control_fault DuplicateId = wrong keys.Id problems.IdTaken
+control_fault _ = wrong keys.Table problems.ManyControls
+
+-- the item at an index: its name is too long; else the control has no such item there
+abbrev pub item_fault : ℕ → PlanFault → KeyFault
+item_fault index Limit = wrong_at keys.Menu index problems.LongItem
+item_fault index _ = wrong_at keys.Menu index problems.NoItem
+
+-- a further cluster
+abbrev pub cluster_fault : PlanFault → KeyFault
+cluster_fault ClusterSize = wrong keys.Members problems.ClusterSize
+cluster_fault _ = wrong keys.Members problems.InCluster
