@@ -7,17 +7,15 @@ use ctrl_clusters::inactive;
 use ctrl_types::{Pair, last_value};
 use device_state::{Device, Plan};
 use std::alloc::Global;
-use std::io;
-use std::io::Write;
-use view_layout::{Cell, Look, Mark, put_cell};
+use view_layout::{Cell, Look, Page, put_cell};
 
 /// A queued frame.
 #[derive(Clone, Copy)]
 pub struct Frame<'a> {
-    /// The number of its buffer.
-    pub buffer: u32,
     /// The clusters that will be refused.
     pub refused: &'a [u32],
+    // the number of its buffer
+    buffer: u32,
     // the values before it, and those that it will have
     before: &'a [i64],
     behind: &'a [i64],
@@ -84,31 +82,36 @@ pub fn stays<D: Driver>(device: &Device<D>, control: u32) -> bool
     requires { control < length device.now.plan.controls }
 {
     for place in 0..device.queued_count() {
-        if cell_at(device.plan(), frame_at(device, place), control).mark() != Mark::Stays {
+        if !cell_at(device.plan(), frame_at(device, place), control).is_still() {
             return false;
         }
     }
     true
 }
 
-/// How many bytes the longest text in a frame's column has.
-pub fn widest<D: Driver>(alloc: Global, device: &Device<D>) -> io::Result<usize> {
+/// How many bytes the longest text in a frame's column has, as far as there is memory to put it together.
+pub fn widest<D: Driver>(alloc: Global, device: &Device<D>) -> usize {
     let mut widest = 0;
     for place in 0..device.queued_count() {
-        widest = widest.max(widest_of(alloc, device.plan(), frame_at(device, place))?);
+        widest = widest.max(widest_of(alloc, device.plan(), frame_at(device, place)));
     }
-    Ok(widest)
+    widest
 }
 
-fn widest_of<D: Driver>(alloc: Global, plan: &Plan<D>, frame: Frame<'_>) -> io::Result<usize> {
-    let mut text: Vec<u8> = Vec::new(alloc);
-    let buffer = frame.buffer;
-    write!(text, "buffer {buffer}")?;
-    let mut widest = text.len();
+fn widest_of<D: Driver>(alloc: Global, plan: &Plan<D>, frame: Frame<'_>) -> usize {
+    let mut page = Page::new(alloc);
+    put_buffer(&mut page, frame);
+    let mut widest = page.text().len();
     for control in 0..plan.control_count() {
-        text.clear();
-        put_cell(&mut text, cell_at(plan, frame, control))?;
-        widest = widest.max(text.len());
+        page.clear();
+        put_cell(&mut page, cell_at(plan, frame, control));
+        widest = widest.max(page.text().len());
     }
-    Ok(widest)
+    widest
+}
+
+/// Puts the buffer of a frame on a page.
+pub fn put_buffer(page: &mut Page, frame: Frame<'_>) {
+    page.put("buffer ");
+    page.put_number(i64::from(frame.buffer));
 }

@@ -1,8 +1,12 @@
-//! A script on the sample device as a person reads it: each command beside its reply, why it was refused, and what the queued frames will have as a table.
+//! A script on a device as a person reads it: each command beside its reply, why it was refused, and what the queued frames will have as a table. The device
+//! is the sample device, or one that a file describes, which can be listed, too.
 #![tactic(auto)]
 
 mod answer;
+mod file;
 mod frame;
+mod limits;
+mod listing;
 mod reply;
 mod script;
 mod shown;
@@ -16,16 +20,17 @@ mod words;
 ghost use Rattle.std.specs.Prelude.{◌≤◌, vec_len, IfOk};
 ghost use Rattle.ctrl_calls.specs.Meanings.{JudgesBy, TellsBy};
 
+use crate::file::run_file;
 use crate::script::show_script;
 use crate::view::View;
-use crate::wanted::Wanted;
+use crate::wanted::{Script, Wanted};
 use ctl_script::{
-    BALANCE_LIMIT, BRIGHTNESS_WORDS, BUTTON_WORDS, GAIN_LIMIT, InputFault, Outcome, PAIR_WORDS,
-    Sample, balance_verdict, brightness_word, button_word, gain_verdict, pair_word, read_input,
-    sample_plan, sample_words, with_line,
+    BALANCE_LIMIT, BRIGHTNESS_WORDS, BUTTON_WORDS, ControlWords, GAIN_LIMIT, InputFault, Outcome,
+    PAIR_WORDS, Sample, balance_verdict, brightness_word, button_word, gain_verdict, pair_word,
+    read_input, sample_plan, sample_words, with_line,
 };
 use ctrl_calls::{Calls, ClusterRow, Driver, Notifier, Validator, Verdict};
-use device_state::Device;
+use device_state::{Device, Plan};
 use std::env::VarError;
 use std::fs::File;
 use std::io::IsTerminal;
@@ -34,7 +39,8 @@ use std::rt::{Env, Files};
 use std::{env, io};
 use view_layout::Ink;
 
-const USAGE: &str = "usage: ctl_view [--queue | --why] [FILE]";
+const USAGE: &str =
+    "usage: ctl_view [--device FILE] [--queue | --why] [SCRIPT]\n       ctl_view --device FILE --check | --list";
 
 type Judge = Box<dyn Fn(ClusterRow) -> Verdict + Send>;
 
@@ -53,6 +59,10 @@ fn main(rt: HostRuntime) -> ExitCode {
         return usage(&rt);
     };
     let ink = Ink::new(rt.stdout().is_terminal() && !is_plain(&rt));
+    let script = match wanted {
+        Wanted::OnSample(script) => script,
+        Wanted::OnFile(path, task) => return run_file(&rt, path, task, ink),
+    };
     let limit = Box::new(rt.alloc(), |row: ClusterRow| gain_verdict(&row));
     let sum = Box::new(rt.alloc(), |row: ClusterRow| balance_verdict(&row));
     let gain = Box::new(rt.alloc(), |row: ClusterRow| pair_word(&row));
@@ -73,7 +83,7 @@ fn main(rt: HostRuntime) -> ExitCode {
     let (button, brightness): (Teller, Teller) = (button, brightness);
     run::<Sample, HostRuntime>(
         &rt,
-        wanted,
+        script,
         ink,
         (limit, sum),
         (gain, balance, button, brightness),
@@ -93,7 +103,7 @@ fn is_plain<R: AllocGlobal + Env>(rt: &R) -> bool {
 // and blue the second ones, of the button and of brightness the last notifiers.
 fn run<D: Driver, R: AllocGlobal + Input + Files + Print + Eprint>(
     rt: &R,
-    wanted: Wanted<'_>,
+    script: Script<'_>,
     ink: Ink,
     judges: (D::Judge, D::Judge),
     tellers: (D::Teller, D::Teller, D::Teller, D::Teller),
@@ -132,16 +142,28 @@ fn run<D: Driver, R: AllocGlobal + Input + Files + Print + Eprint>(
     let Ok(plan) = sample_plan(rt.alloc(), of_gain, of_balance, of_button, of_brightness) else {
         return no_memory(rt);
     };
+    match sample_words(rt.alloc()) {
+        Ok(known) => show_on(rt, plan, known, "the sample device", script, ink),
+        Err(_) => no_memory(rt),
+    }
+}
+
+// Shows a script on a fresh device of a plan, whose controls have these words, and which people know by this name.
+fn show_on<D: Driver, R: AllocGlobal + Input + Files + Print + Eprint>(
+    rt: &R,
+    plan: Plan<D>,
+    known: ControlWords,
+    name: &'static str,
+    script: Script<'_>,
+    ink: Ink,
+) -> ExitCode {
     let Ok(mut device) = Device::new(rt.alloc(), plan) else {
         return no_memory(rt);
     };
-    let Ok(known) = sample_words(rt.alloc()) else {
+    let Ok(mut view) = View::new(rt.alloc(), known, name, script.how, ink) else {
         return no_memory(rt);
     };
-    let Ok(mut view) = View::new(rt.alloc(), known, wanted.how, ink) else {
-        return no_memory(rt);
-    };
-    let outcome = show(rt, &mut device, &mut view, wanted.file);
+    let outcome = show(rt, &mut device, &mut view, script.file);
     let outcome = with_line(&mut io::writer(rt), &mut view.line, outcome);
     ExitCode::from(outcome.status())
 }
@@ -168,11 +190,24 @@ fn read_script<R: AllocGlobal + Input + Files + Eprint>(
 ) -> Result<Vec<u8>, InputFault>
     ensures { IfOk result (λ text. vec_len text ≤ 1048576) }
 {
-    let Some(path) = file else {
-        return read_input(rt.alloc(), &mut rt.reader());
-    };
+    match file {
+        Some(path) => read_file(rt, path),
+        None => read_input(rt.alloc(), &mut rt.reader()),
+    }
+}
+
+// What a file has. Why it can't be read is said.
+fn read_file<R: AllocGlobal + Files + Eprint>(rt: &R, path: &str) -> Result<Vec<u8>, InputFault>
+    ensures { IfOk result (λ text. vec_len text ≤ 1048576) }
+{
     match File::open(rt, path) {
-        Ok(mut opened) => read_input(rt.alloc(), &mut opened),
+        Ok(mut opened) => {
+            let text = read_input(rt.alloc(), &mut opened);
+            if let Err(InputFault::Reader) = text {
+                let _ = eprintln!(rt; "ctl_view: {path}: it can't be read");
+            }
+            text
+        }
         Err(error) => {
             let _ = eprintln!(rt; "ctl_view: {path}: {error}");
             Err(InputFault::Reader)

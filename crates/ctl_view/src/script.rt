@@ -59,17 +59,7 @@ fn show_line<D: Driver, R: AllocGlobal + Eprint, W: Write>(
         Ok(said) if view.how == How::Why => explain(rt, device, view, line.number, &said, writer),
         Ok(said) => show_said(rt.alloc(), device, view, line, &said, writer),
         Err(LineFault::Memory) => Err(Outcome::Memory),
-        Err(LineFault::NotACommand) if view.how == How::Why => Err(explain_stray(
-            rt,
-            &view.known,
-            line,
-        )),
-        Err(LineFault::NotACommand) => Err(show_stray(
-            rt.alloc(),
-            &view.known,
-            view.ink,
-            line,
-            writer,
-        )),
+        Err(LineFault::NotACommand) if view.how == How::Why => Err(explain_stray(rt, view, line)),
+        Err(LineFault::NotACommand) => Err(show_stray(rt.alloc(), view, line, writer)),
     }
 }

@@ -2,21 +2,18 @@
 
 use crate::answer::Said;
 use crate::reply::put_reply;
-use crate::table::put_table;
-use crate::told::DEVICE;
+use crate::table::{put_below, put_table};
 use crate::view::View;
 use crate::why::{put_check, put_refusal};
 use ask_reasons::reason_of;
-use ctl_script::ControlWords;
 use ctrl_calls::Driver;
 use ctrl_types::Fault;
 use device_state::{Ask, Device, Reply};
 use line_reasons::{Complaint, reason_of as reason_of_line};
 use script_replies::{Audited, Outcome, write_audit};
-use std::alloc::Global;
-use std::io;
+use std::alloc::{AllocError, Global};
 use std::io::Write;
-use view_layout::{INDENT, Ink, Line, put_command, put_folded, put_skipped, put_spaces};
+use view_layout::{Ink, Line, Page, put_command, put_skipped};
 
 /// Shows a line, and what it came to.
 pub fn show_said<D: Driver, W: Write>(
@@ -27,48 +24,47 @@ pub fn show_said<D: Driver, W: Write>(
     said: &Said,
     writer: &mut W,
 ) -> Result<(), Outcome> {
-    let mut page: Vec<u8> = Vec::new(alloc);
-    let put = match said {
+    let mut page = Page::new(alloc);
+    match said {
         Said::Nothing => put_skipped(&mut page, line, view.ink),
         Said::Audit(audited) => put_audited(&mut page, alloc, view, line, *audited),
         Said::Answer(ask, Err(fault)) => {
-            put_refused(&mut page, alloc, device, view, line, ask, *fault)
+            if put_refused(&mut page, alloc, device, view, line, ask, *fault).is_err() {
+                return Err(Outcome::Memory);
+            }
         }
         Said::Answer(ask, answer) => {
             put_accepted(&mut page, alloc, device, view, line, ask, answer)
         }
-    };
-    match put {
-        Ok(()) => write_page(writer, page.as_slice()),
-        Err(_) => Err(Outcome::Memory),
     }
+    write_page(writer, &page)
 }
 
-fn put_audited(
-    page: &mut Vec<u8>,
-    alloc: Global,
-    view: &mut View,
-    line: Line<'_>,
-    audited: Audited,
-) -> io::Result<()> {
+fn put_audited(page: &mut Page, alloc: Global, view: &mut View, line: Line<'_>, audited: Audited) {
     view.commands = view.commands.saturating_add(1);
-    let mut said: Vec<u8> = Vec::new(alloc);
-    write_audit(&mut said, &mut view.line, audited)?;
-    put_command(page, line, said.as_slice(), "", view.ink)
+    let mut said = Page::new(alloc);
+    let _ = write_audit(&mut said, &mut view.line, audited);
+    put_beside(page, line, &said, "", view.ink);
+}
+
+// Puts a command on a page with what was said to it.
+fn put_beside(page: &mut Page, line: Line<'_>, said: &Page, colour: &str, ink: Ink) {
+    page.needs(said);
+    put_command(page, line, said.text(), colour, ink);
 }
 
 // Puts a command that was accepted on a page, and the queue where it is to be shown.
 fn put_accepted<D: Driver>(
-    page: &mut Vec<u8>,
+    page: &mut Page,
     alloc: Global,
     device: &Device<D>,
     view: &mut View,
     line: Line<'_>,
     ask: &Ask,
     answer: &Result<Reply, Fault>,
-) -> io::Result<()> {
+) {
     view.commands = view.commands.saturating_add(1);
-    let mut said: Vec<u8> = Vec::new(alloc);
+    let mut said = Page::new(alloc);
     put_reply(
         &mut said,
         &mut view.line,
@@ -76,30 +72,29 @@ fn put_accepted<D: Driver>(
         device.plan(),
         ask,
         answer,
-    )?;
-    put_command(page, line, said.as_slice(), "", view.ink)?;
+    );
+    put_beside(page, line, &said, "", view.ink);
     if view.shows_queue(device, ask) {
         view.shown_at = Some(device.steps().len());
-        put_table(page, alloc, &view.known, device, view.ink)?;
+        put_table(page, alloc, &view.known, device, view.ink);
     }
-    Ok(())
 }
 
-// Puts a command that was refused on a page, and why.
+// Puts a command that was refused on a page, and why. The error is that there is no memory to find it out.
 fn put_refused<D: Driver>(
-    page: &mut Vec<u8>,
+    page: &mut Page,
     alloc: Global,
     device: &Device<D>,
     view: &mut View,
     line: Line<'_>,
     ask: &Ask,
     fault: Fault,
-) -> io::Result<()> {
+) -> Result<(), AllocError> {
     view.commands = view.commands.saturating_add(1);
     view.refused = view.refused.saturating_add(1);
     let ink = view.ink;
     let reason = reason_of(alloc, device, ask)?;
-    let mut said: Vec<u8> = Vec::new(alloc);
+    let mut said = Page::new(alloc);
     put_refusal(
         &mut said,
         &mut view.line,
@@ -108,45 +103,37 @@ fn put_refused<D: Driver>(
         ask,
         fault,
         reason,
-    )?;
-    put_command(page, line, said.as_slice(), ink.bad, ink)?;
-    let Some(reason) = reason else {
-        return Ok(());
-    };
-    said.clear();
-    put_check(&mut said, &view.known, device, ask, reason)?;
-    put_spaces(page, INDENT)?;
-    put_folded(page, INDENT, said.as_slice(), ink.bad, ink.plain)
+    );
+    put_beside(page, line, &said, ink.bad, ink);
+    if let Some(reason) = reason {
+        said.clear();
+        put_check(&mut said, &view.known, device, ask, reason);
+        put_below(page, &said, ink.bad, ink.plain);
+    }
+    Ok(())
 }
 
 /// Shows a line that isn't a command, and why, as far as it is found out. The outcome is that of the script, which ends here.
-pub fn show_stray<W: Write>(
-    alloc: Global,
-    known: &ControlWords,
-    ink: Ink,
-    line: Line<'_>,
-    writer: &mut W,
-) -> Outcome {
-    let Ok(complaint) = reason_of_line(alloc, known, line.text) else {
+pub fn show_stray<W: Write>(alloc: Global, view: &View, line: Line<'_>, writer: &mut W) -> Outcome {
+    let Ok(complaint) = reason_of_line(alloc, &view.known, line.text) else {
         return Outcome::Memory;
     };
-    let mut page: Vec<u8> = Vec::new(alloc);
-    if put_stray(&mut page, alloc, ink, line, complaint).is_err() {
-        return Outcome::Memory;
-    }
-    match write_page(writer, page.as_slice()) {
+    let mut page = Page::new(alloc);
+    put_stray(&mut page, alloc, view, line, complaint);
+    match write_page(writer, &page) {
         Ok(()) => Outcome::BadLine(line.number),
         Err(outcome) => outcome,
     }
 }
 
 fn put_stray(
-    page: &mut Vec<u8>,
+    page: &mut Page,
     alloc: Global,
-    ink: Ink,
+    view: &View,
     line: Line<'_>,
     complaint: Option<Complaint>,
-) -> io::Result<()> {
+) {
+    let ink = view.ink;
     put_skipped(
         page,
         line,
@@ -154,15 +141,13 @@ fn put_stray(
             faint: ink.bad,
             ..ink
         },
-    )?;
-    let Some(Complaint { word, reason }) = complaint else {
-        return Ok(());
-    };
-    let mut text: Vec<u8> = Vec::new(alloc);
-    let reason = reason.text(DEVICE);
-    write!(text, "word {word}: {reason}")?;
-    put_spaces(page, INDENT)?;
-    put_folded(page, INDENT, text.as_slice(), ink.bad, ink.plain)
+    );
+    if let Some(Complaint { word, reason }) = complaint {
+        let mut text = Page::new(alloc);
+        let reason = reason.text(view.device);
+        let _ = write!(text, "word {word}: {reason}");
+        put_below(page, &text, ink.bad, ink.plain);
+    }
 }
 
 /// Shows the queue where frames are queued and it wasn't shown since the last step, and how many commands there were.
@@ -172,37 +157,33 @@ pub fn show_end<D: Driver, W: Write>(
     view: &View,
     writer: &mut W,
 ) -> Outcome {
-    let mut page: Vec<u8> = Vec::new(alloc);
-    if put_end(&mut page, alloc, device, view).is_err() {
-        return Outcome::Memory;
-    }
-    match write_page(writer, page.as_slice()) {
+    let mut page = Page::new(alloc);
+    put_end(&mut page, alloc, device, view);
+    match write_page(writer, &page) {
         Ok(()) => Outcome::Finished,
         Err(outcome) => outcome,
     }
 }
 
-fn put_end<D: Driver>(
-    page: &mut Vec<u8>,
-    alloc: Global,
-    device: &Device<D>,
-    view: &View,
-) -> io::Result<()> {
+fn put_end<D: Driver>(page: &mut Page, alloc: Global, device: &Device<D>, view: &View) {
     let steps = device.steps().len();
     if device.queued_count() > 0 && view.shown_at != Some(steps) {
-        put_table(page, alloc, &view.known, device, view.ink)?;
+        put_table(page, alloc, &view.known, device, view.ink);
     }
     let commands = view.commands;
     let refused = view.refused;
-    writeln!(
+    let _ = writeln!(
         page,
         "{commands} commands, {refused} refused; {steps} steps"
-    )
+    );
 }
 
-// Writes what was put together. The error is that the writer fails.
-fn write_page<W: Write>(writer: &mut W, page: &[u8]) -> Result<(), Outcome> {
-    match writer.write_all(page) {
+// Writes what was put together. The error is that it isn't whole, or that the writer fails.
+fn write_page<W: Write>(writer: &mut W, page: &Page) -> Result<(), Outcome> {
+    if !page.is_whole() {
+        return Err(Outcome::Memory);
+    }
+    match writer.write_all(page.text()) {
         Ok(()) => Ok(()),
         Err(_) => Err(Outcome::WriteFault),
     }

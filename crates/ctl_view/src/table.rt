@@ -1,121 +1,161 @@
 //! What the queued frames will have, as a table.
 
-use crate::frame::{cell_at, frame_at, look_at, stays, widest};
+use crate::frame::{cell_at, frame_at, look_at, put_buffer, stays, widest};
 use crate::words::{put_cluster, word_of};
 use ctl_script::ControlWords;
 use ctrl_calls::Driver;
 use device_state::Device;
 use std::alloc::Global;
-use std::io;
 use std::io::Write;
-use view_layout::{Cell, INDENT, Ink, Mark, WIDTH, put_cell, put_folded, put_look, put_spaces};
+use view_layout::{
+    Cell, INDENT, Ink, Mark, Page, WIDTH, put_cell, put_folded, put_look, put_missed, put_spaces,
+};
 
-// How wide the columns are that have the names of controls and their present values.
-const NAMES: usize = 12;
+// How wide the columns are at least: those of the names of controls, of their present values, and of a frame.
+const WIDTHS: Widths = Widths {
+    names: 12,
+    now: 8,
+    frame: 12,
+};
 
-const NOW: usize = 8;
+// How wide the column of names is at most.
+const LONGEST: usize = 40;
 
-// How wide the column of a frame is at least.
-const FRAME: usize = 12;
+// How wide the columns are.
+#[derive(Clone, Copy)]
+struct Widths {
+    names: usize,
+    now: usize,
+    frame: usize,
+}
 
-/// Writes what the queued frames will have: a row for each control that one of them changes, or asks for in vain, a column for each frame, in blocks of as
-/// many frames as a line has room for; and which clusters will be refused. Where none is queued, it says so.
-pub fn put_table<D: Driver, W: Write>(
-    out: &mut W,
+// The frames that stand beside each other.
+#[derive(Clone, Copy)]
+struct Block {
+    first: usize,
+    end: usize,
+    widths: Widths,
+}
+
+/// Puts on a page what the queued frames will have: a row for each control that one of them changes, or asks for in vain, a column for each frame, in blocks
+/// of as many frames as a line has room for; and which clusters will be refused. Where none is queued, it says so.
+pub fn put_table<D: Driver>(
+    page: &mut Page,
     alloc: Global,
     known: &ControlWords,
     device: &Device<D>,
     ink: Ink,
-) -> io::Result<()> {
+) {
     let count = device.queued_count();
     if count == 0 {
-        put_spaces(out, INDENT)?;
-        return write!(out, "no frames are queued\n\n");
+        put_spaces(page, INDENT);
+        page.put("no frames are queued\n\n");
+        return;
     }
-    let width = widest(alloc, device)?.saturating_add(2).max(FRAME);
-    let room = (WIDTH - INDENT - NAMES - NOW) / width;
+    let widths = widths_of(alloc, known, device);
+    let left = INDENT
+        .saturating_add(widths.names)
+        .saturating_add(widths.now);
+    let room = WIDTH.saturating_sub(left) / widths.frame.max(1);
     let room = room.max(1);
-    for block in 0..count.div_ceil(room) {
-        let first = block.saturating_mul(room);
+    for number in 0..count.div_ceil(room) {
+        let first = number.saturating_mul(room);
         let end = first.saturating_add(room).min(count);
-        put_heads(out, alloc, device, first, end, width)?;
-        put_rows(out, alloc, known, device, first, end, width, ink)?;
+        let block = Block { first, end, widths };
+        put_heads(page, alloc, device, block);
+        put_rows(page, alloc, known, device, block, ink);
     }
-    put_refusals(out, alloc, known, device, ink)?;
-    put_legend(out, device, ink)
+    put_refusals(page, alloc, known, device, ink);
+    put_legend(page, device, ink);
 }
 
-// The two lines above a block: the numbers of its frames, and their buffers.
-fn put_heads<D: Driver, W: Write>(
-    out: &mut W,
-    alloc: Global,
-    device: &Device<D>,
-    first: usize,
-    end: usize,
-    width: usize,
-) -> io::Result<()> {
-    let mut text: Vec<u8> = Vec::new(alloc);
-    writeln!(out)?;
-    put_spaces(out, INDENT)?;
-    write!(out, "the queue   ")?;
-    put_right(out, b"now", NOW, "", "")?;
-    for place in first..end {
-        text.clear();
-        write!(text, "frame {place}")?;
-        put_right(out, text.as_slice(), width, "", "")?;
-    }
-    writeln!(out)?;
-    put_spaces(out, INDENT + NAMES + NOW)?;
-    for place in first..end {
-        let buffer = frame_at(device, place).buffer;
-        text.clear();
-        write!(text, "buffer {buffer}")?;
-        put_right(out, text.as_slice(), width, "", "")?;
-    }
-    writeln!(out)
-}
-
-// The rows of a block, of the controls that don't stay.
-fn put_rows<D: Driver, W: Write>(
-    out: &mut W,
-    alloc: Global,
-    known: &ControlWords,
-    device: &Device<D>,
-    first: usize,
-    end: usize,
-    width: usize,
-    ink: Ink,
-) -> io::Result<()> {
+// How wide the columns are that the rows need.
+fn widths_of<D: Driver>(alloc: Global, known: &ControlWords, device: &Device<D>) -> Widths {
+    let mut widths = WIDTHS;
+    let mut text = Page::new(alloc);
     for control in 0..device.plan().control_count() {
         if stays(device, control) {
             continue;
         }
-        let mut text: Vec<u8> = Vec::new(alloc);
-        put_look(&mut text, look_at(device.plan(), device.values(), control))?;
-        put_name(out, known, control)?;
-        put_right(out, text.as_slice(), NOW, "", "")?;
-        for place in first..end {
+        let name = word_of(known, control).len().saturating_add(2);
+        widths.names = widths.names.max(name.min(LONGEST));
+        text.clear();
+        put_look(&mut text, look_at(device.plan(), device.values(), control));
+        widths.now = widths.now.max(text.text().len());
+    }
+    widths.frame = widths.frame.max(widest(alloc, device).saturating_add(2));
+    widths
+}
+
+// The two lines above a block: the numbers of its frames, and their buffers.
+fn put_heads<D: Driver>(page: &mut Page, alloc: Global, device: &Device<D>, block: Block) {
+    let mut text = Page::new(alloc);
+    let Widths { names, now, frame } = block.widths;
+    page.put("\n");
+    put_spaces(page, INDENT);
+    put_left(page, "the queue", names);
+    text.put("now");
+    put_right(page, &text, now, "", "");
+    for place in block.first..block.end {
+        text.clear();
+        let _ = write!(text, "frame {place}");
+        put_right(page, &text, frame, "", "");
+    }
+    page.put("\n");
+    put_spaces(page, INDENT.saturating_add(names).saturating_add(now));
+    for place in block.first..block.end {
+        text.clear();
+        put_buffer(&mut text, frame_at(device, place));
+        put_right(page, &text, frame, "", "");
+    }
+    page.put("\n");
+}
+
+// The rows of a block, of the controls that don't stay.
+fn put_rows<D: Driver>(
+    page: &mut Page,
+    alloc: Global,
+    known: &ControlWords,
+    device: &Device<D>,
+    block: Block,
+    ink: Ink,
+) {
+    let mut text = Page::new(alloc);
+    for control in 0..device.plan().control_count() {
+        if stays(device, control) {
+            continue;
+        }
+        put_spaces(page, INDENT);
+        put_left(page, word_of(known, control), block.widths.names);
+        text.clear();
+        put_look(&mut text, look_at(device.plan(), device.values(), control));
+        put_right(page, &text, block.widths.now, "", "");
+        for place in block.first..block.end {
             let cell = cell_at(device.plan(), frame_at(device, place), control);
             text.clear();
             // the column before the first one stands in the block before, so that "as before" would be read as the value of now
-            if place == first && first > 0 && cell.mark() == Mark::Stays {
-                put_look(&mut text, cell.behind)?;
+            if place == block.first && place > 0 && cell.mark() == Mark::Stays {
+                put_look(&mut text, cell.behind);
+                put_missed(&mut text, cell);
             } else {
-                put_cell(&mut text, cell)?;
+                put_cell(&mut text, cell);
             }
-            put_right(out, text.as_slice(), width, colour_of(cell, ink), ink.plain)?;
+            put_right(
+                page,
+                &text,
+                block.widths.frame,
+                colour_of(cell, ink),
+                ink.plain,
+            );
         }
-        writeln!(out)?;
+        page.put("\n");
     }
-    Ok(())
 }
 
-// The name of a control, in its column.
-fn put_name<W: Write>(out: &mut W, known: &ControlWords, control: u32) -> io::Result<()> {
-    let word = word_of(known, control);
-    put_spaces(out, INDENT)?;
-    write!(out, "{word}")?;
-    put_spaces(out, NAMES.saturating_sub(word.len()))
+// Puts a text at the left end of a column, and a space behind it where it has no room for one.
+fn put_left(page: &mut Page, text: &str, width: usize) {
+    page.put(text);
+    put_spaces(page, width.saturating_sub(text.len()).max(1));
 }
 
 fn colour_of(cell: Cell, ink: Ink) -> &'static str {
@@ -126,53 +166,56 @@ fn colour_of(cell: Cell, ink: Ink) -> &'static str {
     }
 }
 
-// Writes a text at the right end of a column.
-fn put_right<W: Write>(
-    out: &mut W,
-    text: &[u8],
-    width: usize,
-    before: &str,
-    behind: &str,
-) -> io::Result<()> {
-    put_spaces(out, width.saturating_sub(text.len()))?;
-    write!(out, "{before}")?;
-    out.write_all(text)?;
-    write!(out, "{behind}")
+// Puts a text at the right end of a column.
+fn put_right(page: &mut Page, text: &Page, width: usize, before: &str, behind: &str) {
+    page.needs(text);
+    let text = text.text();
+    put_spaces(page, width.saturating_sub(text.len()));
+    page.put(before);
+    page.put_bytes(text);
+    page.put(behind);
 }
 
 // Which clusters will be refused.
-fn put_refusals<D: Driver, W: Write>(
-    out: &mut W,
+fn put_refusals<D: Driver>(
+    page: &mut Page,
     alloc: Global,
     known: &ControlWords,
     device: &Device<D>,
     ink: Ink,
-) -> io::Result<()> {
+) {
+    let mut text = Page::new(alloc);
     for place in 0..device.queued_count() {
         for cluster in frame_at(device, place).refused {
-            let mut text: Vec<u8> = Vec::new(alloc);
-            write!(text, "frame {place}: ")?;
-            put_cluster(&mut text, known, device.plan(), *cluster)?;
-            write!(text, " will be refused")?;
-            put_spaces(out, INDENT)?;
-            put_folded(out, INDENT, text.as_slice(), ink.bad, ink.plain)?;
+            text.clear();
+            let _ = write!(text, "frame {place}: ");
+            put_cluster(&mut text, known, device.plan(), *cluster);
+            text.put(" will be refused");
+            put_below(page, &text, ink.bad, ink.plain);
         }
     }
-    Ok(())
+}
+
+/// Puts a text on a page below a command, folded.
+pub fn put_below(page: &mut Page, text: &Page, before: &str, behind: &str) {
+    page.needs(text);
+    put_spaces(page, INDENT);
+    put_folded(page, INDENT, text.text(), before, behind);
 }
 
 // What the marks mean, and how many controls have no row.
-fn put_legend<D: Driver, W: Write>(out: &mut W, device: &Device<D>, ink: Ink) -> io::Result<()> {
+fn put_legend<D: Driver>(page: &mut Page, device: &Device<D>, ink: Ink) {
     let mut staying = 0u32;
     for control in 0..device.plan().control_count() {
         if stays(device, control) {
             staying = staying.saturating_add(1);
         }
     }
-    let Ink { faint, plain, .. } = ink;
-    put_spaces(out, INDENT)?;
-    write!(
-        out,
-        "{faint}* changes   ! asked, and refused   ~ INACTIVE   . as before; {staying} other controls stay{plain}\n\n"
-    )
+    put_spaces(page, INDENT);
+    page.put(ink.faint);
+    page.put("* changes   ! asked, and refused   ~ INACTIVE   . as before; ");
+    page.put_number(i64::from(staying));
+    page.put(" other controls stay");
+    page.put(ink.plain);
+    page.put("\n\n");
 }

@@ -19,6 +19,8 @@ pub struct View {
     pub ink: Ink,
     /// The words by which the script names the device's controls, and by which they are shown.
     pub known: ControlWords,
+    /// The device, as it stands behind `a word of`.
+    pub device: &'static str,
     /// What the names of the script stand for.
     pub names: Bindings,
     /// How many commands were shown.
@@ -31,13 +33,20 @@ pub struct View {
 
 impl View {
     /// No line was read. The error is that a growth was refused.
-    pub fn new(alloc: Global, known: ControlWords, how: How, ink: Ink) -> Result<View, AllocError> {
+    pub fn new(
+        alloc: Global,
+        known: ControlWords,
+        device: &'static str,
+        how: How,
+        ink: Ink,
+    ) -> Result<View, AllocError> {
         let line = ReplyLine::new(alloc)?;
         Ok(View {
             line,
             how,
             ink,
             known,
+            device,
             names: Bindings::new(alloc),
             commands: 0,
             refused: 0,

@@ -8,71 +8,72 @@ use ctrl_calls::Driver;
 use ctrl_types::{CtrlId, Fault, Pair, last_value};
 use device_state::{Ask, Device, Plan};
 use script_replies::{ReplyLine, write_answer};
-use std::io;
 use std::io::Write;
+use view_layout::Page;
 
-/// Writes the reply line of a refusal, the name of its error, and the entry and the control that it is about.
+/// Puts on a page the reply line of a refusal, the name of its error, and the entry and the control that it is about.
 ///
-/// - `out`: ends with this behind it, without a line feed.
+/// - `page`: empty.
 /// - `line`: where the reply line is put together.
 /// - `known`: the words of the controls.
 pub fn put_refusal<D: Driver>(
-    out: &mut Vec<u8>,
+    page: &mut Page,
     line: &mut ReplyLine,
     known: &ControlWords,
     device: &Device<D>,
     ask: &Ask,
     fault: Fault,
     reason: Option<Reason>,
-) -> io::Result<()> {
-    write_answer(out, line, ask, &Err(fault))?;
+) {
+    let _ = write_answer(page, line, ask, &Err(fault));
     // its line feed
-    let _ = out.pop();
+    page.pop();
     let errno = fault.errno;
-    write!(out, ": {errno:?}")?;
-    match reason {
-        Some(reason) => put_place(out, known, device.plan(), ask, reason.entry),
-        None => Ok(()),
+    let _ = write!(page, ": {errno:?}");
+    if let Some(reason) = reason {
+        put_place(page, known, device.plan(), ask, reason.entry);
     }
 }
 
-/// Writes the check that an ask was refused by, and what didn't hold.
+/// Puts on a page the check that an ask was refused by, and what didn't hold.
 pub fn put_check<D: Driver>(
-    out: &mut Vec<u8>,
+    page: &mut Page,
     known: &ControlWords,
     device: &Device<D>,
     ask: &Ask,
     reason: Reason,
-) -> io::Result<()> {
-    let number = reason.check.number();
-    let text = reason.check.text();
-    write!(out, "check {number}, {text}")?;
-    match (reason.check, id_at(ask, reason.entry)) {
-        (Check::ClusterTakes, Some(id)) => put_row(out, known, device, ask, id),
-        _ => Ok(()),
+) {
+    page.put("check ");
+    page.put_number(i64::from(reason.check.number()));
+    page.put(", ");
+    page.put(reason.check.text());
+    if let (Check::ClusterTakes, Some(id)) = (reason.check, id_at(ask, reason.entry)) {
+        put_row(page, known, device, ask, id);
     }
 }
 
 // The entry that is refused, and the control that it or the ask names.
 fn put_place<D: Driver>(
-    out: &mut Vec<u8>,
+    page: &mut Page,
     known: &ControlWords,
     plan: &Plan<D>,
     ask: &Ask,
     entry: Option<u32>,
-) -> io::Result<()> {
-    match (entry, id_at(ask, entry)) {
-        (Some(entry), Some(id)) => {
-            write!(out, " at entry {entry} (")?;
-            put_name(out, known, plan, id)?;
-            write!(out, ")")
-        }
-        (Some(entry), None) => write!(out, " at entry {entry}"),
-        (None, Some(id)) => {
-            write!(out, " at ")?;
-            put_name(out, known, plan, id)
-        }
-        (None, None) => Ok(()),
+) {
+    let id = id_at(ask, entry);
+    if let Some(entry) = entry {
+        page.put(" at entry ");
+        page.put_number(i64::from(entry));
+    }
+    if let Some(id) = id {
+        let (before, behind) = if entry.is_some() {
+            (" (", ")")
+        } else {
+            (" at ", "")
+        };
+        page.put(before);
+        put_name(page, known, plan, id);
+        page.put(behind);
     }
 }
 
@@ -90,19 +91,19 @@ fn id_at(ask: &Ask, entry: Option<u32>) -> Option<CtrlId> {
 
 // The row that a cluster doesn't take: what is asked of its members, and the present values of the others.
 fn put_row<D: Driver>(
-    out: &mut Vec<u8>,
+    page: &mut Page,
     known: &ControlWords,
     device: &Device<D>,
     ask: &Ask,
     id: CtrlId,
-) -> io::Result<()> {
-    write!(out, ":")?;
+) {
+    page.put(":");
     for member in members_beside(device.plan(), id) {
-        let word = word_of(known, *member);
-        let value = wanted_of(device, ask, *member);
-        write!(out, " {word}={value}")?;
+        page.put(" ");
+        page.put(word_of(known, *member));
+        page.put("=");
+        page.put_number(wanted_of(device, ask, *member));
     }
-    Ok(())
 }
 
 // The value that is asked of a control: the last one that the list gives it, or else the one that the request stores which the list is about; the present

@@ -5,8 +5,8 @@ use ctl_script::ControlWords;
 use ctrl_calls::Driver;
 use ctrl_types::{CtrlId, Flags, Kind};
 use device_state::Plan;
-use std::io;
 use std::io::Write;
+use view_layout::Page;
 
 /// The word of a control, by its number.
 pub fn word_of(known: &ControlWords, control: u32) -> &str {
@@ -22,40 +22,34 @@ pub fn control_of<D: Driver>(plan: &Plan<D>, id: CtrlId) -> Option<u32> {
     Some(place as u32)
 }
 
-/// Writes the word of a control, by its id; the id where no control has it.
-pub fn put_name<D: Driver, W: Write>(
-    out: &mut W,
-    known: &ControlWords,
-    plan: &Plan<D>,
-    id: CtrlId,
-) -> io::Result<()> {
+/// Puts the word of a control on a page, by its id; the id where no control has it.
+pub fn put_name<D: Driver>(page: &mut Page, known: &ControlWords, plan: &Plan<D>, id: CtrlId) {
     match control_of(plan, id) {
-        Some(control) => {
-            let word = word_of(known, control);
-            write!(out, "{word}")
-        }
+        Some(control) => page.put(word_of(known, control)),
         None => {
             let number = id.0;
-            write!(out, "0x{number:08x}")
+            let _ = write!(page, "0x{number:08x}");
         }
     }
 }
 
-/// Writes the number of a cluster, and the words of its members.
-pub fn put_cluster<D: Driver, W: Write>(
-    out: &mut W,
-    known: &ControlWords,
-    plan: &Plan<D>,
-    cluster: u32,
-) -> io::Result<()> {
-    write!(out, "cluster {cluster} (")?;
+/// Puts the words of controls on a page.
+pub fn put_words(page: &mut Page, known: &ControlWords, controls: &[u32]) {
     let mut between = "";
-    for member in members_of(plan, cluster) {
-        let word = word_of(known, *member);
-        write!(out, "{between}{word}")?;
+    for control in controls {
+        page.put(between);
+        page.put(word_of(known, *control));
         between = ", ";
     }
-    write!(out, ")")
+}
+
+/// Puts the number of a cluster on a page, and the words of its members.
+pub fn put_cluster<D: Driver>(page: &mut Page, known: &ControlWords, plan: &Plan<D>, cluster: u32) {
+    page.put("cluster ");
+    page.put_number(i64::from(cluster));
+    page.put(" (");
+    put_words(page, known, members_of(plan, cluster));
+    page.put(")");
 }
 
 // The members of a cluster; none where there is no such cluster.
@@ -75,19 +69,26 @@ pub fn members_beside<D: Driver>(plan: &Plan<D>, id: CtrlId) -> &[u32] {
     }
 }
 
-/// Writes the names of flags; nothing where there are none.
-pub fn put_flags<W: Write>(out: &mut W, flags: Flags) -> io::Result<()> {
+// The hints for applications, which mean nothing to a device and so have no name among its flags.
+const HINTS: &[(u32, &str)] = &[(0x20, " SLIDER"), (0x400, " MODIFY_LAYOUT")];
+
+/// Puts the names of flags on a page; nothing where there are none.
+pub fn put_flags(page: &mut Page, flags: Flags) {
     if flags.is_empty() {
-        return Ok(());
+        return;
     }
-    write!(out, " flags")?;
+    page.put(" flags");
     for flag in Flags::flags() {
         if flags.contains(*flag.value()) {
-            let name = flag.name();
-            write!(out, " {name}")?;
+            page.put(" ");
+            page.put(flag.name());
         }
     }
-    Ok(())
+    for (bit, name) in HINTS {
+        if flags.bits() & *bit != 0 {
+            page.put(name);
+        }
+    }
 }
 
 /// The name of a kind.

@@ -3,8 +3,7 @@
 ghost use Rattle.std.specs.Prelude.{◌≡◌};
 ghost use Rattle.view_layout.specs.Marks.{mark as mark_of};
 
-use std::io;
-use std::io::Write;
+use crate::page::Page;
 
 /// A control's value, and whether its auto cluster makes it INACTIVE.
 #[derive(Clone, Copy, PartialEq, Eq)]
@@ -40,6 +39,11 @@ pub struct Cell {
 }
 
 impl Cell {
+    /// Whether the frame doesn't say more of the control than that it is as before.
+    pub fn is_still(self) -> bool {
+        self.mark() == Mark::Stays && self.asked.unwrap_or(self.behind.value) == self.behind.value
+    }
+
     /// How the control fares.
     pub fn mark(self) -> Mark
         ensures { result ≡ mark_of self }
@@ -54,36 +58,50 @@ impl Cell {
     }
 }
 
-/// Writes what the table says of a control in a frame.
-pub fn put_cell<W: Write>(out: &mut W, cell: Cell) -> io::Result<()> {
-    let value = cell.behind.value;
-    let asked = cell.asked.unwrap_or(value);
-    let inactive = inactive_mark(cell.behind);
+/// Puts on a page what the table says of a control in a frame.
+pub fn put_cell(page: &mut Page, cell: Cell) {
     match cell.mark() {
-        Mark::Stays => write!(out, ".{inactive}"),
-        Mark::Refused => write!(out, "!{asked}{inactive}"),
+        Mark::Stays => {
+            page.put(".");
+            put_inactive(page, cell.behind);
+            put_missed(page, cell);
+        }
+        Mark::Refused => {
+            page.put("!");
+            page.put_number(cell.asked.unwrap_or(cell.behind.value));
+            put_inactive(page, cell.behind);
+        }
         Mark::Changes => {
-            write!(out, "*{value}{inactive}")?;
-            put_wanted(out, value, asked)
+            page.put("*");
+            put_look(page, cell.behind);
+            put_missed(page, cell);
         }
     }
 }
 
-/// Writes what was asked for, where another value came of it.
-pub fn put_wanted<W: Write>(out: &mut W, value: i64, asked: i64) -> io::Result<()> {
-    if asked == value {
-        return Ok(());
+/// Puts on a page what was asked of a control in a frame, where another value came of it.
+pub fn put_missed(page: &mut Page, cell: Cell) {
+    let value = cell.behind.value;
+    put_wanted(page, value, cell.asked.unwrap_or(value));
+}
+
+/// Puts on a page what was asked for, where another value came of it.
+pub fn put_wanted(page: &mut Page, value: i64, asked: i64) {
+    if asked != value {
+        page.put(" (for ");
+        page.put_number(asked);
+        page.put(")");
     }
-    write!(out, " (for {asked})")
 }
 
-/// Writes what a control is now.
-pub fn put_look<W: Write>(out: &mut W, look: Look) -> io::Result<()> {
-    let value = look.value;
-    let inactive = inactive_mark(look);
-    write!(out, "{value}{inactive}")
+/// Puts on a page what a control is now.
+pub fn put_look(page: &mut Page, look: Look) {
+    page.put_number(look.value);
+    put_inactive(page, look);
 }
 
-fn inactive_mark(look: Look) -> &'static str {
-    if look.is_inactive { "~" } else { "" }
+fn put_inactive(page: &mut Page, look: Look) {
+    if look.is_inactive {
+        page.put("~");
+    }
 }

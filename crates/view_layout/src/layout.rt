@@ -2,7 +2,7 @@
 
 ghost use Rattle.std.specs.Prelude.{◌≡◌, ◌<◌, ◌≤◌, ◌+◌, ◌++◌, length};
 
-use std::io;
+use crate::page::Page;
 use std::io::Write;
 
 /// How wide a line may be.
@@ -57,92 +57,80 @@ pub struct Line<'a> {
     pub text: &'a [u8],
 }
 
-/// Writes so many spaces.
-pub fn put_spaces<W: Write>(out: &mut W, count: usize) -> io::Result<()> {
+/// Puts so many spaces on a page.
+pub fn put_spaces(page: &mut Page, count: usize) {
     for _ in 0..count {
-        write!(out, " ")?;
+        page.put(" ");
     }
-    Ok(())
 }
 
-/// Writes a line of a script with its number, and what was said to it beside it, or below it where one of them is long.
+/// Puts a line of a script on a page with its number, and what was said to it beside it, or below it where one of them is long.
 ///
 /// - `colour`: the colour of what was said, as `ink` has it.
-pub fn put_command<W: Write>(
-    out: &mut W,
-    line: Line<'_>,
-    said: &[u8],
-    colour: &str,
-    ink: Ink,
-) -> io::Result<()> {
-    let margin = put_number(out, line.number)?;
+pub fn put_command(page: &mut Page, line: Line<'_>, said: &[u8], colour: &str, ink: Ink) {
+    let margin = put_number(page, line.number);
     let end = margin.saturating_add(line.text.len());
     if end < REPLIES {
-        out.write_all(line.text)?;
-        put_spaces(out, REPLIES.saturating_sub(end))?;
+        page.put_bytes(line.text);
+        put_spaces(page, REPLIES.saturating_sub(end));
     } else {
-        put_folded(out, margin, line.text, "", "")?;
-        put_spaces(out, REPLIES)?;
+        put_folded(page, margin, line.text, "", "");
+        put_spaces(page, REPLIES);
     }
     let behind = if colour.is_empty() { "" } else { ink.plain };
-    put_folded(out, REPLIES, said, colour, behind)
+    put_folded(page, REPLIES, said, colour, behind);
 }
 
-/// Writes a line of a script that is no command with its number.
-pub fn put_skipped<W: Write>(out: &mut W, line: Line<'_>, ink: Ink) -> io::Result<()> {
+/// Puts a line of a script that is no command on a page with its number.
+pub fn put_skipped(page: &mut Page, line: Line<'_>, ink: Ink) {
     if line.text.is_empty() {
-        return writeln!(out);
+        page.put("\n");
+        return;
     }
-    let margin = put_number(out, line.number)?;
-    put_folded(out, margin, line.text, ink.faint, ink.plain)
+    let margin = put_number(page, line.number);
+    put_folded(page, margin, line.text, ink.faint, ink.plain);
 }
 
-// Writes the number of a line, and answers where its text stands.
-fn put_number<W: Write>(out: &mut W, number: u32) -> io::Result<usize> {
+// Puts the number of a line on a page, and answers where its text stands.
+fn put_number(page: &mut Page, number: u32) -> usize {
     if number < 10_000 {
-        write!(out, "{number:>4}  ")?;
-        Ok(INDENT)
+        let _ = write!(page, "{number:>4}  ");
+        INDENT
     } else {
-        write!(out, "{number:>7}  ")?;
-        Ok(9)
+        let _ = write!(page, "{number:>7}  ");
+        9
     }
 }
 
-/// Writes a text from a column on, on as many lines as it needs, and ends the last one.
+/// Puts a text on a page from a column on, on as many lines as it needs, and ends the last one.
 ///
 /// - `column`: where the first line stands already, and where each further one begins.
-/// - `before`, `behind`: what is written before and behind the text of each line; it takes no column.
-pub fn put_folded<W: Write>(
-    out: &mut W,
-    column: usize,
-    text: &[u8],
-    before: &str,
-    behind: &str,
-) -> io::Result<()> {
+/// - `before`, `behind`: what is put before and behind the text of each line; it takes no column.
+pub fn put_folded(page: &mut Page, column: usize, text: &[u8], before: &str, behind: &str) {
     let width = WIDTH.saturating_sub(column).max(1);
     let mut rest = text;
-    // each turn writes a byte at least
+    // each turn puts a byte at least
     for _ in 0..text.len() {
         let (piece, more) = folded(rest, width);
-        write!(out, "{before}")?;
-        put_plain(out, piece.trim_ascii_end())?;
-        writeln!(out, "{behind}")?;
+        page.put(before);
+        put_plain(page, piece.trim_ascii_end());
+        page.put(behind);
+        page.put("\n");
         if more.is_empty() {
-            return Ok(());
+            return;
         }
-        put_spaces(out, column)?;
+        put_spaces(page, column);
         rest = more;
     }
-    writeln!(out)
+    page.put("\n");
 }
 
-// Writes a text, and a space in place of each tab or other control character, which would move what stands behind it.
-fn put_plain<W: Write>(out: &mut W, text: &[u8]) -> io::Result<()> {
+/// Puts a text on a page, and a space in place of each tab or other control character, which would move what stands behind it.
+pub fn put_plain(page: &mut Page, text: &[u8]) {
     for byte in text {
         let shown = if byte.is_ascii_control() { b' ' } else { *byte };
-        out.write_all(&[shown])?;
+        page.put_bytes(&[shown]);
     }
-    Ok(())
 }
 
 // What of a text goes on a line of this width, and what is left: behind the last space that the line has room for, or where it has none in the middle of
