@@ -1,13 +1,15 @@
-//! Runs the scripts of the files in `data/`, each on a fresh sample device, and compares what they print and how they end with what
-//! the files say. It prints each case that differs, with what came in its place, and at last how many cases there are. `data/sample.txt`
-//! begins with the format of the files.
+//! Runs the scripts of the files in `data/`, each on a fresh device, and compares what they print and how they end with what the files
+//! say; of a device file that describes no device it compares what is said. A script that names no device runs on the sample device, and
+//! on the device of `sample.toml`. It prints each case that differs, with what came in its place, and at last how many cases there are.
+//! `data/sample.txt` begins with the format of the files.
 #![tactic(auto)]
 
 mod case;
 
+ghost use Rattle.std.specs.Prelude.{◌≡◌, []};
 ghost use Rattle.ctrl_calls.specs.Meanings.{JudgesBy, TellsBy};
 
-use crate::case::{Case, CaseFault, Program, read_cases};
+use crate::case::{Case, Cases, Program};
 use ctl_pair::{Gate, run_pair};
 use ctl_script::{
     BALANCE_LIMIT, BRIGHTNESS_WORDS, BUTTON_WORDS, ControlWords, GAIN_LIMIT, Outcome, PAIR_WORDS,
@@ -15,8 +17,9 @@ use ctl_script::{
     run_script, sample_plan, sample_words,
 };
 use ctrl_calls::{Calls, ClusterRow, Driver, Notifier, Validator, Verdict};
+use device_file::{explain, read_device};
 use device_state::Device;
-use std::alloc::{AllocError, Global};
+use std::alloc::AllocError;
 use std::process::ExitCode;
 use std::rt::Files;
 use std::sync::Wait;
@@ -28,7 +31,7 @@ type Judge = Box<dyn Fn(ClusterRow) -> Verdict + Send>;
 type Teller = Box<dyn Fn(ClusterRow) -> u64 + Send>;
 
 // The files that are read, in this order.
-const FILES: [&str; 10] = [
+const FILES: &[&str] = &[
     "sample.txt",
     "words.txt",
     "lists.txt",
@@ -39,6 +42,15 @@ const FILES: [&str; 10] = [
     "errors.txt",
     "examples.txt",
     "pairs.txt",
+    "wrong.txt",
+    "allowed.txt",
+    "devices.txt",
+    "handlers.txt",
+    "kinds.txt",
+    "flags.txt",
+    "clusters.txt",
+    "limits.txt",
+    "crowds.txt",
 ];
 
 // Lets each command of two scripts pass at once.
@@ -56,23 +68,12 @@ fn main(rt: HostRuntime) -> io::Result<ExitCode> {
     let known = sample_words(rt.alloc())?;
     let mut differing = 0u32;
     for case in cases.as_slice() {
-        let limit: Judge = Box::new(rt.alloc(), |row: ClusterRow| gain_verdict(&row))?;
-        let sum: Judge = Box::new(rt.alloc(), |row: ClusterRow| balance_verdict(&row))?;
-        let gain: Teller = Box::new(rt.alloc(), |row: ClusterRow| pair_word(&row))?;
-        let balance: Teller = Box::new(rt.alloc(), |row: ClusterRow| pair_word(&row))?;
-        let button: Teller = Box::new(rt.alloc(), |row: ClusterRow| button_word(&row))?;
-        let brightness: Teller = Box::new(rt.alloc(), |row: ClusterRow| brightness_word(&row))?;
-        let (printed, outcome) = run::<Sample, HostRuntime>(
-            &rt,
-            &known,
-            case.program,
-            case.script.as_slice(),
-            (limit, sum),
-            (gain, balance, button, brightness),
-        )?;
-        if !is_wanted(rt.alloc(), case, printed.as_slice(), outcome)? {
+        let mut is_same = is_same_on_file(&rt, cases.as_slice(), case)?;
+        if case.device == 0 && !is_same_on_sample(&rt, &known, case)? {
+            is_same = false;
+        }
+        if !is_same {
             differing = differing.saturating_add(1);
-            show(&rt, case, printed.as_slice(), outcome)?;
         }
     }
     println!(rt; "{} cases, {differing} differ", cases.len())?;
@@ -88,31 +89,84 @@ fn read_files<R: AllocGlobal + Files>(rt: &R) -> io::Result<Vec<String>> {
 }
 
 // The cases of the files' texts. Where a line doesn't belong there, this is printed, and there are none.
-fn cases_of<'a, R: AllocGlobal + Print>(
+fn cases_of<'a, R: AllocGlobal + Files + Print>(
     rt: &R,
     texts: &'a [String],
 ) -> io::Result<Option<Vec<Case<'a>>>> {
-    let mut cases = Vec::new(rt.alloc());
+    let mut cases = Cases::of_device(rt, "sample.toml")?;
     for (file, text) in FILES.iter().zip(texts) {
-        match read_cases(rt.alloc(), text.as_str(), &mut cases) {
-            Ok(()) => {}
-            Err(CaseFault::Line(number)) => {
-                println!(rt; "{file}, line {number}: not a line of a case")?;
-                return Ok(None);
-            }
-            Err(CaseFault::Memory) => return Err(io::Error::from(io::ErrorKind::OutOfMemory)),
+        if let Some(number) = cases.read(rt, text.as_str())? {
+            println!(rt; "{file}, line {number}: not a line of a case")?;
+            return Ok(None);
         }
     }
-    Ok(Some(cases))
+    Ok(Some(cases.all))
 }
 
-// What a script, or two of them, prints on a fresh sample device, and how it ends. The device's clusters have these closures: of autogain and gain the
-// first validator and the first notifier, of red and blue the second ones, of the button and of brightness the last notifiers.
-fn run<D: Driver + Send, R: AllocGlobal + Threads + Wait + Sync>(
+// Runs a case on the device of its file, and shows it where something else came of it.
+fn is_same_on_file<R: AllocGlobal + Threads + Wait + Print + Sync>(
+    rt: &R,
+    cases: &[Case<'_>],
+    case: &Case<'_>,
+) -> io::Result<bool> {
+    let Some(file) = cases.get(case.device) else {
+        return Ok(false);
+    };
+    let (printed, outcome) = run_on_file(rt, file.text.as_slice(), case)?;
+    is_wanted(rt, file.name, case, printed.as_slice(), outcome)
+}
+
+// What a case prints on the device that a file describes, and how it ends; or why the file describes none.
+fn run_on_file<R: AllocGlobal + Threads + Wait + Sync>(
+    rt: &R,
+    file: &[u8],
+    case: &Case<'_>,
+) -> Result<(Vec<u8>, Outcome), AllocError> {
+    let alloc = rt.alloc();
+    match read_device(alloc, file) {
+        Ok(read) => {
+            let Ok(device) = Device::new(alloc, read.plan) else {
+                return Err(AllocError);
+            };
+            run(rt, &read.words, device, case)
+        }
+        Err(fault) => {
+            let mut said = Vec::new(alloc);
+            said.extend_from_slice(explain(alloc, file, &fault)?.as_bytes())?;
+            said.push(b'\n')?;
+            Ok((said, Outcome::Finished))
+        }
+    }
+}
+
+// The same on the sample device.
+fn is_same_on_sample<R: AllocGlobal + Threads + Wait + Print + Sync>(
     rt: &R,
     known: &ControlWords,
-    program: Program,
-    script: &[u8],
+    case: &Case<'_>,
+) -> io::Result<bool> {
+    let limit: Judge = Box::new(rt.alloc(), |row: ClusterRow| gain_verdict(&row))?;
+    let sum: Judge = Box::new(rt.alloc(), |row: ClusterRow| balance_verdict(&row))?;
+    let gain: Teller = Box::new(rt.alloc(), |row: ClusterRow| pair_word(&row))?;
+    let balance: Teller = Box::new(rt.alloc(), |row: ClusterRow| pair_word(&row))?;
+    let button: Teller = Box::new(rt.alloc(), |row: ClusterRow| button_word(&row))?;
+    let brightness: Teller = Box::new(rt.alloc(), |row: ClusterRow| brightness_word(&row))?;
+    let (printed, outcome) = run_on_sample::<Sample, R>(
+        rt,
+        known,
+        case,
+        (limit, sum),
+        (gain, balance, button, brightness),
+    )?;
+    is_wanted(rt, "the sample device", case, printed.as_slice(), outcome)
+}
+
+// What a case prints on the sample device, and how it ends. The device's clusters have these closures: of autogain and gain the
+// first validator and the first notifier, of red and blue the second ones, of the button and of brightness the last notifiers.
+fn run_on_sample<D: Driver + Send, R: AllocGlobal + Threads + Wait + Sync>(
+    rt: &R,
+    known: &ControlWords,
+    case: &Case<'_>,
     judges: (D::Judge, D::Judge),
     tellers: (D::Teller, D::Teller, D::Teller, D::Teller),
 ) -> Result<(Vec<u8>, Outcome), AllocError>
@@ -157,9 +211,25 @@ where
     let Ok(device) = Device::new(alloc, plan) else {
         return Err(AllocError);
     };
+    run(rt, known, device, case)
+}
+
+// What a script, or two of them, prints on a fresh device whose controls have these words, and how it ends; nothing of a file.
+fn run<D: Driver + Send, R: AllocGlobal + Threads + Wait + Sync>(
+    rt: &R,
+    known: &ControlWords,
+    device: Device<D>,
+    case: &Case<'_>,
+) -> Result<(Vec<u8>, Outcome), AllocError>
+where
+    D::Judge: Send,
+    D::Teller: Send,
+    requires { device.steps ≡ [] }
+{
+    let alloc = rt.alloc();
     let mut printed = Vec::new(alloc);
-    let mut reader = script;
-    let outcome = match program {
+    let mut reader = case.text.as_slice();
+    let outcome = match case.program {
         Program::Run => run_script(alloc, known, device, &mut reader, &mut printed).1,
         Program::Board => run_board(alloc, known, device, &mut reader, &mut printed).1,
         Program::Pair => run_pair(
@@ -172,31 +242,27 @@ where
             &mut printed,
         )
         .1,
+        Program::File => Outcome::Finished,
     };
     Ok((printed, outcome))
 }
 
-// Whether a script printed what it is to print, and ended as it is to end.
-fn is_wanted(
-    alloc: Global,
-    case: &Case<'_>,
-    printed: &[u8],
-    outcome: Outcome,
-) -> Result<bool, AllocError> {
-    let ended = format!(in alloc; "{outcome:?}")?;
-    Ok(printed == case.lines.as_slice() && ended.as_str() == case.outcome)
-}
-
-// Prints a case that differs.
-fn show<R: AllocGlobal + Print>(
+// Whether a case printed what it is to print on a device of this name, and ended as it is to end; else it is shown.
+fn is_wanted<R: AllocGlobal + Print>(
     rt: &R,
+    device: &str,
     case: &Case<'_>,
     printed: &[u8],
     outcome: Outcome,
-) -> io::Result<()> {
+) -> io::Result<bool> {
+    let ended = format!(in rt.alloc(); "{outcome:?}")?;
+    if printed == case.printed.as_slice() && ended.as_str() == case.outcome {
+        return Ok(true);
+    }
     let printed = String::from_utf8_lossy(rt.alloc(), printed)?;
     println!(rt;
-        "{}\n{printed}{outcome:?} in place of {}",
+        "{}, on {device}\n{printed}{outcome:?} in place of {}",
         case.name, case.outcome
-    )
+    )?;
+    Ok(false)
 }

@@ -1,421 +1,211 @@
 //! Audits of devices: what one's steps make of its plan is what it has, and what another of that plan has only where that is the same.
 
-use crate::asks::{At, GET, NOW, Question, SET};
-use crate::plan::{Scene, Trouble, scene_of};
-use crate::play::accept;
-use crate::sample::{AUTOGAIN, BLUE, BUTTON, GAIN, RED, SAMPLE, SHOWN};
-use ctrl_calls::Work;
-use device_state::{AuditFault, Scratch, audit};
-use std::alloc::Global;
+use crate::closures::Counting;
+use crate::scene::{Counters, behind, counters, device, told};
+use device_state::{Device, Scratch, audit};
+use std::alloc::{AllocError, Global};
 
-// Through the request 1, at the file handle 0.
-const ONE: At = At(0, 0x0f01_0000, Some(1));
-
-const OPEN: Question = Question::Open(1, 1);
-
-// At another file handle than 0.
-const OTHER: At = At(1, 0, None);
-
-// Asks that are accepted. Those with the same number in front make the same of the plan.
-type Past = (u32, &'static [Question]);
+// Scripts whose commands are accepted. Those with the same number in front make the same of the plan.
+type Past = (u32, &'static str);
 
 const PASTS: &[Past] = &[
-    (0, &[]),
+    (0, ""),
     // a file handle that is closed counts no more, nor a grab that is let go
-    (0, &[OPEN, Question::Close(0)]),
-    (
-        0,
-        &[OPEN, Question::Subscribe(0, RED, 0x1), Question::Close(0)],
-    ),
-    (0, &[Question::Grab(8, true), Question::Grab(8, false)]),
+    (0, "open f 1\nclose f"),
+    (0, "open f 1\nsub f red initial\nclose f"),
+    (0, "grab red on\ngrab red off"),
     // one that is open counts by its id, and not by its handler; asks that are no steps, and sets that put back what they found, don't
-    (1, &[OPEN]),
-    (1, &[Question::Open(0, 1)]),
-    (1, &[OPEN, Question::List(GET, NOW, &[(RED, 0)])]),
-    (
-        1,
-        &[
-            OPEN,
-            Question::List(SET, NOW, &[(RED, 5), (BUTTON, 1)]),
-            Question::List(SET, NOW, &[(RED, 128)]),
-        ],
-    ),
-    (2, &[OPEN, OPEN]),
-    (3, &[OPEN, Question::Close(0), OPEN]),
-    (4, &[OPEN, OPEN, Question::Close(0)]),
-    (5, &[OPEN, Question::List(SET, NOW, &[(RED, 200)])]),
-    (
-        5,
-        &[
-            OPEN,
-            Question::List(SET, NOW, &[(RED, 5)]),
-            Question::List(SET, NOW, &[(RED, 200)]),
-        ],
-    ),
-    (6, &[OPEN, Question::List(SET, NOW, &[(BLUE, 200)])]),
+    (1, "open f 1"),
+    (1, "open f 0"),
+    (1, "open f 1\nget f cur red"),
+    (1, "open f 1\nset f cur red=5 button=1\nset f cur red=128"),
+    (2, "open f 1\nopen g 1"),
+    (3, "open f 1\nclose f\nopen g 1"),
+    (4, "open f 1\nopen g 1\nclose f"),
+    (5, "open f 1\nset f cur red=200"),
+    (5, "open f 1\nset f cur red=5\nset f cur red=200"),
+    (6, "open f 1\nset f cur blue=200"),
     // the validator lessens the gain
-    (7, &[OPEN, Question::List(SET, NOW, &[(GAIN, 250)])]),
-    (7, &[OPEN, Question::List(SET, NOW, &[(GAIN, 200)])]),
-    (8, &[OPEN, Question::List(SET, NOW, &[(AUTOGAIN, 0)])]),
+    (7, "open f 1\nset f cur gain=250"),
+    (7, "open f 1\nset f cur gain=200"),
+    (8, "open f 1\nset f cur autogain=0"),
     // a grab is a flag
-    (9, &[Question::Grab(8, true)]),
-    (10, &[Question::Grab(9, true)]),
+    (9, "grab red on"),
+    (10, "grab blue on"),
     // a request is there, asks for something, waits, runs, and is complete
-    (11, &[OPEN, Question::Alloc(1)]),
-    (
-        12,
-        &[
-            OPEN,
-            Question::Alloc(1),
-            Question::List(SET, ONE, &[(RED, 200)]),
-        ],
-    ),
-    (
-        11,
-        &[
-            OPEN,
-            Question::Alloc(1),
-            Question::List(SET, ONE, &[(RED, 200)]),
-            Question::Reinit(1),
-        ],
-    ),
-    (13, &[OPEN, Question::Alloc(1), Question::Buffer(1, 7)]),
+    (11, "open f 1\nalloc r"),
+    (12, "open f 1\nalloc r\nset f req:r red=200"),
+    (11, "open f 1\nalloc r\nset f req:r red=200\nreinit r"),
+    (13, "open f 1\nalloc r\nbuffer r 7"),
     (
         14,
-        &[
-            OPEN,
-            Question::Alloc(1),
-            Question::List(SET, ONE, &[(RED, 200)]),
-            Question::Buffer(1, 7),
-            Question::Queue(1),
-        ],
+        "open f 1\nalloc r\nset f req:r red=200\nbuffer r 7\nqueue r",
     ),
     (
         15,
-        &[
-            OPEN,
-            Question::Alloc(1),
-            Question::List(SET, ONE, &[(RED, 200)]),
-            Question::Buffer(1, 7),
-            Question::Queue(1),
-            Question::Begin,
-        ],
+        "open f 1\nalloc r\nset f req:r red=200\nbuffer r 7\nqueue r\nbegin",
     ),
     (
         16,
-        &[
-            OPEN,
-            Question::Alloc(1),
-            Question::List(SET, ONE, &[(RED, 200)]),
-            Question::Buffer(1, 7),
-            Question::Queue(1),
-            Question::Begin,
-            Question::Complete,
-        ],
+        "open f 1\nalloc r\nset f req:r red=200\nbuffer r 7\nqueue r\nbegin\ncomplete",
     ),
     (
         17,
-        &[
-            OPEN,
-            Question::Alloc(1),
-            Question::List(SET, ONE, &[(RED, 200)]),
-            Question::Buffer(1, 7),
-            Question::Queue(1),
-            Question::Cancel(1),
-        ],
+        "open f 1\nalloc r\nset f req:r red=200\nbuffer r 7\nqueue r\ncancel r",
     ),
     // what a begin applied of a request that asks for the default doesn't count: of a complete one, which began or was cancelled, nor of a running one
     (
         31,
-        &[
-            OPEN,
-            Question::Alloc(1),
-            Question::List(SET, ONE, &[(RED, 128)]),
-            Question::Buffer(1, 7),
-            Question::Queue(1),
-            Question::Begin,
-            Question::Complete,
-        ],
+        "open f 1\nalloc r\nset f req:r red=128\nbuffer r 7\nqueue r\nbegin\ncomplete",
     ),
     (
         31,
-        &[
-            OPEN,
-            Question::Alloc(1),
-            Question::List(SET, ONE, &[(RED, 128)]),
-            Question::Buffer(1, 7),
-            Question::Queue(1),
-            Question::Cancel(1),
-        ],
+        "open f 1\nalloc r\nset f req:r red=128\nbuffer r 7\nqueue r\ncancel r",
     ),
     (
         32,
-        &[
-            OPEN,
-            Question::Alloc(1),
-            Question::List(SET, ONE, &[(RED, 128)]),
-            Question::Buffer(1, 7),
-            Question::Queue(1),
-            Question::Begin,
-        ],
+        "open f 1\nalloc r\nset f req:r red=128\nbuffer r 7\nqueue r\nbegin",
     ),
     (
         32,
-        &[
-            OPEN,
-            Question::Alloc(1),
-            Question::List(SET, ONE, &[(RED, 128)]),
-            Question::Buffer(1, 7),
-            Question::Queue(1),
-            Question::Grab(8, true),
-            Question::Begin,
-            Question::Grab(8, false),
-        ],
+        "open f 1\nalloc r\nset f req:r red=128\nbuffer r 7\nqueue r\ngrab red on\nbegin\ngrab red off",
     ),
     // in the snapshot it does: these differ in it alone
     (
         33,
-        &[
-            OPEN,
-            Question::Alloc(1),
-            Question::List(SET, ONE, &[(RED, 128)]),
-            Question::Buffer(1, 7),
-            Question::Queue(1),
-            Question::Begin,
-            Question::List(SET, NOW, &[(RED, 200)]),
-            Question::Complete,
-        ],
+        "open f 1\nalloc r\nset f req:r red=128\nbuffer r 7\nqueue r\nbegin\nset f cur red=200\ncomplete",
     ),
     (
         34,
-        &[
-            OPEN,
-            Question::Alloc(1),
-            Question::List(SET, ONE, &[(RED, 128)]),
-            Question::Buffer(1, 7),
-            Question::Queue(1),
-            Question::Grab(8, true),
-            Question::Begin,
-            Question::Grab(8, false),
-            Question::List(SET, NOW, &[(RED, 200)]),
-            Question::Complete,
-        ],
+        "open f 1\nalloc r\nset f req:r red=128\nbuffer r 7\nqueue r\ngrab red on\nbegin\ngrab red off\nset f cur red=200\ncomplete",
     ),
     // subscriptions alone don't count
-    (1, &[OPEN, Question::SubscribeAll(0, 1, SHOWN, 0x2)]),
     (
         1,
-        &[
-            OPEN,
-            Question::Subscribe(0, RED, 0),
-            Question::List(SET, NOW, &[(RED, 5)]),
-            Question::Unsubscribe(0, RED),
-            Question::List(SET, NOW, &[(RED, 128)]),
-        ],
+        "open f 1\nsub f brightness feedback\nsub f power feedback\nsub f button feedback\nsub f red feedback\nsub f blue feedback\nsub f autogain feedback\nsub f gain feedback\nsub f hflip feedback\nsub f vflip feedback",
+    ),
+    (
+        1,
+        "open f 1\nsub f red\nset f cur red=5\nunsub f red\nset f cur red=128",
     ),
     // an event waits, of this control or another
-    (18, &[OPEN, Question::Subscribe(0, RED, 0x1)]),
+    (18, "open f 1\nsub f red initial"),
     (
         18,
-        &[
-            OPEN,
-            Question::SubscribeAll(0, 1, &[BLUE, RED], 0),
-            Question::Unsubscribe(0, RED),
-            Question::Subscribe(0, RED, 0x3),
-        ],
+        "open f 1\nsub f blue\nsub f red\nunsub f red\nsub f red initial feedback",
     ),
-    (19, &[OPEN, Question::Subscribe(0, BLUE, 0x1)]),
+    (19, "open f 1\nsub f blue initial"),
     // what it tells is another value
     (
         20,
-        &[
-            OPEN,
-            Question::List(SET, NOW, &[(RED, 200)]),
-            Question::Subscribe(0, RED, 0x1),
-            Question::List(SET, NOW, &[(RED, 128)]),
-        ],
+        "open f 1\nset f cur red=200\nsub f red initial\nset f cur red=128",
     ),
     // two, in either order
-    (21, &[OPEN, Question::SubscribeAll(0, 1, &[RED, BLUE], 0x1)]),
-    (22, &[OPEN, Question::SubscribeAll(0, 1, &[BLUE, RED], 0x1)]),
+    (21, "open f 1\nsub f red initial\nsub f blue initial"),
+    (22, "open f 1\nsub f blue initial\nsub f red initial"),
     // one was raised before, and is gone
-    (
-        23,
-        &[OPEN, Question::Subscribe(0, RED, 0x1), Question::Take(0)],
-    ),
-    (
-        23,
-        &[OPEN, Question::Subscribe(0, BLUE, 0x1), Question::Take(0)],
-    ),
-    (
-        23,
-        &[
-            OPEN,
-            Question::Subscribe(0, RED, 0x1),
-            Question::Unsubscribe(0, RED),
-        ],
-    ),
+    (23, "open f 1\nsub f red initial\ntake f"),
+    (23, "open f 1\nsub f blue initial\ntake f"),
+    (23, "open f 1\nsub f red initial\nunsub f red"),
     // two were
     (
         24,
-        &[
-            OPEN,
-            Question::SubscribeAll(0, 1, &[RED, BLUE], 0x1),
-            Question::Take(0),
-            Question::Take(0),
-        ],
+        "open f 1\nsub f red initial\nsub f blue initial\ntake f\ntake f",
     ),
     (
         24,
-        &[
-            OPEN,
-            Question::Subscribe(0, RED, 0x2),
-            Question::List(SET, NOW, &[(RED, 5)]),
-            Question::List(SET, NOW, &[(RED, 128)]),
-            Question::Take(0),
-        ],
+        "open f 1\nsub f red feedback\nset f cur red=5\nset f cur red=128\ntake f",
     ),
     // the second of two waits, and tells of its value and flags, or of its value alone
     (
         25,
-        &[
-            OPEN,
-            Question::Subscribe(0, BLUE, 0x1),
-            Question::Subscribe(0, RED, 0x1),
-            Question::Take(0),
-        ],
+        "open f 1\nsub f blue initial\nsub f red initial\ntake f",
     ),
     (
         26,
-        &[
-            OPEN,
-            Question::Subscribe(0, RED, 0x2),
-            Question::List(SET, NOW, &[(RED, 5)]),
-            Question::List(SET, NOW, &[(RED, 128)]),
-        ],
+        "open f 1\nsub f red feedback\nset f cur red=5\nset f cur red=128",
     ),
     // it waits for one of two file handles
-    (27, &[OPEN, OPEN, Question::Subscribe(0, RED, 0x1)]),
-    (28, &[OPEN, OPEN, Question::Subscribe(1, RED, 0x1)]),
+    (27, "open f 1\nopen g 1\nsub f red initial"),
+    (28, "open f 1\nopen g 1\nsub g red initial"),
     (
         29,
-        &[
-            OPEN,
-            OPEN,
-            Question::SubscribeAll(0, 2, &[RED], 0),
-            Question::List(SET, NOW, &[(RED, 200)]),
-        ],
+        "open f 1\nopen g 1\nsub f red\nsub g red\nset f cur red=200",
     ),
     (
         30,
-        &[
-            OPEN,
-            OPEN,
-            Question::SubscribeAll(0, 2, &[RED], 0),
-            Question::List(SET, OTHER, &[(RED, 200)]),
-        ],
+        "open f 1\nopen g 1\nsub f red\nsub g red\nset g cur red=200",
     ),
 ];
 
-// A device after the asks of a past, which are accepted.
-fn after(alloc: Global, questions: &[Question]) -> Result<Scene, Trouble> {
-    let mut scene = scene_of(alloc, &SAMPLE, &mut 0)?;
-    ask_all(alloc, &mut scene, questions)?;
-    scene.look();
-    Ok(scene)
+// The device behind a script, none of whose commands is refused.
+fn after(alloc: Global, counters: &Counters, script: &str) -> Result<Device<Counting>, AllocError> {
+    let device = device(alloc, counters)?;
+    let (device, printed) = behind(alloc, device, script.as_bytes())?;
+    match str::from_utf8(printed.as_slice()) {
+        Ok(replies) if !replies.contains("error") => Ok(device),
+        _ => Err(AllocError),
+    }
 }
 
-fn ask_all(alloc: Global, scene: &mut Scene, questions: &[Question]) -> Result<(), Trouble> {
-    for (number, question) in (0u32..).zip(questions) {
-        for part in 0..question.count() {
-            accept(scene, &question.ask(alloc, part)?, number)?;
-        }
+fn devices(
+    alloc: Global,
+    counters: &Counters,
+    pasts: &[Past],
+) -> Result<Vec<Device<Counting>>, AllocError> {
+    let mut devices = Vec::with_capacity(alloc, pasts.len())?;
+    for past in pasts {
+        devices.push(after(alloc, counters, past.1)?)?;
     }
-    Ok(())
+    Ok(devices)
 }
 
 // What the steps of a device make of its plan.
-fn audited(alloc: Global, scene: &Scene) -> Result<Scratch, Trouble> {
-    match audit(alloc, scene.device.plan(), scene.device.steps()) {
+fn audited(alloc: Global, device: &Device<Counting>) -> Result<Scratch, AllocError> {
+    match audit(alloc, device.plan(), device.steps()) {
         Ok(scratch) => Ok(scratch),
-        Err(AuditFault::Memory) => Err(Trouble::Memory),
-        Err(AuditFault::NotLegal { index }) => Err(Trouble::Step(index as usize)),
+        Err(_) => Err(AllocError),
     }
 }
 
-// The first two of the pasts, by their places, where an audit of the one agrees with the device of the other and shouldn't, or the other
-// way round; or where one tells somebody, or changes what the device counts.
-fn mistaken(alloc: Global) -> Result<Option<(usize, usize)>, Trouble> {
-    mistaken_among(alloc, PASTS)
+// The first past, by its place, with whose device an audit agrees and shouldn't, or the other way round.
+fn wrong_about(
+    scratch: &Scratch,
+    number: u32,
+    pasts: &[Past],
+    devices: &[Device<Counting>],
+) -> Option<usize> {
+    for (place, (past, device)) in pasts.iter().zip(devices).enumerate() {
+        if device.agrees(scratch) != (number == past.0) {
+            return Some(place);
+        }
+    }
+    None
 }
 
-fn mistaken_among(alloc: Global, pasts: &[Past]) -> Result<Option<(usize, usize)>, Trouble> {
-    for (place, past) in pasts.iter().enumerate() {
-        if let Some(other) = mistaken_at(alloc, pasts, place, past)? {
+// The first two of the pasts, by their places, of which an audit of the one is wrong about the other.
+fn mistaken(
+    alloc: Global,
+    pasts: &[Past],
+    devices: &[Device<Counting>],
+) -> Result<Option<(usize, usize)>, AllocError> {
+    for (place, (past, device)) in pasts.iter().zip(devices).enumerate() {
+        let scratch = audited(alloc, device)?;
+        if let Some(other) = wrong_about(&scratch, past.0, pasts, devices) {
             return Ok(Some((place, other)));
         }
     }
     Ok(None)
 }
 
-// The first past that an audit of the one at a place is wrong about; the place itself where the audit isn't silent.
-fn mistaken_at(
-    alloc: Global,
-    pasts: &[Past],
-    place: usize,
-    past: &Past,
-) -> Result<Option<usize>, Trouble> {
-    let scene = after(alloc, past.1)?;
-    let work = scene.device.work();
-    let other = wrong_about_others(alloc, &scene, past.0, pasts)?;
-    let has_told = scene.device.work() != work || !scene.is_silent();
-    Ok(match other {
-        None if has_told => Some(place),
-        _ => other,
-    })
-}
-
-fn wrong_about_others(
-    alloc: Global,
-    scene: &Scene,
-    number: u32,
-    pasts: &[Past],
-) -> Result<Option<usize>, Trouble> {
-    let scratch = audited(alloc, scene)?;
-    wrong_about(alloc, &scratch, number, pasts)
-}
-
-// The first past that an audit is wrong about, which agrees with those of a number.
-fn wrong_about(
-    alloc: Global,
-    scratch: &Scratch,
-    number: u32,
-    pasts: &[Past],
-) -> Result<Option<usize>, Trouble> {
-    for (place, past) in pasts.iter().enumerate() {
-        if !is_right(alloc, scratch, number == past.0, past.1)? {
-            return Ok(Some(place));
-        }
-    }
-    Ok(None)
-}
-
-// Whether an audit agrees with the device of a past, or doesn't, as it should, and tells nobody.
-fn is_right(
-    alloc: Global,
-    scratch: &Scratch,
-    agrees: bool,
-    questions: &[Question],
-) -> Result<bool, Trouble> {
-    let other = after(alloc, questions)?;
-    Ok(other.device.agrees(scratch) == agrees && other.is_silent())
-}
-
+// An audit tells nobody.
 #[test]
-fn an_audit_agrees_with_what_is_alike(rt: HostRuntime) {
-    let mut found = mistaken(rt.alloc());
-    if matches!(found, Err(Trouble::Memory)) {
-        found = mistaken(rt.alloc());
-    }
-    assert!(rt; matches!(found, Ok(None)), "{found:?}");
+fn an_audit_agrees_with_what_is_alike(rt: HostRuntime) -> Result<(), AllocError> {
+    let alloc = rt.alloc();
+    let counters = counters(alloc)?;
+    let devices = devices(alloc, &counters, PASTS)?;
+    let before = told(&counters);
+    let found = mistaken(alloc, PASTS, devices.as_slice())?;
+    assert!(rt; found.is_none() && told(&counters) == before, "{found:?}");
+    Ok(())
 }

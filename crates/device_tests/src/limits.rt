@@ -1,206 +1,175 @@
-//! A device with 1,000,000 steps, the most that are kept: each ask that would add one has its own refusal first, and then ENOSPC; an ask without a
-//! step answers as ever.
+//! A device with 1,000,000 steps, the most that are kept: each ask that would add one has its own refusal first, and then ENOSPC (28); an ask
+//! without a step answers as ever.
 
-use crate::asks::{At, FILLING, GET, NOW, Question, Row, SET, TRY, Want};
-use crate::looks::Look;
-use crate::play::expect;
-use crate::sample::{AUTOGAIN, BLUE, BRIGHTNESS, GAIN, HFLIP, POWER, RED, SAMPLE};
-use ctrl_types::Errno;
-use frame_queue::RequestState;
+use crate::closures::Counting;
+use crate::scene::{Counters, behind, counters, device};
+use device_state::{Ask, Device};
+use std::alloc::{AllocError, Global};
+use std::process::Abort;
 
-// Through a request, at the file handle 0.
-const IDLE: At = At(0, 0x0f01_0000, Some(2));
+// How many ends of the stream come first, the commands of a script with their replies, and how often the validators of autogain and gain,
+// and of red and blue, are asked.
+type Full = (u32, &'static str, (u64, u64));
 
-const RUNS: At = At(0, 0x0f01_0000, Some(4));
-
-const COMPLETE: At = At(0, 0x0f01_0000, Some(6));
-
-// An id that no control has.
-const STRANGE: u32 = 0x0098_0999;
-
-const FULL: Want = Want::Refused(Errno::ENOSPC);
-
-const FULL_LIST: Want = Want::Whole(Errno::ENOSPC);
-
-const INVALID: Want = Want::Refused(Errno::EINVAL);
-
-const BUSY: Want = Want::Refused(Errno::EBUSY);
-
-const NONE: Want = Want::Refused(Errno::ENOENT);
-
-const CLOSED: Want = Want::Refused(Errno::EBADF);
-
-// A frame is being made, and another one waits. The requests 2 and 3 are idle, the second with a buffer; 4 runs, 5 waits, and 6 was cancelled. An
-// event waits for the first file handle.
-const MANY: &[Row] = &[
-    (Question::Open(1, 2), Want::Opened, &[]),
-    (Question::Alloc(5), Want::Made, &[]),
-    (Question::Buffer(3, 3), Want::Done, &[]),
-    (Question::Buffer(4, 4), Want::Done, &[]),
-    (Question::Buffer(5, 5), Want::Done, &[]),
-    (Question::Buffer(6, 6), Want::Done, &[]),
-    (Question::Queue(4), Want::Done, &[]),
-    (Question::Queue(5), Want::Done, &[]),
-    (Question::Queue(6), Want::Done, &[]),
-    (Question::Cancel(6), Want::Done, &[]),
-    (Question::Begin, Want::Frame(4, 4, &[]), &[]),
-    (Question::Subscribe(0, BRIGHTNESS, 1), Want::Done, &[]),
-    (Question::Fill(999_983), Want::Values(&[1]), &[]),
-    // file handles and grabs
-    (Question::Open(2, 1), INVALID, &[]),
-    (Question::Open(1, 1), FULL, &[]),
-    (Question::Close(9), CLOSED, &[]),
-    (Question::Close(0), FULL, &[]),
-    (Question::Grab(10, true), INVALID, &[]),
-    (Question::Grab(2, true), FULL, &[]),
-    // sets: the validators are asked before it is seen that no further step is kept
-    (
-        Question::List(SET, At(9, 0, None), FILLING),
-        Want::Whole(Errno::EBADF),
-        &[],
-    ),
-    (
-        Question::List(SET, NOW, &[(STRANGE, 1)]),
-        Want::Entry(Errno::EINVAL, 0),
-        &[],
-    ),
-    (
-        Question::List(SET, NOW, &[(POWER, 4)]),
-        Want::Entry(Errno::ERANGE, 0),
-        &[],
-    ),
-    (
-        Question::List(SET, NOW, &[(RED, 200), (BLUE, 200)]),
-        Want::Entry(Errno::EINVAL, 0),
-        &[(1, 1, 0)],
-    ),
-    (
-        Question::List(SET, NOW, &[(GAIN, 5), (RED, 6)]),
-        FULL_LIST,
-        &[(0, 1, 0), (1, 1, 0)],
-    ),
-    (Question::List(SET, NOW, FILLING), FULL_LIST, &[]),
-    (Question::List(SET, NOW, &[]), FULL_LIST, &[]),
-    // stores
-    (
-        Question::List(SET, RUNS, FILLING),
-        Want::Whole(Errno::EBUSY),
-        &[],
-    ),
-    (
-        Question::List(SET, IDLE, &[(AUTOGAIN, 0)]),
-        FULL_LIST,
-        &[(0, 1, 0)],
-    ),
-    (Question::List(SET, IDLE, &[]), FULL_LIST, &[]),
-    // requests
-    (Question::Alloc(1), FULL, &[]),
-    (Question::Buffer(0, 9), INVALID, &[]),
-    (Question::Buffer(3, 9), BUSY, &[]),
-    (Question::Buffer(2, 5), BUSY, &[]),
-    (Question::Buffer(2, 6), FULL, &[]),
-    (Question::Queue(0), INVALID, &[]),
-    (Question::Queue(5), BUSY, &[]),
-    (Question::Queue(2), NONE, &[]),
-    (Question::Queue(3), FULL, &[]),
-    (Question::Begin, BUSY, &[]),
-    (Question::Complete, FULL, &[]),
-    (Question::Cancel(0), INVALID, &[]),
-    (Question::Cancel(4), BUSY, &[]),
-    (Question::Cancel(3), INVALID, &[]),
-    (Question::Cancel(5), FULL, &[]),
-    (Question::StreamOff, FULL, &[]),
-    (Question::Reinit(0), INVALID, &[]),
-    (Question::Reinit(5), BUSY, &[]),
-    (Question::Reinit(6), FULL, &[]),
-    (Question::Free(0), INVALID, &[]),
-    (Question::Free(4), BUSY, &[]),
-    (Question::Free(6), FULL, &[]),
-    // events
-    (Question::Subscribe(9, BRIGHTNESS, 0), CLOSED, &[]),
-    (Question::Subscribe(0, STRANGE, 0), INVALID, &[]),
-    (Question::Subscribe(0, BRIGHTNESS, 0), FULL, &[]),
-    (Question::Unsubscribe(9, BRIGHTNESS), CLOSED, &[]),
-    (Question::Unsubscribe(0, STRANGE), FULL, &[]),
-    (Question::Take(9), CLOSED, &[]),
-    (Question::Take(1), NONE, &[]),
-    (Question::Take(0), FULL, &[]),
-    // what adds no step
-    (
-        Question::List(TRY, NOW, &[(RED, 200), (HFLIP, 0)]),
-        Want::Values(&[200, 0]),
-        &[(1, 1, 0)],
-    ),
-    (
-        Question::List(GET, NOW, &[(HFLIP, 0), (RED, 0)]),
-        Want::Values(&[1, 128]),
-        &[],
-    ),
-    (
-        Question::List(GET, COMPLETE, &[(HFLIP, 0)]),
-        Want::Values(&[0]),
-        &[],
-    ),
-    (Question::State(4), Want::State(RequestState::Running), &[]),
-    (
-        Question::Row(0),
-        Want::Row(5, 5, &[1, 16, 1, 0, 0, 0, 1, 0, 128, 128], &[]),
-        &[],
-    ),
-    (Question::Row(1), NONE, &[]),
-    (Question::Query(0, BRIGHTNESS), Want::Flags(0), &[]),
-    (Question::Next(0, BRIGHTNESS), Want::Id(0x0098_090d), &[]),
-    (Question::Item(0, POWER, 1), Want::Name("50 Hz"), &[]),
-    (Question::Told(0), Want::Word(272), &[]),
-    // nothing has changed
-    (
-        Question::See(&[
-            Look::Queue(&[5]),
-            Look::Running(Some(4)),
-            Look::Asked(2, Ok(&[])),
-            Look::Waiting(0, &[(5, 3, 0, 0)]),
-        ]),
-        Want::Done,
-        &[],
-    ),
-];
+// A frame is being made, and another one waits. Of the requests q and r, which are idle, the second has a buffer; s runs, t waits, and u was
+// cancelled. An event waits for the file handle f. Validators are asked before it is seen that no further step is kept.
+const MANY: &str = "\
+open f 1 -> ok
+open g 1 -> ok
+alloc q -> ok
+alloc r -> ok
+alloc s -> ok
+alloc t -> ok
+alloc u -> ok
+buffer r 3 -> ok
+buffer s 4 -> ok
+buffer t 5 -> ok
+buffer u 6 -> ok
+queue s -> ok
+queue t -> ok
+queue u -> ok
+cancel u -> ok
+begin -> ok buffer 4 refused -
+sub f brightness initial -> ok
+set f cur hflip=1 -> ok 1
+open x 2 -> error 22
+open x 1 -> error 28
+close nobody -> error 9
+close f -> error 28
+grab missing on -> error 22
+grab hflip on -> error 28
+set nobody cur hflip=1 -> error 9 index 1
+set f cur missing=1 -> error 22 index 1
+set f cur power=4 -> error 34 index 1
+set f cur red=200 blue=200 -> error 22 index 2
+set f cur gain=5 red=6 -> error 28 index 2
+set f cur hflip=1 -> error 28 index 1
+set f cur -> error 28 index 0
+set f req:s hflip=1 -> error 16 index 1
+set f req:q autogain=0 -> error 28 index 1
+set f req:q -> error 28 index 0
+alloc x -> error 28
+buffer nothing 9 -> error 22
+buffer r 9 -> error 16
+buffer q 5 -> error 16
+buffer q 6 -> error 28
+queue nothing -> error 22
+queue t -> error 16
+queue q -> error 2
+queue r -> error 28
+begin -> error 16
+complete -> error 28
+cancel nothing -> error 22
+cancel s -> error 16
+cancel r -> error 22
+cancel t -> error 28
+off -> error 28
+reinit nothing -> error 22
+reinit t -> error 16
+reinit u -> error 28
+free nothing -> error 22
+free s -> error 16
+free u -> error 28
+sub nobody brightness -> error 9
+sub f missing -> error 22
+sub f brightness -> error 28
+unsub nobody brightness -> error 9
+unsub f missing -> error 28
+take nobody -> error 9
+take g -> error 2
+take f -> error 28
+try f cur red=200 hflip=0 -> ok 200 0
+get f cur hflip red -> ok 1 128
+get f req:u hflip -> ok 0
+state s -> ok running
+row 0 -> frame 0 buffer 5 refused - values 1 16 1 0 0 0 1 0 128 128
+row 1 -> error 2
+query f brightness -> ok 0x00980900 kind 1 min -64 max 64 step 4 default 0 flags 0x0
+next f 0x00980900 -> ok 0x0098090d
+menu f power 1 -> ok 50 Hz
+told 0 -> ok 272
+state q -> ok idle
+state t -> ok queued
+";
 
 // No frame is being made, and one waits.
-const WAITING: &[Row] = &[
-    (Question::Open(1, 1), Want::Opened, &[]),
-    (Question::Alloc(1), Want::Made, &[]),
-    (Question::Buffer(1, 1), Want::Done, &[]),
-    (Question::Queue(1), Want::Done, &[]),
-    (Question::Fill(999_996), Want::Values(&[1]), &[]),
-    (Question::Complete, NONE, &[]),
-    (Question::Begin, FULL, &[]),
-    (
-        Question::See(&[Look::Queue(&[1]), Look::Running(None)]),
-        Want::Done,
-        &[],
-    ),
-];
+const WAITING: &str = "\
+open f 1 -> ok
+alloc q -> ok
+buffer q 1 -> ok
+queue q -> ok
+complete -> error 2
+begin -> error 28
+state q -> ok queued
+";
 
 // No frame waits.
-const EMPTY: &[Row] = &[
-    (Question::Open(1, 1), Want::Opened, &[]),
-    (Question::Fill(999_999), Want::Values(&[1]), &[]),
-    (Question::Begin, NONE, &[]),
-    (Question::Row(0), NONE, &[]),
-    (Question::StreamOff, FULL, &[]),
-];
+const EMPTY: &str = "\
+open f 1 -> ok
+begin -> error 2
+row 0 -> error 2
+off -> error 28
+";
 
-#[test]
-fn no_further_step_is_kept(rt: HostRuntime) {
-    expect(&rt, &SAMPLE, MANY);
+// A device with so many steps.
+fn device_with(
+    alloc: Global,
+    counters: &Counters,
+    steps: u32,
+) -> Result<Device<Counting>, AllocError> {
+    let mut device = device(alloc, counters)?;
+    for _ in 0..steps {
+        if device.handle(0, &Ask::StreamOff).is_err() {
+            return Err(AllocError);
+        }
+    }
+    Ok(device)
+}
+
+// The commands of a script and their replies, each with a line feed.
+fn parts(alloc: Global, text: &str) -> Result<(Vec<u8>, Vec<u8>), AllocError> {
+    let mut commands = Vec::new(alloc);
+    let mut replies = Vec::new(alloc);
+    for line in text.lines() {
+        if let Some((command, reply)) = line.split_once(" -> ") {
+            commands.extend_from_slice(command.as_bytes())?;
+            commands.push(b'\n')?;
+            replies.extend_from_slice(reply.as_bytes())?;
+            replies.push(b'\n')?;
+        }
+    }
+    Ok((commands, replies))
+}
+
+// Whether a script is answered so and asks so many validators. Where it isn't, the replies are handed back.
+fn answered(alloc: Global, full: &Full) -> Result<Option<Vec<u8>>, AllocError> {
+    let counters = counters(alloc)?;
+    let device = device_with(alloc, &counters, full.0)?;
+    let (commands, replies) = parts(alloc, full.1)?;
+    let (_device, printed) = behind(alloc, device, commands.as_slice())?;
+    let [gain, balance, _, _] = &counters;
+    let asked = (gain.calls().0, balance.calls().0);
+    let is_wanted = printed == replies && asked == full.2;
+    Ok(if is_wanted { None } else { Some(printed) })
+}
+
+fn expect<R: AllocGlobal + Abort>(rt: &R, full: &Full) -> Result<(), AllocError> {
+    let printed = answered(rt.alloc(), full)?;
+    assert!(rt; printed.is_none(), "{printed:?}");
+    Ok(())
 }
 
 #[test]
-fn a_frame_waits_for_good(rt: HostRuntime) {
-    expect(&rt, &SAMPLE, WAITING);
+fn no_further_step_is_kept(rt: HostRuntime) -> Result<(), AllocError> {
+    expect(&rt, &(999_982, MANY, (2, 3)))
 }
 
 #[test]
-fn an_empty_queue_is_refused_first(rt: HostRuntime) {
-    expect(&rt, &SAMPLE, EMPTY);
+fn a_frame_waits_for_good(rt: HostRuntime) -> Result<(), AllocError> {
+    expect(&rt, &(999_996, WAITING, (0, 0)))
+}
+
+#[test]
+fn an_empty_queue_is_refused_first(rt: HostRuntime) -> Result<(), AllocError> {
+    expect(&rt, &(999_999, EMPTY, (0, 0)))
 }

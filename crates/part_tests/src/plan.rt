@@ -3,7 +3,6 @@
 
 mod calls;
 mod data;
-mod files;
 mod items;
 mod plans;
 mod settling;

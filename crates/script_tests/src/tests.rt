@@ -29,7 +29,7 @@ fn run_of(
 // A run that wrote all lines of a script, and ended with all of its steps as it does.
 fn is_whole(alloc: Global, script: &Script, ran: &Ran) -> Result<bool, AllocError> {
     let reply = script.reply(alloc)?;
-    let steps = script.steps(script.lines.len());
+    let steps = script.steps(script.count());
     Ok(is_run(ran, reply.as_slice(), script.outcome, steps))
 }
 
@@ -40,7 +40,7 @@ fn prints(alloc: Global, script: &Script, most: usize) -> Result<bool, AllocErro
         ..WHOLE
     };
     let ran = run_of(alloc, script, None, streams)?;
-    let lines = script.lines.len();
+    let lines = script.count();
     let fewest = if most == 1 { ran.bytes.len() } else { lines };
     // a writer that takes a line whole takes it in one write
     let is_few = most < 4096 || ran.writes as usize == lines;
@@ -114,7 +114,7 @@ fn writers_fail_at_each_write(rt: HostRuntime) -> Result<(), AllocError> {
         for most in MOST {
             for fault in FAULTS {
                 let failed = fails_at_each(rt.alloc(), script, most, fault)?;
-                let lines = script.lines.len();
+                let lines = script.count();
                 assert!(rt;
                     matches!(failed, Some(number) if number as usize > lines),
                     "{number} {most} {fault:?}"
@@ -210,7 +210,7 @@ fn inputs_at_the_limits(rt: HostRuntime) -> Result<(), AllocError> {
 
 // Runs a script, in which one growth may be refused. Where a growth of the tool's own was, the run ends behind the lines that were
 // answered, and the device has their steps. Where one of the device's was, the line is answered with error 12, and all else is as if
-// an empty line had stood in its place.
+// an empty line had stood in its place, and nobody was told more.
 fn stands_refusals(alloc: Global, script: &Script, refused: &mut u32) -> Result<bool, AllocError> {
     let ran = run_of(alloc, script, None, WHOLE)?;
     if is_whole(alloc, script, &ran)? {
@@ -242,7 +242,9 @@ fn stands_refusal(
         return Ok(rest == b"no memory\n".as_slice() && ran.steps == script.steps(lines));
     }
     let without = run_of(alloc, script, Some(lines), WHOLE)?;
-    let is_as_without = without.outcome == ran.outcome && without.steps == ran.steps;
+    let is_as_without = without.outcome == ran.outcome
+        && without.steps == ran.steps
+        && without.told == ran.told;
     Ok(is_as_without && is_refused_line(same, rest, without.bytes.as_slice()))
 }
 

@@ -4,7 +4,6 @@
 mod building;
 mod closures;
 mod clustering;
-mod ids;
 mod looks;
 mod refusals;
 mod shown;

@@ -15,8 +15,6 @@ pub enum Look {
     Shown(u32, &'static [u32]),
     Find(u32, u32, Result<u32, Errno>),
     Next(u32, u32, Result<CtrlId, Errno>),
-    // all ids that a handler shows, in rising order, and their controls
-    Ids(u32, &'static [(u32, u32)]),
     Clusters(u32),
     // a cluster's members, each of which is in it, and its manual value
     Cluster(u32, &'static [u32], Option<i64>),
@@ -34,7 +32,6 @@ fn shows(plan: &Plan<Alike>, called: &Arc<AtomicU64>, look: Look) -> bool {
         Look::Shown(handler, want) => plan.shown(handler) == want,
         Look::Find(handler, id, want) => plan.find(handler, CtrlId(id)) == want,
         Look::Next(handler, id, want) => plan.next_id(handler, CtrlId(id)) == want,
-        Look::Ids(handler, ids) => has_ids(plan, handler, ids),
         Look::Clusters(want) => plan.cluster_count() == want,
         Look::Cluster(cluster, members, manual) => has(plan, cluster, members, manual),
         Look::Closures(cluster, want) => numbers(plan, called, cluster) == (want, want),
@@ -43,25 +40,6 @@ fn shows(plan: &Plan<Alike>, called: &Arc<AtomicU64>, look: Look) -> bool {
         }
         Look::Name(control, index, want) => name_of(plan, control, index) == want,
         Look::Number(control, index, want) => number_of(plan, control, index) == want,
-    }
-}
-
-fn has_ids(plan: &Plan<Alike>, handler: u32, ids: &[(u32, u32)]) -> bool {
-    for (place, &(id, control)) in ids.iter().enumerate() {
-        if plan.find(handler, CtrlId(id)) != Ok(control) {
-            return false;
-        }
-        if plan.next_id(handler, CtrlId(id)) != first_of(&ids[place + 1..]) {
-            return false;
-        }
-    }
-    plan.shown(handler).len() == ids.len()
-}
-
-fn first_of(ids: &[(u32, u32)]) -> Result<CtrlId, Errno> {
-    match ids.first() {
-        Some(&(id, _)) => Ok(CtrlId(id)),
-        None => Err(Errno::EINVAL),
     }
 }
 

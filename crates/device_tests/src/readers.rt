@@ -1,0 +1,111 @@
+//! What a driver's readers tell, and asks that no script can make.
+
+use crate::closures::Counting;
+use crate::scene::{behind, counters, device};
+use bitflags::Flags as FlagSet;
+use ctrl_types::{CtrlId, ExtControl, FhId, RequestId, SubFlags};
+use device_state::{Ask, ControlList, Device, Reply};
+use std::alloc::{AllocError, Global};
+
+// The file handle 0 hears of red and of blue; the request 1 is complete, and 2 waits. Blue is grabbed, and the gain isn't INACTIVE.
+const SCRIPT: &str = "\
+open f 1
+alloc r
+alloc s
+set f req:r red=200
+set f req:s red=200 blue=150
+buffer r 7
+buffer s 8
+queue r
+begin
+sub f red initial
+sub f blue feedback
+grab blue on
+set f cur autogain=0
+complete
+queue s
+";
+
+const FH: FhId = FhId(0);
+
+const DONE: RequestId = RequestId(1);
+
+const WAITS: RequestId = RequestId(2);
+
+fn device_behind(alloc: Global) -> Result<Device<Counting>, AllocError> {
+    let device = device(alloc, &counters(alloc)?)?;
+    Ok(behind(alloc, device, SCRIPT.as_bytes())?.0)
+}
+
+// Whether the readers of controls and requests tell what the script made.
+fn has_values(device: &Device<Counting>) -> bool {
+    device.values() == [0, 16, 0, 0, 0, 0, 1, 0, 200, 128].as_slice()
+        && device.plan().control_count() == 10
+        && device.flags(1).bits() == 0
+        && device.flags(9).bits() == 0x2
+        && device.is_grabbed(9)
+        && device.snapshot(DONE, 8) == Ok(200)
+        && matches!(device.asked(WAITS), Ok(pairs) if pairs.len() == 2)
+        && device.queued(0) == Some(WAITS)
+        && device.running().is_none()
+}
+
+// Whether those of events do.
+fn has_events(device: &Device<Counting>) -> bool {
+    device.subscribed(FH, 9) == Some(SubFlags::ALLOW_FEEDBACK)
+        && device.subscribed(FH, 7).is_none()
+        && device.next_sequence(FH) == 2
+        && matches!(device.waiting(FH, 1), Some((9, event)) if event.flags.bits() == 0x2)
+        && device.waiting(FH, 2).is_none()
+}
+
+#[test]
+fn readers_tell_what_was_made(rt: HostRuntime) -> Result<(), AllocError> {
+    let device = device_behind(rt.alloc())?;
+    assert!(rt; has_values(&device) && has_events(&device));
+    Ok(())
+}
+
+// Bits of a subscription's flags that have no name are kept, and the step has the seat.
+fn keeps_bits(device: &mut Device<Counting>) -> bool {
+    let flags = SubFlags::from_bits_retain(0xffff_fffc);
+    let ask = Ask::Subscribe {
+        fh: FH,
+        id: CtrlId(0x0098_0900),
+        flags,
+    };
+    device.handle(7, &ask).is_ok()
+        && device.subscribed(FH, 5) == Some(flags)
+        && matches!(device.steps().last(), Some(entry) if entry.seat == 7)
+}
+
+// A request that isn't there is ignored beside present values.
+fn ignores_request(alloc: Global, device: &mut Device<Counting>) -> Result<bool, AllocError> {
+    let mut list = Vec::new(alloc);
+    list.push(ExtControl {
+        id: CtrlId(0x0098_090e),
+        value: 0,
+    })?;
+    let list = ControlList::from_vec(list);
+    Ok(match &device.get(FH, 0, Some(RequestId(99)), &list) {
+        Ok(Reply::Controls(list)) => matches!(list.as_slice(), [red] if red.value == 200),
+        _ => false,
+    })
+}
+
+// Whether a control that isn't there is neither grabbed nor let go.
+fn grabs_nobody(device: &mut Device<Counting>) -> bool {
+    let control = u32::MAX;
+    let is_grabbed = device.handle(0, &Ask::Grab { control, on: true }).is_ok();
+    let is_free = device.handle(0, &Ask::Grab { control, on: false }).is_ok();
+    !is_grabbed && !is_free
+}
+
+#[test]
+fn asks_that_no_script_can_make(rt: HostRuntime) -> Result<(), AllocError> {
+    let mut device = device_behind(rt.alloc())?;
+    let keeps = keeps_bits(&mut device) && grabs_nobody(&mut device);
+    let ignores = ignores_request(rt.alloc(), &mut device)?;
+    assert!(rt; keeps && ignores);
+    Ok(())
+}

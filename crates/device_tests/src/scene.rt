@@ -1,0 +1,94 @@
+//! The sample's plan with closures that count, and scripts that run on a device of it.
+
+use crate::closures::{Counter, Counting};
+use ctl_script::{Outcome, run_script, sample_builder, sample_words};
+use ctrl_types::CtrlId;
+use data_driver::{Excess, Limit, Word};
+use device_state::{Device, Plan};
+use std::alloc::{AllocError, Global};
+
+// The gain is at most 200, and lowered to that.
+const LOWERED: Limit = Limit::AtMost {
+    member: 1,
+    most: 200,
+    excess: Excess::Lowered,
+};
+
+// Red and blue are at most 384 together.
+const SUM: Limit = Limit::Sum { most: 384 };
+
+const JOINED: Word = Word::Joined {
+    first: 0,
+    second: 1,
+};
+
+const PRESSED: Word = Word::Constant(1);
+
+const PLUS: Word = Word::Plus {
+    member: 0,
+    more: 64,
+};
+
+/// Counters of the clusters 0 to 3 of the sample: of autogain and gain, of red and blue, of the button, and of brightness.
+pub type Counters = [Counter; 4];
+
+/// Zeros.
+pub fn counters(alloc: Global) -> Result<Counters, AllocError> {
+    Ok([
+        Counter::new(alloc)?,
+        Counter::new(alloc)?,
+        Counter::new(alloc)?,
+        Counter::new(alloc)?,
+    ])
+}
+
+/// A fresh device of the sample's plan, whose closures count there. The error stands for any fault of the plan, too: a test that meets it
+/// fails.
+pub fn device(alloc: Global, counters: &Counters) -> Result<Device<Counting>, AllocError> {
+    match Device::new(alloc, plan(alloc, counters)?) {
+        Ok(device) => Ok(device),
+        Err(_) => Err(AllocError),
+    }
+}
+
+fn plan(alloc: Global, counters: &Counters) -> Result<Plan<Counting>, AllocError> {
+    let [gain, balance, button, brightness] = counters;
+    let of_gain = gain.calls_by(Some(LOWERED), JOINED)?;
+    let of_balance = balance.calls_by(Some(SUM), JOINED)?;
+    let of_button = button.calls_by(None, PRESSED)?;
+    let of_brightness = brightness.calls_by(None, PLUS)?;
+    let Ok(builder) = sample_builder(alloc, of_gain, of_balance, of_button, of_brightness) else {
+        return Err(AllocError);
+    };
+    match builder.finish() {
+        Ok(plan) => Ok(plan),
+        Err(_) => Err(AllocError),
+    }
+}
+
+/// The device behind a script, each line of which is a command or skipped, and what the script printed. The word `missing` names a control
+/// that isn't there.
+pub fn behind(
+    alloc: Global,
+    device: Device<Counting>,
+    script: &[u8],
+) -> Result<(Device<Counting>, Vec<u8>), AllocError> {
+    let mut words = sample_words(alloc)?;
+    words.push(alloc, b"missing", CtrlId(0x0098_0999), 10)?;
+    let mut reader = script;
+    let mut printed = Vec::new(alloc);
+    let (device, outcome) = run_script(alloc, &words, device, &mut reader, &mut printed);
+    match outcome {
+        Outcome::Finished => Ok((device, printed)),
+        _ => Err(AllocError),
+    }
+}
+
+/// How often notifiers were told in all.
+pub fn told(counters: &Counters) -> u64 {
+    let mut sum = 0u64;
+    for counter in counters {
+        sum = sum.saturating_add(counter.calls().1);
+    }
+    sum
+}
