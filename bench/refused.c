@@ -1,5 +1,5 @@
 /* An allocator in front of the C library's that refuses one growth of a program: the one whose number, from 1, is in REFUSE_AT. How many growths there
-   were stands in the file that COUNT_TO names, of 8 bytes, at every moment. bench/refused builds it and puts it before ctl_tool. */
+   were stands in the file that COUNT_TO names, of 8 bytes, at every moment. bench/refused builds it and puts it before a program. */
 #include <errno.h>
 #include <fcntl.h>
 #include <stdatomic.h>
