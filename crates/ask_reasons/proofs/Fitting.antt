@@ -148,7 +148,7 @@ settling_own c v = kind_own c.kind c v
 writing_own : (plan : PlanData) (view : ViewData) (is_set : Bool) (p : Pair) → AreOwn writing_part (writing_refusal plan view is_set p)
 writing_own plan view is_set p =
     choice (contains (control plan p.control).flags READ_ONLY) writing_part (Some EACCES) _ refl
-    (choice (is_set && is_grabbed view.grabs p.control) writing_part (Some EBUSY) _ refl (settling_own (control_in view.controls p.control) p.value))
+    (choice (is_set && is_grabbed view.grabs p.control) writing_part (Some EBUSY) _ refl (settling_own (control_in view.ranges p.control) p.value))
 
 -- a cluster refuses with whatever errno
 any_own : (o : Option Errno) → AreOwn (only checks.ClusterTakes) o

@@ -1,4 +1,5 @@
 pub mod RowLemmas
+pub mod RangeLemmas
 pub mod NewRowLemmas
 pub mod OverlayLemmas
 pub mod NotifyLemmas

@@ -9,6 +9,7 @@ pub use Rattle.ctrl_handlers.specs.HandlerData
 pub use Rattle.ctrl_handlers.specs.ClusterData
 pub use Rattle.ctrl_handlers.specs.Plan
 pub mod Rows
+pub mod Ranges
 pub mod Judging
 pub mod AutoClusters
 pub mod Overlay

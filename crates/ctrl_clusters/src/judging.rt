@@ -4,17 +4,17 @@ ghost use Rattle.ctrl_handlers.specs.Plan.{members, calls_of};
 ghost use Rattle.ctrl_clusters.specs.Rows.{AreControlsOf};
 ghost use Rattle.ctrl_clusters.specs.Judging.{refusal_of, judged, judge, validated_row, asks_validator, after_judging, with_call};
 
+use crate::ranges::Ranges;
 use crate::rows::{overwritten, settle_row, takes_row};
 use ctrl_calls::{ClusterRow, Driver, Verdict, Work, ask};
 use ctrl_handlers::Plan;
-use ctrl_settle::Ctrl;
 use ctrl_types::{CtrlValue, Errno, Pair};
 
 /// What a cluster makes of a row of its members' values, in member order (Linux driver API, "V4L2 Controls", "Control
 /// Clusters"): its validator is asked, once, where it has one; else the row is accepted as it is. Nobody is told.
 ///
 /// - `plan`: what the device is built of.
-/// - `controls`: its controls as they are now; the caller owes as many as the plan's, with their ids, kinds, flags and skipped items.
+/// - `ranges`: the ranges of its controls as they are now; the caller owes that they are of this plan's controls.
 /// - `cluster`: the number of a cluster; the caller owes one below `Plan::cluster_count`.
 /// - `row`: a value for each of its members; the caller owes exactly as many.
 /// - `work`: its count `asked` grows by one where the validator is asked.
@@ -24,22 +24,22 @@ use ctrl_types::{CtrlValue, Errno, Pair};
 #[tactic(auto, unfolding(crate::specs::Judging::judge))]
 pub fn judge<D: Driver>(
     plan: &Plan<D>,
-    controls: &[Ctrl],
+    ranges: &Ranges,
     cluster: u32,
     row: &ClusterRow,
     work: &mut Work,
 ) -> Result<ClusterRow, Errno>
-    requires controls { AreControlsOf plan.now controls.now }
+    requires ranges { AreControlsOf plan.now ranges.now }
     requires cluster { cluster < length plan.now.clusters }
     requires row { length row.now ≡ length (members plan.now cluster) }
-    ensures judged { result ≡ judge D.verdict plan.now controls.now cluster row.now }
+    ensures judged { result ≡ judge D.verdict plan.now ranges.now cluster row.now }
     ensures long { IfOk result (λ taken. length taken ≡ length (members plan.now cluster)) }
     ensures at_most_once { work.new.asked ≤ work.old.asked + 1 }
     ensures told { work.new.told ≡ work.old.told }
     ensures counted { work.new ≡ record work.old { asked = after_judging (calls_of plan.now cluster).validator work.old.asked } }
 {
     match plan.validator(cluster) {
-        Some(validator) => judged(controls, plan.members(cluster), ask(validator, row, work)),
+        Some(validator) => judged(ranges, plan.members(cluster), ask(validator, row, work)),
         None => Ok(*row),
     }
 }
@@ -49,7 +49,7 @@ pub fn judge<D: Driver>(
 /// are judged.
 ///
 /// - `plan`: what the device is built of.
-/// - `controls`: its controls as they are now; the caller owes as many as the plan's, with their ids, kinds, flags and skipped items.
+/// - `ranges`: the ranges of its controls as they are now; the caller owes that they are of this plan's controls.
 /// - `cluster`: the number of a cluster; the caller owes one below `Plan::cluster_count`.
 /// - `values`: a value for each control, in the order of their numbers; the caller owes exactly as many.
 /// - `pairs`: what is asked for; pairs of other clusters' controls count for nothing.
@@ -60,26 +60,26 @@ pub fn judge<D: Driver>(
 #[tactic(auto, unfolding(crate::specs::Judging::validated_row))]
 pub fn validated_row<D: Driver>(
     plan: &Plan<D>,
-    controls: &[Ctrl],
+    ranges: &Ranges,
     cluster: u32,
     values: &[CtrlValue],
     pairs: &[Pair],
     work: &mut Work,
 ) -> Result<ClusterRow, Errno>
-    requires controls { AreControlsOf plan.now controls.now }
+    requires ranges { AreControlsOf plan.now ranges.now }
     requires cluster { cluster < length plan.now.clusters }
     requires values { length values.now ≡ length plan.now.controls }
-    ensures row { result ≡ validated_row D.verdict plan.now controls.now values.now pairs.now cluster }
+    ensures row { result ≡ validated_row D.verdict plan.now ranges.now values.now pairs.now cluster }
     ensures long { IfOk result (λ taken. length taken ≡ length (members plan.now cluster)) }
     ensures at_most_once { work.new.asked ≤ work.old.asked + 1 }
     ensures asked { OnOk result (work.new.asked ≡ after_judging (calls_of plan.now cluster).validator work.old.asked) }
     ensures told { work.new.told ≡ work.old.told }
-    ensures counted { work.new ≡ record work.old { asked = with_call (asks_validator plan.now controls.now values.now pairs.now cluster) work.old.asked } }
+    ensures counted { work.new ≡ record work.old { asked = with_call (asks_validator plan.now ranges.now values.now pairs.now cluster) work.old.asked } }
 {
     let members = plan.members(cluster);
     let row = overwritten(values, pairs, members);
-    match settle_row(controls, members, &row) {
-        Ok(row) => judge(plan, controls, cluster, &row, work),
+    match settle_row(ranges, members, &row) {
+        Ok(row) => judge(plan, ranges, cluster, &row, work),
         Err(errno) => Err(errno),
     }
 }
@@ -95,16 +95,16 @@ fn refusal_of(errno: Errno) -> Errno
 }
 
 // What a verdict makes of the row of these members.
-fn judged(controls: &[Ctrl], members: &[u32], verdict: Verdict) -> Result<ClusterRow, Errno>
-    requires { All (λ c. c < length controls.now) members.now }
-    ensures judged { result ≡ judged controls.now members.now verdict }
+fn judged(ranges: &Ranges, members: &[u32], verdict: Verdict) -> Result<ClusterRow, Errno>
+    requires { All (λ c. c < length ranges.now) members.now }
+    ensures judged { result ≡ judged ranges.now members.now verdict }
     ensures long { IfOk result (λ row. length row ≡ length members.now) }
 {
     let row = match verdict {
         Verdict::Refuse(errno) => return Err(refusal_of(errno)),
         Verdict::Accept(row) => row,
     };
-    if takes_row(controls, members, &row) {
+    if takes_row(ranges, members, &row) {
         Ok(row)
     } else {
         Err(Errno::EINVAL)

@@ -1,6 +1,6 @@
 //! What clusters make of values that are asked of their members: a row is overwritten, settles in member order, and is judged by the driver's
-//! validator; how pairs are laid over values, rows written, and changed clusters notified; and which flags a control has under values and grabs.
-//! Only `first_words`, `default_values`, `no_grabs` and `NewRows::with_capacity` take memory.
+//! validator; how pairs are laid over values, rows written, and changed clusters notified; which range each control has; and which flags under values and grabs.
+//! Only `Ranges::of_plan`, `first_words`, `default_values`, `no_grabs` and `NewRows::with_capacity` take memory.
 #![tactic(auto)]
 
 mod auto_clusters;
@@ -11,6 +11,7 @@ mod new_row;
 mod new_rows;
 mod notifying;
 mod present_flags;
+mod ranges;
 mod rows;
 mod start;
 mod writing;
@@ -22,6 +23,7 @@ pub use new_row::NewRow;
 pub use new_rows::NewRows;
 pub use notifying::{first_words, notify_between, notify_changed};
 pub use present_flags::flags_under;
+pub use ranges::Ranges;
 pub use rows::member_value;
 pub use start::{default_values, no_grabs};
 pub use writing::{present_row, write_rows};

@@ -9,8 +9,9 @@ ghost use Rattle.ctrl_types.specs.Pairs.{last_value};
 ghost use Rattle.ctrl_clusters.specs.Rows.{value_at, overwritten, settle_row, member_value};
 ghost use Rattle.ctrl_clusters.specs.Judging.{is_value, takes_row};
 
+use crate::ranges::Ranges;
 use ctrl_calls::{ClusterRow, MAX_MEMBERS};
-use ctrl_settle::{Ctrl, settle};
+use ctrl_settle::settle;
 use ctrl_types::{CtrlValue, Errno, Pair, last_value};
 
 /// The values of a cluster's members, in member order, overwritten by pairs: the last pair of a control counts.
@@ -36,18 +37,18 @@ fn asked_of(values: &[CtrlValue], pairs: &[Pair], control: u32) -> CtrlValue
 
 /// What a cluster's members take for the values of a row, settled in member order; the errno of the first that doesn't settle.
 pub(crate) fn settle_row(
-    controls: &[Ctrl],
+    ranges: &Ranges,
     members: &[u32],
     row: &ClusterRow,
 ) -> Result<ClusterRow, Errno>
-    requires known { All (λ c. c < length controls.now) members.now }
+    requires known { All (λ c. c < length ranges.now) members.now }
     requires long { length row.now ≡ length members.now }
-    ensures row { result ≡ settle_row controls.now members.now row.now }
+    ensures row { result ≡ settle_row ranges.now members.now row.now }
     ensures long { IfOk result (λ settled. length settled ≡ length members.now) }
 {
     let mut settled = *row;
     for (place, &member) in members.iter().enumerate() {
-        match settle_at(controls, member, row, place) {
+        match settle_at(ranges, member, row, place) {
             Ok(value) => settled = settled.with(place, value),
             Err(errno) => return Err(errno),
         }
@@ -57,29 +58,29 @@ pub(crate) fn settle_row(
 
 // What a member takes for its value of a row.
 fn settle_at(
-    controls: &[Ctrl],
+    ranges: &Ranges,
     member: u32,
     row: &ClusterRow,
     place: usize,
 ) -> Result<CtrlValue, Errno>
-    requires known { member < length controls.now }
+    requires known { member < length ranges.now }
     requires within { place < length row.now }
-    ensures { result ≡ settle (control_in controls.now member) (value_at row.now place) }
+    ensures { result ≡ settle (control_in ranges.now member) (value_at row.now place) }
 {
-    settle(&controls[member as usize], row.value(place))
+    settle(ranges.range(member), row.value(place))
 }
 
 /// Whether members take the values of a row as they are; a row of another length they don't take.
-pub(crate) fn takes_row(controls: &[Ctrl], members: &[u32], row: &ClusterRow) -> bool
-    requires { All (λ c. c < length controls.now) members.now }
-    ensures taken { result ≡ takes_row controls.now members.now row.now }
+pub(crate) fn takes_row(ranges: &Ranges, members: &[u32], row: &ClusterRow) -> bool
+    requires { All (λ c. c < length ranges.now) members.now }
+    ensures taken { result ≡ takes_row ranges.now members.now row.now }
     ensures long { result ≡ true → length row.now ≡ length members.now }
 {
     if row.len() != members.len() {
         return false;
     }
     for (place, &member) in members.iter().enumerate() {
-        if !takes_at(controls, member, row, place) {
+        if !takes_at(ranges, member, row, place) {
             return false;
         }
     }
@@ -87,12 +88,12 @@ pub(crate) fn takes_row(controls: &[Ctrl], members: &[u32], row: &ClusterRow) ->
 }
 
 // Whether a member takes its value of a row as it is.
-fn takes_at(controls: &[Ctrl], member: u32, row: &ClusterRow, place: usize) -> bool
-    requires known { member < length controls.now }
+fn takes_at(ranges: &Ranges, member: u32, row: &ClusterRow, place: usize) -> bool
+    requires known { member < length ranges.now }
     requires within { place < length row.now }
-    ensures { result ≡ is_value (settle (control_in controls.now member) (value_at row.now place)) (value_at row.now place) }
+    ensures { result ≡ is_value (settle (control_in ranges.now member) (value_at row.now place)) (value_at row.now place) }
 {
-    settle_at(controls, member, row, place) == Ok(row.value(place))
+    settle_at(ranges, member, row, place) == Ok(row.value(place))
 }
 
 /// The value that a row gives one of a cluster's members, where the control is one (Linux driver API, "V4L2 Controls", "Control

@@ -21,7 +21,7 @@ use Rattle.ctrl_forecast.specs.Frames.{FrameData, Setting, no_frame, frame_at, q
 use Rattle.ctrl_forecast.proofs.BoardLemmas.{forecasts_more}
 use Rattle.ctrl_forecast.proofs.FrameLemmas.{behind_long}
 use Rattle.ctrl_forecast.proofs.RightLemmas.{rows_alike, outcome_alike, overlay_row}
-use Rattle.ctrl_forecast.proofs.RenewLemmas.{grabs_agree}
+use Rattle.ctrl_forecast.proofs.RenewLemmas.{ranges_agree, grabs_agree}
 
 -- no call yet
 pub calls_none : (count : ℕ) → count < 2 ^ 64 → count ≡ with_calls 0 count
@@ -102,7 +102,7 @@ kept_asked fs p lt = ap (λ (q : QueuedData). q.asked) (sym (get_or-map queued_o
 over_alike : (s : Setting) (base values : Values) (pairs : List Pair) (k : ℕ) → row_of base (members s.plan k) ≡ row_of values (members s.plan k) → row_over s base pairs k ≡ row_over s values pairs k
 over_alike s base values pairs k same =
     ap (λ (r : List CtrlValue). row_or r (row_result s base pairs k)) same
-    ∙ ap (row_or (row_of values (members s.plan k))) (outcome_alike s.verdicts s.plan s.controls base values s.grabs s.grabs pairs k same (grabs_agree s (members s.plan k)))
+    ∙ ap (row_or (row_of values (members s.plan k))) (outcome_alike s.verdicts s.plan s.controls s.controls base values s.grabs s.grabs pairs k same (ranges_agree s (members s.plan k)) (grabs_agree s (members s.plan k)))
 
 -- and whether its validator is asked
 row_alike : (s : Setting) (base values : Values) (pairs : List Pair) (k : ℕ) → row_of base (members s.plan k) ≡ row_of values (members s.plan k)

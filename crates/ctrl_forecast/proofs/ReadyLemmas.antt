@@ -1,4 +1,4 @@
--- What has to be renewed in kept frames, once values or grabs were changed in some clusters, and once a frame is taken out.
+-- What has to be renewed in kept frames, once ranges, values or grabs were changed in some clusters, and once a frame is taken out.
 use Rattle.std.proofs.Common.{◌≡◌, ◌≢◌, ◌∙◌, ◌<◌, ◌≤◌, ◌+◌, ◌==◌, ◌⊎◌, ◌++◌, ℕ, zero, suc, add-one, eq-eqb, nat_eq, true, false, List, [], ◌∷◌, length, map, take, drop, get_or, inl, inr, refl, sym, ap, subst, arith}
 use Rattle.std.specs.List.{All, list_any, remove, range_with_len}
 use Rattle.std.proofs.lemmas.Bool.{cases_lt}
@@ -10,7 +10,7 @@ use Rattle.std.proofs.lemmas.List.FromFn.{get_or-range_with_len, length-range_wi
 use Rattle.ctrl_types.specs.declared.ids.Pair.{Pair}
 use Rattle.ctrl_calls.specs.Meanings.{Verdicts}
 use Rattle.ctrl_settle.specs.Control.{Control}
-use Rattle.ctrl_handlers.specs.Plan.{PlanData, IsPlan, cluster_of, members}
+use Rattle.ctrl_handlers.specs.Plan.{PlanData, IsPlan, cluster_of, members, control_in}
 use Rattle.ctrl_clusters.specs.Rows.{Values, value_at, row_of, Grabs, is_grabbed}
 use Rattle.ctrl_clusters.specs.Overlay.{is_touched}
 use Rattle.ctrl_clusters.proofs.OverlayLemmas.{or_true, or_true_right, same_each}
@@ -19,7 +19,7 @@ use Rattle.ctrl_forecast.specs.Boards.{BoardData, DifferOnlyIn, board_of, is_in_
 use Rattle.ctrl_forecast.specs.Frames.{FrameData, no_frame, frame_at, queued_of, forecast_of, board_seen, setting, values_before, IsKeptFrame, AreKeptFrames, IsRightAt, AreReady}
 use Rattle.ctrl_forecast.proofs.RisingLemmas.{among_passing}
 use Rattle.ctrl_forecast.proofs.RightLemmas.{right_moves, untouched_row}
-use Rattle.ctrl_forecast.proofs.RenewLemmas.{grabs_agree}
+use Rattle.ctrl_forecast.proofs.RenewLemmas.{ranges_agree, grabs_agree}
 use Rattle.ctrl_forecast.proofs.KeptLemmas.{rows_right, rows_frames}
 
 -- a number at a place is among them
@@ -32,19 +32,21 @@ among_at (c ∷ cs) (suc i) lt = or_true_right (nat_eq (get_or cs i 0) c) (list_
 pub all_each : (P : ℕ → Type 0) (cs : List ℕ) → ((c : ℕ) → list_any (nat_eq c) cs ≡ true → P c) → All P cs
 all_each P cs each = All-from_get_or P cs 0 (λ i lt. each (get_or cs i 0) (among_at cs i lt))
 
--- kept frames, of which some clusters' values or grabs were changed
-pub ready_changed : (verdicts : Verdicts) (plan : PlanData) (controls : List Control) (held grabs : Grabs) (before values : Values) (clusters : List ℕ) (fs : List FrameData)
-    → IsPlan plan → length values ≡ length plan.controls → DifferOnlyIn plan clusters before held values grabs
-    → board_seen fs ≡ board_of verdicts plan controls held before (map queued_of fs) → AreReady (setting verdicts plan controls grabs values) 0 clusters fs
-ready_changed verdicts plan controls held grabs before values clusters fs is many differ kept = record {
-  frames_ok = rows_frames verdicts plan controls held before fs (differ.many ∙ many) (ap (λ (b : BoardData). b.named) kept) rows;
+-- kept frames, of which some clusters' ranges, values or grabs were changed
+pub ready_changed : (verdicts : Verdicts) (plan : PlanData) (earlier controls : List Control) (held grabs : Grabs) (before values : Values) (clusters : List ℕ) (fs : List FrameData)
+    → IsPlan plan → length values ≡ length plan.controls → DifferOnlyIn plan clusters earlier before held controls values grabs
+    → board_seen fs ≡ board_of verdicts plan earlier held before (map queued_of fs) → AreReady (setting verdicts plan controls grabs values) 0 clusters fs
+ready_changed verdicts plan earlier controls held grabs before values clusters fs is many differ kept = record {
+  frames_ok = rows_frames verdicts plan earlier held before fs (differ.many ∙ many) (ap (λ (b : BoardData). b.named) kept) rows;
   before = λ k i lt early less. absurd (omega (arith, early));
   apart = λ k i lt none less.
-      right_moves verdicts plan controls held grabs before values fs fs k i i (based k lt none i) (all_each (λ c. is_grabbed held c ≡ is_grabbed grabs c) (members plan k) (λ c among. differ.grabs_stay c (outside k c lt none among)))
-      refl refl refl (rows_right verdicts plan controls held before fs is (differ.many ∙ many) rows k i lt less);
+      right_moves verdicts plan earlier controls held grabs before values fs fs k i i (based k lt none i)
+      (all_each (λ c. control_in earlier c ≡ control_in controls c) (members plan k) (λ c among. differ.ranges_stay c (outside k c lt none among)))
+      (all_each (λ c. is_grabbed held c ≡ is_grabbed grabs c) (members plan k) (λ c among. differ.grabs_stay c (outside k c lt none among)))
+      refl refl refl (rows_right verdicts plan earlier held before fs is (differ.many ∙ many) rows k i lt less);
 }
   where
-    rows : map forecast_of fs ≡ forecasts verdicts plan controls held before (map queued_of fs)
+    rows : map forecast_of fs ≡ forecasts verdicts plan earlier held before (map queued_of fs)
     rows = ap (λ (b : BoardData). b.forecasts) kept
 
     outside : (k c : ℕ) → k < length plan.clusters → list_any (nat_eq k) clusters ≡ false → list_any (nat_eq c) (members plan k) ≡ true → is_in_one_of clusters (cluster_of plan c) ≡ false
@@ -115,8 +117,8 @@ ready_removed verdicts plan controls grabs values p fs is many lt kept = record 
     below : (k i : ℕ) → k < length plan.clusters → i < p → i < length (remove fs p) → IsRightAt (setting verdicts plan controls grabs values) (remove fs p) k i
     below k i within early less =
         let same : frame_at fs i ≡ frame_at (remove fs p) i = sym (get_or-remove_below fs p no_frame i early lt) in
-        right_moves verdicts plan controls grabs grabs values values fs (remove fs p) k i i
-        (ap (λ (v : Values). row_of v (members plan k)) (sym (removed_early values fs p i lt (omega (arith, early))))) (grabs_agree (setting verdicts plan controls grabs values) (members plan k))
+        right_moves verdicts plan controls controls grabs grabs values values fs (remove fs p) k i i
+        (ap (λ (v : Values). row_of v (members plan k)) (sym (removed_early values fs p i lt (omega (arith, early))))) (ranges_agree (setting verdicts plan controls grabs values) (members plan k)) (grabs_agree (setting verdicts plan controls grabs values) (members plan k))
         (ap (λ (f : FrameData). row_of f.values (members plan k)) same) (ap (λ (f : FrameData). f.asked) same) (ap (λ (f : FrameData). list_any (nat_eq k) f.refused) same)
         (right k i within (omega (arith, less, long)))
 
@@ -132,8 +134,8 @@ ready_removed verdicts plan controls grabs values p fs is many lt kept = record 
     by_right k i within none less (inl early) = below k i within early less
     by_right k i within none less (inr le) =
         let same : frame_at fs (suc i) ≡ frame_at (remove fs p) i = sym (late i le) in
-        right_moves verdicts plan controls grabs grabs values values fs (remove fs p) k (suc i) i
-        (removed_late plan values fs p k i lt le (passes k within none)) (grabs_agree (setting verdicts plan controls grabs values) (members plan k))
+        right_moves verdicts plan controls controls grabs grabs values values fs (remove fs p) k (suc i) i
+        (removed_late plan values fs p k i lt le (passes k within none)) (ranges_agree (setting verdicts plan controls grabs values) (members plan k)) (grabs_agree (setting verdicts plan controls grabs values) (members plan k))
         (ap (λ (f : FrameData). row_of f.values (members plan k)) same) (ap (λ (f : FrameData). f.asked) same) (ap (λ (f : FrameData). list_any (nat_eq k) f.refused) same)
         (right k (suc i) within (omega (arith, less, long)))
 

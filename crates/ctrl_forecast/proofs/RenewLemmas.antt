@@ -6,7 +6,7 @@ use Rattle.std.proofs.lemmas.Bool.Decides.{eqb_tells}
 use Rattle.std.proofs.lemmas.List.{length-set}
 use Rattle.std.proofs.lemmas.List.Elements.{All-from_get_or}
 use Rattle.ctrl_types.specs.declared.ids.Pair.{Pair}
-use Rattle.ctrl_handlers.specs.Plan.{PlanData, IsPlan, members}
+use Rattle.ctrl_handlers.specs.Plan.{PlanData, IsPlan, members, control_in}
 use Rattle.ctrl_clusters.specs.Rows.{Values, row_of, is_grabbed}
 use Rattle.ctrl_clusters.specs.Overlay.{is_touched}
 use Rattle.ctrl_clusters.proofs.NewRowLemmas.{not_equal, length_written}
@@ -118,6 +118,9 @@ step_early s k p zero fs le = refl
 step_early s k p (suc i) fs le = ap (λ (f : FrameData). f.values) (step_else s k p i fs (λ e. absurd (omega (arith, le, e))))
 
 -- the same grabs agree
+pub ranges_agree : (s : Setting) (cs : List ℕ) → All (λ c. control_in s.controls c ≡ control_in s.controls c) cs
+ranges_agree s cs = All-from_get_or (λ c. control_in s.controls c ≡ control_in s.controls c) cs 0 (λ i lt. refl)
+
 pub grabs_agree : (s : Setting) (cs : List ℕ) → All (λ c. is_grabbed s.grabs c ≡ is_grabbed s.grabs c) cs
 grabs_agree s cs = All-from_get_or (λ c. is_grabbed s.grabs c ≡ is_grabbed s.grabs c) cs 0 (λ i lt. refl)
 
@@ -163,8 +166,8 @@ renewed_next s k p old fs is within lt so_far = record {
   queued = map-set_same queued_of fs p (renewed s (base_at s fs p) k (frame_at fs p)) no_frame refl ∙ so_far.queued;
   here = λ i below less. at i (eqb_tells i p) below (omega (arith, less, long));
   stay = λ j i less other lte h.
-      right_moves s.verdicts s.plan s.controls s.grabs s.grabs s.values s.values fs (renewed_at s k p fs) j i i
-      (sym (step_base s k p j i fs is so_far.frames_ok lt less (λ e. other (sym e)))) (grabs_agree s (members s.plan j)) (sym (step_rows s k p j i fs is so_far.frames_ok lt less (λ e. other (sym e))))
+      right_moves s.verdicts s.plan s.controls s.controls s.grabs s.grabs s.values s.values fs (renewed_at s k p fs) j i i
+      (sym (step_base s k p j i fs is so_far.frames_ok lt less (λ e. other (sym e)))) (ranges_agree s (members s.plan j)) (grabs_agree s (members s.plan j)) (sym (step_rows s k p j i fs is so_far.frames_ok lt less (λ e. other (sym e))))
       (sym (step_asked s k p i fs lt)) (sym (step_refused s k p j i fs so_far.frames_ok lt within less (λ e. other (sym e))))
       (so_far.stay j i less other (omega (arith, lte, long)) h);
 }
@@ -175,8 +178,8 @@ renewed_next s k p old fs is within lt so_far = record {
     at : (i : ℕ) → ((i == p) ≡ true × (i ≡ p)) ⊎ ((i == p) ≡ false × (i ≢ p)) → i < p + 1 → i < length fs → IsRightAt s (renewed_at s k p fs) k i
     at i (inl e) below less = subst (IsRightAt s (renewed_at s k p fs) k) (sym e.1) (step_here s k p fs is so_far.frames_ok lt within)
     at i (inr e) below less =
-        right_moves s.verdicts s.plan s.controls s.grabs s.grabs s.values s.values fs (renewed_at s k p fs) k i i
-        (ap (λ (b : Values). row_of b (members s.plan k)) (sym (step_early s k p i fs (omega (arith, below))))) (grabs_agree s (members s.plan k))
+        right_moves s.verdicts s.plan s.controls s.controls s.grabs s.grabs s.values s.values fs (renewed_at s k p fs) k i i
+        (ap (λ (b : Values). row_of b (members s.plan k)) (sym (step_early s k p i fs (omega (arith, below))))) (ranges_agree s (members s.plan k)) (grabs_agree s (members s.plan k))
         (ap (λ (f : FrameData). row_of f.values (members s.plan k)) (sym (step_else s k p i fs e.1))) (sym (step_asked s k p i fs lt))
         (ap (λ (f : FrameData). list_any (nat_eq k) f.refused) (sym (step_else s k p i fs e.1)))
         (so_far.here i (omega (arith, below, e.1)) less)

@@ -38,39 +38,39 @@ rows_alike xs ys cs same =
     All-from_get_or (λ c. value_at xs c ≡ value_at ys c) cs 0
     (λ i lt. sym (get_or-map (value_at xs) cs i 0 (pos 0) lt) ∙ ap (λ (r : List CtrlValue). get_or r i (pos 0)) same ∙ get_or-map (value_at ys) cs i 0 (pos 0) lt)
 
--- what pairs make of a cluster hangs on the values and grabs of its members alone
-pub outcome_alike : (verdicts : Verdicts) (plan : PlanData) (controls : List Control) (values elsewhere : Values) (grabs held : Grabs) (pairs : List Pair) (k : ℕ)
-    → row_of values (members plan k) ≡ row_of elsewhere (members plan k) → All (λ c. is_grabbed grabs c ≡ is_grabbed held c) (members plan k)
-    → row_after verdicts plan controls values grabs pairs k ≡ row_after verdicts plan controls elsewhere held pairs k
-outcome_alike verdicts plan controls values elsewhere grabs held pairs k same alike =
-    separate verdicts plan controls controls values elsewhere grabs held pairs pairs k
-    (All-from_get_or (λ c. (control_in controls c ≡ control_in controls c) × (value_at values c ≡ value_at elsewhere c) × (is_grabbed grabs c ≡ is_grabbed held c) × (last_value pairs c ≡ last_value pairs c)) (members plan k) 0
+-- what pairs make of a cluster hangs on the ranges, values and grabs of its members alone
+pub outcome_alike : (verdicts : Verdicts) (plan : PlanData) (controls others : List Control) (values elsewhere : Values) (grabs held : Grabs) (pairs : List Pair) (k : ℕ)
+    → row_of values (members plan k) ≡ row_of elsewhere (members plan k) → All (λ c. control_in controls c ≡ control_in others c) (members plan k)
+    → All (λ c. is_grabbed grabs c ≡ is_grabbed held c) (members plan k) → row_after verdicts plan controls values grabs pairs k ≡ row_after verdicts plan others elsewhere held pairs k
+outcome_alike verdicts plan controls others values elsewhere grabs held pairs k same ranged alike =
+    separate verdicts plan controls others values elsewhere grabs held pairs pairs k
+    (All-from_get_or (λ c. (control_in controls c ≡ control_in others c) × (value_at values c ≡ value_at elsewhere c) × (is_grabbed grabs c ≡ is_grabbed held c) × (last_value pairs c ≡ last_value pairs c)) (members plan k) 0
     (λ i lt. (
-      refl,
+      All-get_or (λ c. control_in controls c ≡ control_in others c) (members plan k) i 0 lt ranged,
       All-get_or (λ c. value_at values c ≡ value_at elsewhere c) (members plan k) i 0 lt (rows_alike values elsewhere (members plan k) same),
       All-get_or (λ c. is_grabbed grabs c ≡ is_grabbed held c) (members plan k) i 0 lt alike,
       refl,
     )))
 
--- A cluster that is right in one frame is right in another that asks the same, where the values before and the grabs agree on its members,
+-- A cluster that is right in one frame is right in another that asks the same, where the values before, the ranges and the grabs agree on its members,
 -- and where it has the same row, refused or not.
-pub right_moves : (verdicts : Verdicts) (plan : PlanData) (controls : List Control) (held grabs : Grabs) (before values : Values) (fs gs : List FrameData) (k i j : ℕ)
+pub right_moves : (verdicts : Verdicts) (plan : PlanData) (earlier controls : List Control) (held grabs : Grabs) (before values : Values) (fs gs : List FrameData) (k i j : ℕ)
     → row_of (values_before before fs i) (members plan k) ≡ row_of (values_before values gs j) (members plan k)
-    → All (λ c. is_grabbed held c ≡ is_grabbed grabs c) (members plan k)
+    → All (λ c. control_in earlier c ≡ control_in controls c) (members plan k) → All (λ c. is_grabbed held c ≡ is_grabbed grabs c) (members plan k)
     → row_of (frame_at fs i).values (members plan k) ≡ row_of (frame_at gs j).values (members plan k)
     → (frame_at fs i).asked ≡ (frame_at gs j).asked
     → list_any (nat_eq k) (frame_at fs i).refused ≡ list_any (nat_eq k) (frame_at gs j).refused
-    → IsRightAt (setting verdicts plan controls held before) fs k i → IsRightAt (setting verdicts plan controls grabs values) gs k j
-right_moves verdicts plan controls held grabs before values fs gs k i j based alike own asks marks right =
+    → IsRightAt (setting verdicts plan earlier held before) fs k i → IsRightAt (setting verdicts plan controls grabs values) gs k j
+right_moves verdicts plan earlier controls held grabs before values fs gs k i j based ranged alike own asks marks right =
     record { row = sym own ∙ right.row ∙ ap (λ (r : List CtrlValue). row_or r first) based ∙ ap (row_or (row_of (values_before values gs j) (members plan k))) same; refused = sym marks ∙ right.refused ∙ ap is_err same }
   where
     first : Result (List CtrlValue) Errno
-    first = row_after verdicts plan controls (values_before before fs i) held (frame_at fs i).asked k
+    first = row_after verdicts plan earlier (values_before before fs i) held (frame_at fs i).asked k
 
-    same : row_after verdicts plan controls (values_before before fs i) held (frame_at fs i).asked k ≡ row_after verdicts plan controls (values_before values gs j) grabs (frame_at gs j).asked k
+    same : row_after verdicts plan earlier (values_before before fs i) held (frame_at fs i).asked k ≡ row_after verdicts plan controls (values_before values gs j) grabs (frame_at gs j).asked k
     same =
-        ap (λ (pairs : List Pair). row_after verdicts plan controls (values_before before fs i) held pairs k) asks
-        ∙ outcome_alike verdicts plan controls (values_before before fs i) (values_before values gs j) held grabs (frame_at gs j).asked k based alike
+        ap (λ (pairs : List Pair). row_after verdicts plan earlier (values_before before fs i) held pairs k) asks
+        ∙ outcome_alike verdicts plan earlier controls (values_before before fs i) (values_before values gs j) held grabs (frame_at gs j).asked k based ranged alike
 
 -- the row of an outcome has a value for each member
 pub over_long : (s : Setting) (base : Values) (pairs : List Pair) (k : ℕ) → length (row_over s base pairs k) ≡ length (members s.plan k)

@@ -4,7 +4,7 @@ use Rattle.std.specs.List.{list_any, range_with_len}
 use Rattle.ctrl_types.specs.declared.ids.Pair.{Pair}
 use Rattle.ctrl_calls.specs.Meanings.{Verdicts}
 use Rattle.ctrl_settle.specs.Control.{Control}
-use Rattle.ctrl_handlers.specs.Plan.{PlanData, cluster_of, members}
+use Rattle.ctrl_handlers.specs.Plan.{PlanData, cluster_of, members, control_in}
 use Rattle.ctrl_clusters.specs.Rows.{Values, value_at, Grabs, is_grabbed}
 use Rattle.ctrl_clusters.specs.Overlay.{is_touched}
 use Rattle.ctrl_forecast.specs.Forecasts.{QueuedData, forecasts}
@@ -41,9 +41,10 @@ abbrev pub is_in_one_of : List ℕ → Option ℕ → Bool
 is_in_one_of clusters None = false
 is_in_one_of clusters (Some k) = list_any (nat_eq k) clusters
 
--- Values and grabs differ from those before in some clusters at most: every control of another cluster has its value, and is grabbed or not,
--- as it was.
-pub record DifferOnlyIn (plan : PlanData) (clusters : List ℕ) (before : Values) (held : Grabs) (values : Values) (grabs : Grabs) : Type 0 where
+-- Ranges, values and grabs differ from those before in some clusters at most: every control of another cluster has its range and its value, and is
+-- grabbed or not, as it was.
+pub record DifferOnlyIn (plan : PlanData) (clusters : List ℕ) (earlier : List Control) (before : Values) (held : Grabs) (controls : List Control) (values : Values) (grabs : Grabs) : Type 0 where
   pub many : length before ≡ length values
+  pub ranges_stay : (c : ℕ) → is_in_one_of clusters (cluster_of plan c) ≡ false → control_in earlier c ≡ control_in controls c
   pub values_stay : (c : ℕ) → is_in_one_of clusters (cluster_of plan c) ≡ false → value_at before c ≡ value_at values c
   pub grabs_stay : (c : ℕ) → is_in_one_of clusters (cluster_of plan c) ≡ false → is_grabbed held c ≡ is_grabbed grabs c

@@ -3,7 +3,6 @@
 ghost use Rattle.std.specs.Prelude.{◌≡◌, ◌<◌, length, nat_eq, IfOk};
 ghost use Rattle.std.specs.List.{All, list_any};
 ghost use Rattle.ctrl_handlers.specs.Plan.{cluster_of};
-ghost use Rattle.ctrl_clusters.specs.Rows.{value_at};
 ghost use Rattle.ctrl_forecast.specs.Applied.{is_refused_in, applied_pairs};
 
 use ctrl_calls::Driver;

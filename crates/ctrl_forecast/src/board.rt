@@ -1,7 +1,8 @@
 //! What queued frames will have, kept while they wait.
 
-ghost use Rattle.std.specs.Prelude.{◌≡◌, nat_eq, ◌<◌, ◌≤◌, ◌+◌, ◌++◌, ◌∷◌, ◌↔◌, ℕ, [], drop, length, option_map, slice_get, IfOk, OnOk, OnErr, IsTrue};
+ghost use Rattle.std.specs.Prelude.{◌≡◌, nat_eq, ◌<◌, ◌≤◌, ◌+◌, ◌++◌, ◌∷◌, ◌↔◌, ℕ, List, [], drop, length, option_map, slice_get, IfOk, OnOk, OnErr, IsTrue};
 ghost use Rattle.std.specs.List.{All, position, remove};
+ghost use Rattle.ctrl_settle.specs.Control.{Control};
 ghost use Rattle.ctrl_clusters.specs.Rows.{AreControlsOf, Grabs, Values};
 ghost use Rattle.ctrl_clusters.specs.Judging.{with_calls};
 ghost use Rattle.ctrl_forecast.specs.Asking.{asked_count, renewing_count};
@@ -14,8 +15,8 @@ use crate::frame::{Frame, Queued};
 use crate::lists::{ClusterList, ValueRow};
 use crate::renewing::renew_clusters;
 use ctrl_calls::{Driver, Work};
+use ctrl_clusters::Ranges;
 use ctrl_handlers::Plan;
-use ctrl_settle::Ctrl;
 use ctrl_types::{CtrlValue, RequestId};
 use std::alloc::{AllocError, Global};
 use std::marker::Model;
@@ -27,7 +28,7 @@ pub struct Forecast {
     pub request: RequestId,
     /// The number of the request's buffer.
     pub buffer: u32,
-    /// The values of all controls, in the order of their numbers.
+    /// The values of all ranges, in the order of their numbers.
     pub values: ValueRow,
     /// The clusters that will be refused, rising.
     pub refused: ClusterList,
@@ -40,7 +41,7 @@ pub struct Row<'a> {
     pub request: RequestId,
     /// The number of the request's buffer.
     pub buffer: u32,
-    /// The values of all controls, in the order of their numbers.
+    /// The values of all ranges, in the order of their numbers.
     pub values: &'a [CtrlValue],
     /// The clusters that will be refused, rising.
     pub refused: &'a [u32],
@@ -170,34 +171,34 @@ impl Board {
     /// Adds a frame behind the others: what it asks for is laid over the values that the last of them leaves, or over those before the first
     /// (of this project).
     ///
-    /// - `plan`, `controls`, `values`, `grabs`, `work`: as of `overlay`; `values` are those before the first frame.
+    /// - `plan`, `ranges`, `values`, `grabs`, `work`: as of `overlay`; `values` are those before the first frame.
     /// - `queued`: the frame; what it asks for is copied.
     ///
-    /// The caller owes that the board was kept with this plan and these controls, over these values and under these grabs. The error is that a
+    /// The caller owes that the board was kept with this plan and these ranges, over these values and under these grabs. The error is that a
     /// growth was refused; the frames stay as they were. Nobody is told.
     pub fn push<D: Driver>(
         &mut self,
         plan: &Plan<D>,
-        controls: &[Ctrl],
+        ranges: &Ranges,
         values: &[CtrlValue],
         grabs: &[bool],
         queued: &Queued<'_>,
         work: &mut Work,
     ) -> Result<(), AllocError>
-        requires controls { AreControlsOf plan.now controls.now }
+        requires ranges { AreControlsOf plan.now ranges.now }
         requires values { length values.now ≡ length plan.now.controls }
-        requires kept { self.old ≡ board_of D.verdict plan.now controls.now grabs.now values.now self.old.queued }
-        ensures ok { OnOk result (self.new ≡ board_of D.verdict plan.now controls.now grabs.now values.now (self.old.queued ++ queued.now ∷ [])) }
+        requires kept { self.old ≡ board_of D.verdict plan.now ranges.now grabs.now values.now self.old.queued }
+        ensures ok { OnOk result (self.new ≡ board_of D.verdict plan.now ranges.now grabs.now values.now (self.old.queued ++ queued.now ∷ [])) }
         ensures err { OnErr result (self.new ≡ self.old) }
         ensures asked { work.new.asked ≤ work.old.asked + touched_count plan.now queued.now.asked }
-        ensures counted { OnOk result (work.new.asked ≡ with_calls (asked_count plan.now controls.now (values_behind values.now self.old.forecasts) grabs.now queued.now.asked) work.old.asked) }
+        ensures counted { OnOk result (work.new.asked ≡ with_calls (asked_count plan.now ranges.now (values_behind values.now self.old.forecasts) grabs.now queued.now.asked) work.old.asked) }
         ensures told { work.new.told ≡ work.old.told }
     {
         self.frames.reserve(1)?;
         let frame = Frame::new(
             self.alloc,
             plan,
-            controls,
+            ranges,
             self.values_behind(values),
             grabs,
             queued,
@@ -223,28 +224,28 @@ impl Board {
     /// Takes the frame at a place out. Behind it only the clusters with a member among its pairs are judged anew (of this project).
     ///
     /// - `place`: a place, from 0; the caller owes a frame there.
-    /// - `plan`, `controls`, `values`, `grabs`: as of `overlay`; `values` are those before the first frame.
+    /// - `plan`, `ranges`, `values`, `grabs`: as of `overlay`; `values` are those before the first frame.
     /// - `work`: its count `asked` grows by one for each cluster with a validator that the frame names, a member being among its pairs, and each frame
     ///   behind it that names the cluster too, unless a member that this asks for is grabbed or a member doesn't settle.
     ///
-    /// The caller owes that the board was kept with this plan and these controls, over these values and under these grabs. It takes no memory and
+    /// The caller owes that the board was kept with this plan and these ranges, over these values and under these grabs. It takes no memory and
     /// refuses nothing. Nobody is told.
     pub fn remove<D: Driver>(
         &mut self,
         place: usize,
         plan: &Plan<D>,
-        controls: &[Ctrl],
+        ranges: &Ranges,
         values: &[CtrlValue],
         grabs: &[bool],
         work: &mut Work,
     )
-        requires controls { AreControlsOf plan.now controls.now }
+        requires ranges { AreControlsOf plan.now ranges.now }
         requires values { length values.now ≡ length plan.now.controls }
         requires place { place < length self.old.queued }
-        requires kept { self.old ≡ board_of D.verdict plan.now controls.now grabs.now values.now self.old.queued }
-        ensures frames { self.new ≡ board_of D.verdict plan.now controls.now grabs.now values.now (remove self.old.queued place) }
+        requires kept { self.old ≡ board_of D.verdict plan.now ranges.now grabs.now values.now self.old.queued }
+        ensures frames { self.new ≡ board_of D.verdict plan.now ranges.now grabs.now values.now (remove self.old.queued place) }
         ensures asked { work.new.asked ≤ work.old.asked + named_by_frames plan.now (drop (place + 1) self.old.queued) (named_clusters plan.now (asked_at self.old.queued place)) }
-        ensures counted { work.new.asked ≡ with_calls (renewing_count D.verdict plan.now controls.now grabs.now values.now (remove self.old.queued place) place (named_clusters plan.now (asked_at self.old.queued place))) work.old.asked }
+        ensures counted { work.new.asked ≡ with_calls (renewing_count D.verdict plan.now ranges.now grabs.now values.now (remove self.old.queued place) place (named_clusters plan.now (asked_at self.old.queued place))) work.old.asked }
         ensures told { work.new.told ≡ work.old.told }
     {
         // the plan is a finished one, as the contract of `controls` says
@@ -254,7 +255,7 @@ impl Board {
             &mut self.frames,
             place,
             plan,
-            controls,
+            ranges,
             values,
             grabs,
             removed.named(),
@@ -262,31 +263,32 @@ impl Board {
         );
     }
 
-    /// Renews some clusters in all frames, after the values before the first frame, or the grabs, were changed in these clusters (of this project).
+    /// Renews some clusters in all frames, after the ranges, the values before the first frame, or the grabs, were changed in these clusters (of this
+    /// project).
     ///
-    /// - `plan`, `controls`, `values`, `grabs`: as of `overlay`, as they are now; `values` are those before the first frame.
+    /// - `plan`, `ranges`, `values`, `grabs`: as of `overlay`, as they are now; `values` are those before the first frame.
     /// - `clusters`: the clusters, in any order; the caller owes that each is one of the plan.
     /// - `work`: its count `asked` grows by one for each of the clusters with a validator and each frame that names it, a member being among its pairs,
     ///   unless a member that it asks for is grabbed or a member doesn't settle.
     ///
-    /// The caller owes that the board was kept with this plan and these controls, over values and under grabs that differ from these in the
+    /// The caller owes that the board was kept with this plan, under ranges and grabs and over values that differ from these in the
     /// clusters alone. It takes no memory and refuses nothing. Nobody is told.
     pub fn renew<D: Driver>(
         &mut self,
         plan: &Plan<D>,
-        controls: &[Ctrl],
+        ranges: &Ranges,
         values: &[CtrlValue],
         grabs: &[bool],
         clusters: &[u32],
         work: &mut Work,
     )
-        requires controls { AreControlsOf plan.now controls.now }
+        requires ranges { AreControlsOf plan.now ranges.now }
         requires values { length values.now ≡ length plan.now.controls }
         requires clusters { All (λ k. k < length plan.now.clusters) clusters.now }
-        requires kept { (before : Values) × (held : Grabs) × (self.old ≡ board_of D.verdict plan.now controls.now held before self.old.queued) × DifferOnlyIn plan.now clusters.now before held values.now grabs.now }
-        ensures frames { self.new ≡ board_of D.verdict plan.now controls.now grabs.now values.now self.old.queued }
+        requires kept { (earlier : List Control) × (before : Values) × (held : Grabs) × (self.old ≡ board_of D.verdict plan.now earlier held before self.old.queued) × DifferOnlyIn plan.now clusters.now earlier before held ranges.now values.now grabs.now }
+        ensures frames { self.new ≡ board_of D.verdict plan.now ranges.now grabs.now values.now self.old.queued }
         ensures asked { work.new.asked ≤ work.old.asked + named_by_frames plan.now self.old.queued clusters.now }
-        ensures counted { work.new.asked ≡ with_calls (renewing_count D.verdict plan.now controls.now grabs.now values.now self.old.queued 0 clusters.now) work.old.asked }
+        ensures counted { work.new.asked ≡ with_calls (renewing_count D.verdict plan.now ranges.now grabs.now values.now self.old.queued 0 clusters.now) work.old.asked }
         ensures told { work.new.told ≡ work.old.told }
     {
         // the plan is a finished one, as the contract of `controls` says
@@ -295,7 +297,7 @@ impl Board {
             &mut self.frames,
             0,
             plan,
-            controls,
+            ranges,
             values,
             grabs,
             clusters,
@@ -314,7 +316,7 @@ impl Board {
     /// (of this project).
     ///
     /// - `alloc`: where the board lies, and what later calls take.
-    /// - `plan`, `controls`, `values`, `grabs`: as of `overlay`; `values` are those before the first frame.
+    /// - `plan`, `ranges`, `values`, `grabs`: as of `overlay`; `values` are those before the first frame.
     /// - `queued`: the frames, in the order of the queue.
     /// - `work`: its count `asked` grows by at most one for each frame and each cluster with a member among its pairs.
     ///
@@ -322,21 +324,21 @@ impl Board {
     pub fn compute<D: Driver>(
         alloc: Global,
         plan: &Plan<D>,
-        controls: &[Ctrl],
+        ranges: &Ranges,
         values: &[CtrlValue],
         grabs: &[bool],
         queued: &[Queued<'_>],
         work: &mut Work,
     ) -> Result<Board, AllocError>
-        requires controls { AreControlsOf plan.now controls.now }
+        requires ranges { AreControlsOf plan.now ranges.now }
         requires values { length values.now ≡ length plan.now.controls }
-        ensures frames { IfOk result (λ b. b ≡ board_of D.verdict plan.now controls.now grabs.now values.now queued.now) }
+        ensures frames { IfOk result (λ b. b ≡ board_of D.verdict plan.now ranges.now grabs.now values.now queued.now) }
         ensures asked { work.new.asked ≤ work.old.asked + touched_by_all plan.now queued.now }
         ensures told { work.new.told ≡ work.old.told }
     {
         let mut board = Board::empty(alloc);
         for frame in queued {
-            board.push(plan, controls, values, grabs, frame, work)?;
+            board.push(plan, ranges, values, grabs, frame, work)?;
         }
         Ok(board)
     }

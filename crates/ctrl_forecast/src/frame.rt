@@ -13,9 +13,8 @@ use crate::laying::{Overlaid, overlay_named};
 use crate::lists::{ClusterList, ValueRow};
 use crate::rising::{mark, named_clusters};
 use ctrl_calls::{ClusterRow, Driver, Work};
-use ctrl_clusters::{NewRow, write_rows};
+use ctrl_clusters::{NewRow, Ranges, write_rows};
 use ctrl_handlers::Plan;
-use ctrl_settle::Ctrl;
 use ctrl_types::{CtrlValue, Pair, RequestId};
 use std::alloc::{AllocError, Global};
 use std::marker::Model;
@@ -82,17 +81,17 @@ impl Frame {
     pub(crate) fn new<D: Driver>(
         alloc: Global,
         plan: &Plan<D>,
-        controls: &[Ctrl],
+        ranges: &Ranges,
         values: &[CtrlValue],
         grabs: &[bool],
         queued: &Queued<'_>,
         work: &mut Work,
     ) -> Result<Frame, AllocError>
-        requires controls { AreControlsOf plan.now controls.now }
+        requires ranges { AreControlsOf plan.now ranges.now }
         requires values { length values.now ≡ length plan.now.controls }
-        ensures frame { IfOk result (λ f. f ≡ frame_over D.verdict plan.now controls.now grabs.now values.now queued.now) }
+        ensures frame { IfOk result (λ f. f ≡ frame_over D.verdict plan.now ranges.now grabs.now values.now queued.now) }
         ensures asked { work.new.asked ≤ work.old.asked + touched_count plan.now queued.now.asked }
-        ensures counted { OnOk result (work.new.asked ≡ with_calls (asked_count plan.now controls.now values.now grabs.now queued.now.asked) work.old.asked) }
+        ensures counted { OnOk result (work.new.asked ≡ with_calls (asked_count plan.now ranges.now values.now grabs.now queued.now.asked) work.old.asked) }
         ensures told { work.new.told ≡ work.old.told }
     {
         let asked = Vec::from_slice(alloc, queued.asked)?;
@@ -100,7 +99,7 @@ impl Frame {
         let overlaid = overlay_named(
             alloc,
             plan,
-            controls,
+            ranges,
             values,
             grabs,
             queued.asked,

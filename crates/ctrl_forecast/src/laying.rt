@@ -1,5 +1,4 @@
 ghost use Rattle.std.specs.Prelude.{◌≡◌, ◌<◌, ◌≤◌, ◌+◌, ◌&&◌, true, length, IfOk, OnOk};
-ghost use Rattle.std.specs.List.{list_any};
 ghost use Rattle.ctrl_handlers.specs.Plan.{members};
 ghost use Rattle.ctrl_clusters.specs.Rows.{AreControlsOf, is_grabbed};
 ghost use Rattle.ctrl_clusters.specs.Overlay.{is_touched, names_grabbed, row_after, overlay, refused_clusters};
@@ -11,9 +10,8 @@ ghost use Rattle.ctrl_forecast.specs.Touched.{touched_count};
 use crate::lists::{ClusterList, ValueRow};
 use crate::rising::named_clusters;
 use ctrl_calls::{ClusterRow, Driver, Work};
-use ctrl_clusters::{NewRow, is_among, present_row, validated_row, write_rows};
+use ctrl_clusters::{NewRow, Ranges, is_among, present_row, validated_row, write_rows};
 use ctrl_handlers::Plan;
-use ctrl_settle::Ctrl;
 use ctrl_types::{CtrlValue, Errno, Pair};
 use std::alloc::{AllocError, Global};
 
@@ -31,7 +29,7 @@ pub struct Overlaid {
 ///
 /// - `alloc`: where the answer lies, and what is kept on the way.
 /// - `plan`: what the device is built of.
-/// - `controls`: its controls as they are now; the caller owes as many as the plan's, with their ids, kinds, flags and skipped items.
+/// - `ranges`: the ranges of its controls as they are now; the caller owes that they are of this plan's controls.
 /// - `values`: a value for each control, in the order of their numbers; the caller owes exactly as many.
 /// - `grabs`: for each control whether it is grabbed.
 /// - `pairs`: what is laid; of a control the last pair counts.
@@ -42,26 +40,26 @@ pub struct Overlaid {
 pub fn overlay<D: Driver>(
     alloc: Global,
     plan: &Plan<D>,
-    controls: &[Ctrl],
+    ranges: &Ranges,
     values: &[CtrlValue],
     grabs: &[bool],
     pairs: &[Pair],
     work: &mut Work,
 ) -> Result<Overlaid, AllocError>
-    requires controls { AreControlsOf plan.now controls.now }
+    requires ranges { AreControlsOf plan.now ranges.now }
     requires values { length values.now ≡ length plan.now.controls }
-    ensures values { IfOk result (λ o. o.values ≡ overlay D.verdict plan.now controls.now values.now grabs.now pairs.now) }
-    ensures refused { IfOk result (λ o. o.refused ≡ refused_clusters D.verdict plan.now controls.now values.now grabs.now pairs.now) }
+    ensures values { IfOk result (λ o. o.values ≡ overlay D.verdict plan.now ranges.now values.now grabs.now pairs.now) }
+    ensures refused { IfOk result (λ o. o.refused ≡ refused_clusters D.verdict plan.now ranges.now values.now grabs.now pairs.now) }
     ensures long { IfOk result (λ o. length o.values ≡ length values.now) }
     ensures asked { work.new.asked ≤ work.old.asked + touched_count plan.now pairs.now }
-    ensures counted { OnOk result (work.new.asked ≡ with_calls (asked_count plan.now controls.now values.now grabs.now pairs.now) work.old.asked) }
+    ensures counted { OnOk result (work.new.asked ≡ with_calls (asked_count plan.now ranges.now values.now grabs.now pairs.now) work.old.asked) }
     ensures told { work.new.told ≡ work.old.told }
 {
     let named = named_clusters(alloc, plan, pairs)?;
     overlay_named(
         alloc,
         plan,
-        controls,
+        ranges,
         values,
         grabs,
         pairs,
@@ -74,21 +72,21 @@ pub fn overlay<D: Driver>(
 pub(crate) fn overlay_named<D: Driver>(
     alloc: Global,
     plan: &Plan<D>,
-    controls: &[Ctrl],
+    ranges: &Ranges,
     values: &[CtrlValue],
     grabs: &[bool],
     pairs: &[Pair],
     named: &[u32],
     work: &mut Work,
 ) -> Result<Overlaid, AllocError>
-    requires controls { AreControlsOf plan.now controls.now }
+    requires ranges { AreControlsOf plan.now ranges.now }
     requires values { length values.now ≡ length plan.now.controls }
     requires named { named.now ≡ named_clusters plan.now pairs.now }
-    ensures values { IfOk result (λ o. o.values ≡ overlay D.verdict plan.now controls.now values.now grabs.now pairs.now) }
-    ensures refused { IfOk result (λ o. o.refused ≡ refused_clusters D.verdict plan.now controls.now values.now grabs.now pairs.now) }
+    ensures values { IfOk result (λ o. o.values ≡ overlay D.verdict plan.now ranges.now values.now grabs.now pairs.now) }
+    ensures refused { IfOk result (λ o. o.refused ≡ refused_clusters D.verdict plan.now ranges.now values.now grabs.now pairs.now) }
     ensures long { IfOk result (λ o. length o.values ≡ length values.now) }
     ensures asked { work.new.asked ≤ work.old.asked + touched_count plan.now pairs.now }
-    ensures counted { OnOk result (work.new.asked ≡ with_calls (asked_count plan.now controls.now values.now grabs.now pairs.now) work.old.asked) }
+    ensures counted { OnOk result (work.new.asked ≡ with_calls (asked_count plan.now ranges.now values.now grabs.now pairs.now) work.old.asked) }
     ensures told { work.new.told ≡ work.old.told }
 {
     let mut after = Vec::from_slice(alloc, values)?;
@@ -96,7 +94,7 @@ pub(crate) fn overlay_named<D: Driver>(
     // a count fits its type once it is read
     let _before = work.asked;
     for &cluster in named {
-        match touched_row(plan, controls, values, grabs, pairs, cluster, work) {
+        match touched_row(plan, ranges, values, grabs, pairs, cluster, work) {
             Ok(row) => write_rows(plan, &mut after, &[NewRow { cluster, row }]),
             Err(_) => refused.push(cluster)?,
         }
@@ -110,49 +108,49 @@ pub(crate) fn overlay_named<D: Driver>(
 // What the row of a cluster is then, or why it is refused.
 pub(crate) fn row_after<D: Driver>(
     plan: &Plan<D>,
-    controls: &[Ctrl],
+    ranges: &Ranges,
     values: &[CtrlValue],
     grabs: &[bool],
     pairs: &[Pair],
     cluster: u32,
     work: &mut Work,
 ) -> Result<ClusterRow, Errno>
-    requires controls { AreControlsOf plan.now controls.now }
+    requires ranges { AreControlsOf plan.now ranges.now }
     requires values { length values.now ≡ length plan.now.controls }
     requires cluster { cluster < length plan.now.clusters }
-    ensures row { result ≡ row_after D.verdict plan.now controls.now values.now grabs.now pairs.now cluster }
+    ensures row { result ≡ row_after D.verdict plan.now ranges.now values.now grabs.now pairs.now cluster }
     ensures long { IfOk result (λ row. length row ≡ length (members plan.now cluster)) }
-    ensures counted { work.new ≡ record work.old { asked = with_call (asks_row plan.now controls.now values.now grabs.now pairs.now cluster) work.old.asked } }
+    ensures counted { work.new ≡ record work.old { asked = with_call (asks_row plan.now ranges.now values.now grabs.now pairs.now cluster) work.old.asked } }
 {
     let members = plan.members(cluster);
     if !is_touched(pairs, members) {
         return Ok(present_row(values, members));
     }
-    touched_row(plan, controls, values, grabs, pairs, cluster, work)
+    touched_row(plan, ranges, values, grabs, pairs, cluster, work)
 }
 
 // The same, of a cluster with a member among the pairs.
 fn touched_row<D: Driver>(
     plan: &Plan<D>,
-    controls: &[Ctrl],
+    ranges: &Ranges,
     values: &[CtrlValue],
     grabs: &[bool],
     pairs: &[Pair],
     cluster: u32,
     work: &mut Work,
 ) -> Result<ClusterRow, Errno>
-    requires controls { AreControlsOf plan.now controls.now }
+    requires ranges { AreControlsOf plan.now ranges.now }
     requires values { length values.now ≡ length plan.now.controls }
     requires cluster { cluster < length plan.now.clusters }
     requires touched { is_touched pairs.now (members plan.now cluster) ≡ true }
-    ensures row { result ≡ row_after D.verdict plan.now controls.now values.now grabs.now pairs.now cluster }
+    ensures row { result ≡ row_after D.verdict plan.now ranges.now values.now grabs.now pairs.now cluster }
     ensures long { IfOk result (λ row. length row ≡ length (members plan.now cluster)) }
-    ensures counted { work.new ≡ record work.old { asked = with_call (asks_row plan.now controls.now values.now grabs.now pairs.now cluster) work.old.asked } }
+    ensures counted { work.new ≡ record work.old { asked = with_call (asks_row plan.now ranges.now values.now grabs.now pairs.now cluster) work.old.asked } }
 {
     if names_grabbed(grabs, pairs, plan.members(cluster)) {
         return Err(Errno::EBUSY);
     }
-    validated_row(plan, controls, cluster, values, pairs, work)
+    validated_row(plan, ranges, cluster, values, pairs, work)
 }
 
 // Whether some member is among the pairs.

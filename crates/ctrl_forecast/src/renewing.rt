@@ -13,9 +13,8 @@ ghost use Rattle.ctrl_forecast.specs.Frames.{AreKeptFrames, AreReady, IsClusterR
 use crate::frame::Frame;
 use crate::laying::row_after;
 use ctrl_calls::{ClusterRow, Driver, Work};
-use ctrl_clusters::present_row;
+use ctrl_clusters::{Ranges, present_row};
 use ctrl_handlers::Plan;
-use ctrl_settle::Ctrl;
 use ctrl_types::{CtrlValue, Pair};
 
 // Renews some clusters from a place on, where all else is right already. Then all is.
@@ -23,26 +22,26 @@ pub(crate) fn renew_clusters<D: Driver>(
     frames: &mut Vec<Frame>,
     from: usize,
     plan: &Plan<D>,
-    controls: &[Ctrl],
+    ranges: &Ranges,
     values: &[CtrlValue],
     grabs: &[bool],
     clusters: &[u32],
     work: &mut Work,
 )
-    requires controls { AreControlsOf plan.now controls.now }
+    requires ranges { AreControlsOf plan.now ranges.now }
     requires values { length values.now ≡ length plan.now.controls }
     requires clusters { All (λ k. k < length plan.now.clusters) clusters.now }
     requires from { from ≤ length frames.old.items }
-    requires ready { AreReady (setting D.verdict plan.now controls.now grabs.now values.now) from clusters.now frames.old.items }
-    ensures frames { board_seen frames.new.items ≡ board_of D.verdict plan.now controls.now grabs.now values.now (map queued_of frames.old.items) }
-    ensures counted { work.new.asked ≡ with_calls (renewing_count D.verdict plan.now controls.now grabs.now values.now (map queued_of frames.old.items) from clusters.now) work.old.asked }
+    requires ready { AreReady (setting D.verdict plan.now ranges.now grabs.now values.now) from clusters.now frames.old.items }
+    ensures frames { board_seen frames.new.items ≡ board_of D.verdict plan.now ranges.now grabs.now values.now (map queued_of frames.old.items) }
+    ensures counted { work.new.asked ≡ with_calls (renewing_count D.verdict plan.now ranges.now grabs.now values.now (map queued_of frames.old.items) from clusters.now) work.old.asked }
     ensures told { work.new.told ≡ work.old.told }
 {
     // the plan is a finished one, as the contract of `controls` says, and a count fits its type once it is read
     let _plan = plan.controls();
     let _before = work.asked;
     for &cluster in clusters {
-        renew_cluster(frames, from, plan, controls, values, grabs, cluster, work);
+        renew_cluster(frames, from, plan, ranges, values, grabs, cluster, work);
     }
 }
 
@@ -51,27 +50,27 @@ fn renew_cluster<D: Driver>(
     frames: &mut Vec<Frame>,
     from: usize,
     plan: &Plan<D>,
-    controls: &[Ctrl],
+    ranges: &Ranges,
     values: &[CtrlValue],
     grabs: &[bool],
     cluster: u32,
     work: &mut Work,
 )
-    requires controls { AreControlsOf plan.now controls.now }
+    requires ranges { AreControlsOf plan.now ranges.now }
     requires values { length values.now ≡ length plan.now.controls }
     requires cluster { cluster < length plan.now.clusters }
     requires from { from ≤ length frames.old.items }
     requires frames { AreKeptFrames plan.now frames.old.items }
-    requires before { (i : ℕ) → i < from → i < length frames.old.items → IsRightAt (setting D.verdict plan.now controls.now grabs.now values.now) frames.old.items cluster i }
-    ensures renewed { IsClusterRenewed (setting D.verdict plan.now controls.now grabs.now values.now) cluster (length frames.new.items) frames.old.items frames.new.items }
-    ensures counted { work.new.asked ≡ with_calls (asked_from D.verdict plan.now controls.now grabs.now values.now (map queued_of frames.old.items) from cluster) work.old.asked }
+    requires before { (i : ℕ) → i < from → i < length frames.old.items → IsRightAt (setting D.verdict plan.now ranges.now grabs.now values.now) frames.old.items cluster i }
+    ensures renewed { IsClusterRenewed (setting D.verdict plan.now ranges.now grabs.now values.now) cluster (length frames.new.items) frames.old.items frames.new.items }
+    ensures counted { work.new.asked ≡ with_calls (asked_from D.verdict plan.now ranges.now grabs.now values.now (map queued_of frames.old.items) from cluster) work.old.asked }
     ensures told { work.new.told ≡ work.old.told }
 {
     // the plan is a finished one, as the contract of `controls` says, and a count fits its type once it is read
     let _plan = plan.controls();
     let _before = work.asked;
     for place in from..frames.len() {
-        renew_at(frames, place, plan, controls, values, grabs, cluster, work);
+        renew_at(frames, place, plan, ranges, values, grabs, cluster, work);
     }
 }
 
@@ -80,23 +79,23 @@ fn renew_at<D: Driver>(
     frames: &mut Vec<Frame>,
     place: usize,
     plan: &Plan<D>,
-    controls: &[Ctrl],
+    ranges: &Ranges,
     values: &[CtrlValue],
     grabs: &[bool],
     cluster: u32,
     work: &mut Work,
 )
-    requires controls { AreControlsOf plan.now controls.now }
+    requires ranges { AreControlsOf plan.now ranges.now }
     requires values { length values.now ≡ length plan.now.controls }
     requires cluster { cluster < length plan.now.clusters }
     requires frames { AreKeptFrames plan.now frames.old.items }
     requires place { place < length frames.old.items }
-    ensures frames { frames.new.items ≡ renewed_at (setting D.verdict plan.now controls.now grabs.now values.now) cluster place frames.old.items }
-    ensures counted { work.new ≡ record work.old { asked = with_call (asks_row plan.now controls.now (values_before values.now frames.old.items place) grabs.now (frame_at frames.old.items place).asked cluster) work.old.asked } }
+    ensures frames { frames.new.items ≡ renewed_at (setting D.verdict plan.now ranges.now grabs.now values.now) cluster place frames.old.items }
+    ensures counted { work.new ≡ record work.old { asked = with_call (asks_row plan.now ranges.now (values_before values.now frames.old.items place) grabs.now (frame_at frames.old.items place).asked cluster) work.old.asked } }
 {
     let base = values_before(frames.as_slice(), place, values);
     let asked = frames[place].asked();
-    let (row, is_refused) = row_over(plan, controls, base, grabs, asked, cluster, work);
+    let (row, is_refused) = row_over(plan, ranges, base, grabs, asked, cluster, work);
     let frame = &mut frames[place];
     frame.set_row_result(plan, cluster, row, is_refused);
 }
@@ -116,22 +115,22 @@ fn values_before<'a>(frames: &'a [Frame], place: usize, values: &'a [CtrlValue])
 // The row that a cluster has once pairs are laid over values, and whether it is refused, where it keeps its own.
 fn row_over<D: Driver>(
     plan: &Plan<D>,
-    controls: &[Ctrl],
+    ranges: &Ranges,
     base: &[CtrlValue],
     grabs: &[bool],
     pairs: &[Pair],
     cluster: u32,
     work: &mut Work,
 ) -> (ClusterRow, bool)
-    requires controls { AreControlsOf plan.now controls.now }
+    requires ranges { AreControlsOf plan.now ranges.now }
     requires values { length base.now ≡ length plan.now.controls }
     requires cluster { cluster < length plan.now.clusters }
-    ensures row { result.0 ≡ row_or (row_of base.now (members plan.now cluster)) (row_after D.verdict plan.now controls.now base.now grabs.now pairs.now cluster) }
-    ensures refused { result.1 ≡ is_err (row_after D.verdict plan.now controls.now base.now grabs.now pairs.now cluster) }
+    ensures row { result.0 ≡ row_or (row_of base.now (members plan.now cluster)) (row_after D.verdict plan.now ranges.now base.now grabs.now pairs.now cluster) }
+    ensures refused { result.1 ≡ is_err (row_after D.verdict plan.now ranges.now base.now grabs.now pairs.now cluster) }
     ensures long { length result.0 ≡ length (members plan.now cluster) }
-    ensures counted { work.new ≡ record work.old { asked = with_call (asks_row plan.now controls.now base.now grabs.now pairs.now cluster) work.old.asked } }
+    ensures counted { work.new ≡ record work.old { asked = with_call (asks_row plan.now ranges.now base.now grabs.now pairs.now cluster) work.old.asked } }
 {
-    match row_after(plan, controls, base, grabs, pairs, cluster, work) {
+    match row_after(plan, ranges, base, grabs, pairs, cluster, work) {
         Ok(row) => (row, false),
         Err(_) => (present_row(base, plan.members(cluster)), true),
     }

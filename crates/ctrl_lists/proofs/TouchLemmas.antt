@@ -29,31 +29,31 @@ use Rattle.ctrl_lists.proofs.ListLemmas.{touched_has}
 
 -- the cluster of a control among the pairs has the row that it becomes
 pub laid_becomes : (verdicts : Verdicts) (plan : PlanData) (view : ViewData) (laid : List Pair) (c k : ℕ) → IsTrue (is_among laid c) → cluster_of plan c ≡ Some k
-    → row_judged verdicts plan view laid (Some k) ≡ validated_row verdicts plan view.controls view.values laid k
+    → row_judged verdicts plan view laid (Some k) ≡ validated_row verdicts plan view.ranges view.values laid k
 laid_becomes verdicts plan view laid c k among found =
-    row_after_free verdicts plan view.controls view.values no_grabs laid k (any_of (is_among laid) (members plan k) c (cluster_of_member plan c k found) (is_true among)) (held_not laid (members plan k))
+    row_after_free verdicts plan view.ranges view.values no_grabs laid k (any_of (is_among laid) (members plan k) c (cluster_of_member plan c k found) (is_true among)) (held_not laid (members plan k))
   where
     is_true : {b : Bool} → IsTrue b → b ≡ true
     is_true h = h
 
 -- a cluster that has a row was accepted
-pub accepted : (verdicts : Verdicts) (plan : PlanData) (view : ViewData) (laid : List Pair) (rows : List NewRow) (c k : ℕ) → AreRows verdicts plan view.controls view.values laid rows → IsTrue (is_among laid c) → cluster_of plan c ≡ Some k
+pub accepted : (verdicts : Verdicts) (plan : PlanData) (view : ViewData) (laid : List Pair) (rows : List NewRow) (c k : ℕ) → AreRows verdicts plan view.ranges view.values laid rows → IsTrue (is_among laid c) → cluster_of plan c ≡ Some k
     → is_some (row_among rows k) ≡ true → errno_if_refused (row_judged verdicts plan view laid (Some k)) ≡ None
 accepted verdicts plan view laid rows c k are among found there = by (row_among rows k) refl there
   where
     by : (o : Option (List CtrlValue)) → row_among rows k ≡ o → is_some o ≡ true → errno_if_refused (row_judged verdicts plan view laid (Some k)) ≡ None
     by None at is = cc
     by (Some row) at is =
-        ap errno_if_refused (laid_becomes verdicts plan view laid c k among found ∙ row_met (λ (j : ℕ) (x : List CtrlValue). validated_row verdicts plan view.controls view.values laid j ≡ Ok x) rows k row are at)
+        ap errno_if_refused (laid_becomes verdicts plan view laid c k among found ∙ row_met (λ (j : ℕ) (x : List CtrlValue). validated_row verdicts plan view.ranges view.values laid j ≡ Ok x) rows k row are at)
 
 -- what a cluster's row becomes is what is laid
 pub accepted_now : (verdicts : Verdicts) (plan : PlanData) (view : ViewData) (laid : List Pair) (c k : ℕ) (row : List CtrlValue) → IsTrue (is_among laid c) → cluster_of plan c ≡ Some k
-    → Ok row ≡ validated_row verdicts plan view.controls view.values laid k → errno_if_refused (row_judged verdicts plan view laid (cluster_of plan c)) ≡ None
+    → Ok row ≡ validated_row verdicts plan view.ranges view.values laid k → errno_if_refused (row_judged verdicts plan view laid (cluster_of plan c)) ≡ None
 accepted_now verdicts plan view laid c k row among found is =
     ap (λ (o : Option ℕ). errno_if_refused (row_judged verdicts plan view laid o)) found ∙ ap errno_if_refused (laid_becomes verdicts plan view laid c k among found ∙ sym is)
 
 pub refused_now : (verdicts : Verdicts) (plan : PlanData) (view : ViewData) (laid : List Pair) (c k : ℕ) (errno : Errno) → IsTrue (is_among laid c) → cluster_of plan c ≡ Some k
-    → Err errno ≡ validated_row verdicts plan view.controls view.values laid k → errno_if_refused (row_judged verdicts plan view laid (cluster_of plan c)) ≡ Some errno
+    → Err errno ≡ validated_row verdicts plan view.ranges view.values laid k → errno_if_refused (row_judged verdicts plan view laid (cluster_of plan c)) ≡ Some errno
 refused_now verdicts plan view laid c k errno among found is =
     ap (λ (o : Option ℕ). errno_if_refused (row_judged verdicts plan view laid o)) found ∙ ap errno_if_refused (laid_becomes verdicts plan view laid c k among found ∙ sym is)
 
@@ -112,8 +112,8 @@ more_among first pairs =
 
 -- the value that the rows give a control of the list is the one that it has once its cluster was judged
 pub value_same : (verdicts : Verdicts) (plan : PlanData) (view : ViewData) (laid pairs : List Pair) (rows : List NewRow) (i : ℕ) (d : Pair)
-    → AreJudged verdicts plan view.controls view.values laid pairs rows → i < length pairs → IsTrue (is_among laid (get_or pairs i d).control)
-    → value_written plan view.values rows (get_or pairs i d).control ≡ value_after verdicts plan view.controls view.values no_grabs laid (get_or pairs i d).control
+    → AreJudged verdicts plan view.ranges view.values laid pairs rows → i < length pairs → IsTrue (is_among laid (get_or pairs i d).control)
+    → value_written plan view.values rows (get_or pairs i d).control ≡ value_after verdicts plan view.ranges view.values no_grabs laid (get_or pairs i d).control
 value_same verdicts plan view laid pairs rows i d judged within among = by (cluster_of plan c) refl
   where
     c : ℕ
@@ -126,16 +126,16 @@ value_same verdicts plan view laid pairs rows i d judged within among = by (clus
         → unwrap_or (option_and_then (λ row. member_value (members plan k) row c) o) own ≡ unwrap_or (result_value (members plan k) (row_judged verdicts plan view laid (Some k)) c) own
     at k None is found there = cc
     at k (Some row) is found there =
-        rw (laid_becomes verdicts plan view laid c k among is, row_met (λ (j : ℕ) (x : List CtrlValue). validated_row verdicts plan view.controls view.values laid j ≡ Ok x) rows k row judged.become found) refl
+        rw (laid_becomes verdicts plan view laid c k among is, row_met (λ (j : ℕ) (x : List CtrlValue). validated_row verdicts plan view.ranges view.values laid j ≡ Ok x) rows k row judged.become found) refl
 
-    by : (o : Option ℕ) → cluster_of plan c ≡ o → unwrap_or (value_among plan rows o c) own ≡ unwrap_or (result_value_in plan (row_after verdicts plan view.controls view.values no_grabs laid) o c) own
+    by : (o : Option ℕ) → cluster_of plan c ≡ o → unwrap_or (value_among plan rows o c) own ≡ unwrap_or (result_value_in plan (row_after verdicts plan view.ranges view.values no_grabs laid) o c) own
     by None is = refl
     by (Some k) is =
         at k (row_among rows k) is refl (sym (has_row rows k) ∙ ap (list_any (nat_eq k)) judged.each_once ∙ touched_has plan pairs i d k within is)
 
 -- the rows give a pair of the list its entry
 pub entry_same : (verdicts : Verdicts) (plan : PlanData) (view : ViewData) (laid pairs : List Pair) (rows : List NewRow) (i : ℕ) (d : Pair)
-    → AreJudged verdicts plan view.controls view.values laid pairs rows → i < length pairs → IsTrue (is_among laid (get_or pairs i d).control)
+    → AreJudged verdicts plan view.ranges view.values laid pairs rows → i < length pairs → IsTrue (is_among laid (get_or pairs i d).control)
     → entry_in plan view.values rows (get_or pairs i d).control ≡ entry_judged verdicts plan view laid (get_or pairs i d)
 entry_same verdicts plan view laid pairs rows i d judged within among =
     ap (entry_with plan (get_or pairs i d).control) (value_same verdicts plan view laid pairs rows i d judged within among)
@@ -148,9 +148,9 @@ pub looked_up : (rows : List NewRow) (k : ℕ) (found : Option (List CtrlValue))
 looked_up rows k found is b given tells at = sym (ap is_some given) ∙ sym tells ∙ at
 
 -- what a row becomes by the parts of a view
-pub becomes_by : (verdicts : Verdicts) (plan : PlanData) (parts view : ViewData) (laid : List Pair) (k : ℕ) (outcome : Result (List CtrlValue) Errno) → outcome ≡ validated_row verdicts plan parts.controls parts.values laid k → parts ≡ view
-    → outcome ≡ validated_row verdicts plan view.controls view.values laid k
-becomes_by verdicts plan parts view laid k outcome is same = is ∙ ap (λ (v : ViewData). validated_row verdicts plan v.controls v.values laid k) same
+pub becomes_by : (verdicts : Verdicts) (plan : PlanData) (parts view : ViewData) (laid : List Pair) (k : ℕ) (outcome : Result (List CtrlValue) Errno) → outcome ≡ validated_row verdicts plan parts.ranges parts.values laid k → parts ≡ view
+    → outcome ≡ validated_row verdicts plan view.ranges view.values laid k
+becomes_by verdicts plan parts view laid k outcome is same = is ∙ ap (λ (v : ViewData). validated_row verdicts plan v.ranges v.values laid k) same
 
 -- one more validator at most is asked for a cluster without a row
 pub asked_once : (plan : PlanData) (rows : List NewRow) (c k before after : ℕ) → cluster_of plan c ≡ Some k → is_some (row_among rows k) ≡ false → after ≤ before + 1

@@ -41,7 +41,7 @@ value_read controls values _ c = value_at values c
 
 -- a control, as it is read
 abbrev pub entry_read : PlanData → ViewData → Pair → ExtControl
-entry_read plan view p = record { id = (control plan p.control).id; value = value_read view.controls view.values view.which p.control }
+entry_read plan view p = record { id = (control plan p.control).id; value = value_read view.ranges view.values view.which p.control }
 
 -- the entries that a list that reads is answered
 abbrev pub entries_read : PlanData → ViewData → List ExtControl → List ExtControl
@@ -53,7 +53,7 @@ get_answer plan view list = answered (fault_at_count (length list)) (first_refus
 
 -- The value that a control has once its cluster was judged.
 abbrev pub value_judged : Verdicts → PlanData → ViewData → List Pair → ℕ → CtrlValue
-value_judged verdicts plan view pairs c = value_after verdicts plan view.controls view.values no_grabs pairs c
+value_judged verdicts plan view pairs c = value_after verdicts plan view.ranges view.values no_grabs pairs c
 
 -- a control, with the value that its judged cluster gives it
 abbrev pub entry_judged : Verdicts → PlanData → ViewData → List Pair → Pair → ExtControl

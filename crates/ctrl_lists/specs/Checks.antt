@@ -82,7 +82,7 @@ abbrev pub writing_refusal : PlanData → ViewData → Bool → Pair → Option 
 writing_refusal plan view is_set p =
     if contains (control plan p.control).flags READ_ONLY then Some EACCES
     else if is_set && is_grabbed view.grabs p.control then Some EBUSY
-    else errno_if_refused (settle (control_in view.controls p.control) p.value)
+    else errno_if_refused (settle (control_in view.ranges p.control) p.value)
 
 -- the pairs that are laid over the values: those from before, and then the list's
 abbrev pub pairs_judged : PlanData → ViewData → List ExtControl → List Pair
@@ -92,7 +92,7 @@ pairs_judged plan view list = view.asked ++ pairs_of plan view.handler view.whic
 -- is grabbed. A control that is in no cluster, as none of a finished plan is, can't be judged.
 abbrev pub row_judged : Verdicts → PlanData → ViewData → List Pair → Option ℕ → Result (List CtrlValue) Errno
 row_judged verdicts plan view pairs None = Err EINVAL
-row_judged verdicts plan view pairs (Some k) = row_after verdicts plan view.controls view.values no_grabs pairs k
+row_judged verdicts plan view pairs (Some k) = row_after verdicts plan view.ranges view.values no_grabs pairs k
 
 -- a control whose cluster is refused: a member doesn't settle, or judging refuses the row
 abbrev pub judging_refusal : Verdicts → PlanData → ViewData → List Pair → Pair → Option Errno

@@ -52,7 +52,7 @@ pub record AreJudged (verdicts : Verdicts) (plan : PlanData) (controls : List Co
 pub record IsTouched (verdicts : Verdicts) (plan : PlanData) (view : ViewData) (list : List ExtControl) (touch : TouchedData) : Type 0 where
   pub own_pairs : touch.pairs ≡ pairs_of plan view.handler view.which list
   pub known : All (λ p. p.control < length plan.controls) touch.pairs
-  pub judged : AreJudged verdicts plan view.controls view.values (pairs_judged plan view list) (pairs_of plan view.handler view.which list) touch.rows
+  pub judged : AreJudged verdicts plan view.ranges view.values (pairs_judged plan view list) (pairs_of plan view.handler view.which list) touch.rows
 
 -- how many of some clusters have a validator
 abbrev pub judged_count : PlanData → List ℕ → ℕ

@@ -16,12 +16,12 @@ use Rattle.ctrl_handlers.specs.Plan.{PlanData, control}
 use Rattle.ctrl_handlers.specs.Visible.{visible, find}
 use Rattle.ctrl_clusters.specs.Rows.{Values, Grabs}
 
--- The handler that shows the controls; which values the list speaks of; the controls as they are now, a value for each, and whether it is
+-- The handler that shows the controls; which values the list speaks of; the controls with their ranges of the moment, a value for each, and whether it is
 -- grabbed; and the pairs that are laid over the values before the list's own, the oldest first.
 pub record ViewData : Type 0 where
   pub handler : ℕ
   pub which : Which
-  pub controls : List Control
+  pub ranges : List Control
   pub values : Values
   pub grabs : Grabs
   pub asked : List Pair

@@ -98,7 +98,7 @@ pub(crate) fn first_unwritable<D: Driver>(
     pairs: &[Pair],
 ) -> Option<Refusal>
     requires few { length pairs.now ≤ MAX_ENTRIES }
-    requires controls { AreControlsOf plan.now view.now.controls }
+    requires ranges { AreControlsOf plan.now view.now.ranges }
     requires grabs { length view.now.grabs ≡ length plan.now.controls }
     requires known { All (λ p. p.control < length plan.now.controls) pairs.now }
     ensures { result ≡ at_first (writing_refusal plan.now view.now is_set) pairs.now }
@@ -118,7 +118,7 @@ fn writing_refusal<D: Driver>(
     is_set: bool,
     pair: Pair,
 ) -> Option<Errno>
-    requires controls { AreControlsOf plan.now view.now.controls }
+    requires ranges { AreControlsOf plan.now view.now.ranges }
     requires grabs { length view.now.grabs ≡ length plan.now.controls }
     requires known { pair.control < length plan.now.controls }
     ensures { result ≡ writing_refusal plan.now view.now is_set pair }
@@ -130,5 +130,5 @@ fn writing_refusal<D: Driver>(
     if is_set && view.grabs[pair.control as usize] {
         return Some(Errno::EBUSY);
     }
-    settle(&view.controls[pair.control as usize], pair.value).err()
+    settle(view.ranges.range(pair.control), pair.value).err()
 }

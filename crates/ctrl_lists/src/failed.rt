@@ -87,8 +87,7 @@ pub fn failed_read<D: Driver>(
 ///
 /// - `alloc`: where pairs and rows lie for the moment.
 /// - `plan`: what the device is built of.
-/// - `view`: what the list is checked against; the caller owes the plan's controls as they are now, with their ids, kinds,
-///   flags and skipped items, and a value and a grab for each.
+/// - `view`: what the list is checked against; the caller owes ranges of the plan's controls, and a value and a grab for each.
 /// - `is_set`: whether the list sets, so that grabs refuse it, or tries.
 /// - `list`: the entries. It is lent, and never changed.
 /// - `work`: its count `asked` grows by one for each validator that is asked, by no more than the clusters that the list touches; `told`
@@ -103,7 +102,7 @@ pub fn failed_write<D: Driver>(
     list: &ControlList,
     work: &mut Work,
 ) -> Result<Option<Failed>, AllocError>
-    requires controls { AreControlsOf plan.now view.now.controls }
+    requires ranges { AreControlsOf plan.now view.now.ranges }
     requires values { length view.now.values ≡ length plan.now.controls }
     requires grabs { length view.now.grabs ≡ length plan.now.controls }
     ensures failed { IfOk result (λ failed. failed ≡ failed_write D.verdict plan.now view.now is_set list.now) }

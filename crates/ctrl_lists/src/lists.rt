@@ -4,7 +4,7 @@ ghost use Rattle.ctrl_types.specs.declared.which.Which.TheVariants.{Defaults};
 ghost use Rattle.ctrl_clusters.specs.Rows.{AreControlsOf};
 ghost use Rattle.ctrl_clusters.specs.Overlay.{is_among};
 ghost use Rattle.ctrl_lists.specs.View.{pairs_of};
-ghost use Rattle.ctrl_lists.specs.Checks.{at_first, first_refusal, judging_refusal, read_checks, write_checks, pairs_judged, memory_refusal};
+ghost use Rattle.ctrl_lists.specs.Checks.{at_first, first_refusal, judging_refusal, read_checks, write_checks, memory_refusal};
 ghost use Rattle.ctrl_lists.specs.Touched.{touched, AreJudged, IsTouched, judged_count, list_asks, with_calls};
 ghost use Rattle.ctrl_lists.specs.Answers.{value_read, entry_read, entry_judged, entries_judged, get_answer, set_answer, try_answer, may_lack, no_memory};
 ghost use Rattle.ctrl_lists.specs.declared.limits.TheConstants.{MAX_ENTRIES};
@@ -17,9 +17,8 @@ use crate::rows::{entries_judged, judge_all};
 use crate::touched::Touched;
 use crate::view::View;
 use ctrl_calls::{Driver, Work};
-use ctrl_clusters::NewRows;
+use ctrl_clusters::{NewRows, Ranges};
 use ctrl_handlers::Plan;
-use ctrl_settle::Ctrl;
 use ctrl_types::{CtrlValue, ExtControl, Fault, Pair, Which};
 use std::alloc::{AllocError, Global};
 
@@ -30,8 +29,7 @@ use std::alloc::{AllocError, Global};
 ///
 /// - `alloc`: where the answer lies.
 /// - `plan`: what the device is built of.
-/// - `view`: what the list is checked against; the caller owes the plan's controls as they are now, with their ids,
-///   kinds, flags and skipped items, and a value for each. Its grabs and pairs count for nothing.
+/// - `view`: what the list is checked against; the caller owes ranges of the plan's controls, and a value for each. Its grabs and pairs count for nothing.
 /// - `list`: the entries; their values are ignored. It is lent, and never changed.
 ///
 /// Refused by the first of the checks 4 to 7 of a list in docs/RULES.md that doesn't hold: EINVAL (22) or EACCES (13). ENOMEM (12) may
@@ -43,7 +41,7 @@ pub fn read_list<D: Driver>(
     view: &View<'_>,
     list: &ControlList,
 ) -> Result<ControlList, Fault>
-    requires controls { AreControlsOf plan.now view.now.controls }
+    requires ranges { AreControlsOf plan.now view.now.ranges }
     requires values { length view.now.values ≡ length plan.now.controls }
     ensures ok { IfOk result (λ answers. get_answer plan.now view.now list.now ≡ Ok answers) }
     ensures err { IfErr result (λ fault. (get_answer plan.now view.now list.now ≡ Err fault) ⊎ (IsTrue (may_lack list.now) × (fault ≡ no_memory (length list.now)))) }
@@ -63,8 +61,7 @@ pub fn read_list<D: Driver>(
 ///
 /// - `alloc`: where rows, answers and pairs lie.
 /// - `plan`: what the device is built of.
-/// - `view`: what the list is checked against; the caller owes the plan's controls as they are now, with their ids, kinds,
-///   flags and skipped items, a value and a grab for each, and that it doesn't speak of the defaults, which can't be written.
+/// - `view`: what the list is checked against; the caller owes ranges of the plan's controls, a value and a grab for each, and that it doesn't speak of the defaults, which can't be written.
 /// - `list`: the entries. It is lent, and never changed.
 /// - `work`: its count `asked` grows by one for each validator that is asked, by no more than the clusters that the list touches; `told`
 ///   stays. After a refusal by check 8, or with ENOMEM, `asked` may have grown too; a list that the checks 4 to 7 refuse asks nobody.
@@ -80,7 +77,7 @@ pub fn plan_set<D: Driver>(
     work: &mut Work,
 ) -> Result<Touched, Fault>
     requires which { view.now.which ≢ Defaults }
-    requires controls { AreControlsOf plan.now view.now.controls }
+    requires ranges { AreControlsOf plan.now view.now.ranges }
     requires values { length view.now.values ≡ length plan.now.controls }
     requires grabs { length view.now.grabs ≡ length plan.now.controls }
     ensures ok { IfOk result (λ touch. set_answer D.verdict plan.now view.now list.now ≡ Ok touch.answers) }
@@ -113,7 +110,7 @@ pub fn try_list<D: Driver>(
     work: &mut Work,
 ) -> Result<Touched, Fault>
     requires which { view.now.which ≢ Defaults }
-    requires controls { AreControlsOf plan.now view.now.controls }
+    requires ranges { AreControlsOf plan.now view.now.ranges }
     requires values { length view.now.values ≡ length plan.now.controls }
     requires grabs { length view.now.grabs ≡ length plan.now.controls }
     ensures ok { IfOk result (λ touch. try_answer D.verdict plan.now view.now list.now ≡ Ok touch.answers) }
@@ -136,7 +133,7 @@ fn read_all<D: Driver>(
     view: &View<'_>,
     list: &ControlList,
 ) -> Result<ControlList, Refusal>
-    requires controls { AreControlsOf plan.now view.now.controls }
+    requires ranges { AreControlsOf plan.now view.now.ranges }
     requires values { length view.now.values ≡ length plan.now.controls }
     ensures ok { IfOk result (λ answers. first_refusal (read_checks plan.now view.now list.now) ≡ None) }
     ensures answers { IfOk result (λ answers. answers ≡ map (entry_read plan.now view.now) (pairs_of plan.now view.now.handler view.now.which list.now)) }
@@ -163,7 +160,7 @@ fn entries_read<D: Driver>(
     view: &View<'_>,
     pairs: &[Pair],
 ) -> Result<ControlList, AllocError>
-    requires controls { AreControlsOf plan.now view.now.controls }
+    requires ranges { AreControlsOf plan.now view.now.ranges }
     requires values { length view.now.values ≡ length plan.now.controls }
     requires few { length pairs.now ≤ MAX_ENTRIES }
     requires known { All (λ p. p.control < length plan.now.controls) pairs.now }
@@ -178,12 +175,12 @@ fn entries_read<D: Driver>(
 
 // A control, as it is read.
 fn entry_read<D: Driver>(plan: &Plan<D>, view: &View<'_>, pair: Pair) -> ExtControl
-    requires controls { AreControlsOf plan.now view.now.controls }
+    requires ranges { AreControlsOf plan.now view.now.ranges }
     requires values { length view.now.values ≡ length plan.now.controls }
     requires known { pair.control < length plan.now.controls }
     ensures { result ≡ entry_read plan.now view.now pair }
 {
-    let value = value_read(view.controls, view.values, view.which, pair.control);
+    let value = value_read(view.ranges, view.values, view.which, pair.control);
     ExtControl {
         id: plan.control(pair.control).id(),
         value,
@@ -191,13 +188,13 @@ fn entry_read<D: Driver>(plan: &Plan<D>, view: &View<'_>, pair: Pair) -> ExtCont
 }
 
 // The value that a control is read with.
-fn value_read(controls: &[Ctrl], values: &[CtrlValue], which: Which, control: u32) -> CtrlValue
-    requires controls { control < length controls.now }
+fn value_read(ranges: &Ranges, values: &[CtrlValue], which: Which, control: u32) -> CtrlValue
+    requires ranges { control < length ranges.now }
     requires values { control < length values.now }
-    ensures { result ≡ value_read controls.now values.now which control }
+    ensures { result ≡ value_read ranges.now values.now which control }
 {
     match which {
-        Which::Defaults => controls[control as usize].default_value(),
+        Which::Defaults => ranges.range(control).default_value(),
         Which::Current | Which::Class(_) | Which::Request => values[control as usize],
     }
 }
@@ -211,7 +208,7 @@ fn judge_list<D: Driver>(
     list: &ControlList,
     work: &mut Work,
 ) -> Result<Touched, Refusal>
-    requires controls { AreControlsOf plan.now view.now.controls }
+    requires ranges { AreControlsOf plan.now view.now.ranges }
     requires values { length view.now.values ≡ length plan.now.controls }
     requires grabs { length view.now.grabs ≡ length plan.now.controls }
     ensures ok { IfOk result (λ touch. first_refusal (write_checks D.verdict plan.now view.now is_set list.now) ≡ None) }
@@ -244,12 +241,12 @@ fn judge_pairs<D: Driver>(
     work: &mut Work,
 ) -> Result<Touched, Refusal>
     requires few { length pairs.items ≤ MAX_ENTRIES }
-    requires controls { AreControlsOf plan.now view.now.controls }
+    requires ranges { AreControlsOf plan.now view.now.ranges }
     requires values { length view.now.values ≡ length plan.now.controls }
     requires known { All (λ p. p.control < length plan.now.controls) pairs.items }
     ensures ok { IfOk result (λ touch. at_first (judging_refusal D.verdict plan.now view.now (view.now.asked ++ pairs.items)) pairs.items ≡ None) }
     ensures pairs { IfOk result (λ touch. touch.pairs ≡ pairs.items) }
-    ensures rows { IfOk result (λ touch. AreJudged D.verdict plan.now view.now.controls view.now.values (view.now.asked ++ pairs.items) pairs.items touch.rows) }
+    ensures rows { IfOk result (λ touch. AreJudged D.verdict plan.now view.now.ranges view.now.values (view.now.asked ++ pairs.items) pairs.items touch.rows) }
     ensures answers { IfOk result (λ touch. touch.answers ≡ map (entry_judged D.verdict plan.now view.now (view.now.asked ++ pairs.items)) pairs.items) }
     ensures err { IfErr result (λ refusal. (at_first (judging_refusal D.verdict plan.now view.now (view.now.asked ++ pairs.items)) pairs.items ≡ Some refusal) ⊎ (refusal ≡ memory_refusal)) }
     ensures at_most { work.new.asked ≤ work.old.asked + length (touched plan.now pairs.items) }
@@ -276,11 +273,11 @@ pub(crate) fn judge_joined<D: Driver>(
     work: &mut Work,
 ) -> Result<(NewRows, ControlList), Refusal>
     requires few { length pairs.now ≤ MAX_ENTRIES }
-    requires controls { AreControlsOf plan.now view.now.controls }
+    requires ranges { AreControlsOf plan.now view.now.ranges }
     requires values { length view.now.values ≡ length plan.now.controls }
     requires known { All (λ p. p.control < length plan.now.controls) pairs.now }
     ensures ok { IfOk result (λ judged. at_first (judging_refusal D.verdict plan.now view.now (view.now.asked ++ pairs.now)) pairs.now ≡ None) }
-    ensures rows { IfOk result (λ judged. AreJudged D.verdict plan.now view.now.controls view.now.values (view.now.asked ++ pairs.now) pairs.now judged.0.rows) }
+    ensures rows { IfOk result (λ judged. AreJudged D.verdict plan.now view.now.ranges view.now.values (view.now.asked ++ pairs.now) pairs.now judged.0.rows) }
     ensures answers { IfOk result (λ judged. judged.1 ≡ map (entry_judged D.verdict plan.now view.now (view.now.asked ++ pairs.now)) pairs.now) }
     ensures err { IfErr result (λ refusal. (at_first (judging_refusal D.verdict plan.now view.now (view.now.asked ++ pairs.now)) pairs.now ≡ Some refusal) ⊎ (refusal ≡ memory_refusal)) }
     ensures at_most { work.new.asked ≤ work.old.asked + length (touched plan.now pairs.now) }
@@ -306,12 +303,12 @@ fn judge_under<D: Driver>(
     work: &mut Work,
 ) -> Result<(NewRows, ControlList), Refusal>
     requires few { length pairs.now ≤ MAX_ENTRIES }
-    requires controls { AreControlsOf plan.now view.now.controls }
+    requires ranges { AreControlsOf plan.now view.now.ranges }
     requires values { length view.now.values ≡ length plan.now.controls }
     requires known { All (λ p. p.control < length plan.now.controls) pairs.now }
     requires among { All (λ p. IsTrue (is_among laid.now p.control)) pairs.now }
     ensures ok { IfOk result (λ judged. at_first (judging_refusal D.verdict plan.now view.now laid.now) pairs.now ≡ None) }
-    ensures rows { IfOk result (λ judged. AreJudged D.verdict plan.now view.now.controls view.now.values laid.now pairs.now judged.0.rows) }
+    ensures rows { IfOk result (λ judged. AreJudged D.verdict plan.now view.now.ranges view.now.values laid.now pairs.now judged.0.rows) }
     ensures answers { IfOk result (λ judged. judged.1 ≡ map (entry_judged D.verdict plan.now view.now laid.now) pairs.now) }
     ensures err { IfErr result (λ refusal. (at_first (judging_refusal D.verdict plan.now view.now laid.now) pairs.now ≡ Some refusal) ⊎ (refusal ≡ memory_refusal)) }
     ensures at_most { work.new.asked ≤ work.old.asked + length (touched plan.now pairs.now) }

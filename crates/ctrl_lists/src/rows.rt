@@ -4,7 +4,7 @@ ghost use Rattle.std.specs.Prelude.{◌≡◌, ◌<◌, ◌≤◌, ◌+◌, ◌�
 ghost use Rattle.std.specs.List.{All};
 ghost use Rattle.ctrl_handlers.specs.Plan.{cluster_of, members};
 ghost use Rattle.ctrl_clusters.specs.Rows.{AreControlsOf};
-ghost use Rattle.ctrl_clusters.specs.Overlay.{is_among, is_touched};
+ghost use Rattle.ctrl_clusters.specs.Overlay.{is_among};
 ghost use Rattle.ctrl_clusters.specs.NewRows.{clusters_of};
 ghost use Rattle.ctrl_lists.specs.Checks.{at_first, errno_if_refused, row_judged, judging_refusal, memory_refusal};
 ghost use Rattle.ctrl_lists.specs.Touched.{with_cluster, touched, entry_in, AreRows, AreJudged, judged_count, with_calls};
@@ -31,12 +31,12 @@ pub(crate) fn judge_all<D: Driver>(
     work: &mut Work,
 ) -> Result<NewRows, Refusal>
     requires few { length pairs.now ≤ MAX_ENTRIES }
-    requires controls { AreControlsOf plan.now view.now.controls }
+    requires ranges { AreControlsOf plan.now view.now.ranges }
     requires values { length view.now.values ≡ length plan.now.controls }
     requires known { All (λ p. p.control < length plan.now.controls) pairs.now }
     requires among { All (λ p. IsTrue (is_among laid.now p.control)) pairs.now }
     ensures ok { IfOk result (λ rows. at_first (judging_refusal D.verdict plan.now view.now laid.now) pairs.now ≡ None) }
-    ensures rows { IfOk result (λ rows. AreJudged D.verdict plan.now view.now.controls view.now.values laid.now pairs.now rows.rows) }
+    ensures rows { IfOk result (λ rows. AreJudged D.verdict plan.now view.now.ranges view.now.values laid.now pairs.now rows.rows) }
     ensures err { IfErr result (λ refusal. (at_first (judging_refusal D.verdict plan.now view.now laid.now) pairs.now ≡ Some refusal) ⊎ (refusal ≡ memory_refusal)) }
     ensures at_most { work.new.asked ≤ work.old.asked + length (touched plan.now pairs.now) }
     ensures asked { OnOk result (work.new.asked ≡ with_calls (judged_count plan.now (touched plan.now pairs.now)) work.old.asked) }
@@ -64,19 +64,19 @@ fn judge_next<D: Driver>(
     rows: &mut NewRows,
     work: &mut Work,
 ) -> Result<(), Errno>
-    requires controls { AreControlsOf plan.now view.now.controls }
+    requires ranges { AreControlsOf plan.now view.now.ranges }
     requires values { length view.now.values ≡ length plan.now.controls }
     requires known { control < length plan.now.controls }
     requires among { IsTrue (is_among laid.now control) }
     requires room { length rows.old.rows < rows.old.room }
     requires all { rows.old.clusters ≡ length plan.now.clusters }
-    requires rows { AreRows D.verdict plan.now view.now.controls view.now.values laid.now rows.old.rows }
+    requires rows { AreRows D.verdict plan.now view.now.ranges view.now.values laid.now rows.old.rows }
     requires within { All (λ r. r.cluster < length plan.now.clusters) rows.old.rows }
     requires long { All (λ r. length r.row ≡ length (members plan.now r.cluster)) rows.old.rows }
     ensures ok { OnOk result (errno_if_refused (row_judged D.verdict plan.now view.now laid.now (cluster_of plan.now control)) ≡ None) }
     ensures err { IfErr result (λ errno. errno_if_refused (row_judged D.verdict plan.now view.now laid.now (cluster_of plan.now control)) ≡ Some errno) }
     ensures each { OnOk result (clusters_of rows.new.rows ≡ with_cluster (clusters_of rows.old.rows) (cluster_of plan.now control)) }
-    ensures rows { OnOk result (AreRows D.verdict plan.now view.now.controls view.now.values laid.now rows.new.rows) }
+    ensures rows { OnOk result (AreRows D.verdict plan.now view.now.ranges view.now.values laid.now rows.new.rows) }
     ensures within { OnOk result (All (λ r. r.cluster < length plan.now.clusters) rows.new.rows) }
     ensures long { OnOk result (All (λ r. length r.row ≡ length (members plan.now r.cluster)) rows.new.rows) }
     ensures more { length rows.new.rows ≤ length rows.old.rows + 1 }
@@ -90,7 +90,7 @@ fn judge_next<D: Driver>(
     if rows.among(cluster).is_some() {
         return Ok(());
     }
-    match validated_row(plan, view.controls, cluster, view.values, laid, work) {
+    match validated_row(plan, view.ranges, cluster, view.values, laid, work) {
         Ok(row) => {
             rows.push_reserved(NewRow { cluster, row });
             Ok(())
@@ -109,11 +109,11 @@ pub(crate) fn entries_judged<D: Driver>(
     rows: &NewRows,
 ) -> Result<ControlList, AllocError>
     requires few { length pairs.now ≤ MAX_ENTRIES }
-    requires controls { AreControlsOf plan.now view.now.controls }
+    requires ranges { AreControlsOf plan.now view.now.ranges }
     requires values { length view.now.values ≡ length plan.now.controls }
     requires known { All (λ p. p.control < length plan.now.controls) pairs.now }
     requires among { All (λ p. IsTrue (is_among laid.now p.control)) pairs.now }
-    requires rows { AreJudged D.verdict plan.now view.now.controls view.now.values laid.now pairs.now rows.now.rows }
+    requires rows { AreJudged D.verdict plan.now view.now.ranges view.now.values laid.now pairs.now rows.now.rows }
     ensures { IfOk result (λ answers. answers ≡ map (entry_judged D.verdict plan.now view.now laid.now) pairs.now) }
 {
     let mut answers = Vec::with_capacity(alloc, pairs.len())?;

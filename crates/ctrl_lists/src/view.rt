@@ -1,6 +1,6 @@
 ghost use Rattle.std.specs.Prelude.{◌≡◌};
 
-use ctrl_settle::Ctrl;
+use ctrl_clusters::Ranges;
 use ctrl_types::{CtrlValue, Pair, Which};
 use std::marker::Model;
 
@@ -9,7 +9,7 @@ use std::marker::Model;
 pub struct View<'a> {
     pub(crate) handler: u32,
     pub(crate) which: Which,
-    pub(crate) controls: &'a [Ctrl],
+    pub(crate) ranges: &'a Ranges,
     pub(crate) values: &'a [CtrlValue],
     pub(crate) grabs: &'a [bool],
     pub(crate) asked: &'a [Pair],
@@ -20,7 +20,7 @@ impl<'a> Model for View<'a> {
 
     ghost Value = { ViewData };
 
-    ghost view = { λ v. record { handler = v.handler; which = v.which; controls = v.controls.now; values = v.values.now; grabs = v.grabs.now; asked = v.asked.now } };
+    ghost view = { λ v. record { handler = v.handler; which = v.which; ranges = v.ranges.now; values = v.values.now; grabs = v.grabs.now; asked = v.asked.now } };
 }
 
 impl<'a> View<'a> {
@@ -28,7 +28,7 @@ impl<'a> View<'a> {
     ///
     /// - `handler`: the number of the handler that shows the controls; one that isn't there shows none.
     /// - `which`: which values the list speaks of (Linux userspace API, "struct v4l2_ext_controls").
-    /// - `controls`: the controls as they are now, in the order of their numbers.
+    /// - `ranges`: the ranges of the controls as they are now.
     /// - `values`: a value for each control, in the order of their numbers: the present ones, or what a request that is read from keeps.
     /// - `grabs`: whether each control is grabbed, in the order of their numbers.
     /// - `asked`: the pairs that are laid over the values before those of a list that writes, the oldest first: what a request was asked
@@ -36,17 +36,17 @@ impl<'a> View<'a> {
     pub fn new(
         handler: u32,
         which: Which,
-        controls: &'a [Ctrl],
+        ranges: &'a Ranges,
         values: &'a [CtrlValue],
         grabs: &'a [bool],
         asked: &'a [Pair],
     ) -> View<'a>
-        ensures { result ≡ record { handler = handler; which = which; controls = controls.now; values = values.now; grabs = grabs.now; asked = asked.now } }
+        ensures { result ≡ record { handler = handler; which = which; ranges = ranges.now; values = values.now; grabs = grabs.now; asked = asked.now } }
     {
         View {
             handler,
             which,
-            controls,
+            ranges,
             values,
             grabs,
             asked,

@@ -1,4 +1,4 @@
-//! What a change of values and grabs raises for the file handles that are subscribed to the events of controls (Linux userspace API, "ioctl
+//! What a change of ranges, values and grabs raises for the file handles that are subscribed to the events of controls (Linux userspace API, "ioctl
 //! VIDIOC_DQEVENT"). Nothing here takes memory.
 #![tactic(auto)]
 

@@ -3,7 +3,7 @@
 ghost use Rattle.std.specs.Prelude.{◌≡◌, ◌<◌, length};
 ghost use Rattle.ctrl_types.specs.Flags.{contains};
 ghost use Rattle.ctrl_types.specs.declared.flags.TheConstants.Flags.{WRITE_ONLY};
-ghost use Rattle.ctrl_handlers.specs.Plan.{control_in};
+ghost use Rattle.ctrl_handlers.specs.Plan.{control as control_of};
 ghost use Rattle.ctrl_raises.specs.Raises.{initial_changes, payload_at};
 
 use crate::moment::Moment;
@@ -12,24 +12,26 @@ use ctrl_calls::Driver;
 use ctrl_clusters::flags_under;
 use ctrl_events::Payload;
 use ctrl_handlers::Plan;
+use ctrl_settle::Ctrl;
 use ctrl_types::{Changes, Flags};
 
 /// The payload of a control's event at a moment (Linux userspace API, "struct v4l2_event_ctrl"): the value is 0 where it can't be read (of this
 /// project).
 ///
 /// - `plan`: what the device is built of.
-/// - `at`: the moment; the caller owes a value and a grab for each control.
+/// - `at`: the moment; the caller owes a range, a value and a grab for each control.
 /// - `control`: the number of a control; the caller owes one below `Plan::control_count`.
 ///
 /// It takes no memory and refuses nothing.
 pub fn payload_at<D: Driver>(plan: &Plan<D>, at: &Moment, control: u32) -> Payload
     requires known { control < length plan.now.controls }
+    requires ranges { length at.now.ranges ≡ length plan.now.controls }
     requires values { length at.now.values ≡ length plan.now.controls }
     requires grabs { length at.now.grabs ≡ length plan.now.controls }
     ensures { result ≡ payload_at plan.now at.now control }
 {
-    let ctrl = plan.control(control);
-    let value = if is_unreadable(plan, control) {
+    let ctrl = at.ranges.range(control);
+    let value = if is_unreadable(ctrl) {
         0
     } else {
         at.values[control as usize]
@@ -55,9 +57,9 @@ pub fn payload_at<D: Driver>(plan: &Plan<D>, at: &Moment, control: u32) -> Paylo
 /// It takes no memory and refuses nothing.
 pub fn initial_changes<D: Driver>(plan: &Plan<D>, control: u32) -> Changes
     requires { control < length plan.now.controls }
-    ensures { result ≡ initial_changes (control_in plan.now.controls control) }
+    ensures { result ≡ initial_changes (control_of plan.now control).flags }
 {
-    if is_unreadable(plan, control) {
+    if is_unreadable(&plan.control(control)) {
         Changes::CH_FLAGS
     } else {
         Changes::CH_VALUE.union(Changes::CH_FLAGS)
@@ -65,9 +67,8 @@ pub fn initial_changes<D: Driver>(plan: &Plan<D>, control: u32) -> Changes
 }
 
 // Whether a control can't be read.
-fn is_unreadable<D: Driver>(plan: &Plan<D>, control: u32) -> bool
-    requires { control < length plan.now.controls }
-    ensures { result ≡ contains (control_in plan.now.controls control).flags WRITE_ONLY }
+fn is_unreadable(ctrl: &Ctrl) -> bool
+    ensures { result ≡ contains ctrl.now.flags WRITE_ONLY }
 {
-    plan.control(control).flags().contains(Flags::WRITE_ONLY)
+    ctrl.flags().contains(Flags::WRITE_ONLY)
 }

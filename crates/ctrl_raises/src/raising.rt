@@ -5,7 +5,7 @@ ghost use Rattle.std.specs.List.{range_with_len};
 ghost use Rattle.std.specs.Option.{option_map};
 ghost use Rattle.ctrl_events.specs.Events.{events_of};
 ghost use Rattle.ctrl_clusters.specs.PresentFlags.{flags_under};
-ghost use Rattle.ctrl_raises.specs.Raises.{changed_between, changes_of, differ, needing_feedback, payload_at, raised_all, raised_one};
+ghost use Rattle.ctrl_raises.specs.Raises.{changed_between, changes_of, differ, needing_feedback, payload_at, raised_all, raised_one, range_differs};
 
 use crate::moment::Moment;
 use crate::payloads::payload_at;
@@ -14,16 +14,17 @@ use ctrl_calls::Driver;
 use ctrl_clusters::{flags_under, is_among, is_changed};
 use ctrl_events::Events;
 use ctrl_handlers::Plan;
+use ctrl_settle::Ctrl;
 use ctrl_types::{Changes, FhId, Pair};
 
 /// Raises what changes from one moment to another for the file handles that are subscribed to it, control by control, in the order of their
 /// numbers: CH_VALUE where the value differs, or where the control acts on each write and is among the pairs; CH_FLAGS where the flags differ;
-/// nothing where neither holds (Linux userspace API, "ioctl VIDIOC_DQEVENT"; the order, and that only a control among the pairs acts on each
+/// CH_RANGE where the bounds, the step or the default differ; nothing where none of these holds (Linux userspace API, "ioctl VIDIOC_DQEVENT"; the order, and that only a control among the pairs acts on each
 /// write, are of this project). A file handle whose set it is hears of a control only where its subscription allows feedback, or the flags differ, or
 /// the control isn't among the pairs (the last of this project).
 ///
 /// - `plan`: what the device is built of.
-/// - `before`, `after`: the two moments; the caller owes a value and a grab for each control.
+/// - `before`, `after`: the two moments; the caller owes a range, a value and a grab for each control.
 /// - `pairs`: what was applied to come from the one to the other; none where nothing was.
 /// - `from`: the file handle whose set it is, where it is one.
 /// - `events`: the events of file handles; the caller owes that the number of each one's next event is at most 4294967295 less the number of
@@ -38,8 +39,10 @@ pub fn raise_between<D: Driver>(
     from: Option<FhId>,
     events: &mut Events,
 )
+    requires ranges_before { length before.now.ranges ≡ length plan.now.controls }
     requires values_before { length before.now.values ≡ length plan.now.controls }
     requires grabs_before { length before.now.grabs ≡ length plan.now.controls }
+    requires ranges { length after.now.ranges ≡ length plan.now.controls }
     requires values { length after.now.values ≡ length plan.now.controls }
     requires grabs { length after.now.grabs ≡ length plan.now.controls }
     requires numbers { (j : ℕ) → (events_of events.old j).next + length plan.now.controls ≤ 4294967295 }
@@ -65,8 +68,10 @@ fn raise_one<D: Driver>(
     events: &mut Events,
 )
     requires known { control < length plan.now.controls }
+    requires ranges_before { length before.now.ranges ≡ length plan.now.controls }
     requires values_before { length before.now.values ≡ length plan.now.controls }
     requires grabs_before { length before.now.grabs ≡ length plan.now.controls }
+    requires ranges { length after.now.ranges ≡ length plan.now.controls }
     requires values { length after.now.values ≡ length plan.now.controls }
     requires grabs { length after.now.grabs ≡ length plan.now.controls }
     requires numbers { (j : ℕ) → (events_of events.old j).next < 4294967295 }
@@ -95,8 +100,10 @@ fn changes_between<D: Driver>(
     control: u32,
 ) -> Changes
     requires known { control < length plan.now.controls }
+    requires ranges_before { length before.now.ranges ≡ length plan.now.controls }
     requires values_before { length before.now.values ≡ length plan.now.controls }
     requires grabs_before { length before.now.grabs ≡ length plan.now.controls }
+    requires ranges { length after.now.ranges ≡ length plan.now.controls }
     requires values { length after.now.values ≡ length plan.now.controls }
     requires grabs { length after.now.grabs ≡ length plan.now.controls }
     ensures { result ≡ changed_between plan.now before.now after.now pairs.now control }
@@ -104,12 +111,13 @@ fn changes_between<D: Driver>(
     changes_of(
         is_changed(plan, before.values, after.values, pairs, control),
         flags_differ(plan, before, after, control),
+        range_differs(before.ranges.range(control), after.ranges.range(control)),
     )
 }
 
-// What changes, where the value does, and where the flags do.
-fn changes_of(value: bool, flags: bool) -> Changes
-    ensures { result ≡ changes_of value flags }
+// What changes, where the value does, where the flags do, and where the range does.
+fn changes_of(value: bool, flags: bool, range: bool) -> Changes
+    ensures { result ≡ changes_of value flags range }
 {
     let mut changes = Changes::empty();
     if value {
@@ -118,14 +126,19 @@ fn changes_of(value: bool, flags: bool) -> Changes
     if flags {
         changes = changes.union(Changes::CH_FLAGS);
     }
+    if range {
+        changes = changes.union(Changes::CH_RANGE);
+    }
     changes
 }
 
 // Whether the flags of a control differ.
 fn flags_differ<D: Driver>(plan: &Plan<D>, before: &Moment, after: &Moment, control: u32) -> bool
     requires known { control < length plan.now.controls }
+    requires ranges_before { length before.now.ranges ≡ length plan.now.controls }
     requires values_before { length before.now.values ≡ length plan.now.controls }
     requires grabs_before { length before.now.grabs ≡ length plan.now.controls }
+    requires ranges { length after.now.ranges ≡ length plan.now.controls }
     requires values { length after.now.values ≡ length plan.now.controls }
     requires grabs { length after.now.grabs ≡ length plan.now.controls }
     ensures { result ≡ differ (flags_under plan.now before.now.values before.now.grabs control) (flags_under plan.now after.now.values after.now.grabs control) }
@@ -133,6 +146,16 @@ fn flags_differ<D: Driver>(plan: &Plan<D>, before: &Moment, after: &Moment, cont
     let old = flags_under(plan, before.values, before.grabs, control);
     let new = flags_under(plan, after.values, after.grabs, control);
     old.bits() != new.bits()
+}
+
+// Whether the bounds, the step or the default of a control differ.
+fn range_differs(old: &Ctrl, new: &Ctrl) -> bool
+    ensures { result ≡ range_differs old.now new.now }
+{
+    old.minimum() != new.minimum()
+        || old.maximum() != new.maximum()
+        || old.step() != new.step()
+        || old.default_value() != new.default_value()
 }
 
 // The file handle that a change of a control comes from, where it hears of it only if its subscription allows feedback.

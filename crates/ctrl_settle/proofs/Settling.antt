@@ -1,5 +1,5 @@
 -- What a control of each kind takes, and what holds of it.
-use Rattle.std.proofs.Common.{◌≡◌, ◌<◌, ◌^◌, ℤ, pos, ◌≤ℤ◌, Ok, Err, if◌then◌else◌, refl, FitsSigned, w64, to_z, of_z, bit_and, unsigned_abs, ⊎_elim, ap, ◌∙◌, sym, arith, int_lt, ◌||◌, ◌==◌}
+use Rattle.std.proofs.Common.{◌≡◌, ◌<◌, ◌^◌, ℤ, pos, ◌≤ℤ◌, Result, Ok, Err, if◌then◌else◌, refl, FitsSigned, w64, to_z, of_z, bit_and, unsigned_abs, ⊎_elim, ap, ◌∙◌, sym, arith, int_lt, ◌||◌, ◌==◌}
 use Rattle.std.proofs.lemmas.Bool.{cond_both, or_parts, cases_cond}
 use Rattle.std.proofs.lemmas.Int.{ints}
 use Rattle.std.proofs.lemmas.Nat.{and_le_r, and_assoc}
@@ -7,12 +7,14 @@ use Rattle.std.proofs.Math.Nat.{mod-eq_of_lt}
 use Rattle.std.specs.Int.{bit_at}
 use Rattle.std.specs.Int.Bits.{and_self}
 use Rattle.std.specs.Ordering.{int_eq}
+use Rattle.ctrl_types.specs.Values.{CtrlValue}
+use Rattle.ctrl_types.specs.declared.errno.Errno.{Errno}
 use Rattle.ctrl_types.specs.declared.errno.Errno.TheVariants.{ERANGE, EINVAL}
 use Rattle.ctrl_types.specs.declared.kind.Kind.{Kind}
 use Rattle.ctrl_types.specs.declared.kind.Kind.TheVariants.{Integer, Boolean, Menu, Button, Integer64, Bitmask, IntegerMenu}
 use Rattle.ctrl_settle.specs.Control.{Control}
 use Rattle.ctrl_settle.specs.Grid.{IsOnGrid, nearest}
-use Rattle.ctrl_settle.specs.Settle.{settle, settle_as, item, masked, low_bits, IsSettled}
+use Rattle.ctrl_settle.specs.Settle.{settle, settle_as, item, masked, low_bits, IsSettled, settled_anew, taken_or}
 use Rattle.ctrl_settle.specs.Faults.{HasBounds, HasMask, IsWellFormed}
 use Rattle.ctrl_settle.proofs.Grid.{IsNearest-nearest, nearest-unique}
 use Rattle.ctrl_settle.proofs.Masks.{bit_and-low_bits}
@@ -118,3 +120,11 @@ again_as IntegerMenu c v w in_order bounds e = let i = item-ok c v w e in rw i.2
 pub settle-settled : (c : Control) (v w : ℤ) → IsWellFormed c → settle c v ≡ Ok w → IsSettled c w
 unfolding settle
 settle-settled c v w sound e = again_as c.kind c v w sound.in_order sound.fits_kind.bounds e
+
+-- so does it what it has once its range was changed
+pub settled_anew-settled : (c : Control) (v : ℤ) → IsWellFormed c → IsSettled c (settled_anew c v)
+settled_anew-settled c v sound = by (settle c v) refl
+  where
+    by : (r : Result CtrlValue Errno) → settle c v ≡ r → IsSettled c (taken_or c.default_value r)
+    by (Ok w) e = settle-settled c v w sound e
+    by (Err errno) e = sound.default_settled

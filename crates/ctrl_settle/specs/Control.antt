@@ -39,3 +39,7 @@ described id kind minimum maximum step default_value skip flags is_private = rec
   flags = flags_of kind flags;
   is_private = is_private;
 }
+
+-- the control with another range; all else of it stays
+abbrev pub with_range : Control → ℤ → ℤ → ℕ → CtrlValue → Control
+with_range c minimum maximum step default_value = record c { minimum = minimum; maximum = maximum; step = step; default_value = default_value }

@@ -43,3 +43,12 @@ settle c v = settle_as c.kind c v
 -- the control takes v as it is
 abbrev pub IsSettled : Control → CtrlValue → Type 0
 IsSettled c v = settle c v ≡ Ok v
+
+-- what was taken, or else a default
+abbrev pub taken_or : CtrlValue → Result CtrlValue Errno → CtrlValue
+taken_or default_value (Ok v) = v
+taken_or default_value (Err errno) = default_value
+
+-- The value that the control has for v, which may be one of another range: what it takes for v; where it takes none, its default.
+abbrev pub settled_anew : Control → CtrlValue → CtrlValue
+settled_anew c v = taken_or c.default_value (settle c v)

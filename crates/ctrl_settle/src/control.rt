@@ -1,7 +1,7 @@
 ghost use Rattle.std.specs.Prelude.{◌≡◌, ◌↔◌, IsOk, IfOk, IfErr};
-ghost use Rattle.ctrl_settle.specs.Control.{described};
+ghost use Rattle.ctrl_settle.specs.Control.{described, with_range};
 ghost use Rattle.ctrl_settle.specs.Faults.{IsFirstFault, IsWellFormed};
-ghost use Rattle.ctrl_settle.specs.Settle.{settle};
+ghost use Rattle.ctrl_settle.specs.Settle.{settle, settled_anew};
 
 use crate::description::Description;
 use crate::fault::CtrlFault;
@@ -75,6 +75,36 @@ impl Ctrl {
             skip,
             flags,
             is_private,
+        };
+        description.check()?;
+        Ok(Ctrl { description })
+    }
+
+    /// The control with another range (Linux driver API, `v4l2_ctrl_modify_range`): its id, kind, flags, skipped items and whether it is private stay.
+    ///
+    /// - `minimum`, `maximum`: the least and the greatest value from then on; of a `Bitmask` 0 and the mask.
+    /// - `step`: how far the values of a number lie apart, 1 or more; 1 for a `Boolean` and the menus, 0 for a `Button` and a `Bitmask`.
+    /// - `default_value`: the default from then on, one that the control takes as it is within the new range.
+    ///
+    /// Refused as `new` refuses a description with these bounds: by the checks 35, `BadRange` (1), 36, `ZeroStep` (2), 37, `KindBounds` (4), and 38,
+    /// `BadDefault` (3), of docs/RULES.md, in this order. This control is as it was, whatever is answered. It takes no memory.
+    pub fn with_range(
+        &self,
+        minimum: i64,
+        maximum: i64,
+        step: u64,
+        default_value: CtrlValue,
+    ) -> Result<Ctrl, CtrlFault>
+        ensures ok { IsOk result ↔ IsWellFormed (with_range self.now minimum maximum step default_value) }
+        ensures value { IfOk result (λ c. c ≡ with_range self.now minimum maximum step default_value) }
+        ensures fault { IfErr result (IsFirstFault (with_range self.now minimum maximum step default_value)) }
+    {
+        let description = Description {
+            minimum,
+            maximum,
+            step,
+            default_value,
+            ..self.description
         };
         description.check()?;
         Ok(Ctrl { description })
@@ -159,4 +189,20 @@ pub fn settle(control: &Ctrl, value: CtrlValue) -> Result<CtrlValue, Errno>
     ensures well_formed { IsWellFormed control.now }
 {
     control.description.settle(value)
+}
+
+/// The value that `control` has from `value`, once its range was changed (Linux driver API, `v4l2_ctrl_modify_range`): what it takes for it, and its default
+/// where it takes none (the latter of this project).
+///
+/// - `value`: any number; the value that the control had within its earlier range.
+///
+/// The control takes the answer as it is (the law `settled_anew_stays`). It takes no memory and refuses nothing.
+pub fn settle_anew(control: &Ctrl, value: CtrlValue) -> CtrlValue
+    ensures value { result ≡ settled_anew control.now value }
+    ensures well_formed { IsWellFormed control.now }
+{
+    match settle(control, value) {
+        Ok(taken) => taken,
+        Err(_) => control.default_value(),
+    }
 }

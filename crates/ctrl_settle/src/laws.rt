@@ -6,7 +6,7 @@ ghost use Rattle.ctrl_types.specs.Values.{CtrlValue};
 ghost use Rattle.ctrl_settle.specs.Control.{Control};
 ghost use Rattle.ctrl_settle.specs.Faults.{IsFirstFault, IsWellFormed};
 ghost use Rattle.ctrl_settle.specs.Grid.{IsNearest, nearest};
-ghost use Rattle.ctrl_settle.specs.Settle.{IsSettled, settle};
+ghost use Rattle.ctrl_settle.specs.Settle.{IsSettled, settle, settled_anew};
 ghost use Rattle.ctrl_settle.specs.declared.fault.CtrlFault.{CtrlFault};
 
 /// Where the minimum isn't above the maximum, each number has a nearest value of the grid, and `nearest` is one.
@@ -22,6 +22,11 @@ pub fn nearest_is_the_only_one()
 /// What a control took it takes again as it is.
 pub fn settled_values_stay()
     ensures { (c : Control) (v w : CtrlValue) → IsWellFormed c → settle c v ≡ Ok w → IsSettled c w }
+{}
+
+/// What a control has once its range was changed it takes as it is.
+pub fn settled_anew_stays()
+    ensures { (c : Control) (v : CtrlValue) → IsWellFormed c → IsSettled c (settled_anew c v) }
 {}
 
 /// What a control takes lies within its bounds, and so fits 64 bits.

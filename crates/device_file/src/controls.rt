@@ -6,8 +6,7 @@ ghost use Rattle.std.specs.Result.{result_map_both};
 ghost use Rattle.toml.specs.View.{view, table_view};
 ghost use Rattle.ctrl_settle.specs.Config.{control_of};
 ghost use Rattle.ctrl_settle.specs.Faults.{CanDeclare, IsFirstFault, IsWellFormed};
-ghost use Rattle.device_file.specs.Controls.{Range, bit_at, can_skip, checked, control_at, description_in, flag_bits_of, flag_of, flags_in, id_in, is_sayable, kind_in, last_item, lies_in, maximums, minimums, misfit, divides, name_at, range, skip_bits_of, skip_in, skipped, step_in, usual_maximum, usual_step};
-ghost use Rattle.device_file.specs.declared.key.Key.TheVariants as keys;
+ghost use Rattle.device_file.specs.Controls.{bit_at, can_skip, checked, control_at, description_in, flag_bits_of, flag_of, flags_in, id_in, is_sayable, kind_in, last_item, lies_in, maximums, minimums, misfit, divides, name_at, range, skip_bits_of, skip_in, skipped, step_in, usual_maximum, usual_step};
 
 use crate::fault::KeyFault;
 use crate::key::Key;

@@ -8,7 +8,7 @@ use crate::key::Key;
 use crate::place::{Place, table_at, value_at};
 use crate::problem::Problem;
 use std::alloc::{AllocError, Global};
-use toml::{Table, Value};
+use toml::Table;
 
 /// The line on which a fault's key stands, from 1; where the key isn't there, the line on which its table begins, and for a file that isn't
 /// TOML the line of that fault. None where it is of no line: the whole file is wrong, or memory was wanting. The error is that a growth was

@@ -1,15 +1,17 @@
 -- The events of a file handle after one more entry.
-use Rattle.std.proofs.Common.{arith, ◌≡◌, ◌∙◌, ◌<◌, ◌≤◌, ◌+◌, ◌*◌, mul-suc, ℕ, zero, suc, Bool, true, false, not, ◌&&◌, ◌||◌, cond, List, [], ◌∷◌, ◌++◌, filter, filter_map, length, length-append, Option, None, Some, is_some, nat_eq, eq-eqb, All, refl, ap, sym, subst, true≢false, if◌then◌else◌}
-use Rattle.std.proofs.lemmas.Bool.Decides.{nat_tests}
+use Rattle.std.proofs.Common.{arith, ◌≡◌, ◌∙◌, ◌<◌, ◌≤◌, ◌+◌, ◌*◌, mul-suc, ℕ, ℤ, zero, suc, Bool, true, false, not, ◌&&◌, ◌||◌, cond, List, [], ◌∷◌, ◌++◌, filter, filter_map, length, length-append, Option, None, Some, is_some, nat_eq, eq-eqb, All, refl, ap, sym, subst, true≢false, if◌then◌else◌}
+use Rattle.std.proofs.lemmas.Bool.Decides.{Decides-int_eq, nat_tests}
 use Rattle.std.proofs.lemmas.List.Elements.{All-head, All-tail}
 use Rattle.std.proofs.lemmas.List.FromFn.{length-range_with_len}
 use Rattle.std.specs.List.{cons_option, range_with_len}
+use Rattle.std.specs.Ordering.{int_eq}
 use Rattle.std.specs.Option.{option_and_then, option_map, option_or}
 use Rattle.history.specs.declared.entry.Entry.{Entry}
 use Rattle.history.specs.Past.{past}
 use Rattle.history.proofs.Pasts.{past_add}
 use Rattle.ctrl_types.specs.Events.{is_nothing, sends_initial}
 use Rattle.ctrl_types.specs.declared.changes.Changes.{Changes}
+use Rattle.ctrl_types.specs.declared.flags.Flags.{Flags}
 use Rattle.ctrl_types.specs.declared.ids.CtrlId.{CtrlId}
 use Rattle.ctrl_types.specs.declared.ids.FhId.{FhId}
 use Rattle.ctrl_types.specs.declared.sub_flags.SubFlags.{SubFlags}
@@ -28,6 +30,7 @@ use Rattle.device_history.specs.declared.ask.Step.{Step}
 use Rattle.device_history.specs.declared.ask.Step.TheVariants as steps
 use Rattle.device_history.specs.Steps.{History, Past}
 use Rattle.device_history.specs.Handles.{ever_opened, handler_of, opened, opened_after, shown}
+use Rattle.device_history.specs.Ranges.{ranges_now}
 use Rattle.device_history.specs.Grabs.{grabbed, grabbed_after}
 use Rattle.device_history.specs.Values.{pairs_asked, now}
 use Rattle.device_history.specs.Flags.{flags_now}
@@ -36,11 +39,12 @@ use Rattle.device_history.specs.Legal.{IsLegal, MayFollow}
 use Rattle.device_history.specs.Subscriptions.{first_flags, is_control, since_ended, subscribed, subscribed_after, subscribed_by}
 use Rattle.device_history.specs.Events.{changed, withdrawn_if_named, happened, heard, hears, initially, next_sequence, payload, pending, raises, raised_for, all_raised_for, with_withdrawn, with_raises, from_of}
 use Rattle.device_history.specs.EventSteps.{AreEvents, unsubscribed_if_named, events_after, events_by, raised_by}
-use Rattle.ctrl_raises.specs.Raises.{initial_changes, raised_all}
+use Rattle.ctrl_raises.specs.Raises.{initial_changes, raised_all, range_differs}
 use Rattle.device_history.specs.EventAnswers.{first_control}
 use Rattle.device_history.proofs.AskingLemmas.{may_decided}
 use Rattle.device_history.proofs.GrabLemmas.{grabbed_more}
 use Rattle.device_history.proofs.SubscriptionLemmas.{closed_by_none, equal, handler_gone, handler_left, handler_more, handler_new, handler_other, is_open, not_yet, subscribed_more, subscribes_open, takes_open, unsubscribes_open}
+use Rattle.device_history.proofs.RangeLemmas.{ranges_more}
 
 -- the numbers of raises go on
 numbered_raises : (told : ℕ → Payload) (rs : List (ℕ × Changes)) (hs : List Happening) → AreNumbered hs → AreNumbered (with_raises told rs hs)
@@ -229,9 +233,16 @@ pub values_controls_left : (verdicts : Verdicts) (plan : PlanData) (e : Entry St
 unfolding now
 values_controls_left verdicts plan e older none = rw none refl
 
+-- a range doesn't differ from itself
+range_same : (x : Control) → range_differs x x ≡ false
+range_same x = rw (itself x.minimum, itself x.maximum, eq-eqb x.step x.step refl, itself x.default_value) refl
+  where
+    itself : (v : ℤ) → int_eq v v ≡ true
+    itself v = (Decides-int_eq v v).1 refl
+
 -- such a step changes nothing
 changes_none : (verdicts : Verdicts) (plan : PlanData) (e : Entry Step) (older : Past) → ChangesNoControl verdicts plan older e.step → (c : ℕ) → is_nothing (changed verdicts plan e older c) ≡ true
-changes_none verdicts plan e older is c = rw (values_controls_left verdicts plan e older is.0, grabbed_more plan e older ∙ is.2, is.1, eq-eqb (flags_now verdicts plan older c).0 (flags_now verdicts plan older c).0 refl) refl
+changes_none verdicts plan e older is c = rw (values_controls_left verdicts plan e older is.0, grabbed_more plan e older ∙ is.2, is.1, eq-eqb (flags_now verdicts plan older c).0 (flags_now verdicts plan older c).0 refl, ranges_more plan e older, range_same (control_in (ranges_now plan older) c)) refl
 
 -- nobody hears of nothing
 heard_nothing : (fh : FhId) (o : Option SubFlags) (step : Step) (change : Changes) (c : ℕ) → is_nothing change ≡ true → heard fh o step change c ≡ None
@@ -241,9 +252,9 @@ heard_nothing fh (Some flags) step change c nothing = rw nothing refl
 -- where a step doesn't subscribe, nothing is told at once
 told_heard : (verdicts : Verdicts) (plan : PlanData) (e : Entry Step) (older : Past) (fh : FhId) (c : ℕ) → subscribed_by fh c e.step ≡ None → raised_for verdicts plan e older fh c ≡ heard fh (subscribed older fh c) e.step (changed verdicts plan e older c) c
 told_heard verdicts plan e older fh c none =
-    ap (λ (o : Option SubFlags). option_or (heard fh (subscribed older fh c) e.step (changed verdicts plan e older c) c) (initially (subscribed older fh c) o (control plan c))) none ∙ by (subscribed older fh c) _
+    ap (λ (o : Option SubFlags). option_or (heard fh (subscribed older fh c) e.step (changed verdicts plan e older c) c) (initially (subscribed older fh c) o (control plan c).flags)) none ∙ by (subscribed older fh c) _
   where
-    by : (own : Option SubFlags) (o : Option Changes) → option_or o (initially own None (control plan c)) ≡ o
+    by : (own : Option SubFlags) (o : Option Changes) → option_or o (initially own None (control plan c).flags) ≡ o
     by None None = refl
     by None (Some change) = refl
     by (Some flags) None = refl
@@ -460,12 +471,12 @@ takes_first verdicts plan older fh c may = by (first_control (pending verdicts p
 -- A new subscription of an open file handle, or one that is there already.
 subscribes_own : (verdicts : Verdicts) (plan : PlanData) (e : Entry Step) (older : Past) (fh g : FhId) (c0 : ℕ) (flags : SubFlags) (f : FileEvents) → IsPlan plan → IsLegal verdicts plan older → MayFollow verdicts plan older e.step
     → e.step ≡ steps.Subscribe g c0 flags → nat_eq g.0 fh.0 ≡ true → is_open older fh ≡ true → is_open (e ∷ older) fh ≡ true → AreEvents verdicts plan older fh f
-    → AreEvents verdicts plan (e ∷ older) fh (after_subscribe c0 flags (initial_changes (control plan c0)) (payload verdicts plan (e ∷ older) c0) f)
+    → AreEvents verdicts plan (e ∷ older) fh (after_subscribe c0 flags (initial_changes (control plan c0).flags) (payload verdicts plan (e ∷ older) c0) f)
 unfolding happened with_raises pick
 subscribes_own verdicts plan e older fh g c0 flags f plans legal may is own live still are = by (subscribed older fh c0) refl (sends_initial flags) refl
   where
     change : Changes
-    change = initial_changes (control plan c0)
+    change = initial_changes (control plan c0).flags
 
     told : ℕ → Payload
     told = payload verdicts plan (e ∷ older)
@@ -479,29 +490,29 @@ subscribes_own verdicts plan e older fh g c0 flags f plans legal may is own live
     asks : (c : ℕ) → subscribed_by fh c e.step ≡ cond (nat_eq c0 c) (Some flags) None
     asks c = ap (subscribed_by fh c) is ∙ ap (λ (b : Bool). cond (b && nat_eq c0 c) (Some flags) None) own
 
-    none_asked : (o : Option SubFlags) (ctrl : Control) → initially o None ctrl ≡ None
+    none_asked : (o : Option SubFlags) (own : Flags) → initially o None own ≡ None
     none_asked None ctrl = refl
     none_asked (Some x) ctrl = refl
 
-    each : (c : ℕ) → raised_for verdicts plan e older fh c ≡ cond (nat_eq c0 c) (initially (subscribed older fh c0) (Some flags) (control plan c0)) None
+    each : (c : ℕ) → raised_for verdicts plan e older fh c ≡ cond (nat_eq c0 c) (initially (subscribed older fh c0) (Some flags) (control plan c0).flags) None
     each c =
-        ap (λ (o : Option Changes). option_or o (initially (subscribed older fh c) (subscribed_by fh c e.step) (control plan c)))
+        ap (λ (o : Option Changes). option_or o (initially (subscribed older fh c) (subscribed_by fh c e.step) (control plan c).flags))
         (heard_nothing fh (subscribed older fh c) e.step (changed verdicts plan e older c) c (changes_none verdicts plan e older (ap (pairs_asked plan older) is, ap (pairs_applied verdicts plan older) is, ap (λ (s : Step). grabbed_after s (grabbed plan older)) is) c))
-        ∙ ap (λ (o : Option SubFlags). initially (subscribed older fh c) o (control plan c)) (asks c) ∙ at (nat_eq c0 c) refl
+        ∙ ap (λ (o : Option SubFlags). initially (subscribed older fh c) o (control plan c).flags) (asks c) ∙ at (nat_eq c0 c) refl
       where
-        at : (b : Bool) → nat_eq c0 c ≡ b → initially (subscribed older fh c) (cond b (Some flags) None) (control plan c) ≡ cond b (initially (subscribed older fh c0) (Some flags) (control plan c0)) None
-        at true same = ap (λ (n : ℕ). initially (subscribed older fh n) (Some flags) (control plan n)) (sym (equal c0 c same))
-        at false other = none_asked (subscribed older fh c) (control plan c)
+        at : (b : Bool) → nat_eq c0 c ≡ b → initially (subscribed older fh c) (cond b (Some flags) None) (control plan c).flags ≡ cond b (initially (subscribed older fh c0) (Some flags) (control plan c0).flags) None
+        at true same = ap (λ (n : ℕ). initially (subscribed older fh n) (Some flags) (control plan n).flags) (sym (equal c0 c same))
+        at false other = none_asked (subscribed older fh c) (control plan c).flags
 
-    one_told : all_raised_for verdicts plan e older fh ≡ cons_option (option_map (λ x. (c0, x)) (initially (subscribed older fh c0) (Some flags) (control plan c0))) []
+    one_told : all_raised_for verdicts plan e older fh ≡ cons_option (option_map (λ x. (c0, x)) (initially (subscribed older fh c0) (Some flags) (control plan c0).flags)) []
     one_told =
-        same_picked _ (pick c0 (initially (subscribed older fh c0) (Some flags) (control plan c0))) (range_with_len 0 (length plan.controls)) (λ c. ap (option_map {U = ℕ × Changes} (λ x. (c, x))) (each c))
+        same_picked _ (pick c0 (initially (subscribed older fh c0) (Some flags) (control plan c0).flags)) (range_with_len 0 (length plan.controls)) (λ c. ap (option_map {U = ℕ × Changes} (λ x. (c, x))) (each c))
         ∙ picks_one c0 _ 0 (length plan.controls) (omega arith) (omega (arith, subscribes_known verdicts plan older g c0 flags plans (subst (MayFollow verdicts plan older) is may)))
 
-    now_happened : (o : Option SubFlags) → subscribed older fh c0 ≡ o → happened verdicts plan (e ∷ older) fh ≡ with_raises told (cons_option (option_map (λ x. (c0, x)) (initially o (Some flags) (control plan c0))) []) hs
+    now_happened : (o : Option SubFlags) → subscribed older fh c0 ≡ o → happened verdicts plan (e ∷ older) fh ≡ with_raises told (cons_option (option_map (λ x. (c0, x)) (initially o (Some flags) (control plan c0).flags)) []) hs
     now_happened o known =
-        ap (λ (rs : List (ℕ × Changes)). with_raises told rs (with_withdrawn fh e.step hs)) (one_told ∙ ap (λ (s : Option SubFlags). cons_option (option_map (λ x. (c0, x)) (initially s (Some flags) (control plan c0))) []) known)
-        ∙ ap (λ (s : Step). with_raises told (cons_option (option_map (λ x. (c0, x)) (initially o (Some flags) (control plan c0))) []) (with_withdrawn fh s hs)) is
+        ap (λ (rs : List (ℕ × Changes)). with_raises told rs (with_withdrawn fh e.step hs)) (one_told ∙ ap (λ (s : Option SubFlags). cons_option (option_map (λ x. (c0, x)) (initially s (Some flags) (control plan c0).flags)) []) known)
+        ∙ ap (λ (s : Step). with_raises told (cons_option (option_map (λ x. (c0, x)) (initially o (Some flags) (control plan c0).flags)) []) (with_withdrawn fh s hs)) is
 
     subs : (c : ℕ) → subscribed (e ∷ older) fh c ≡ option_or (subscribed older fh c) (cond (nat_eq c0 c) (Some flags) None)
     subs c = subscribed_more verdicts plan e older fh c legal may ∙ ap (λ (s : Step). subscribed_after s fh c (subscribed older fh c)) is
@@ -651,7 +662,7 @@ opened_more_events verdicts plan e older fh f plans legal may live are = by e.st
     closes_it g is false other = calm _ is (ap is_some (handler_left e older g fh is other) ∙ live) (refl, refl, refl) (λ c. refl) refl (λ c. ap (λ (b : Bool). cond b None (subscribed older fh c)) other)
 
     subscribes : (g : FhId) (c0 : ℕ) (flags : SubFlags) → e.step ≡ steps.Subscribe g c0 flags → (b : Bool) → nat_eq g.0 fh.0 ≡ b
-        → AreEvents verdicts plan (e ∷ older) fh (cond b (after_subscribe c0 flags (initial_changes (control plan c0)) (payload verdicts plan (e ∷ older) c0) f) f)
+        → AreEvents verdicts plan (e ∷ older) fh (cond b (after_subscribe c0 flags (initial_changes (control plan c0).flags) (payload verdicts plan (e ∷ older) c0) f) f)
     subscribes g c0 flags is true own = subscribes_own verdicts plan e older fh g c0 flags f plans legal may is own live (still _ is refl) are
     subscribes g c0 flags is false other =
         simple _ is refl (refl, refl, refl) (λ c. ap (λ (b : Bool). cond (b && nat_eq c0 c) (Some flags) None) other) refl

@@ -5,6 +5,7 @@ pub mod MadeLemmas
 pub mod QueueingLemmas
 pub mod QueueLemmas
 pub mod FrameLemmas
+pub mod RangeLemmas
 pub mod GrabLemmas
 pub mod PastLemmas
 pub mod PresentLemmas

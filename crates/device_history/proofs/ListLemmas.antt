@@ -170,7 +170,7 @@ free_from plan view n [] h = refl
 free_from plan view n (p ∷ pairs) h =
     let parts : (writing_refusal plan view true p ≡ None) × (first_from (writing_refusal plan view true) (n + 1) pairs ≡ None) = none_found n (writing_refusal plan view true p) (first_from (writing_refusal plan view true) (n + 1) pairs) h in
     let own : is_grabbed view.grabs p.control ≡ false =
-    not_grabbed (contains (control plan p.control).flags READ_ONLY) (is_grabbed view.grabs p.control) (errno_if_refused (settle (control_in view.controls p.control) p.value)) parts.0 in
+    not_grabbed (contains (control plan p.control).flags READ_ONLY) (is_grabbed view.grabs p.control) (errno_if_refused (settle (control_in view.ranges p.control) p.value)) parts.0 in
     rw own (free_from plan view (n + 1) pairs parts.1)
 
 -- no control of a set that is accepted is grabbed

@@ -14,6 +14,7 @@ use Rattle.device_history.specs.declared.ask.Step.{Step}
 use Rattle.device_history.specs.declared.ask.Step.TheVariants as steps
 use Rattle.ctrl_handlers.specs.Plan.{PlanData}
 use Rattle.device_history.specs.Steps.{History, Past}
+use Rattle.device_history.specs.Ranges.{ranges_now}
 use Rattle.device_history.specs.Handles.{opening, ever_opened, closes, behind, is_closed, opened, opened_after, handler_of}
 use Rattle.device_history.specs.Grabs.{grabbed, grabbed_after}
 use Rattle.ctrl_clusters.specs.PresentFlags.{flags_under}
@@ -36,7 +37,7 @@ unfolding IsLegal
 legal_start verdicts plan = tt
 
 -- the present values after one more entry
-pub now_add : (verdicts : Verdicts) (plan : PlanData) (steps : History) (e : Entry Step) → now verdicts plan (past (steps ++ e ∷ [])) ≡ now_after verdicts plan (grabbed plan (past steps)) (pairs_asked plan (past steps) e.step) (now verdicts plan (past steps))
+pub now_add : (verdicts : Verdicts) (plan : PlanData) (steps : History) (e : Entry Step) → now verdicts plan (past (steps ++ e ∷ [])) ≡ now_after verdicts plan (ranges_now plan (past steps)) (grabbed plan (past steps)) (pairs_asked plan (past steps) e.step) (now verdicts plan (past steps))
 unfolding now
 now_add verdicts plan steps e = rw (past_add steps e) refl
 
@@ -45,7 +46,7 @@ pub flags_start : (verdicts : Verdicts) (plan : PlanData) (c : ℕ) → flags_no
 flags_start verdicts plan c = rw (now_start verdicts plan, grabbed_start plan) refl
 
 pub flags_add : (verdicts : Verdicts) (plan : PlanData) (steps : History) (e : Entry Step) (c : ℕ) → flags_now verdicts plan (past (steps ++ e ∷ [])) c
-    ≡ flags_under plan (now_after verdicts plan (grabbed plan (past steps)) (pairs_asked plan (past steps) e.step) (now verdicts plan (past steps))) (grabbed_after e.step (grabbed plan (past steps))) c
+    ≡ flags_under plan (now_after verdicts plan (ranges_now plan (past steps)) (grabbed plan (past steps)) (pairs_asked plan (past steps) e.step) (now verdicts plan (past steps))) (grabbed_after e.step (grabbed plan (past steps))) c
 flags_add verdicts plan steps e c = rw (now_add verdicts plan steps e, grabbed_add plan steps e) refl
 
 -- what makes one more entry legal

@@ -5,23 +5,25 @@ use Rattle.std.proofs.lemmas.List.{length-map}
 use Rattle.std.proofs.lemmas.List.FromFn.{length-range_with_len}
 use Rattle.ctrl_calls.specs.Meanings.{Verdicts}
 use Rattle.ctrl_types.specs.declared.ids.Pair.{Pair}
+use Rattle.ctrl_settle.specs.Control.{Control}
 use Rattle.ctrl_handlers.specs.Plan.{PlanData}
 use Rattle.device_history.specs.Steps.{Past}
 use Rattle.ctrl_clusters.specs.Rows.{Grabs, Values}
+use Rattle.device_history.specs.Ranges.{ranges_now}
 use Rattle.device_history.specs.Grabs.{grabbed}
 use Rattle.ctrl_clusters.proofs.OverlayLemmas.{length_overlay}
 use Rattle.device_history.specs.Values.{pairs_asked, now, now_after}
 
 -- pairs that are laid leave as many values
-length_now_after : (verdicts : Verdicts) (plan : PlanData) (grabs : Grabs) (pairs : Option (List Pair)) (values : Values) → length (now_after verdicts plan grabs pairs values) ≡ length values
-length_now_after verdicts plan grabs None values = refl
-length_now_after verdicts plan grabs (Some pairs) values = length_overlay verdicts plan plan.controls values grabs pairs
+length_now_after : (verdicts : Verdicts) (plan : PlanData) (controls : List Control) (grabs : Grabs) (pairs : Option (List Pair)) (values : Values) → length (now_after verdicts plan controls grabs pairs values) ≡ length values
+length_now_after verdicts plan controls grabs None values = refl
+length_now_after verdicts plan controls grabs (Some pairs) values = length_overlay verdicts plan controls values grabs pairs
 
 -- there is a value for each control of the plan
 pub length_now : (verdicts : Verdicts) (plan : PlanData) (past : Past) → length (now verdicts plan past) ≡ length plan.controls
 unfolding now
 length_now verdicts plan [] = length-map plan.controls _
-length_now verdicts plan (e ∷ older) = length_now_after verdicts plan (grabbed plan older) (pairs_asked plan older e.step) (now verdicts plan older) ∙ length_now verdicts plan older
+length_now verdicts plan (e ∷ older) = length_now_after verdicts plan (ranges_now plan older) (grabbed plan older) (pairs_asked plan older e.step) (now verdicts plan older) ∙ length_now verdicts plan older
 
 -- for each control of the plan it is said whether it is grabbed
 pub length_grabbed : (plan : PlanData) (past : Past) → length (grabbed plan past) ≡ length plan.controls

@@ -31,6 +31,7 @@ use Rattle.device_history.specs.declared.ask.Reply.TheVariants as replies
 use Rattle.device_history.specs.declared.ask.Step.{Step}
 use Rattle.device_history.specs.declared.ask.Step.TheVariants as steps
 use Rattle.device_history.specs.Steps.{History, Past}
+use Rattle.device_history.specs.Ranges.{ranges_now}
 use Rattle.device_history.specs.Refusals.{refused, is_full, fault_of}
 use Rattle.device_history.specs.Grabs.{grabbed, grabbed_after}
 use Rattle.device_history.specs.Requests.{asked, buffer}
@@ -51,6 +52,7 @@ use Rattle.device_history.proofs.FrameLemmas.{find_request, first_waits}
 use Rattle.device_history.proofs.GrabLemmas.{grabbed_more}
 use Rattle.device_history.proofs.PastLemmas.{legal_front, legal_last}
 use Rattle.device_history.proofs.FitLemmas.{fits, all_fit}
+use Rattle.device_history.proofs.RangeLemmas.{ranges_more}
 
 -- a row stands as it did where further frames are queued
 row_stands : (verdicts : Verdicts) (plan : PlanData) (controls : List Control) (grabs : Grabs) (values : Values) (qs more : List QueuedData) (i : ℕ) (row : Forecast)
@@ -60,22 +62,22 @@ row_stands verdicts plan controls grabs values [] more i row is = cc
 row_stands verdicts plan controls grabs values (q ∷ qs) more zero row is = is
 row_stands verdicts plan controls grabs values (q ∷ qs) more (suc i) row is = row_stands verdicts plan controls grabs (overlay verdicts plan controls values grabs q.asked) qs more i row is
 
--- a forecast is of the grabs, the present values and the queued frames
-forecast_of : (verdicts : Verdicts) (plan : PlanData) (a b : Grabs) (v w : Values) (q p : List QueuedData) → a ≡ b → v ≡ w → q ≡ p → forecasts verdicts plan plan.controls a v q ≡ forecasts verdicts plan plan.controls b w p
-forecast_of verdicts plan a b v w q p x y z = rw (x, y, z) refl
+-- a forecast is of the ranges, the grabs, the present values and the queued frames
+forecast_of : (verdicts : Verdicts) (plan : PlanData) (l m : List Control) (a b : Grabs) (v w : Values) (q p : List QueuedData) → l ≡ m → a ≡ b → v ≡ w → q ≡ p → forecasts verdicts plan l a v q ≡ forecasts verdicts plan m b w p
+forecast_of verdicts plan l m a b v w q p r x y z = rw (r, x, y, z) refl
 
 -- the forecast, where a request is the first of the queue
 first_row : (verdicts : Verdicts) (plan : PlanData) (older : Past) (r : ℕ) (ids : List ℕ) → queue older ≡ r ∷ ids
-    → forecast verdicts plan older ≡ forecast_over verdicts plan plan.controls (grabbed plan older) (now verdicts plan older) (queued_frame plan older r)
-    ∷ forecasts verdicts plan plan.controls (grabbed plan older) (overlay verdicts plan plan.controls (now verdicts plan older) (grabbed plan older) (asked plan older r)) (map (queued_frame plan older) ids)
+    → forecast verdicts plan older ≡ forecast_over verdicts plan (ranges_now plan older) (grabbed plan older) (now verdicts plan older) (queued_frame plan older r)
+    ∷ forecasts verdicts plan (ranges_now plan older) (grabbed plan older) (overlay verdicts plan (ranges_now plan older) (now verdicts plan older) (grabbed plan older) (asked plan older r)) (map (queued_frame plan older) ids)
 unfolding forecasts
-first_row verdicts plan older r ids is = ap (λ (js : List ℕ). forecasts verdicts plan plan.controls (grabbed plan older) (now verdicts plan older) (map (queued_frame plan older) js)) is
+first_row verdicts plan older r ids is = ap (λ (js : List ℕ). forecasts verdicts plan (ranges_now plan older) (grabbed plan older) (now verdicts plan older) (map (queued_frame plan older) js)) is
 
 -- the present values once a frame is begun
 begun_now : (verdicts : Verdicts) (plan : PlanData) (e : Entry Step) (older : Past) (r : RequestId) → e.step ≡ steps.Begin r
-    → now verdicts plan (e ∷ older) ≡ overlay verdicts plan plan.controls (now verdicts plan older) (grabbed plan older) (asked plan older r.0)
+    → now verdicts plan (e ∷ older) ≡ overlay verdicts plan (ranges_now plan older) (now verdicts plan older) (grabbed plan older) (asked plan older r.0)
 unfolding now
-begun_now verdicts plan e older r is = ap (λ (s : Step). now_after verdicts plan (grabbed plan older) (pairs_asked plan older s) (now verdicts plan older)) is
+begun_now verdicts plan e older r is = ap (λ (s : Step). now_after verdicts plan (ranges_now plan older) (grabbed plan older) (pairs_asked plan older s) (now verdicts plan older)) is
 
 -- a row behind the first
 row_behind : (verdicts : Verdicts) (plan : PlanData) (controls : List Control) (grabs : Grabs) (values : Values) (q : QueuedData) (qs : List QueuedData) (i : ℕ)
@@ -90,18 +92,19 @@ unfolding now
 next_row verdicts plan e older i row fit fits on stood = by e.step refl fits on stood
   where
     stays : (step : Step) → e.step ≡ step → (added : List QueuedData) → waiting_after plan older step (queued_frames plan older) ≡ queued_frames plan older ++ added
-        → grabbed_after step (grabbed plan older) ≡ grabbed plan older → now_after verdicts plan (grabbed plan older) (pairs_asked plan older step) (now verdicts plan older) ≡ now verdicts plan older
+        → grabbed_after step (grabbed plan older) ≡ grabbed plan older → now_after verdicts plan (ranges_now plan older) (grabbed plan older) (pairs_asked plan older step) (now verdicts plan older) ≡ now verdicts plan older
         → slice_get (forecast verdicts plan older) i ≡ Some row → slice_get (forecast verdicts plan (e ∷ older)) i ≡ Some row
     stays step is added line grabs values stood =
         ap (λ (rows : List Forecast). slice_get rows i)
-        (forecast_of verdicts plan (grabbed plan (e ∷ older)) (grabbed plan older) (now verdicts plan (e ∷ older)) (now verdicts plan older) (queued_frames plan (e ∷ older)) (queued_frames plan older ++ added)
+        (forecast_of verdicts plan (ranges_now plan (e ∷ older)) (ranges_now plan older) (grabbed plan (e ∷ older)) (grabbed plan older) (now verdicts plan (e ∷ older)) (now verdicts plan older) (queued_frames plan (e ∷ older)) (queued_frames plan older ++ added)
+        (ranges_more plan e older)
         (grabbed_more plan e older ∙ ap (λ (s : Step). grabbed_after s (grabbed plan older)) is ∙ grabs)
-        (ap (λ (s : Step). now_after verdicts plan (grabbed plan older) (pairs_asked plan older s) (now verdicts plan older)) is ∙ values)
+        (ap (λ (s : Step). now_after verdicts plan (ranges_now plan older) (grabbed plan older) (pairs_asked plan older s) (now verdicts plan older)) is ∙ values)
         (frames_waiting verdicts plan e older fit fits ∙ ap (λ (s : Step). waiting_after plan older s (queued_frames plan older)) is ∙ line))
-        ∙ row_stands verdicts plan plan.controls (grabbed plan older) (now verdicts plan older) (queued_frames plan older) added i row stood
+        ∙ row_stands verdicts plan (ranges_now plan older) (grabbed plan older) (now verdicts plan older) (queued_frames plan older) added i row stood
 
     same : (step : Step) → e.step ≡ step → waiting_after plan older step (queued_frames plan older) ≡ queued_frames plan older
-        → grabbed_after step (grabbed plan older) ≡ grabbed plan older → now_after verdicts plan (grabbed plan older) (pairs_asked plan older step) (now verdicts plan older) ≡ now verdicts plan older
+        → grabbed_after step (grabbed plan older) ≡ grabbed plan older → now_after verdicts plan (ranges_now plan older) (grabbed plan older) (pairs_asked plan older step) (now verdicts plan older) ≡ now verdicts plan older
         → slice_get (forecast verdicts plan older) i ≡ Some row → slice_get (forecast verdicts plan (e ∷ older)) i ≡ Some row
     same step is line grabs values stood = stays step is [] (line ∙ sym (append-nil (queued_frames plan older))) grabs values stood
 
@@ -110,12 +113,13 @@ next_row verdicts plan e older i row fit fits on stood = by e.step refl fits on 
         let first = first_waits (queue older) r.0 fits_it.1 in
         let frames : queued_frames plan older ≡ queued_frame plan older r.0 ∷ map (queued_frame plan older) first.0 = ap (map (queued_frame plan older)) first.1 in
         ap (λ (rows : List Forecast). slice_get rows i)
-        (forecast_of verdicts plan (grabbed plan (e ∷ older)) (grabbed plan older) (now verdicts plan (e ∷ older)) (overlay verdicts plan plan.controls (now verdicts plan older) (grabbed plan older) (asked plan older r.0)) (queued_frames plan (e ∷ older)) (map (queued_frame plan older) first.0)
+        (forecast_of verdicts plan (ranges_now plan (e ∷ older)) (ranges_now plan older) (grabbed plan (e ∷ older)) (grabbed plan older) (now verdicts plan (e ∷ older)) (overlay verdicts plan (ranges_now plan older) (now verdicts plan older) (grabbed plan older) (asked plan older r.0)) (queued_frames plan (e ∷ older)) (map (queued_frame plan older) first.0)
+        (ranges_more plan e older)
         (grabbed_more plan e older ∙ ap (λ (s : Step). grabbed_after s (grabbed plan older)) is)
         (begun_now verdicts plan e older r is)
         (frames_waiting verdicts plan e older fit fits ∙ ap (λ (s : Step). waiting_after plan older s (queued_frames plan older)) is ∙ ap (drop 1) frames))
-        ∙ sym (row_behind verdicts plan plan.controls (grabbed plan older) (now verdicts plan older) (queued_frame plan older r.0) (map (queued_frame plan older) first.0) i)
-        ∙ sym (ap (λ (qs : List QueuedData). slice_get (forecasts verdicts plan plan.controls (grabbed plan older) (now verdicts plan older) qs) (suc i)) frames) ∙ stood
+        ∙ sym (row_behind verdicts plan (ranges_now plan older) (grabbed plan older) (now verdicts plan older) (queued_frame plan older r.0) (map (queued_frame plan older) first.0) i)
+        ∙ sym (ap (λ (qs : List QueuedData). slice_get (forecasts verdicts plan (ranges_now plan older) (grabbed plan older) (now verdicts plan older) qs) (suc i)) frames) ∙ stood
 
     by : (step : Step) → e.step ≡ step → FitsFrames verdicts plan older step → goes_on step ≡ true
         → slice_get (forecast verdicts plan older) (cond (is_some (begun_by step)) (suc i) i) ≡ Some row → slice_get (forecast verdicts plan (e ∷ older)) i ≡ Some row
@@ -172,11 +176,11 @@ frames_named plan older (j ∷ ids) = ap (λ (js : List ℕ). j ∷ js) (frames_
 
 -- a forecast has a row for each queued request
 pub rows_queued : (verdicts : Verdicts) (plan : PlanData) (older : Past) → map (λ row. row.request.0) (forecast verdicts plan older) ≡ queue older
-rows_queued verdicts plan older = rows_named verdicts plan plan.controls (grabbed plan older) (now verdicts plan older) (queued_frames plan older) ∙ frames_named plan older (queue older)
+rows_queued verdicts plan older = rows_named verdicts plan (ranges_now plan older) (grabbed plan older) (now verdicts plan older) (queued_frames plan older) ∙ frames_named plan older (queue older)
 
 -- the row of the frame that is begun next
 pub begun_row : (verdicts : Verdicts) (plan : PlanData) (older : Past) (r : RequestId) (row : Forecast) → FitsFrames verdicts plan older (steps.Begin r) → slice_get (forecast verdicts plan older) 0 ≡ Some row
-    → row ≡ forecast_over verdicts plan plan.controls (grabbed plan older) (now verdicts plan older) (queued_frame plan older r.0)
+    → row ≡ forecast_over verdicts plan (ranges_now plan older) (grabbed plan older) (now verdicts plan older) (queued_frame plan older r.0)
 begun_row verdicts plan older r row fit stood =
     let first = first_waits (queue older) r.0 fit.1 in
     same row _ (sym stood ∙ ap (λ (rows : List Forecast). slice_get rows 0) (first_row verdicts plan older r.0 first.0 first.1))
@@ -263,7 +267,7 @@ module _ (verdicts : Verdicts) (plan : PlanData) (entries more : History) (e : E
   legal_then : IsLegal verdicts plan (past (entries ++ more))
   legal_then = legal_front verdicts plan (entries ++ more) (e ∷ []) legal
 
-  row_is : row ≡ forecast_over verdicts plan plan.controls (grabbed plan (past (entries ++ more))) (now verdicts plan (past (entries ++ more))) (queued_frame plan (past (entries ++ more)) r.0)
+  row_is : row ≡ forecast_over verdicts plan (ranges_now plan (past (entries ++ more))) (grabbed plan (past (entries ++ more))) (now verdicts plan (past (entries ++ more))) (queued_frame plan (past (entries ++ more)) r.0)
   row_is =
       let none : begins more ≡ begins more + 0 = omega arith in
       begun_row verdicts plan (past (entries ++ more)) r row (fits verdicts plan (past (entries ++ more)) (steps.Begin r) may) (rows_stand verdicts plan entries more 0 row legal_then on (rw none at stood))

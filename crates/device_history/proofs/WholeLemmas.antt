@@ -24,6 +24,7 @@ use Rattle.ctrl_lists.specs.Answers.{answered, entries_judged, entry_judged, fau
 use Rattle.ctrl_lists.proofs.TouchedLemmas.{is_at, touched_members}
 use Rattle.device_history.specs.declared.ask.Reply.TheVariants.{Controls}
 use Rattle.device_history.specs.Steps.{Past}
+use Rattle.device_history.specs.Ranges.{ranges_now}
 use Rattle.device_history.specs.Grabs.{grabbed}
 use Rattle.device_history.specs.Values.{now}
 use Rattle.device_history.specs.Lists.{earlier_pairs, list_pairs, meant, write_view, set_list_answer, values_set, which_or}
@@ -126,48 +127,48 @@ untouched : (verdicts : Verdicts) (plan : PlanData) (controls : List Control) (v
 untouched verdicts plan controls values grabs pairs k none = rw none refl
 
 -- no cluster is refused where an accepted set's pairs are laid
-none_refused : (verdicts : Verdicts) (plan : PlanData) (view : ViewData) (pairs : List Pair) (answers : List ExtControl) (k : ℕ) → IsPlan plan → view.controls ≡ plan.controls → k < length plan.clusters
-    → IsWhole verdicts plan view pairs answers → errno_if_refused (row_after verdicts plan plan.controls view.values view.grabs pairs k) ≡ None
-none_refused verdicts plan view pairs answers k is cs lt whole = by (is_touched pairs (members plan k)) refl
+none_refused : (verdicts : Verdicts) (plan : PlanData) (view : ViewData) (pairs : List Pair) (answers : List ExtControl) (k : ℕ) → IsPlan plan → k < length plan.clusters
+    → IsWhole verdicts plan view pairs answers → errno_if_refused (row_after verdicts plan view.ranges view.values view.grabs pairs k) ≡ None
+none_refused verdicts plan view pairs answers k is lt whole = by (is_touched pairs (members plan k)) refl
   where
-    laid : some_in plan pairs k ≡ true → errno_if_refused (row_after verdicts plan plan.controls view.values no_grabs pairs k) ≡ None
-    laid some = subst (λ (l : List Control). errno_if_refused (row_after verdicts plan l view.values no_grabs pairs k) ≡ None) cs (judged_all verdicts plan view pairs 0 pairs k whole.passed some)
+    laid : some_in plan pairs k ≡ true → errno_if_refused (row_after verdicts plan view.ranges view.values no_grabs pairs k) ≡ None
+    laid some = judged_all verdicts plan view pairs 0 pairs k whole.passed some
 
-    by : (b : Bool) → is_touched pairs (members plan k) ≡ b → errno_if_refused (row_after verdicts plan plan.controls view.values view.grabs pairs k) ≡ None
-    by true touched = ap errno_if_refused (same_ungrabbed verdicts plan plan.controls view.values view.grabs pairs k whole.free) ∙ laid (sym (touched_members plan pairs k is lt) ∙ touched)
-    by false none = untouched verdicts plan plan.controls view.values view.grabs pairs k none
+    by : (b : Bool) → is_touched pairs (members plan k) ≡ b → errno_if_refused (row_after verdicts plan view.ranges view.values view.grabs pairs k) ≡ None
+    by true touched = ap errno_if_refused (same_ungrabbed verdicts plan view.ranges view.values view.grabs pairs k whole.free) ∙ laid (sym (touched_members plan pairs k is lt) ∙ touched)
+    by false none = untouched verdicts plan view.ranges view.values view.grabs pairs k none
 
 -- each cluster has the row that an accepted set's pairs make of it
 pub all_rows : (verdicts : Verdicts) (plan : PlanData) (older : Past) (fh : FhId) (which k : ℕ) (request : Option RequestId) (list answers : List ExtControl) → IsPlan plan → meant (which_or (which_of which)) request ≡ None
     → set_list_answer verdicts plan older fh which request list ≡ Ok (Controls answers)
-    → k < length plan.clusters → row_after verdicts plan plan.controls (now verdicts plan older) (grabbed plan older) (list_pairs plan older fh which list) k ≡ Ok (row_of (values_set verdicts plan older fh which list) (members plan k))
+    → k < length plan.clusters → row_after verdicts plan (ranges_now plan older) (now verdicts plan older) (grabbed plan older) (list_pairs plan older fh which list) k ≡ Ok (row_of (values_set verdicts plan older fh which list) (members plan k))
 all_rows verdicts plan older fh which k request list answers is current accepted lt =
-    row_made verdicts plan plan.controls (now verdicts plan older) (grabbed plan older) (list_pairs plan older fh which list) k is (length_now verdicts plan older) lt
-    (none_refused verdicts plan (write_view verdicts plan older fh which request) (list_pairs plan older fh which list) answers k is refl lt (whole verdicts plan older fh which request list answers current accepted))
+    row_made verdicts plan (ranges_now plan older) (now verdicts plan older) (grabbed plan older) (list_pairs plan older fh which list) k is (length_now verdicts plan older) lt
+    (none_refused verdicts plan (write_view verdicts plan older fh which request) (list_pairs plan older fh which list) answers k is lt (whole verdicts plan older fh which request list answers current accepted))
 
 -- what an entry is answered is the value that its control has then
-entry_made : (verdicts : Verdicts) (plan : PlanData) (values : Values) (grabs : Grabs) (pairs : List Pair) (c : ℕ) (o : Option ℕ) → IsPlan plan → length values ≡ length plan.controls
+entry_made : (verdicts : Verdicts) (plan : PlanData) (controls : List Control) (values : Values) (grabs : Grabs) (pairs : List Pair) (c : ℕ) (o : Option ℕ) → IsPlan plan → length values ≡ length plan.controls
     → list_any (λ p. is_grabbed grabs p.control) pairs ≡ false → cluster_of plan c ≡ o → o ≢ None
-    → value_after verdicts plan plan.controls values no_grabs pairs c ≡ value_at (overlay verdicts plan plan.controls values grabs pairs) c
-entry_made verdicts plan values grabs pairs c None is many free found some = absurd (some refl)
-entry_made verdicts plan values grabs pairs c (Some k) is many free found some =
-    ap (λ (o : Option ℕ). unwrap_or (result_value_in plan (row_after verdicts plan plan.controls values no_grabs pairs) o c) (value_at values c)) found
-    ∙ ap (λ (r : Result (List CtrlValue) Errno). unwrap_or (result_value (members plan k) r c) (value_at values c)) (sym (same_ungrabbed verdicts plan plan.controls values grabs pairs k free))
-    ∙ sym (member_after verdicts plan plan.controls values grabs pairs k c is many (cluster_of_within plan c k found) (cluster_of_member plan c k found))
+    → value_after verdicts plan controls values no_grabs pairs c ≡ value_at (overlay verdicts plan controls values grabs pairs) c
+entry_made verdicts plan controls values grabs pairs c None is many free found some = absurd (some refl)
+entry_made verdicts plan controls values grabs pairs c (Some k) is many free found some =
+    ap (λ (o : Option ℕ). unwrap_or (result_value_in plan (row_after verdicts plan controls values no_grabs pairs) o c) (value_at values c)) found
+    ∙ ap (λ (r : Result (List CtrlValue) Errno). unwrap_or (result_value (members plan k) r c) (value_at values c)) (sym (same_ungrabbed verdicts plan controls values grabs pairs k free))
+    ∙ sym (member_after verdicts plan controls values grabs pairs k c is many (cluster_of_within plan c k found) (cluster_of_member plan c k found))
 
 -- so are all
-entries_made : (verdicts : Verdicts) (plan : PlanData) (values : Values) (grabs : Grabs) (view : ViewData) (pairs rest : List Pair) (n : ℕ) → IsPlan plan → length values ≡ length plan.controls
-    → view.controls ≡ plan.controls → view.values ≡ values → list_any (λ p. is_grabbed grabs p.control) pairs ≡ false → first_from (judging_refusal verdicts plan view pairs) n rest ≡ None
-    → map (entry_judged verdicts plan view pairs) rest ≡ map (λ p. record { id = (control plan p.control).id; value = value_at (overlay verdicts plan plan.controls values grabs pairs) p.control }) rest
-entries_made verdicts plan values grabs view pairs [] n is many cs vs free passed = refl
-entries_made verdicts plan values grabs view pairs (p ∷ rest) n is many cs vs free passed =
+entries_made : (verdicts : Verdicts) (plan : PlanData) (controls : List Control) (values : Values) (grabs : Grabs) (view : ViewData) (pairs rest : List Pair) (n : ℕ) → IsPlan plan → length values ≡ length plan.controls
+    → view.ranges ≡ controls → view.values ≡ values → list_any (λ p. is_grabbed grabs p.control) pairs ≡ false → first_from (judging_refusal verdicts plan view pairs) n rest ≡ None
+    → map (entry_judged verdicts plan view pairs) rest ≡ map (λ p. record { id = (control plan p.control).id; value = value_at (overlay verdicts plan controls values grabs pairs) p.control }) rest
+entries_made verdicts plan controls values grabs view pairs [] n is many cs vs free passed = refl
+entries_made verdicts plan controls values grabs view pairs (p ∷ rest) n is many cs vs free passed =
     let parts : (judging_refusal verdicts plan view pairs p ≡ None) × (first_from (judging_refusal verdicts plan view pairs) (n + 1) rest ≡ None) =
     none_found n (judging_refusal verdicts plan view pairs p) (first_from (judging_refusal verdicts plan view pairs) (n + 1) rest) passed in
-    let value : value_judged verdicts plan view pairs p.control ≡ value_at (overlay verdicts plan plan.controls values grabs pairs) p.control =
+    let value : value_judged verdicts plan view pairs p.control ≡ value_at (overlay verdicts plan controls values grabs pairs) p.control =
     ap (λ (l : List Control). value_after verdicts plan l view.values no_grabs pairs p.control) cs
-    ∙ ap (λ (v : Values). value_after verdicts plan plan.controls v no_grabs pairs p.control) vs
-    ∙ entry_made verdicts plan values grabs pairs p.control (cluster_of plan p.control) is many free refl (clustered (cluster_of plan p.control) parts.0) in
-    rw (value, entries_made verdicts plan values grabs view pairs rest (n + 1) is many cs vs free parts.1) refl
+    ∙ ap (λ (v : Values). value_after verdicts plan controls v no_grabs pairs p.control) vs
+    ∙ entry_made verdicts plan controls values grabs pairs p.control (cluster_of plan p.control) is many free refl (clustered (cluster_of plan p.control) parts.0) in
+    rw (value, entries_made verdicts plan controls values grabs view pairs rest (n + 1) is many cs vs free parts.1) refl
   where
     clustered : (o : Option ℕ) → errno_if_refused (row_judged verdicts plan view pairs o) ≡ None → o ≢ None
     clustered None h = λ e. clash h
@@ -183,4 +184,4 @@ pub all_answers : (verdicts : Verdicts) (plan : PlanData) (older : Past) (fh : F
 all_answers verdicts plan older fh which request list answers is current accepted =
     let it = whole verdicts plan older fh which request list answers current accepted in
     let pairs : List Pair = list_pairs plan older fh which list in
-    it.answers_are ∙ entries_made verdicts plan (now verdicts plan older) (grabbed plan older) (write_view verdicts plan older fh which request) pairs pairs 0 is (length_now verdicts plan older) refl refl it.free it.passed
+    it.answers_are ∙ entries_made verdicts plan (ranges_now plan older) (now verdicts plan older) (grabbed plan older) (write_view verdicts plan older fh which request) pairs pairs 0 is (length_now verdicts plan older) refl refl it.free it.passed

@@ -10,6 +10,7 @@ use Rattle.ctrl_raises.specs.Raises.{MomentData, initial_changes, raised_all}
 use Rattle.device_history.specs.declared.ask.Step.{Step}
 use Rattle.device_history.specs.declared.ask.Step.TheVariants as steps
 use Rattle.device_history.specs.Steps.{Past}
+use Rattle.device_history.specs.Ranges.{ranges_now}
 use Rattle.device_history.specs.Grabs.{grabbed}
 use Rattle.device_history.specs.Values.{now}
 use Rattle.device_history.specs.Subscriptions.{subscribed}
@@ -27,8 +28,10 @@ raised_by verdicts plan e older fh cs f = raised_all (changed verdicts plan e ol
 
 -- Two moments are those before and after an entry.
 pub record AreAround (verdicts : Verdicts) (plan : PlanData) (e : Entry Step) (older : Past) (before after : MomentData) : Type 0 where
+  pub old_ranges : before.ranges ≡ ranges_now plan older
   pub old_values : before.values ≡ now verdicts plan older
   pub old_grabs : before.grabs ≡ grabbed plan older
+  pub ranges : after.ranges ≡ ranges_now plan (e ∷ older)
   pub values : after.values ≡ now verdicts plan (e ∷ older)
   pub grabs : after.grabs ≡ grabbed plan (e ∷ older)
 
@@ -48,7 +51,7 @@ events_by verdicts plan e older fh (steps.Set from pairs) f = raised_by verdicts
 events_by verdicts plan e older fh (steps.Grab c on) f = raised_by verdicts plan e older fh (range_with_len 0 (length plan.controls)) f
 events_by verdicts plan e older fh (steps.Begin r) f = raised_by verdicts plan e older fh (range_with_len 0 (length plan.controls)) f
 events_by verdicts plan e older fh (steps.Subscribe from c flags) f =
-    where_own from fh (after_subscribe c flags (initial_changes (control plan c)) (payload verdicts plan (e ∷ older) c) f) f
+    where_own from fh (after_subscribe c flags (initial_changes (control plan c).flags) (payload verdicts plan (e ∷ older) c) f) f
 events_by verdicts plan e older fh (steps.Unsubscribe from c) f = where_own from fh (unsubscribed_if_named c f) f
 events_by verdicts plan e older fh (steps.Take from c) f = where_own from fh (after_take f) f
 events_by verdicts plan e older fh _ f = f

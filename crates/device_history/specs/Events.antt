@@ -7,20 +7,21 @@ use Rattle.std.specs.Option.{option_map, option_or}
 use Rattle.history.specs.declared.entry.Entry.{Entry}
 use Rattle.ctrl_types.specs.Events.{is_nothing, sends_initial}
 use Rattle.ctrl_types.specs.declared.changes.Changes.{Changes}
+use Rattle.ctrl_types.specs.declared.flags.Flags.{Flags}
 use Rattle.ctrl_types.specs.declared.ids.FhId.{FhId}
 use Rattle.ctrl_types.specs.declared.sub_flags.SubFlags.{SubFlags}
-use Rattle.ctrl_settle.specs.Control.{Control}
 use Rattle.ctrl_calls.specs.Meanings.{Verdicts}
 use Rattle.ctrl_events.specs.declared.event.Waiting.{Waiting}
 use Rattle.ctrl_events.specs.Events.{is_from, reaches}
 use Rattle.ctrl_events.specs.Pending.{Happening, raise, withdrawn, raises as raises_in, pending as pending_in}
 use Rattle.ctrl_events.specs.declared.event.Payload.{Payload}
-use Rattle.ctrl_handlers.specs.Plan.{PlanData, control}
+use Rattle.ctrl_handlers.specs.Plan.{PlanData, control, control_in}
 use Rattle.ctrl_clusters.specs.Rows.{value_at}
-use Rattle.ctrl_raises.specs.Raises.{changes_of, differ, initial_changes, needing_feedback, payload_of}
+use Rattle.ctrl_raises.specs.Raises.{changes_of, differ, initial_changes, needing_feedback, payload_of, range_differs}
 use Rattle.device_history.specs.declared.ask.Step.{Step}
 use Rattle.device_history.specs.declared.ask.Step.TheVariants as steps
 use Rattle.device_history.specs.Steps.{Past}
+use Rattle.device_history.specs.Ranges.{ranges_now}
 use Rattle.device_history.specs.Handles.{handler_of}
 use Rattle.device_history.specs.Values.{now}
 use Rattle.device_history.specs.Flags.{flags_now}
@@ -29,7 +30,7 @@ use Rattle.device_history.specs.Subscriptions.{subscribed, subscribed_by}
 
 -- the payload of a control's event after a history
 abbrev pub payload : Verdicts → PlanData → Past → ℕ → Payload
-payload verdicts plan past c = payload_of (control plan c) (value_at (now verdicts plan past) c) (flags_now verdicts plan past c)
+payload verdicts plan past c = payload_of (control_in (ranges_now plan past) c) (value_at (now verdicts plan past) c) (flags_now verdicts plan past c)
 
 -- whether an entry changes the flags of a control
 abbrev pub flags_differ : Verdicts → PlanData → Entry Step → Past → ℕ → Bool
@@ -39,9 +40,13 @@ flags_differ verdicts plan e older c = differ (flags_now verdicts plan older c) 
 abbrev pub value_differs : Verdicts → PlanData → Entry Step → Past → ℕ → Bool
 value_differs verdicts plan e older c = changes plan (now verdicts plan older) (now verdicts plan (e ∷ older)) (pairs_applied verdicts plan older e.step) c
 
+-- whether it changes its bounds, its step or its default
+abbrev pub has_other_range : PlanData → Entry Step → Past → ℕ → Bool
+has_other_range plan e older c = range_differs (control_in (ranges_now plan older) c) (control_in (ranges_now plan (e ∷ older)) c)
+
 -- what an entry changes of a control
 abbrev pub changed : Verdicts → PlanData → Entry Step → Past → ℕ → Changes
-changed verdicts plan e older c = changes_of (value_differs verdicts plan e older c) (flags_differ verdicts plan e older c)
+changed verdicts plan e older c = changes_of (value_differs verdicts plan e older c) (flags_differ verdicts plan e older c) (has_other_range plan e older c)
 
 -- the file handle whose set a change of a control is, where it hears of it only if its subscription allows feedback
 abbrev pub from_of : Step → Changes → ℕ → Option ℕ
@@ -74,15 +79,15 @@ heard fh None step change c = None
 heard fh (Some flags) step change c = cond (is_nothing change || not (hears fh flags step change c)) None (Some change)
 
 -- what a subscription raises of a control at once, where it is new and asks for it
-abbrev pub initially : Option SubFlags → Option SubFlags → Control → Option Changes
-initially (Some own) asked ctrl = None
-initially None None ctrl = None
-initially None (Some flags) ctrl = cond (sends_initial flags) (Some (initial_changes ctrl)) None
+abbrev pub initially : Option SubFlags → Option SubFlags → Flags → Option Changes
+initially (Some own) asked has = None
+initially None None has = None
+initially None (Some flags) has = cond (sends_initial flags) (Some (initial_changes has)) None
 
 -- what an entry raises of a control for a file handle, where it does: its changes
 abbrev pub raised_for : Verdicts → PlanData → Entry Step → Past → FhId → ℕ → Option Changes
 raised_for verdicts plan e older fh c =
-    option_or (heard fh (subscribed older fh c) e.step (changed verdicts plan e older c) c) (initially (subscribed older fh c) (subscribed_by fh c e.step) (control plan c))
+    option_or (heard fh (subscribed older fh c) e.step (changed verdicts plan e older c) c) (initially (subscribed older fh c) (subscribed_by fh c e.step) (control plan c).flags)
 
 -- the controls that it raises events of for the file handle, in the order of their numbers, each with what changed
 abbrev pub all_raised_for : Verdicts → PlanData → Entry Step → Past → FhId → List (ℕ × Changes)

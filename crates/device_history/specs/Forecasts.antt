@@ -11,6 +11,7 @@ use Rattle.device_history.specs.declared.ask.Step.{Step}
 use Rattle.device_history.specs.declared.ask.Step.TheVariants as steps
 use Rattle.device_history.specs.Steps.{Past}
 use Rattle.device_history.specs.Refusals.{Answer, refused}
+use Rattle.device_history.specs.Ranges.{ranges_now}
 use Rattle.device_history.specs.Grabs.{grabbed}
 use Rattle.device_history.specs.Requests.{asked, buffer}
 use Rattle.device_history.specs.Frames.{queue}
@@ -34,13 +35,13 @@ waiting_after plan older steps.StreamOff frames = []
 waiting_after plan older _ frames = frames
 
 -- What the queued frames will have: the first over the present values, each other over what the one before leaves, all under the present
--- grabs.
+-- ranges and grabs.
 abbrev pub forecast : Verdicts → PlanData → Past → List Forecast
-forecast verdicts plan past = forecasts verdicts plan plan.controls (grabbed plan past) (now verdicts plan past) (queued_frames plan past)
+forecast verdicts plan past = forecasts verdicts plan (ranges_now plan past) (grabbed plan past) (now verdicts plan past) (queued_frames plan past)
 
 -- the queued frames with that, as a board keeps them
 abbrev pub board : Verdicts → PlanData → Past → BoardData
-board verdicts plan past = board_of verdicts plan plan.controls (grabbed plan past) (now verdicts plan past) (queued_frames plan past)
+board verdicts plan past = board_of verdicts plan (ranges_now plan past) (grabbed plan past) (now verdicts plan past) (queued_frames plan past)
 
 -- A forecast at a place of the queue: ENOENT where no frame is queued there. Neither a running frame nor the limit of steps refuses it.
 abbrev pub forecast_reply : Option Forecast → Answer

@@ -34,6 +34,7 @@ pub use Rattle.ctrl_lists.specs.Answers as ListAnswers
 pub mod Steps
 pub mod Refusals
 pub mod Handles
+pub mod Ranges
 pub mod Grabs
 pub mod Requests
 pub mod Values

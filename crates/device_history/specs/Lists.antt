@@ -26,6 +26,7 @@ use Rattle.ctrl_lists.specs.Answers.{ListAnswer, answered, fault_at_count, fault
 use Rattle.device_history.specs.Steps.{Past}
 use Rattle.device_history.specs.Refusals.{Answer, is_full}
 use Rattle.device_history.specs.Handles.{handler_of}
+use Rattle.device_history.specs.Ranges.{ranges_now}
 use Rattle.device_history.specs.Grabs.{grabbed}
 use Rattle.device_history.specs.Requests.{asked}
 use Rattle.device_history.specs.Snapshots.{request, snapshot}
@@ -72,13 +73,13 @@ abbrev pub values_read : Verdicts → PlanData → Past → Option RequestId →
 values_read verdicts plan past None = now verdicts plan past
 values_read verdicts plan past (Some r) = snapshot verdicts plan past r.0
 
--- What a get is read against: the handler of its file handle, which values it speaks of, the controls of the plan, those values, the
+-- What a get is read against: the handler of its file handle, which values it speaks of, the ranges of the moment, those values, the
 -- grabs, and no pairs from before.
 abbrev pub read_view : Verdicts → PlanData → Past → FhId → ℕ → Option RequestId → ViewData
 read_view verdicts plan past fh which request = record {
   handler = handler_or (handler_of past fh);
   which = which_or (which_of which);
-  controls = plan.controls;
+  ranges = ranges_now plan past;
   values = values_read verdicts plan past (meant (which_or (which_of which)) request);
   grabs = grabbed plan past;
   asked = [];
@@ -94,7 +95,7 @@ abbrev pub write_view : Verdicts → PlanData → Past → FhId → ℕ → Opti
 write_view verdicts plan past fh which request = record {
   handler = handler_or (handler_of past fh);
   which = which_or (which_of which);
-  controls = plan.controls;
+  ranges = ranges_now plan past;
   values = now verdicts plan past;
   grabs = grabbed plan past;
   asked = earlier_pairs plan past (meant (which_or (which_of which)) request);
@@ -184,4 +185,4 @@ list_step plan past fh which request list = pairs_step (meant (which_or (which_o
 
 -- the present values once a list is set that speaks of no request
 abbrev pub values_set : Verdicts → PlanData → Past → FhId → ℕ → List ExtControl → Values
-values_set verdicts plan older fh which list = now_after verdicts plan (grabbed plan older) (Some (list_pairs plan older fh which list)) (now verdicts plan older)
+values_set verdicts plan older fh which list = now_after verdicts plan (ranges_now plan older) (grabbed plan older) (Some (list_pairs plan older fh which list)) (now verdicts plan older)

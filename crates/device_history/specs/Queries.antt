@@ -9,15 +9,16 @@ use Rattle.ctrl_settle.specs.Control.{Control}
 use Rattle.device_history.specs.declared.info.CtrlInfo.{CtrlInfo}
 use Rattle.device_history.specs.declared.ask.Reply.TheVariants.{Info, Id, Item, Word}
 use Rattle.menu_items.specs.declared.item.MenuItem.{MenuItem}
-use Rattle.ctrl_handlers.specs.Plan.{PlanData, control, menu_item}
+use Rattle.ctrl_handlers.specs.Plan.{PlanData, control_in, menu_item}
 use Rattle.ctrl_handlers.specs.Visible.{next_id}
 use Rattle.ctrl_calls.specs.Meanings.{Verdicts}
 use Rattle.device_history.specs.Steps.{Past}
 use Rattle.device_history.specs.Refusals.{Answer, refused}
+use Rattle.device_history.specs.Ranges.{ranges_now}
 use Rattle.device_history.specs.Handles.{handler_of, shown}
 use Rattle.device_history.specs.Flags.{flags_now}
 
--- a control as it was described, with its present flags; which items a menu leaves out, and whether it is private, isn't told
+-- a control with its range and its flags of the moment; which items a menu leaves out, and whether it is private, isn't told
 abbrev pub info_of : Control → Flags → CtrlInfo
 info_of ctrl flags = record {
   id = ctrl.id;
@@ -32,7 +33,7 @@ info_of ctrl flags = record {
 -- Querying a control: EINVAL where it isn't shown. Else what it is like, also where it is DISABLED.
 abbrev pub query_one : Verdicts → PlanData → Past → Option ℕ → Answer
 query_one verdicts plan past None = refused EINVAL
-query_one verdicts plan past (Some c) = Ok (Info (info_of (control plan c) (flags_now verdicts plan past c)))
+query_one verdicts plan past (Some c) = Ok (Info (info_of (control_in (ranges_now plan past) c) (flags_now verdicts plan past c)))
 
 -- A query: EBADF where the file handle isn't open; then as of the control that is shown to it.
 abbrev pub query_answer : Verdicts → PlanData → Past → FhId → CtrlId → Answer

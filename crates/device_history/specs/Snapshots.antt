@@ -17,6 +17,7 @@ use Rattle.ctrl_forecast.specs.Applied.{applied_pairs}
 use Rattle.device_history.specs.declared.ask.Step.{Step}
 use Rattle.device_history.specs.declared.ask.Step.TheVariants as steps
 use Rattle.device_history.specs.Steps.{Past}
+use Rattle.device_history.specs.Ranges.{ranges_now}
 use Rattle.device_history.specs.Grabs.{grabbed}
 use Rattle.device_history.specs.Requests.{state, is_there, makes_new, asked, buffer, ever_made}
 use Rattle.device_history.specs.Frames.{begun_by, queue, running}
@@ -24,11 +25,11 @@ use Rattle.device_history.specs.Values.{now}
 
 -- the values that the begin of a request's frame makes of those before it
 abbrev pub begun_values : Verdicts → PlanData → Past → ℕ → Values
-begun_values verdicts plan older r = overlay verdicts plan plan.controls (now verdicts plan older) (grabbed plan older) (asked plan older r)
+begun_values verdicts plan older r = overlay verdicts plan (ranges_now plan older) (now verdicts plan older) (grabbed plan older) (asked plan older r)
 
 -- the clusters that it refuses
 abbrev pub begun_refused : Verdicts → PlanData → Past → ℕ → List ℕ
-begun_refused verdicts plan older r = refused_clusters verdicts plan plan.controls (now verdicts plan older) (grabbed plan older) (asked plan older r)
+begun_refused verdicts plan older r = refused_clusters verdicts plan (ranges_now plan older) (now verdicts plan older) (grabbed plan older) (asked plan older r)
 
 -- what it applies: the controls that the request asks for and whose cluster isn't refused, with their values afterwards
 abbrev pub begun_pairs : Verdicts → PlanData → Past → ℕ → List Pair

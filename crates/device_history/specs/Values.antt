@@ -4,10 +4,12 @@ use Rattle.ctrl_types.specs.declared.ids.Pair.{Pair}
 use Rattle.ctrl_clusters.specs.Rows.{Values, Grabs}
 use Rattle.ctrl_clusters.specs.Overlay.{overlay}
 use Rattle.ctrl_calls.specs.Meanings.{Verdicts}
+use Rattle.ctrl_settle.specs.Control.{Control}
 use Rattle.ctrl_handlers.specs.Plan.{PlanData}
 use Rattle.device_history.specs.declared.ask.Step.{Step}
 use Rattle.device_history.specs.declared.ask.Step.TheVariants as steps
 use Rattle.device_history.specs.Steps.{Past}
+use Rattle.device_history.specs.Ranges.{ranges_now}
 use Rattle.device_history.specs.Grabs.{grabbed}
 use Rattle.device_history.specs.Requests.{asked}
 
@@ -35,12 +37,12 @@ pairs_asked plan older (steps.Subscribe fh c flags) = None
 pairs_asked plan older (steps.Unsubscribe fh c) = None
 pairs_asked plan older (steps.Take fh c) = None
 
--- what pairs that are laid make of values, under grabs
-abbrev pub now_after : Verdicts → PlanData → Grabs → Option (List Pair) → Values → Values
-now_after verdicts plan grabs None values = values
-now_after verdicts plan grabs (Some pairs) values = overlay verdicts plan plan.controls values grabs pairs
+-- what pairs that are laid make of values, under ranges and grabs
+abbrev pub now_after : Verdicts → PlanData → List Control → Grabs → Option (List Pair) → Values → Values
+now_after verdicts plan controls grabs None values = values
+now_after verdicts plan controls grabs (Some pairs) values = overlay verdicts plan controls values grabs pairs
 
 -- the present values after a history: the defaults at first, and then what each step makes of them
 unfoldable pub now : Verdicts → PlanData → Past → Values
 now verdicts plan [] = defaults plan
-now verdicts plan (e ∷ older) = now_after verdicts plan (grabbed plan older) (pairs_asked plan older e.step) (now verdicts plan older)
+now verdicts plan (e ∷ older) = now_after verdicts plan (ranges_now plan older) (grabbed plan older) (pairs_asked plan older e.step) (now verdicts plan older)

@@ -18,13 +18,14 @@ ghost use Rattle.device_history.specs.declared.ask.Reply.TheVariants.{Controls, 
 ghost use Rattle.device_history.specs.declared.ask.Step.{Step};
 ghost use Rattle.device_history.specs.declared.ask.Step.TheVariants.{Begin, CloseFh, Grab, Set};
 ghost use Rattle.ctrl_handlers.specs.Plan.{PlanData, IsPlan, calls_of, control, members};
-ghost use Rattle.ctrl_clusters.specs.Rows.{Grabs, Values, value_at, row_of};
+ghost use Rattle.ctrl_clusters.specs.Rows.{value_at, row_of};
 ghost use Rattle.device_history.specs.Grabs.{grabbed, grabbed_after};
 ghost use Rattle.ctrl_clusters.specs.Notified.{MaySay};
 ghost use Rattle.ctrl_clusters.specs.Overlay.{row_after};
 ghost use Rattle.ctrl_clusters.specs.PresentFlags.{flags_under};
 ghost use Rattle.device_history.specs.Flags.{flags_now};
 ghost use Rattle.device_history.specs.Steps.{History, Past};
+ghost use Rattle.device_history.specs.Ranges.{ranges_now};
 ghost use Rattle.device_history.specs.Refusals.{fault_of};
 ghost use Rattle.device_history.specs.Handles.{opened, opened_after, handler_of};
 ghost use Rattle.device_history.specs.Values.{defaults, pairs_asked, now, now_after};
@@ -70,7 +71,7 @@ pub fn closed_handles()
 #[tactic(auto, using(crate::proofs::PastLemmas::now_start, crate::proofs::PastLemmas::now_add))]
 pub fn present_values()
     ensures start { (verdicts : Verdicts) (plan : PlanData) → now verdicts plan (past []) ≡ defaults plan }
-    ensures one_more { (verdicts : Verdicts) (plan : PlanData) (steps : History) (e : Entry Step) → now verdicts plan (past (steps ++ e ∷ [])) ≡ now_after verdicts plan (grabbed plan (past steps)) (pairs_asked plan (past steps) e.step) (now verdicts plan (past steps)) }
+    ensures one_more { (verdicts : Verdicts) (plan : PlanData) (steps : History) (e : Entry Step) → now verdicts plan (past (steps ++ e ∷ [])) ≡ now_after verdicts plan (ranges_now plan (past steps)) (grabbed plan (past steps)) (pairs_asked plan (past steps) e.step) (now verdicts plan (past steps)) }
 {}
 
 /// A set of present values that is accepted is made whole: no cluster is refused, so that each has the row that its pairs make of it; and each entry is answered
@@ -78,7 +79,7 @@ pub fn present_values()
 pub fn whole_sets()
     ensures rows { (verdicts : Verdicts) (plan : PlanData) (older : Past) (fh : FhId) (which k : ℕ) (request : Option RequestId) (list answers : List ExtControl) → IsPlan plan → meant (which_or (which_of which)) request ≡ None
         → set_list_answer verdicts plan older fh which request list ≡ Ok (Controls answers)
-        → k < length plan.clusters → row_after verdicts plan plan.controls (now verdicts plan older) (grabbed plan older) (list_pairs plan older fh which list) k ≡ Ok (row_of (values_set verdicts plan older fh which list) (members plan k)) }
+        → k < length plan.clusters → row_after verdicts plan (ranges_now plan older) (now verdicts plan older) (grabbed plan older) (list_pairs plan older fh which list) k ≡ Ok (row_of (values_set verdicts plan older fh which list) (members plan k)) }
     ensures answers { (verdicts : Verdicts) (plan : PlanData) (older : Past) (fh : FhId) (which : ℕ) (request : Option RequestId) (list answers : List ExtControl) → IsPlan plan → meant (which_or (which_of which)) request ≡ None
         → set_list_answer verdicts plan older fh which request list ≡ Ok (Controls answers)
         → answers ≡ map (λ p. record { id = (control plan p.control).id; value = value_at (values_set verdicts plan older fh which list) p.control }) (list_pairs plan older fh which list) }
@@ -97,13 +98,13 @@ pub fn grabbed_controls()
 pub fn present_flags()
     ensures start { (verdicts : Verdicts) (plan : PlanData) (c : ℕ) → flags_now verdicts plan (past []) c ≡ flags_under plan (defaults plan) (map (λ _. false) plan.controls) c }
     ensures one_more { (verdicts : Verdicts) (plan : PlanData) (steps : History) (e : Entry Step) (c : ℕ) → flags_now verdicts plan (past (steps ++ e ∷ [])) c
-        ≡ flags_under plan (now_after verdicts plan (grabbed plan (past steps)) (pairs_asked plan (past steps) e.step) (now verdicts plan (past steps))) (grabbed_after e.step (grabbed plan (past steps))) c }
+        ≡ flags_under plan (now_after verdicts plan (ranges_now plan (past steps)) (grabbed plan (past steps)) (pairs_asked plan (past steps) e.step) (now verdicts plan (past steps))) (grabbed_after e.step (grabbed plan (past steps))) c }
 {}
 
 /// A driver's cluster, no member of which changes, keeps a word that it may have been told, also where other clusters change.
 pub fn told_words<D: Driver>()
     ensures { (verdicts : Verdicts) (plan : PlanData) (steps : History) (e : Entry Step) (k word : ℕ)
-        → list_any (changes plan (now verdicts plan (past steps)) (now_after verdicts plan (grabbed plan (past steps)) (pairs_asked plan (past steps) e.step) (now verdicts plan (past steps))) (pairs_applied verdicts plan (past steps) e.step)) (members plan k) ≡ false
+        → list_any (changes plan (now verdicts plan (past steps)) (now_after verdicts plan (ranges_now plan (past steps)) (grabbed plan (past steps)) (pairs_asked plan (past steps) e.step) (now verdicts plan (past steps))) (pairs_applied verdicts plan (past steps) e.step)) (members plan k) ≡ false
         → MaySay D.told (calls_of plan k).notifier (row_of (now verdicts plan (past steps)) (members plan k)) word
         → MaySay D.told (calls_of plan k).notifier (row_of (now verdicts plan (past (steps ++ e ∷ []))) (members plan k)) word }
 {}
@@ -218,7 +219,7 @@ pub fn added_raises()
         ≡ raises verdicts plan (past steps) fh ++ raises_from (length (raises verdicts plan (past steps) fh)) (payload verdicts plan (past (steps ++ e ∷ []))) (all_raised_for verdicts plan e (past steps) fh) }
 {}
 
-/// What a set, a begin and a grab raise is what changes between the values and grabs before and those after; the payload of what a
+/// What a set, a begin and a grab raise is what changes between the ranges, values and grabs before and those after; the payload of what a
 /// subscription raises is read of those after.
 pub fn raised_events()
     ensures set { (verdicts : Verdicts) (plan : PlanData) (e : Entry Step) (older : Past) (before after : MomentData) (from : FhId) (pairs : List Pair) (fh : FhId) (cs : List ℕ) (f : FileEvents) → e.step ≡ Set from pairs → AreAround verdicts plan e older before after
@@ -228,7 +229,7 @@ pub fn raised_events()
         ≡ raised_by verdicts plan e older fh cs f }
     ensures grab { (verdicts : Verdicts) (plan : PlanData) (e : Entry Step) (older : Past) (before after : MomentData) (d : ℕ) (on : Bool) (fh : FhId) (cs : List ℕ) (f : FileEvents) → e.step ≡ Grab d on → AreAround verdicts plan e older before after
         → raised_all (changed_between plan before after []) (payload_at plan after) (λ c. needing_feedback None [] (changed_between plan before after [] c) c) fh.0 cs f ≡ raised_by verdicts plan e older fh cs f }
-    ensures subscription { (verdicts : Verdicts) (plan : PlanData) (e : Entry Step) (older : Past) (at : MomentData) (c : ℕ) → at.values ≡ now verdicts plan (e ∷ older) → at.grabs ≡ grabbed plan (e ∷ older) → payload_at plan at c ≡ payload verdicts plan (e ∷ older) c }
+    ensures subscription { (verdicts : Verdicts) (plan : PlanData) (e : Entry Step) (older : Past) (at : MomentData) (c : ℕ) → at.ranges ≡ ranges_now plan (e ∷ older) → at.values ≡ now verdicts plan (e ∷ older) → at.grabs ≡ grabbed plan (e ∷ older) → payload_at plan at c ≡ payload verdicts plan (e ∷ older) c }
 {}
 
 /// What is forecast is what a begin then makes, whichever seats make the steps, as long as no set of present values, no grab or release, no

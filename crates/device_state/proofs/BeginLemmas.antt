@@ -9,7 +9,9 @@ use Rattle.ctrl_calls.specs.Meanings.{Verdicts, Words}
 use Rattle.ctrl_calls.specs.declared.work.Work.{Work}
 use Rattle.ctrl_types.specs.declared.ids.FhId.{FhId}
 use Rattle.ctrl_events.specs.Events.{EventsData, events_of}
+use Rattle.device_history.specs.Ranges.{ranges_now}
 use Rattle.device_history.specs.EventSteps.{events_after}
+use Rattle.ctrl_settle.specs.Control.{Control}
 use Rattle.ctrl_handlers.specs.Plan.{PlanData, members}
 use Rattle.ctrl_clusters.specs.Rows.{Grabs, Values, row_of}
 use Rattle.ctrl_clusters.specs.Changes.{members_change}
@@ -117,7 +119,7 @@ begin_follows verdicts plan older r free first room = (asks.Begin, ap fault_of (
 
 -- there is a value for each control
 pub length_begun : (verdicts : Verdicts) (plan : PlanData) (older : Past) (r : ℕ) → length (begun_values verdicts plan older r) ≡ length plan.controls
-length_begun verdicts plan older r = length_overlay verdicts plan plan.controls (now verdicts plan older) (grabbed plan older) (asked plan older r) ∙ length_now verdicts plan older
+length_begun verdicts plan older r = length_overlay verdicts plan (ranges_now plan older) (now verdicts plan older) (grabbed plan older) (asked plan older r) ∙ length_now verdicts plan older
 
 -- the first row of a forecast is of the frame that begins
 pub begun_first : (verdicts : Verdicts) (plan : PlanData) (older : Past) (r : ℕ) (row : Forecast) → running older ≡ None → first_of (queue older) ≡ Some r → slice_get (forecast verdicts plan older) 0 ≡ Some row
@@ -135,10 +137,10 @@ begun_some verdicts plan older r first none = none_within (forecast verdicts pla
     some (j ∷ ids) h = omega arith
 
 -- the rows behind the first
-rows_behind : (verdicts : Verdicts) (plan : PlanData) (grabs : Grabs) (values : Values) (q : QueuedData) (qs : List QueuedData)
-    → drop 1 (forecasts verdicts plan plan.controls grabs values (q ∷ qs)) ≡ forecasts verdicts plan plan.controls grabs (overlay verdicts plan plan.controls values grabs q.asked) qs
+rows_behind : (verdicts : Verdicts) (plan : PlanData) (controls : List Control) (grabs : Grabs) (values : Values) (q : QueuedData) (qs : List QueuedData)
+    → drop 1 (forecasts verdicts plan controls grabs values (q ∷ qs)) ≡ forecasts verdicts plan controls grabs (overlay verdicts plan controls values grabs q.asked) qs
 unfolding forecasts
-rows_behind verdicts plan grabs values q qs = refl
+rows_behind verdicts plan controls grabs values q qs = refl
 
 -- what is kept of the queued frames after a begin
 pub begun_board : (verdicts : Verdicts) (plan : PlanData) (older : Past) (r : ℕ) (old new : BoardData) → old ≡ board verdicts plan older → first_of (queue older) ≡ Some r
@@ -152,21 +154,21 @@ begun_board verdicts plan older r old new own first q n f = by (queue older) ref
     by [] is h = cc
     by (j ∷ ids) is h =
         let same : j ≡ r = own_first j h in
-        let whole : old ≡ board_of verdicts plan plan.controls (grabbed plan older) (now verdicts plan older) (queued_frame plan older j ∷ map (queued_frame plan older) ids) =
-        own ∙ ap (λ (js : List ℕ). board_of verdicts plan plan.controls (grabbed plan older) (now verdicts plan older) (map (queued_frame plan older) js)) is in
+        let whole : old ≡ board_of verdicts plan (ranges_now plan older) (grabbed plan older) (now verdicts plan older) (queued_frame plan older j ∷ map (queued_frame plan older) ids) =
+        own ∙ ap (λ (js : List ℕ). board_of verdicts plan (ranges_now plan older) (grabbed plan older) (now verdicts plan older) (map (queued_frame plan older) js)) is in
         parts (q ∙ ap (λ (b : BoardData). drop 1 b.queued) own) (n ∙ ap (λ (b : BoardData). drop 1 b.named) whole ∙ ap (λ (js : List ℕ). map (λ x. named_clusters plan x.asked) (drop 1 (map (queued_frame plan older) js))) (sym is))
         (f ∙ ap (λ (b : BoardData). drop 1 b.forecasts) whole
         ∙ behind j ids
-        ∙ ap (λ (k : ℕ). forecasts verdicts plan plan.controls (grabbed plan older) (overlay verdicts plan plan.controls (now verdicts plan older) (grabbed plan older) (asked plan older k)) (map (queued_frame plan older) ids)) same
-        ∙ ap (λ (js : List ℕ). forecasts verdicts plan plan.controls (grabbed plan older) (begun_values verdicts plan older r) (drop 1 (map (queued_frame plan older) js))) (sym is))
+        ∙ ap (λ (k : ℕ). forecasts verdicts plan (ranges_now plan older) (grabbed plan older) (overlay verdicts plan (ranges_now plan older) (now verdicts plan older) (grabbed plan older) (asked plan older k)) (map (queued_frame plan older) ids)) same
+        ∙ ap (λ (js : List ℕ). forecasts verdicts plan (ranges_now plan older) (grabbed plan older) (begun_values verdicts plan older r) (drop 1 (map (queued_frame plan older) js))) (sym is))
       where
         own_first : (j : ℕ) → Some j ≡ Some r → j ≡ r
         own_first j h = cc
 
         behind : (j : ℕ) (ids : List ℕ)
-            → drop 1 (forecasts verdicts plan plan.controls (grabbed plan older) (now verdicts plan older) (queued_frame plan older j ∷ map (queued_frame plan older) ids))
-            ≡ forecasts verdicts plan plan.controls (grabbed plan older) (overlay verdicts plan plan.controls (now verdicts plan older) (grabbed plan older) (asked plan older j)) (map (queued_frame plan older) ids)
-        behind j ids = rows_behind verdicts plan (grabbed plan older) (now verdicts plan older) (queued_frame plan older j) (map (queued_frame plan older) ids)
+            → drop 1 (forecasts verdicts plan (ranges_now plan older) (grabbed plan older) (now verdicts plan older) (queued_frame plan older j ∷ map (queued_frame plan older) ids))
+            ≡ forecasts verdicts plan (ranges_now plan older) (grabbed plan older) (overlay verdicts plan (ranges_now plan older) (now verdicts plan older) (grabbed plan older) (asked plan older j)) (map (queued_frame plan older) ids)
+        behind j ids = rows_behind verdicts plan (ranges_now plan older) (grabbed plan older) (now verdicts plan older) (queued_frame plan older j) (map (queued_frame plan older) ids)
 
 -- what is kept after a begin
 pub kept_begin : (verdicts : Verdicts) (told : Words) (plan : PlanData) (entries entries' : History) (caches : Caches) (values : Values) (f : FramesData) (b : BoardData) (events : EventsData) (words : List ℕ) (applied : List Pair) (seat r : ℕ)
@@ -176,7 +178,7 @@ pub kept_begin : (verdicts : Verdicts) (told : Words) (plan : PlanData) (entries
     → b ≡ board_after verdicts plan (Begin (record { 0 = r })) (past entries) → IsKept verdicts told plan entries' (record caches { values = values; frames = f; board = b; events = events; words = words })
 kept_begin verdicts told plan entries entries' caches values f b events words applied seat r kept begun v s made renewed ev popped =
     kept_add verdicts told plan entries entries' caches (record caches { values = values; frames = f; board = b; events = events; words = words }) (record { seat = seat; step = Begin (record { 0 = r }) }) kept (set_room entries begun.room)
-    (begin_follows verdicts plan (past entries) r begun.free begun.first begun.room) s kept.file_handles kept.grabs v
+    (begin_follows verdicts plan (past entries) r begun.free begun.first begun.room) s kept.file_handles kept.grabs kept.ranges v
     (made ∙ ap (λ (g : FramesData). after_begin g applied) kept.frames ∙ ap (after_begin (frames verdicts plan (past entries))) begun.are_applied)
     (words_between told plan caches.values values applied caches.words words kept.words renewed) ev popped
 

@@ -41,6 +41,7 @@ use Rattle.ctrl_clusters.specs.Changes.{cluster_changes}
 use Rattle.ctrl_lists.specs.Touched.{judged_count, with_calls}
 use Rattle.device_history.proofs.PresentLemmas.{length_now}
 use Rattle.device_state.proofs.SettingLemmas.{own_judged, set_step}
+use Rattle.device_history.specs.Ranges.{ranges_now}
 use Rattle.device_state.proofs.SetLemmas.{changes_written, notified_none, notified_same}
 
 -- no call yet
@@ -227,7 +228,7 @@ set_changing : (verdicts : Verdicts) (plan : PlanData) (older : Past) (fh : FhId
 set_changing verdicts plan older fh which request list touch reply sets current j lt =
     ap (λ (step : Step). list_any (step_changes verdicts plan older (Some step)) (members plan j)) (set_step (meant (which_or (which_of which)) request) fh (list_pairs plan older fh which list) current)
     ∙ ap (λ (pairs : List Pair). list_any (step_changes verdicts plan older (Some (Set fh pairs))) (members plan j)) (sym sets.own_pairs)
-    ∙ changes_written verdicts plan (now verdicts plan older) (grabbed plan older) touch.pairs touch.rows j sets.plans (length_now verdicts plan older) lt (own_judged verdicts plan older fh which request list touch sets current) sets.free
+    ∙ changes_written verdicts plan (ranges_now plan older) (now verdicts plan older) (grabbed plan older) touch.pairs touch.rows j sets.plans (length_now verdicts plan older) lt (own_judged verdicts plan older fh which request list touch sets current) sets.free
 
 -- a set that is accepted
 pub handles_set : (verdicts : Verdicts) (told : Words) (old between new : DeviceData) (start work : Work) (seat : ℕ) (fh : FhId) (which : ℕ) (request : Option RequestId) (list : List ExtControl) (touch : TouchedData) (controls : List ExtControl)

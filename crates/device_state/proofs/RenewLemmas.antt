@@ -5,26 +5,13 @@ use Rattle.std.proofs.lemmas.Bool.Decides.{eqb_tells, leb_tells, nat_tests}
 use Rattle.std.proofs.lemmas.List.{get_or-set_other, get_or_past}
 use Rattle.std.proofs.Math.Dec.{leb}
 use Rattle.ctrl_types.specs.Values.{CtrlValue}
-use Rattle.ctrl_calls.specs.Meanings.{Verdicts}
-use Rattle.ctrl_settle.specs.Control.{Control}
 use Rattle.ctrl_handlers.specs.Plan.{PlanData, cluster_of, members}
 use Rattle.ctrl_clusters.specs.Rows.{Grabs, Values, value_at, member_value, is_grabbed}
 use Rattle.ctrl_clusters.specs.NewRows.{clusters_of, row_among, value_among, written}
 use Rattle.ctrl_clusters.specs.declared.new_row.NewRow.{NewRow}
 use Rattle.ctrl_clusters.proofs.NewRowLemmas.{has_row, length_written, written_at}
 use Rattle.ctrl_clusters.proofs.OverlayLemmas.{or_true}
-use Rattle.ctrl_forecast.specs.Boards.{BoardData, board_of, is_in_one_of}
-use Rattle.ctrl_forecast.specs.Forecasts.{QueuedData}
-
--- a board is of the controls, the grabs, the values and the queued frames
-pub board_like : (verdicts : Verdicts) (plan : PlanData) {controls controls' : List Control} {grabs grabs' : Grabs} {values values' : Values} {queued queued' : List QueuedData} → controls ≡ controls' → grabs ≡ grabs' → values ≡ values' → queued ≡ queued'
-    → board_of verdicts plan controls grabs values queued ≡ board_of verdicts plan controls' grabs' values' queued'
-board_like verdicts plan c g v q = rw (c, g, v, q) refl
-
--- the board that is kept, as one of what is handed in
-pub board_kept : (verdicts : Verdicts) (plan : PlanData) (controls : List Control) (grabs grabs' : Grabs) (values values' : Values) (queued : List QueuedData) (b : BoardData) → b ≡ board_of verdicts plan plan.controls grabs values queued → controls ≡ plan.controls
-    → grabs' ≡ grabs → values' ≡ values → b ≡ board_of verdicts plan controls grabs' values' b.queued
-board_kept verdicts plan controls grabs grabs' values values' queued b is c g v = is ∙ board_like verdicts plan (sym c) (sym g) (sym v) (sym (ap (λ (x : BoardData). x.queued) is))
+use Rattle.ctrl_forecast.specs.Boards.{is_in_one_of}
 
 -- a cluster without a row gives nothing
 nothing_among : (plan : PlanData) (rows : List NewRow) (o : Option ℕ) (c : ℕ) → is_in_one_of (clusters_of rows) o ≡ false → value_among plan rows o c ≡ None

@@ -8,6 +8,7 @@ use Rattle.ctrl_types.specs.declared.ids.Pair.{Pair}
 use Rattle.ctrl_types.specs.declared.ids.RequestId.{RequestId}
 use Rattle.ctrl_types.specs.Classes.{which_of}
 use Rattle.device_history.specs.declared.ask.Step.TheVariants.{Set, Store}
+use Rattle.device_history.specs.Ranges.{ranges_now}
 use Rattle.device_history.specs.Legal.{MayFollow}
 use Rattle.ctrl_calls.specs.Meanings.{Verdicts}
 use Rattle.ctrl_handlers.specs.Plan.{PlanData, IsPlan}
@@ -43,7 +44,7 @@ settable verdicts plan older fh which request list view touch plans opens read i
       plans = plans;
       own_pairs = it.own_pairs;
       known = it.known;
-      judged = subst (λ (l : List Pair). AreJudged verdicts plan plan.controls (now verdicts plan older) (earlier_pairs plan older (meant (which_or (which_of which)) request) ++ l) l touch.rows) (sym it.own_pairs) it.judged;
+      judged = subst (λ (l : List Pair). AreJudged verdicts plan (ranges_now plan older) (now verdicts plan older) (earlier_pairs plan older (meant (which_or (which_of which)) request) ++ l) l touch.rows) (sym it.own_pairs) it.judged;
       free = subst (λ (l : List Pair). list_any (λ p. is_grabbed (grabbed plan older) p.control) l ≡ false) (sym it.own_pairs) (accepted_free verdicts plan (write_view verdicts plan older fh which request) list touch.answers answered);
       room = room;
       accepted = set_limited verdicts plan older fh which request list touch.answers opens answered ∙ rw room refl;
@@ -51,9 +52,9 @@ settable verdicts plan older fh which request list view touch plans opens read i
 
 -- a set of present values lays its pairs alone
 pub own_judged : (verdicts : Verdicts) (plan : PlanData) (older : Past) (fh : FhId) (which : ℕ) (request : Option RequestId) (list : List ExtControl) (touch : TouchedData) → IsSettable verdicts plan older fh which request list touch
-    → meant (which_or (which_of which)) request ≡ None → AreJudged verdicts plan plan.controls (now verdicts plan older) touch.pairs touch.pairs touch.rows
+    → meant (which_or (which_of which)) request ≡ None → AreJudged verdicts plan (ranges_now plan older) (now verdicts plan older) touch.pairs touch.pairs touch.rows
 own_judged verdicts plan older fh which request list touch sets current =
-    subst (λ (o : Option RequestId). AreJudged verdicts plan plan.controls (now verdicts plan older) (earlier_pairs plan older o ++ touch.pairs) touch.pairs touch.rows) current sets.judged
+    subst (λ (o : Option RequestId). AreJudged verdicts plan (ranges_now plan older) (now verdicts plan older) (earlier_pairs plan older o ++ touch.pairs) touch.pairs touch.rows) current sets.judged
 
 -- and its step is a set
 pub set_step : (request : Option RequestId) (fh : FhId) (pairs : List Pair) → request ≡ None → pairs_step request fh pairs ≡ Set fh pairs

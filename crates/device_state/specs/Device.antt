@@ -12,6 +12,7 @@ use Rattle.ctrl_calls.specs.Meanings.{Verdicts}
 use Rattle.ctrl_clusters.specs.Notified.{notified_count}
 use Rattle.ctrl_lists.specs.Checks.{first_refusal}
 use Rattle.ctrl_lists.specs.Touched.{touched, judged_count, none_where, with_calls}
+use Rattle.device_history.specs.Ranges.{ranges_now}
 use Rattle.device_history.specs.Steps.{History, Past}
 use Rattle.device_history.specs.Grabs.{grabbed}
 use Rattle.device_history.specs.Values.{pairs_asked, now, now_after}
@@ -46,7 +47,7 @@ with_step device seat step = record device { steps = device.steps ++ record { se
 abbrev pub step_changes : Verdicts → PlanData → Past → Option Step → ℕ → Bool
 step_changes verdicts plan past None c = false
 step_changes verdicts plan past (Some step) c =
-    changes plan (now verdicts plan past) (now_after verdicts plan (grabbed plan past) (pairs_asked plan past step) (now verdicts plan past)) (pairs_applied verdicts plan past step) c
+    changes plan (now verdicts plan past) (now_after verdicts plan (ranges_now plan past) (grabbed plan past) (pairs_asked plan past step) (now verdicts plan past)) (pairs_applied verdicts plan past step) c
 
 -- so many validators at most, and none where a check before judging refuses the list
 abbrev pub list_most : Verdicts → PlanData → Past → FhId → ℕ → Option RequestId → Bool → List ExtControl → ℕ → ℕ

@@ -3,12 +3,14 @@ use Rattle.std.specs.Prelude.{◌≡◌, ℕ, ◌≤◌, List, length}
 use Rattle.history.specs.Past.{past}
 use Rattle.ctrl_types.specs.declared.ids.FhId.{FhId}
 use Rattle.ctrl_events.specs.Events.{EventsData, events_of}
+use Rattle.ctrl_settle.specs.Control.{Control}
 use Rattle.ctrl_handlers.specs.Plan.{IsPlan, PlanData}
 use Rattle.ctrl_calls.specs.Meanings.{Verdicts, Words}
 use Rattle.ctrl_clusters.specs.Rows.{Grabs, Values}
 use Rattle.device_history.specs.declared.limits.TheConstants.{MAX_STEPS}
 use Rattle.device_history.specs.Steps.{History}
 use Rattle.device_history.specs.Handles.{opened}
+use Rattle.device_history.specs.Ranges.{ranges_now}
 use Rattle.device_history.specs.Grabs.{grabbed}
 use Rattle.device_history.specs.Snapshots.{frames}
 use Rattle.device_history.specs.Forecasts.{board}
@@ -24,6 +26,7 @@ pub record Caches : Type 0 where
   -- the open file handles, each with its handler
   pub file_handles : List (ℕ × ℕ)
   pub grabs : Grabs
+  pub ranges : List Control
   pub values : Values
   -- the requests and the queue
   pub frames : FramesData
@@ -42,6 +45,7 @@ pub record IsKept (verdicts : Verdicts) (told : Words) (plan : PlanData) (steps 
   pub few : length steps ≤ MAX_STEPS
   pub file_handles : caches.file_handles ≡ opened (past steps)
   pub grabs : caches.grabs ≡ grabbed plan (past steps)
+  pub ranges : caches.ranges ≡ ranges_now plan (past steps)
   pub values : caches.values ≡ now verdicts plan (past steps)
   pub frames : caches.frames ≡ frames verdicts plan (past steps)
   pub board : caches.board ≡ board verdicts plan (past steps)

@@ -12,6 +12,7 @@ use Rattle.ctrl_lists.specs.Touched.{TouchedData, AreJudged}
 use Rattle.device_history.specs.declared.ask.Reply.TheVariants.{Controls}
 use Rattle.device_history.specs.declared.ask.Step.TheVariants.{Set, Store}
 use Rattle.ctrl_clusters.specs.Rows.{is_grabbed}
+use Rattle.device_history.specs.Ranges.{ranges_now}
 use Rattle.device_history.specs.Grabs.{grabbed}
 use Rattle.device_history.specs.Steps.{Past}
 use Rattle.ctrl_forecast.specs.Forecasts.{named_by_frames}
@@ -30,7 +31,7 @@ pub record IsSettable (verdicts : Verdicts) (plan : PlanData) (older : Past) (fh
   pub plans : IsPlan plan
   pub own_pairs : touch.pairs ≡ list_pairs plan older fh which list
   pub known : All (λ p. p.control < length plan.controls) touch.pairs
-  pub judged : AreJudged verdicts plan plan.controls (now verdicts plan older) (earlier_pairs plan older (meant (which_or (which_of which)) request) ++ touch.pairs) touch.pairs touch.rows
+  pub judged : AreJudged verdicts plan (ranges_now plan older) (now verdicts plan older) (earlier_pairs plan older (meant (which_or (which_of which)) request) ++ touch.pairs) touch.pairs touch.rows
   pub free : list_any (λ p. is_grabbed (grabbed plan older) p.control) touch.pairs ≡ false
   pub room : is_full older ≡ false
   pub accepted : set_list_answer verdicts plan older fh which request list ≡ Ok (Controls touch.answers)

@@ -4,7 +4,8 @@ ghost use Rattle.ctrl_types.specs.declared.errno.Errno.TheVariants.{ENOMEM};
 ghost use Rattle.device_history.specs.declared.ask.Ask.TheVariants as asks;
 ghost use Rattle.device_history.specs.declared.ask.Reply.TheVariants as replies;
 ghost use Rattle.device_history.specs.declared.ask.Step.TheVariants as steps;
-ghost use Rattle.ctrl_clusters.specs.Rows.{is_grabbed};
+ghost use Rattle.ctrl_clusters.specs.Rows.{AreControlsOf, is_grabbed};
+ghost use Rattle.device_history.specs.Ranges.{ranges_now};
 ghost use Rattle.device_history.specs.Grabs.{grabbed, grab_answer};
 ghost use Rattle.device_history.specs.Flags.{flags_now};
 ghost use Rattle.device_history.specs.Handles.{opened, handler_of, shown, open_answer, close_answer};
@@ -16,7 +17,7 @@ ghost use Rattle.device_history.specs.RequestAnswers.{state_answer};
 ghost use Rattle.device_history.specs.Answers.{MayAnswer};
 ghost use Rattle.device_history.specs.Legal.{IsLegal};
 ghost use Rattle.history_audit.specs.Scratch.{Agrees};
-ghost use Rattle.ctrl_handlers.specs.Plan.{cluster_of};
+ghost use Rattle.ctrl_handlers.specs.Plan.{cluster_of, control_in};
 ghost use Rattle.device_state.specs.Device.{Handles, grab_asks, with_step};
 
 mod begin;
@@ -26,11 +27,12 @@ mod lists;
 mod requests;
 
 use ctrl_calls::{Driver, Work};
-use ctrl_clusters::{default_values, first_words, flags_under, no_grabs};
+use ctrl_clusters::{Ranges, default_values, first_words, flags_under, no_grabs};
 use ctrl_events::Events;
 use ctrl_forecast::Board;
 use ctrl_handlers::Plan;
 use ctrl_raises::Moment;
+use ctrl_settle::Ctrl;
 use ctrl_types::{CtrlId, Errno, Fault, FhId, Flags, RequestId};
 use device_history::{Ask, CtrlInfo, MAX_FILE_HANDLES, MAX_STEPS, Reply, Step};
 use frame_queue::Frames;
@@ -43,7 +45,7 @@ use step_effects::{copied_grabs, raise_step};
 
 /// The controls of one device (Linux driver API, "V4L2 Controls"), and the history of the steps that it accepted. Contracts
 /// see it as its plan, those steps, the words that its clusters were told last, and the counts of the last call: its open file
-/// handles, its grabs, its present values and flags, its requests, their queue and what its frames will have, its subscriptions and the
+/// handles, its grabs, its present ranges, values and flags, its requests, their queue and what its frames will have, its subscriptions and the
 /// events that wait are what the steps make of them, at every moment.
 pub struct Device<D: Driver> {
     plan: Plan<D>,
@@ -51,6 +53,8 @@ pub struct Device<D: Driver> {
     file_handles: IndexMap<u32, u32>,
     // whether a control is grabbed, by control
     grabs: Vec<bool>,
+    // the present ranges, by control
+    ranges: Ranges,
     // the present values, by control
     values: Vec<i64>,
     // the media requests, and the queue of frames
@@ -75,7 +79,7 @@ impl<D: Driver> Model for Device<D> {
 
     ghost view = { λ d. record { plan = d.plan; steps = d.steps.items; words = d.words.items; work = d.work } };
 
-    ghost invariant = { λ d. IsKept D.verdict D.told d.plan d.steps.items (record { file_handles = d.file_handles.entries; grabs = d.grabs.items; values = d.values.items; frames = d.frames; board = d.board; events = d.events; words = d.words.items }) };
+    ghost invariant = { λ d. IsKept D.verdict D.told d.plan d.steps.items (record { file_handles = d.file_handles.entries; grabs = d.grabs.items; ranges = d.ranges; values = d.values.items; frames = d.frames; board = d.board; events = d.events; words = d.words.items }) };
 }
 
 impl<D: Driver> Drop for Device<D> {
@@ -84,6 +88,7 @@ impl<D: Driver> Drop for Device<D> {
             plan: _,
             file_handles: _,
             grabs: _,
+            ranges: _,
             values: _,
             frames: _,
             board: _,
@@ -97,7 +102,7 @@ impl<D: Driver> Drop for Device<D> {
 }
 
 impl<D: Driver> Device<D> {
-    /// A device of this plan, with its defaults, without steps and grabs; the counts of `work` are 0. Each notifier is told the
+    /// A device of this plan, with its ranges and defaults, without steps and grabs; the counts of `work` are 0. Each notifier is told the
     /// defaults of its cluster, in rising number of the clusters (of this project).
     ///
     /// - `alloc`: where the device lies, and later its steps and answers.
@@ -114,6 +119,9 @@ impl<D: Driver> Device<D> {
         let Ok(grabs) = no_grabs(alloc, plan.controls()) else {
             return Err((plan, Errno::ENOMEM));
         };
+        let Ok(ranges) = Ranges::of_plan(alloc, &plan) else {
+            return Err((plan, Errno::ENOMEM));
+        };
         let Ok(frames) = Frames::new(alloc, plan.control_count()) else {
             return Err((plan, Errno::ENOMEM));
         };
@@ -125,6 +133,7 @@ impl<D: Driver> Device<D> {
             plan,
             file_handles: IndexMap::new(alloc),
             grabs,
+            ranges,
             values,
             frames,
             board: Board::empty(alloc),
@@ -163,6 +172,17 @@ impl<D: Driver> Device<D> {
         ensures long { length result.now ≡ length self.now.plan.controls }
     {
         self.values.as_slice()
+    }
+
+    /// A control with its present range, for a driver's own use (Linux driver API, `v4l2_ctrl_modify_range`): its bounds, step and default, as `query` tells
+    /// them, beside what the plan says of it. It takes no memory and refuses nothing.
+    ///
+    /// - `control`: the control's number, below the number of the plan's controls.
+    pub fn range(&self, control: u32) -> &Ctrl
+        requires { control < length self.now.plan.controls }
+        ensures { result.now ≡ control_in (ranges_now self.now.plan (past self.now.steps)) control }
+    {
+        self.present_ranges().range(control)
     }
 
     /// The present flags of a control, for a driver's own use (Linux userspace API, "Control Flags"): those of the plan, GRABBED
@@ -570,7 +590,7 @@ impl<D: Driver> Device<D> {
         grabs[control as usize] = on;
         self.board.renew(
             &self.plan,
-            self.plan.controls(),
+            &self.ranges,
             self.values.as_slice(),
             grabs.as_slice(),
             &[self.plan.cluster_of(control)],
@@ -578,8 +598,8 @@ impl<D: Driver> Device<D> {
         );
         raise_step(
             &self.plan,
-            &Moment::new(self.values.as_slice(), self.grabs.as_slice()),
-            &Moment::new(self.values.as_slice(), grabs.as_slice()),
+            &Moment::new(&self.ranges, self.values.as_slice(), self.grabs.as_slice()),
+            &Moment::new(&self.ranges, self.values.as_slice(), grabs.as_slice()),
             &[],
             None,
             &mut self.events,
@@ -608,6 +628,14 @@ impl<D: Driver> Device<D> {
         self.plan.find(handler, id).ok()
     }
 
+    // The present ranges, which are of the plan's controls.
+    fn present_ranges(&self) -> &Ranges
+        ensures ranges { result.now ≡ ranges_now self.now.plan (past self.now.steps) }
+        ensures controls { AreControlsOf self.now.plan result.now }
+    {
+        &self.ranges
+    }
+
     // Whether each control is grabbed.
     #[tactic(auto, using(device_history::proofs::PresentLemmas::length_grabbed))]
     fn grabs(&self) -> &[bool]
@@ -626,8 +654,8 @@ impl<D: Driver> Device<D> {
         }
         match self.shown(fh, id) {
             Some(number) => {
-                let ctrl = self.plan.control(number);
-                Ok(Reply::Info(CtrlInfo::of(&ctrl, self.flags(number))))
+                let ctrl = self.range(number);
+                Ok(Reply::Info(CtrlInfo::of(ctrl, self.flags(number))))
             }
             None => refused(Errno::EINVAL),
         }

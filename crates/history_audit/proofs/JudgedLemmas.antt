@@ -18,6 +18,7 @@ use Rattle.ctrl_lists.specs.Answers.{set_answer}
 use Rattle.ctrl_lists.specs.Touched.{IsTouched, TouchedData}
 use Rattle.ctrl_lists.specs.View.{ViewData}
 use Rattle.device_history.specs.declared.ask.Step.TheVariants as steps
+use Rattle.device_history.specs.Ranges.{ranges_now}
 use Rattle.device_history.specs.Steps.{Past}
 use Rattle.device_history.specs.Refusals.{is_full}
 use Rattle.device_history.specs.Handles.{handler_of, opened}
@@ -99,7 +100,7 @@ judged_known verdicts plan view pairs (Some touch) sets some = subst (λ (ps : L
 
 -- what a list is judged against
 pub seen : (verdicts : Verdicts) (plan : PlanData) (past : Past) (handler : ℕ) (which : Which) (controls : List Control) (values : Values) (grabs : Grabs) (asked_before : List Pair) (view : ViewData)
-    → ◌≡◌ {A = ViewData} view (record { handler = handler; which = which; controls = controls; values = values; grabs = grabs; asked = asked_before }) → controls ≡ plan.controls → values ≡ now verdicts plan past → grabs ≡ grabbed plan past
+    → ◌≡◌ {A = ViewData} view (record { handler = handler; which = which; ranges = controls; values = values; grabs = grabs; asked = asked_before }) → controls ≡ ranges_now plan past → values ≡ now verdicts plan past → grabs ≡ grabbed plan past
     → view ≡ view_of verdicts plan past handler which asked_before
 seen verdicts plan past handler which controls values grabs asked_before view is cs vs gs = is ∙ rw (cs, vs, gs) refl
 

@@ -9,6 +9,7 @@ use Rattle.ctrl_calls.specs.Meanings.{Verdicts}
 use Rattle.ctrl_types.specs.declared.ids.FhId.{FhId}
 use Rattle.ctrl_events.specs.Events.{FileEvents, events_of, no_events}
 use Rattle.ctrl_handlers.specs.Plan.{IsPlan, PlanData}
+use Rattle.device_history.specs.Ranges.{ranges_now}
 use Rattle.device_history.specs.EventSteps.{AreEvents, events_after}
 use Rattle.device_history.proofs.EventLemmas.{events_add, events_start}
 use Rattle.device_history.proofs.RaiseLaw.{numbers_left}
@@ -27,6 +28,7 @@ use Rattle.device_history.proofs.FrameLaw.{frames_start, frames_add}
 use Rattle.device_history.proofs.PastLemmas.{opened_add, opened_fresh, now_add, legal_add}
 use Rattle.device_history.proofs.GrabLemmas.{grabbed_start, grabbed_add}
 use Rattle.history_audit.specs.Replay.{HaveComeAbout, IsReplay, Parts}
+use Rattle.device_history.proofs.RangeLemmas.{ranges_add, ranges_start}
 
 -- so many are taken
 pub taken_many : {X : Type 0} (xs : List X) (n : ℕ) → n ≤ length xs → length (take n xs) ≡ n
@@ -45,10 +47,10 @@ taken_next (y ∷ xs) zero x h = (ap (λ (z : _). z ∷ []) (same y x h), omega 
 taken_next (y ∷ xs) (suc n) x h = let rest = taken_next xs n x h in (ap (λ (zs : List _). y ∷ zs) rest.0, omega (arith, rest.1))
 
 -- before the first step no file handle is open, there is no request, and the values are the defaults
-pub replay_start : (verdicts : Verdicts) (plan : PlanData) (all : History) (parts : Parts) → parts.file_handles ≡ [] → parts.grabs ≡ map (λ _. false) plan.controls → parts.values ≡ defaults plan
+pub replay_start : (verdicts : Verdicts) (plan : PlanData) (all : History) (parts : Parts) → parts.file_handles ≡ [] → parts.grabs ≡ map (λ _. false) plan.controls → parts.ranges ≡ plan.controls → parts.values ≡ defaults plan
     → ◌≡◌ {A = FramesData} parts.frames (record { requests = record { controls = length plan.controls; all = [] }; queue = []; running = None }) → IsPlan plan → ((j : ℕ) → events_of parts.events j ≡ no_events) → IsReplay verdicts plan all 0 parts
 unfolding IsLegal opened ever_opened now
-replay_start verdicts plan all parts h g v f plans ev = record {
+replay_start verdicts plan all parts h g r v f plans ev = record {
   plans = plans;
   within = omega arith;
   few = omega arith;
@@ -56,6 +58,7 @@ replay_start verdicts plan all parts h g v f plans ev = record {
     legal = tt;
     file_handles = h;
     grabs = g ∙ sym (grabbed_start plan);
+    ranges = r ∙ sym (ranges_start plan);
     values = v;
     frames = f ∙ sym (frames_start verdicts plan);
     events = λ fh. subst (λ (k : FileEvents). AreEvents verdicts plan (past []) fh k) (sym (ev fh.0)) (events_start verdicts plan fh);
@@ -73,10 +76,11 @@ replayed_next all count e within h =
 pub replay_add : (verdicts : Verdicts) (plan : PlanData) (all : History) (count : ℕ) (parts parts' : Parts) (e : Entry Step) → IsReplay verdicts plan all count parts
     → slice_get all (length (take count all)) ≡ Some e → is_full (past (take count all)) ≡ false → MayFollow verdicts plan (past (take count all)) e.step
     → parts'.file_handles ≡ opened_after count e.step (opened (past (take count all))) → parts'.grabs ≡ grabbed_after e.step (grabbed plan (past (take count all)))
-    → parts'.values ≡ now_after verdicts plan (grabbed plan (past (take count all))) (pairs_asked plan (past (take count all)) e.step) (now verdicts plan (past (take count all)))
+    → parts'.ranges ≡ ranges_now plan (past (take count all))
+    → parts'.values ≡ now_after verdicts plan (ranges_now plan (past (take count all))) (grabbed plan (past (take count all))) (pairs_asked plan (past (take count all)) e.step) (now verdicts plan (past (take count all)))
     → parts'.frames ≡ frames_after verdicts plan (past (take count all)) count e.step (frames verdicts plan (past (take count all)))
     → ((fh : FhId) → events_of parts'.events fh.0 ≡ events_after verdicts plan e (past (take count all)) fh (events_of parts.events fh.0)) → IsReplay verdicts plan all (count + 1) parts'
-replay_add verdicts plan all count parts parts' e replay is room may h g v f ev =
+replay_add verdicts plan all count parts parts' e replay is room may h g r v f ev =
     let more = replayed_next all count e replay.within is in
     let many : length (take count all) ≡ count = taken_many all count replay.within in
     let few : count < MAX_STEPS = below (take count all) count many room in
@@ -88,6 +92,7 @@ replay_add verdicts plan all count parts parts' e replay is room may h g v f ev 
         legal = legal_add verdicts plan (take count all) e replay.made.legal may;
         file_handles = h ∙ ap (λ (n : ℕ). opened_after n e.step (opened (past (take count all)))) (sym many) ∙ sym (opened_add (take count all) e);
         grabs = g ∙ sym (grabbed_add plan (take count all) e);
+        ranges = r ∙ sym (ranges_add plan (take count all) e);
         values = v ∙ sym (now_add verdicts plan (take count all) e);
         frames = f ∙ ap (λ (n : ℕ). frames_after verdicts plan (past (take count all)) n e.step (frames verdicts plan (past (take count all)))) (sym many) ∙ sym (frames_add verdicts plan (take count all) e replay.made.legal may);
         events = λ fh. subst (λ (k : FileEvents). AreEvents verdicts plan (past (take count all ++ e ∷ [])) fh k) (sym (ev fh)) (events_add verdicts plan (take count all) e fh (events_of parts.events fh.0) replay.plans replay.made.legal may (replay.made.events fh));
@@ -111,6 +116,6 @@ numbered verdicts plan all count parts replay j =
     numbers_left verdicts plan (past (take count all)) (record { 0 = j }) (events_of parts.events j) replay.plans (omega (arith, many, same, replay.few)) (replay.made.events (record { 0 = j }))
 
 -- the present values after one more entry
-pub now_next : (verdicts : Verdicts) (plan : PlanData) (e : Entry Step) (older : Past) → now verdicts plan (e ∷ older) ≡ now_after verdicts plan (grabbed plan older) (pairs_asked plan older e.step) (now verdicts plan older)
+pub now_next : (verdicts : Verdicts) (plan : PlanData) (e : Entry Step) (older : Past) → now verdicts plan (e ∷ older) ≡ now_after verdicts plan (ranges_now plan older) (grabbed plan older) (pairs_asked plan older e.step) (now verdicts plan older)
 unfolding now
 now_next verdicts plan e older = refl

@@ -13,6 +13,7 @@ use Rattle.ctrl_clusters.specs.declared.new_row.NewRow.{NewRow}
 use Rattle.ctrl_clusters.proofs.OverlayLemmas.{overlay_written}
 use Rattle.ctrl_lists.specs.Touched.{AreJudged, TouchedData}
 use Rattle.ctrl_lists.proofs.TouchedLemmas.{touched_is, touched_once}
+use Rattle.device_history.specs.Ranges.{ranges_now}
 use Rattle.device_history.specs.Steps.{Past}
 use Rattle.device_history.specs.Asking.{entries_of}
 use Rattle.device_history.specs.Grabs.{grabbed}
@@ -23,9 +24,9 @@ use Rattle.history_audit.specs.Judged.{IsSet}
 
 -- the rows of a set are judged under its pairs alone
 set_judged : (verdicts : Verdicts) (plan : PlanData) (past : Past) (fh : FhId) (pairs : List Pair) (touch : TouchedData) → IsSet verdicts plan (write_view verdicts plan past fh 0 None) pairs touch
-    → AreJudged verdicts plan plan.controls (now verdicts plan past) pairs pairs touch.rows
+    → AreJudged verdicts plan (ranges_now plan past) (now verdicts plan past) pairs pairs touch.rows
 set_judged verdicts plan past fh pairs touch sets =
-    subst (λ (l : List Pair). AreJudged verdicts plan plan.controls (now verdicts plan past) l l touch.rows) (sym sets.touches.own_pairs ∙ sets.own_pairs) sets.touches.judged
+    subst (λ (l : List Pair). AreJudged verdicts plan (ranges_now plan past) (now verdicts plan past) l l touch.rows) (sym sets.touches.own_pairs ∙ sets.own_pairs) sets.touches.judged
 
 -- none of its controls is grabbed
 set_free : (verdicts : Verdicts) (plan : PlanData) (past : Past) (fh : FhId) (pairs : List Pair) (touch : TouchedData) → IsSet verdicts plan (write_view verdicts plan past fh 0 None) pairs touch
@@ -47,10 +48,10 @@ set_rows verdicts plan past fh pairs touch sets =
 -- what they make of the present values is what the set lays over them
 pub set_makes : (verdicts : Verdicts) (plan : PlanData) (past : Past) (fh : FhId) (pairs : List Pair) (touch : TouchedData) (rows : List NewRow) (values made : Values) → IsPlan plan
     → IsSet verdicts plan (write_view verdicts plan past fh 0 None) pairs touch → rows ≡ touch.rows → values ≡ now verdicts plan past → made ≡ written plan values rows
-    → made ≡ overlay verdicts plan plan.controls (now verdicts plan past) (grabbed plan past) pairs
+    → made ≡ overlay verdicts plan (ranges_now plan past) (now verdicts plan past) (grabbed plan past) pairs
 set_makes verdicts plan past fh pairs touch rows values made is sets own v m =
     let judged = set_judged verdicts plan past fh pairs touch sets in
-    let writes : overlay verdicts plan plan.controls (now verdicts plan past) (grabbed plan past) pairs ≡ written plan (now verdicts plan past) touch.rows =
-    overlay_written verdicts plan plan.controls (now verdicts plan past) (grabbed plan past) pairs touch.rows (set_free verdicts plan past fh pairs touch sets)
+    let writes : overlay verdicts plan (ranges_now plan past) (now verdicts plan past) (grabbed plan past) pairs ≡ written plan (now verdicts plan past) touch.rows =
+    overlay_written verdicts plan (ranges_now plan past) (now verdicts plan past) (grabbed plan past) pairs touch.rows (set_free verdicts plan past fh pairs touch sets)
     (λ c k found. touched_is plan pairs k is (cluster_of_within plan c k found) ∙ ap (list_any (nat_eq k)) (sym judged.each_once)) judged.become in
     m ∙ ap (λ (rs : List NewRow). written plan values rs) own ∙ ap (λ (vs : Values). written plan vs touch.rows) v ∙ sym writes

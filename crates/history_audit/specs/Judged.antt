@@ -8,17 +8,18 @@ use Rattle.ctrl_handlers.specs.Plan.{PlanData}
 use Rattle.ctrl_lists.specs.View.{ViewData, pairs_of}
 use Rattle.ctrl_lists.specs.Answers.{set_answer}
 use Rattle.ctrl_lists.specs.Touched.{TouchedData, IsTouched}
+use Rattle.device_history.specs.Ranges.{ranges_now}
 use Rattle.device_history.specs.Steps.{Past}
 use Rattle.device_history.specs.Grabs.{grabbed}
 use Rattle.device_history.specs.Values.{now}
 use Rattle.device_history.specs.Asking.{entries_of}
 
--- what pairs are judged against: the present values and grabs, with these pairs laid before them
+-- what pairs are judged against: the present ranges, values and grabs, with these pairs laid before them
 abbrev pub view_of : Verdicts → PlanData → Past → ℕ → Which → List Pair → ViewData
 view_of verdicts plan past handler which asked = record {
   handler = handler;
   which = which;
-  controls = plan.controls;
+  ranges = ranges_now plan past;
   values = now verdicts plan past;
   grabs = grabbed plan past;
   asked = asked;

@@ -5,12 +5,14 @@ use Rattle.history.specs.Past.{past}
 use Rattle.ctrl_calls.specs.Meanings.{Verdicts}
 use Rattle.ctrl_types.specs.declared.ids.FhId.{FhId}
 use Rattle.ctrl_events.specs.Events.{EventsData, events_of}
+use Rattle.ctrl_settle.specs.Control.{Control}
 use Rattle.ctrl_handlers.specs.Plan.{IsPlan, PlanData}
 use Rattle.ctrl_clusters.specs.Rows.{Grabs, Values}
 use Rattle.frame_queue.specs.Frames.{FramesData}
 use Rattle.device_history.specs.declared.ask.Step.{Step}
 use Rattle.device_history.specs.declared.ask.Step.TheVariants as steps
 use Rattle.device_history.specs.declared.limits.TheConstants.{MAX_STEPS}
+use Rattle.device_history.specs.Ranges.{ranges_now}
 use Rattle.device_history.specs.Steps.{History}
 use Rattle.device_history.specs.Handles.{opened}
 use Rattle.device_history.specs.Grabs.{grabbed}
@@ -43,6 +45,7 @@ pub record Parts : Type 0 where
   -- the open file handles, each with its handler
   pub file_handles : List (ℕ × ℕ)
   pub grabs : Grabs
+  pub ranges : List Control
   pub values : Values
   -- the requests and the queue
   pub frames : FramesData
@@ -54,6 +57,7 @@ pub record HaveComeAbout (verdicts : Verdicts) (plan : PlanData) (steps : Histor
   pub legal : IsLegal verdicts plan (past steps)
   pub file_handles : parts.file_handles ≡ opened (past steps)
   pub grabs : parts.grabs ≡ grabbed plan (past steps)
+  pub ranges : parts.ranges ≡ ranges_now plan (past steps)
   pub values : parts.values ≡ now verdicts plan (past steps)
   pub frames : parts.frames ≡ frames verdicts plan (past steps)
   pub events : (fh : FhId) → AreEvents verdicts plan (past steps) fh (events_of parts.events fh.0)

@@ -2,6 +2,8 @@ ghost use Rattle.std.specs.Prelude.{◌≡◌, ◌<◌, false, [], length, IfOk,
 ghost use Rattle.history.specs.Past.{past};
 ghost use Rattle.history.specs.declared.entry.Entry.{Entry as EntryOf};
 ghost use Rattle.device_history.specs.declared.ask.Step.{Step as StepOf};
+ghost use Rattle.ctrl_clusters.specs.Rows.{AreControlsOf};
+ghost use Rattle.device_history.specs.Ranges.{ranges_now};
 ghost use Rattle.device_history.specs.Grabs.{grabbed};
 ghost use Rattle.device_history.specs.Handles.{handler_of};
 ghost use Rattle.device_history.specs.Legal.{IsLegal};
@@ -19,7 +21,7 @@ mod plain;
 
 use crate::scratch::Scratch;
 use ctrl_calls::Driver;
-use ctrl_clusters::{default_values, no_grabs};
+use ctrl_clusters::{Ranges, default_values, no_grabs};
 use ctrl_events::Events;
 use ctrl_handlers::Plan;
 use ctrl_types::{CtrlValue, FhId};
@@ -31,7 +33,7 @@ use std::alloc::{AllocError, Global};
 use std::marker::Model;
 
 /// A history that is replayed, step by step, and what its first steps made of a device. Contracts see it as the plan, the steps that were
-/// replayed, and all that there are: open file handles, grabs, values, requests and their queue are what the replayed steps make of them,
+/// replayed, and all that there are: open file handles, grabs, ranges, values, requests and their queue are what the replayed steps make of them,
 /// at every moment.
 pub struct Replay<'a, D: Driver> {
     plan: &'a Plan<D>,
@@ -42,6 +44,8 @@ pub struct Replay<'a, D: Driver> {
     file_handles: IndexMap<u32, u32>,
     // whether a control is grabbed, by control
     grabs: Vec<bool>,
+    // the present ranges, by control
+    ranges: Ranges,
     // the present values, by control
     values: Vec<CtrlValue>,
     // the media requests, and the queue of frames
@@ -61,7 +65,7 @@ impl<'a, D: Driver> Model for Replay<'a, D> {
 
     ghost view = { λ r. record { plan = r.plan.now; steps = take r.count r.steps.now; all = r.steps.now } };
 
-    ghost invariant = { λ r. IsReplay D.verdict r.plan.now r.steps.now r.count (record { file_handles = r.file_handles.entries; grabs = r.grabs.items; values = r.values.items; frames = r.frames; events = r.events }) };
+    ghost invariant = { λ r. IsReplay D.verdict r.plan.now r.steps.now r.count (record { file_handles = r.file_handles.entries; grabs = r.grabs.items; ranges = r.ranges; values = r.values.items; frames = r.frames; events = r.events }) };
 }
 
 impl<'a, D: Driver> Drop for Replay<'a, D> {
@@ -72,6 +76,7 @@ impl<'a, D: Driver> Drop for Replay<'a, D> {
             count: _,
             file_handles: _,
             grabs: _,
+            ranges: _,
             values: _,
             frames: _,
             events: _,
@@ -81,7 +86,7 @@ impl<'a, D: Driver> Drop for Replay<'a, D> {
 }
 
 impl<'a, D: Driver> Replay<'a, D> {
-    /// A history of which no step was replayed: the values are the defaults.
+    /// A history of which no step was replayed: the ranges are the plan's, the values the defaults.
     ///
     /// - `alloc`: where the parts lie.
     /// - `plan`: what the device is built of.
@@ -95,6 +100,7 @@ impl<'a, D: Driver> Replay<'a, D> {
     ) -> Result<Replay<'a, D>, AllocError>
         ensures { IfOk result (λ r. r ≡ record { plan = plan.now; steps = []; all = steps.now }) }
     {
+        let ranges = Ranges::of_plan(alloc, plan)?;
         let values = default_values(alloc, plan.controls())?;
         let grabs = no_grabs(alloc, plan.controls())?;
         let Ok(frames) = Frames::new(alloc, plan.control_count()) else {
@@ -106,6 +112,7 @@ impl<'a, D: Driver> Replay<'a, D> {
             count: 0,
             file_handles: IndexMap::new(alloc),
             grabs,
+            ranges,
             values,
             frames,
             events: Events::new(alloc),
@@ -185,6 +192,7 @@ impl<'a, D: Driver> Replay<'a, D> {
             count: _,
             file_handles,
             grabs: _,
+            ranges: _,
             values,
             frames,
             events,
@@ -199,6 +207,14 @@ impl<'a, D: Driver> Replay<'a, D> {
         ensures legal { IsLegal D.verdict self.now.plan (past self.now.steps) }
     {
         self.plan
+    }
+
+    // The present ranges, which are of the plan's controls.
+    fn present_ranges(&self) -> &Ranges
+        ensures ranges { result.now ≡ ranges_now self.now.plan (past self.now.steps) }
+        ensures controls { AreControlsOf self.now.plan result.now }
+    {
+        &self.ranges
     }
 
     // The present values.

@@ -20,7 +20,7 @@ use ctrl_types::{FhId, Pair};
 /// VIDIOC_DQEVENT"). It takes no memory and refuses nothing.
 ///
 /// - `plan`: what the device is built of.
-/// - `before`, `after`: the values and grabs before the step and after it; the caller owes one for each control.
+/// - `before`, `after`: the ranges, values and grabs before the step and after it; the caller owes one for each control.
 /// - `pairs`: what was applied: the pairs of a set, those that the begin of a frame applies, or none of a grab.
 /// - `from`: the file handle whose set it is; none of a begin or a grab.
 /// - `events`: the events of file handles; the caller owes that the number of each one's next event is at most 4294967295 less the number of
@@ -33,8 +33,10 @@ pub fn raise_step<D: Driver>(
     from: Option<FhId>,
     events: &mut Events,
 )
+    requires ranges_before { length before.now.ranges ≡ length plan.now.controls }
     requires values_before { length before.now.values ≡ length plan.now.controls }
     requires grabs_before { length before.now.grabs ≡ length plan.now.controls }
+    requires ranges { length after.now.ranges ≡ length plan.now.controls }
     requires values { length after.now.values ≡ length plan.now.controls }
     requires grabs { length after.now.grabs ≡ length plan.now.controls }
     requires numbers { (j : ℕ) → (events_of events.old j).next + length plan.now.controls ≤ 4294967295 }

@@ -8,6 +8,7 @@ ghost use Rattle.ctrl_events.specs.Events.{events_of, only_at};
 ghost use Rattle.device_history.specs.declared.ask.Step.{Step as StepOf};
 ghost use Rattle.device_history.specs.declared.ask.Step.TheVariants as steps;
 ghost use Rattle.device_history.specs.Steps.{Past};
+ghost use Rattle.device_history.specs.Ranges.{ranges_now};
 ghost use Rattle.device_history.specs.Grabs.{grabbed};
 ghost use Rattle.device_history.specs.Values.{now};
 ghost use Rattle.device_history.specs.EventSteps.{unsubscribed_if_named, events_after};
@@ -15,6 +16,7 @@ ghost use Rattle.device_history.specs.FrameSteps.{frames_changed};
 ghost use Rattle.step_effects.specs.Leaving.{FitsIn, NamesKnown, leaves_controls};
 
 use ctrl_calls::Driver;
+use ctrl_clusters::Ranges;
 use ctrl_events::Events;
 use ctrl_handlers::Plan;
 use ctrl_raises::{Moment, initial_changes, payload_at};
@@ -27,7 +29,7 @@ use std::alloc::AllocError;
 /// "ioctl VIDIOC_SUBSCRIBE_EVENT, VIDIOC_UNSUBSCRIBE_EVENT", "ioctl VIDIOC_DQEVENT").
 ///
 /// - `plan`: what the device is built of.
-/// - `values`, `grabs`: the present ones; the caller owes one for each control.
+/// - `ranges`, `values`, `grabs`: the present ones; the caller owes one for each control.
 /// - `number`: the step's place in the history, which is the id of a request that it makes.
 /// - `step`: the step; the caller owes such a one, that nothing refuses.
 /// - `frames`: the requests, their queue, and the one whose frame is being made.
@@ -37,6 +39,7 @@ use std::alloc::AllocError;
 /// The error is that a growth was refused; nothing was changed then.
 pub fn change_requests_and_events<D: Driver>(
     plan: &Plan<D>,
+    ranges: &Ranges,
     values: &[CtrlValue],
     grabs: &[bool],
     number: u32,
@@ -47,19 +50,20 @@ pub fn change_requests_and_events<D: Driver>(
     requires leaves { leaves_controls step.now ≡ true }
     requires fits { FitsIn number step.now frames.old }
     requires known { NamesKnown (length plan.now.controls) step.now }
+    requires ranges { length ranges.now ≡ length plan.now.controls }
     requires values { length values.now ≡ length plan.now.controls }
     requires grabs { length grabs.now ≡ length plan.now.controls }
     requires frames { frames.old.requests.controls ≡ length plan.now.controls }
     requires numbers { (j : ℕ) → (events_of events.old j).next + length plan.now.controls ≤ 4294967295 }
     ensures frames { OnOk result (frames.new ≡ frames_changed values.now [] number step.now frames.old) }
-    ensures events { OnOk result ((verdicts : Verdicts) (e : EntryOf StepOf) (older : Past) → e.step ≡ step.now → values.now ≡ now verdicts plan.now older → grabs.now ≡ grabbed plan.now older
+    ensures events { OnOk result ((verdicts : Verdicts) (e : EntryOf StepOf) (older : Past) → e.step ≡ step.now → ranges.now ≡ ranges_now plan.now older → values.now ≡ now verdicts plan.now older → grabs.now ≡ grabbed plan.now older
         → (fh : FhIdOf) → events_of events.new fh.0 ≡ events_after verdicts plan.now e older fh (events_of events.old fh.0)) }
     ensures frames_kept { OnErr result (frames.new ≡ frames.old) }
     ensures events_kept { OnErr result (events.new ≡ events.old) }
 {
     match step {
         Step::Subscribe { fh, control, flags } => {
-            let at = Moment::new(values, grabs);
+            let at = Moment::new(ranges, values, grabs);
             subscribe(plan, &at, *fh, *control, *flags, events)
         }
         Step::Unsubscribe { fh, control } => {
@@ -138,10 +142,11 @@ fn subscribe<D: Driver>(
     events: &mut Events,
 ) -> Result<(), AllocError>
     requires known { control < length plan.now.controls }
+    requires ranges { length at.now.ranges ≡ length plan.now.controls }
     requires values { length at.now.values ≡ length plan.now.controls }
     requires grabs { length at.now.grabs ≡ length plan.now.controls }
     requires numbers { (events_of events.old fh.0).next < 4294967295 }
-    ensures ok { OnOk result ((verdicts : Verdicts) (e : EntryOf StepOf) (older : Past) → e.step ≡ steps.Subscribe fh control flags → at.now.values ≡ now verdicts plan.now older → at.now.grabs ≡ grabbed plan.now older
+    ensures ok { OnOk result ((verdicts : Verdicts) (e : EntryOf StepOf) (older : Past) → e.step ≡ steps.Subscribe fh control flags → at.now.ranges ≡ ranges_now plan.now older → at.now.values ≡ now verdicts plan.now older → at.now.grabs ≡ grabbed plan.now older
         → (j : FhIdOf) → events_of events.new j.0 ≡ events_after verdicts plan.now e older j (events_of events.old j.0)) }
     ensures err { OnErr result (events.new ≡ events.old) }
 {

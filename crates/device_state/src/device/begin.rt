@@ -1,6 +1,6 @@
 //! How a device begins a frame.
 
-ghost use Rattle.std.specs.Prelude.{◌≡◌, true, false, None, Some, Ok, Err, is_some, IfOk, IfErr, OnOk, OnErr};
+ghost use Rattle.std.specs.Prelude.{◌≡◌, true, None, Some, Ok, Err, is_some, IfOk, IfErr, OnOk, OnErr};
 ghost use Rattle.history.specs.Past.{past};
 ghost use Rattle.frame_queue.specs.Frames.{begin_answer};
 ghost use Rattle.device_history.specs.declared.ask.Ask.TheVariants as asks;
@@ -132,8 +132,8 @@ impl<D: Driver> Device<D> {
         );
         raise_step(
             &self.plan,
-            &Moment::new(self.values.as_slice(), self.grabs.as_slice()),
-            &Moment::new(values.as_slice(), self.grabs.as_slice()),
+            &Moment::new(&self.ranges, self.values.as_slice(), self.grabs.as_slice()),
+            &Moment::new(&self.ranges, values.as_slice(), self.grabs.as_slice()),
             applied.as_slice(),
             None,
             &mut self.events,

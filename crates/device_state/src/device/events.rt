@@ -1,6 +1,6 @@
 //! What a device answers about control events.
 
-ghost use Rattle.std.specs.Prelude.{◌≡◌, None, if◌then◌else◌, is_some};
+ghost use Rattle.std.specs.Prelude.{◌≡◌, None};
 ghost use Rattle.history.specs.Past.{past};
 ghost use Rattle.ctrl_events.specs.Events.{event_at};
 ghost use Rattle.device_history.specs.declared.ask.Ask.TheVariants as asks;

@@ -184,7 +184,7 @@ impl<D: Driver> Device<D> {
     }
 
     /// What a get is read against, behind the checks that every list begins with: the handler of its file handle, which values it speaks
-    /// of, the controls, the values that it reads, and the grabs (Linux userspace API, "struct v4l2_ext_controls"). It takes no memory and
+    /// of, the ranges of the controls, the values that it reads, and the grabs (Linux userspace API, "struct v4l2_ext_controls"). It takes no memory and
     /// changes nothing.
     ///
     /// - `fh`, `which`, `request`: as of `get`.
@@ -199,7 +199,7 @@ impl<D: Driver> Device<D> {
         ensures passed { OnOk result (first_refusal (opening_checks D.verdict self.now.plan (past self.now.steps) fh which request false) ≡ None) }
         ensures err { IfErr result (λ errno. first_refusal (opening_checks D.verdict self.now.plan (past self.now.steps) fh which request false) ≡ Some (record { errno = errno; place = None })) }
         ensures view { IfOk result (λ view. view ≡ read_view D.verdict self.now.plan (past self.now.steps) fh which request) }
-        ensures controls { IfOk result (λ view. AreControlsOf self.now.plan view.controls) }
+        ensures ranges { IfOk result (λ view. AreControlsOf self.now.plan view.ranges) }
         ensures values { IfOk result (λ view. length view.values ≡ length self.now.plan.controls) }
         ensures grabs { IfOk result (λ view. length view.grabs ≡ length self.now.plan.controls) }
     {
@@ -207,7 +207,7 @@ impl<D: Driver> Device<D> {
         Ok(View::new(
             handler,
             which,
-            self.plan.controls(),
+            self.present_ranges(),
             self.values_read(meant(which, request)),
             self.grabs(),
             &[],
@@ -245,7 +245,7 @@ impl<D: Driver> Device<D> {
         ensures err { IfErr result (λ errno. first_refusal (opening_checks D.verdict self.now.plan (past self.now.steps) fh which request true) ≡ Some (record { errno = errno; place = None })) }
         ensures view { IfOk result (λ view. view ≡ write_view D.verdict self.now.plan (past self.now.steps) fh which request) }
         ensures which { IfOk result (λ view. view.which ≢ Defaults) }
-        ensures controls { IfOk result (λ view. AreControlsOf self.now.plan view.controls) }
+        ensures ranges { IfOk result (λ view. AreControlsOf self.now.plan view.ranges) }
         ensures values { IfOk result (λ view. length view.values ≡ length self.now.plan.controls) }
         ensures grabs { IfOk result (λ view. length view.grabs ≡ length self.now.plan.controls) }
     {
@@ -253,7 +253,7 @@ impl<D: Driver> Device<D> {
         Ok(View::new(
             handler,
             which,
-            self.plan.controls(),
+            self.present_ranges(),
             self.values(),
             self.grabs(),
             self.earlier_pairs(meant(which, request)),
@@ -429,7 +429,7 @@ impl<D: Driver> Device<D> {
         let mut work = Work::new();
         self.board.renew(
             &self.plan,
-            self.plan.controls(),
+            &self.ranges,
             values.as_slice(),
             self.grabs.as_slice(),
             clusters.as_slice(),
@@ -438,8 +438,8 @@ impl<D: Driver> Device<D> {
         self.work.asked = self.work.asked.saturating_add(work.asked);
         raise_step(
             &self.plan,
-            &Moment::new(self.values.as_slice(), self.grabs.as_slice()),
-            &Moment::new(values.as_slice(), self.grabs.as_slice()),
+            &Moment::new(&self.ranges, self.values.as_slice(), self.grabs.as_slice()),
+            &Moment::new(&self.ranges, values.as_slice(), self.grabs.as_slice()),
             touch.pairs(),
             Some(fh),
             &mut self.events,

@@ -202,6 +202,7 @@ impl<D: Driver> Device<D> {
         let mut work = Work::new();
         let changed = change_with_forecasts(
             &self.plan,
+            &self.ranges,
             self.values.as_slice(),
             self.grabs.as_slice(),
             number,

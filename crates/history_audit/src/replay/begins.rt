@@ -45,8 +45,8 @@ impl<'a, D: Driver> Replay<'a, D> {
         let values = values.into_vec();
         raise_step(
             self.plan,
-            &Moment::new(self.values.as_slice(), self.grabs.as_slice()),
-            &Moment::new(values.as_slice(), self.grabs.as_slice()),
+            &Moment::new(&self.ranges, self.values.as_slice(), self.grabs.as_slice()),
+            &Moment::new(&self.ranges, values.as_slice(), self.grabs.as_slice()),
             given.as_slice(),
             None,
             &mut self.events,
@@ -78,7 +78,7 @@ impl<'a, D: Driver> Replay<'a, D> {
         overlay(
             self.alloc,
             self.plan,
-            self.plan.controls(),
+            self.present_ranges(),
             self.values(),
             self.grabs(),
             self.asked_by(request),

@@ -36,7 +36,7 @@ impl<'a, D: Driver> Replay<'a, D> {
         Board::compute(
             self.alloc,
             self.plan,
-            self.plan.controls(),
+            self.present_ranges(),
             self.values(),
             self.grabs(),
             queued.as_slice(),

@@ -77,8 +77,8 @@ impl<'a, D: Driver> Replay<'a, D> {
         write_rows(self.plan, &mut values, touch.rows());
         raise_step(
             self.plan,
-            &Moment::new(self.values.as_slice(), self.grabs.as_slice()),
-            &Moment::new(values.as_slice(), self.grabs.as_slice()),
+            &Moment::new(&self.ranges, self.values.as_slice(), self.grabs.as_slice()),
+            &Moment::new(&self.ranges, values.as_slice(), self.grabs.as_slice()),
             touch.pairs(),
             Some(fh),
             &mut self.events,
@@ -176,11 +176,19 @@ impl<'a, D: Driver> Replay<'a, D> {
         ensures { IfOk result (λ touched. MatchOption touched (IsUnset D.verdict self.now.plan (view_of D.verdict self.now.plan (past self.now.steps) handler which asked.now) pairs.now)
             (λ touch. IsSet D.verdict self.now.plan (view_of D.verdict self.now.plan (past self.now.steps) handler which asked.now) pairs.now touch)) }
     {
-        let controls = self.plan.controls();
+        // the plan is one, as the contract of `controls` says
+        let _plan = self.plan.controls();
         let Some(list) = self.entries(pairs)? else {
             return Ok(None);
         };
-        let view = View::new(handler, which, controls, self.values(), self.grabs(), asked);
+        let view = View::new(
+            handler,
+            which,
+            self.present_ranges(),
+            self.values(),
+            self.grabs(),
+            asked,
+        );
         let mut work = Work::new();
         match plan_set(self.alloc, self.plan, &view, &list, &mut work) {
             Ok(touch) => {

@@ -64,8 +64,8 @@ impl<'a, D: Driver> Replay<'a, D> {
         grabs[control as usize] = on;
         raise_step(
             self.plan,
-            &Moment::new(self.values.as_slice(), self.grabs.as_slice()),
-            &Moment::new(self.values.as_slice(), grabs.as_slice()),
+            &Moment::new(&self.ranges, self.values.as_slice(), self.grabs.as_slice()),
+            &Moment::new(&self.ranges, self.values.as_slice(), grabs.as_slice()),
             &[],
             None,
             &mut self.events,
@@ -88,6 +88,7 @@ impl<'a, D: Driver> Replay<'a, D> {
         let number = self.count as u32;
         change_requests_and_events(
             self.plan,
+            &self.ranges,
             self.values.as_slice(),
             self.grabs.as_slice(),
             number,

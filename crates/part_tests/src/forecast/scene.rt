@@ -7,7 +7,7 @@ ghost use Rattle.part_tests.specs.Verdicts.{ordered_verdict};
 
 use crate::forecast::driver::Ordered;
 use ctrl_calls::Work;
-use ctrl_clusters::{default_values, no_grabs};
+use ctrl_clusters::{Ranges, default_values, no_grabs};
 use ctrl_forecast::{Board, Forecast, Queued};
 use ctrl_handlers::Plan;
 use ctrl_types::{CtrlValue, Pair, RequestId};
@@ -20,9 +20,10 @@ pub struct Waiting {
     asked: Vec<Pair>,
 }
 
-/// The values before the first frame, the grabs, the frames that wait, and what is kept of them.
+/// The ranges, the values before the first frame, the grabs, the frames that wait, and what is kept of them.
 #[derive(Drop)]
 pub struct Scene {
+    ranges: Ranges,
     values: Vec<CtrlValue>,
     grabs: Vec<bool>,
     waiting: Vec<Waiting>,
@@ -32,9 +33,10 @@ pub struct Scene {
 impl Scene {
     /// No frame waits, and each control has its default.
     pub fn new(alloc: Global, plan: &Plan<Ordered>) -> Result<Scene, AllocError>
-        ensures { IfOk result (λ scene. IsScene plan.now scene.values.items scene.grabs.items scene.board) }
+        ensures { IfOk result (λ scene. IsScene plan.now scene.ranges scene.values.items scene.grabs.items scene.board) }
     {
         Ok(Scene {
+            ranges: Ranges::of_plan(alloc, plan)?,
             values: default_values(alloc, plan.controls())?,
             grabs: no_grabs(alloc, plan.controls())?,
             waiting: Vec::new(alloc),
@@ -55,14 +57,14 @@ impl Scene {
         asked: Vec<Pair>,
         work: &mut Work,
     ) -> Result<u64, AllocError>
-        requires { IsScene plan.now self.old.values.items self.old.grabs.items self.old.board }
-        ensures { OnOk result (IsScene plan.now self.new.values.items self.new.grabs.items self.new.board) }
+        requires { IsScene plan.now self.old.ranges self.old.values.items self.old.grabs.items self.old.board }
+        ensures { OnOk result (IsScene plan.now self.new.ranges self.new.values.items self.new.grabs.items self.new.board) }
     {
         let bound = touched(plan, asked.as_slice());
         self.waiting.reserve(1)?;
         self.board.push(
             plan,
-            plan.controls(),
+            &self.ranges,
             self.values.as_slice(),
             self.grabs.as_slice(),
             &Queued::new(RequestId(number), number, asked.as_slice()),
@@ -74,11 +76,12 @@ impl Scene {
 
     /// The first frame begins, where one waits, and leaves its values.
     pub fn begin(&mut self, plan: &Plan<Ordered>)
-        requires { IsScene plan.now self.old.values.items self.old.grabs.items self.old.board }
-        ensures { IsScene plan.now self.new.values.items self.new.grabs.items self.new.board }
+        requires { IsScene plan.now self.old.ranges self.old.values.items self.old.grabs.items self.old.board }
+        ensures { IsScene plan.now self.new.ranges self.new.values.items self.new.grabs.items self.new.board }
     {
         begin_first(
             plan,
+            &self.ranges,
             &mut self.board,
             &mut self.values,
             self.grabs.as_slice(),
@@ -90,8 +93,8 @@ impl Scene {
 
     /// The frame at a place is taken out. The answer is how many validators may be asked.
     pub fn remove(&mut self, plan: &Plan<Ordered>, place: u32, work: &mut Work) -> u64
-        requires { IsScene plan.now self.old.values.items self.old.grabs.items self.old.board }
-        ensures { IsScene plan.now self.new.values.items self.new.grabs.items self.new.board }
+        requires { IsScene plan.now self.old.ranges self.old.values.items self.old.grabs.items self.old.board }
+        ensures { IsScene plan.now self.new.ranges self.new.values.items self.new.grabs.items self.new.board }
     {
         let place = place as usize;
         if place >= self.board.len() || place >= self.waiting.len() {
@@ -100,7 +103,7 @@ impl Scene {
         self.board.remove(
             place,
             plan,
-            plan.controls(),
+            &self.ranges,
             self.values.as_slice(),
             self.grabs.as_slice(),
             work,
@@ -122,15 +125,15 @@ impl Scene {
     ) -> u64
         requires control { control < length plan.now.controls }
         requires other { other < length plan.now.controls }
-        requires kept { IsScene plan.now self.old.values.items self.old.grabs.items self.old.board }
-        ensures { IsScene plan.now self.new.values.items self.new.grabs.items self.new.board }
+        requires kept { IsScene plan.now self.old.ranges self.old.values.items self.old.grabs.items self.old.board }
+        ensures { IsScene plan.now self.new.ranges self.new.values.items self.new.grabs.items self.new.board }
     {
         let clusters = [plan.cluster_of(control), plan.cluster_of(other)];
         self.values[control as usize] = value;
         self.grabs[other as usize] = is_grabbed;
         self.board.renew(
             plan,
-            plan.controls(),
+            &self.ranges,
             self.values.as_slice(),
             self.grabs.as_slice(),
             &clusters,
@@ -139,10 +142,37 @@ impl Scene {
         (self.waiting.len() as u64).wrapping_mul(2)
     }
 
+    /// A control gets another maximum, where it can. The answer is how many validators may be asked.
+    pub fn narrow(
+        &mut self,
+        plan: &Plan<Ordered>,
+        control: u32,
+        maximum: i64,
+        work: &mut Work,
+    ) -> u64
+        requires control { control < length plan.now.controls }
+        requires kept { IsScene plan.now self.old.ranges self.old.values.items self.old.grabs.items self.old.board }
+        ensures { IsScene plan.now self.new.ranges self.new.values.items self.new.grabs.items self.new.board }
+    {
+        let Ok(narrowed) = self.ranges.range(control).with_range(0, maximum, 1, 0) else {
+            return 0;
+        };
+        self.ranges.modify(control, narrowed);
+        self.board.renew(
+            plan,
+            &self.ranges,
+            self.values.as_slice(),
+            self.grabs.as_slice(),
+            &[plan.cluster_of(control)],
+            work,
+        );
+        self.waiting.len() as u64
+    }
+
     /// No frame waits any more.
     pub fn clear(&mut self, plan: &Plan<Ordered>)
-        requires { IsScene plan.now self.old.values.items self.old.grabs.items self.old.board }
-        ensures { IsScene plan.now self.new.values.items self.new.grabs.items self.new.board }
+        requires { IsScene plan.now self.old.ranges self.old.values.items self.old.grabs.items self.old.board }
+        ensures { IsScene plan.now self.new.ranges self.new.values.items self.new.grabs.items self.new.board }
     {
         let _plan = plan.controls();
         self.waiting.clear();
@@ -151,13 +181,13 @@ impl Scene {
 
     /// Whether what is kept is what is computed anew.
     pub fn is_twin(&self, alloc: Global, plan: &Plan<Ordered>) -> Result<bool, AllocError>
-        requires { IsScene plan.now self.now.values.items self.now.grabs.items self.now.board }
+        requires { IsScene plan.now self.now.ranges self.now.values.items self.now.grabs.items self.now.board }
     {
         let queued = queued(alloc, self.waiting.as_slice())?;
         let computed = Board::compute(
             alloc,
             plan,
-            plan.controls(),
+            &self.ranges,
             self.values.as_slice(),
             self.grabs.as_slice(),
             queued.as_slice(),
@@ -184,11 +214,17 @@ fn is_like(board: &Board, computed: Result<Board, AllocError>) -> Result<bool, A
 }
 
 // The first frame of a board begins, where there is one, and leaves its values.
-fn begin_first(plan: &Plan<Ordered>, board: &mut Board, values: &mut Vec<CtrlValue>, grabs: &[bool])
+fn begin_first(
+    plan: &Plan<Ordered>,
+    ranges: &Ranges,
+    board: &mut Board,
+    values: &mut Vec<CtrlValue>,
+    grabs: &[bool],
+)
     requires values { length values.old.items ≡ length plan.now.controls }
-    requires kept { board.old ≡ board_of ordered_verdict plan.now plan.now.controls grabs.now values.old.items board.old.queued }
+    requires kept { board.old ≡ board_of ordered_verdict plan.now ranges.now grabs.now values.old.items board.old.queued }
     ensures values { length values.new.items ≡ length plan.now.controls }
-    ensures kept { board.new ≡ board_of ordered_verdict plan.now plan.now.controls grabs.now values.new.items board.new.queued }
+    ensures kept { board.new ≡ board_of ordered_verdict plan.now ranges.now grabs.now values.new.items board.new.queued }
 {
     match board.pop() {
         Some(first) => {

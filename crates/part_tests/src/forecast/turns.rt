@@ -20,8 +20,8 @@ fn turn(
     dice: &mut Dice,
 ) -> Result<bool, AllocError>
     requires controls { 0 < length plan.now.controls }
-    requires kept { IsScene plan.now scene.old.values.items scene.old.grabs.items scene.old.board }
-    ensures { OnOk result (IsScene plan.now scene.new.values.items scene.new.grabs.items scene.new.board) }
+    requires kept { IsScene plan.now scene.old.ranges scene.old.values.items scene.old.grabs.items scene.old.board }
+    ensures { OnOk result (IsScene plan.now scene.new.ranges scene.new.values.items scene.new.grabs.items scene.new.board) }
 {
     let controls = plan.control_count();
     let mut work = Work::new();
@@ -35,6 +35,11 @@ fn turn(
         5 => scene.begin(plan),
         6 | 7 => bound = scene.remove(plan, dice.roll(6), &mut work),
         8 if dice.roll(4) == 0 => scene.clear(plan),
+        9 => {
+            let control = dice.roll(controls);
+            let maximum = i64::from(dice.roll(11));
+            bound = scene.narrow(plan, control, maximum, &mut work);
+        }
         _ => {
             let control = dice.roll(controls);
             let value = dice.value();

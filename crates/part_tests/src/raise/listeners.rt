@@ -91,8 +91,10 @@ impl Listeners {
         pairs: &[Pair],
         from: Option<FhId>,
     ) -> Result<Events, Fail>
+        requires ranges_before { length before.now.ranges ≡ length plan.now.controls }
         requires values_before { length before.now.values ≡ length plan.now.controls }
         requires grabs_before { length before.now.grabs ≡ length plan.now.controls }
+        requires ranges { length after.now.ranges ≡ length plan.now.controls }
         requires values { length after.now.values ≡ length plan.now.controls }
         requires grabs { length after.now.grabs ≡ length plan.now.controls }
     {

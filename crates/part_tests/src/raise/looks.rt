@@ -1,8 +1,10 @@
 //! What is told of controls, and which are changed.
 
+ghost use Rattle.std.specs.Prelude.{◌≡◌, length};
+
 use crate::raise::planning::{FIRST, Silent, pairs_of, plan};
 use bitflags::Flags as FlagSet;
-use ctrl_clusters::{is_among, is_changed};
+use ctrl_clusters::{Ranges, is_among, is_changed};
 use ctrl_events::Payload;
 use ctrl_handlers::Plan;
 use ctrl_raises::{Moment, initial_changes, payload_at};
@@ -119,24 +121,28 @@ fn payload(control: u32, told: Told) -> Payload {
 
 fn tells(
     plan: &Plan<Silent>,
+    ranges: &Ranges,
     values: &[CtrlValue],
     grabs: &[bool],
     control: u32,
     told: Told,
-) -> bool {
+) -> bool
+    requires { length ranges.now ≡ length plan.now.controls }
+{
     let count = plan.control_count();
     control < count
         && values.len() == count as usize
         && grabs.len() == count as usize
-        && payload_at(plan, &Moment::new(values, grabs), control) == payload(control, told)
+        && payload_at(plan, &Moment::new(ranges, values, grabs), control) == payload(control, told)
 }
 
 #[test]
 fn payloads(rt: HostRuntime) -> Result<(), Fail> {
     let plan = plan(rt.alloc())?;
+    let ranges = Ranges::of_plan(rt.alloc(), &plan)?;
     for &(values, grabs, control, told) in TOLD {
         assert!(rt;
-            tells(&plan, values, grabs, control, told),
+            tells(&plan, &ranges, values, grabs, control, told),
             "control {control}, {values:?}, {grabs:?}"
         );
     }

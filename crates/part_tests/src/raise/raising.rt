@@ -1,7 +1,10 @@
 //! What file handles hear of a change.
 
+ghost use Rattle.std.specs.Prelude.{◌≡◌, length, IfOk};
+
 use crate::raise::listeners::{Listeners, Told, takes};
 use crate::raise::planning::{FIRST, Silent, pairs_of, plan};
+use ctrl_clusters::Ranges;
 use ctrl_handlers::Plan;
 use ctrl_raises::Moment;
 use ctrl_types::{CtrlValue, FhId};
@@ -224,8 +227,76 @@ const OF_A_SET: &[Case] = &[
     },
 ];
 
-// Whether the file handles take what they should.
-fn is_heard(alloc: Global, plan: &Plan<Silent>, case: &Case) -> Result<bool, Fail> {
+// Minimum, maximum, step and default that control 3 gets in place of its own, 0 to 90 in steps of 2 with 30.
+type Range = (i64, i64, u64, CtrlValue);
+
+const OWN: Range = (0, 90, 2, 30);
+
+// Where each of the four differs, a range is heard of by all that are subscribed, with the value that the control has by then.
+const OF_A_RANGE: &[(Range, Case)] = &[
+    (
+        (2, 90, 2, 30),
+        Case {
+            before: (MANUAL, FREE),
+            after: (MANUAL, FREE),
+            pairs: &[],
+            from: None,
+            taken: [&[(3, 4, 30, 0)], &[(3, 4, 30, 0)], &[(3, 4, 30, 0)]],
+        },
+    ),
+    (
+        (0, 92, 2, 30),
+        Case {
+            before: (MANUAL, FREE),
+            after: (PLAIN, FREE),
+            pairs: &[],
+            from: None,
+            taken: [&[(3, 5, 32, 0)], &[(3, 5, 32, 0)], &[(3, 5, 32, 0)]],
+        },
+    ),
+    (
+        (0, 90, 1, 30),
+        Case {
+            before: (MANUAL, FREE),
+            after: (MANUAL, PLAIN_HELD),
+            pairs: &[],
+            from: None,
+            taken: [&[(3, 6, 30, 0x2)], &[(3, 6, 30, 0x2)], &[(3, 6, 30, 0x2)]],
+        },
+    ),
+    (
+        (0, 90, 2, 32),
+        Case {
+            before: (AUTO, FREE),
+            after: (AUTO, FREE),
+            pairs: &[],
+            from: None,
+            taken: [&[(3, 4, 30, 0)], &[(3, 4, 30, 0)], &[(3, 4, 30, 0)]],
+        },
+    ),
+];
+
+// The plan's ranges, with another one of control 3.
+fn ranges_with(alloc: Global, plan: &Plan<Silent>, range: Range) -> Result<Ranges, Fail>
+    ensures { IfOk result (λ ranges. length ranges ≡ length plan.now.controls) }
+{
+    let mut ranges = Ranges::of_plan(alloc, plan)?;
+    let (minimum, maximum, step, default_value) = range;
+    if plan.control_count() <= 3 {
+        return Err(Fail::new("four controls"));
+    }
+    match ranges
+        .range(3)
+        .with_range(minimum, maximum, step, default_value)
+    {
+        Ok(changed) => ranges.modify(3, changed),
+        Err(_) => return Err(Fail::new("a range")),
+    }
+    Ok(ranges)
+}
+
+// Whether the file handles take what they should, where control 3 has another range afterwards.
+fn is_heard(alloc: Global, plan: &Plan<Silent>, range: Range, case: &Case) -> Result<bool, Fail> {
     let ((old, held), (new, holding)) = (case.before, case.after);
     let count = plan.controls().len();
     if old.len() != count || held.len() != count || new.len() != count || holding.len() != count {
@@ -236,8 +307,10 @@ fn is_heard(alloc: Global, plan: &Plan<Silent>, case: &Case) -> Result<bool, Fai
         Some(fh) => Some(FhId(fh)),
         None => None,
     };
-    let before = Moment::new(old, held);
-    let after = Moment::new(new, holding);
+    let ranges = Ranges::of_plan(alloc, plan)?;
+    let changed = ranges_with(alloc, plan, range)?;
+    let before = Moment::new(&ranges, old, held);
+    let after = Moment::new(&changed, new, holding);
     let listeners = Listeners::subscribed(alloc)?;
     let mut events = listeners.raised(plan, &before, &after, pairs.as_slice(), from)?;
     let [first, second, third] = case.taken;
@@ -253,7 +326,7 @@ fn changes_are_raised(rt: HostRuntime) -> Result<(), Fail> {
     let alloc = rt.alloc();
     let plan = plan(alloc)?;
     for (row, case) in WITHOUT_SET.iter().enumerate() {
-        let is_heard = is_heard(alloc, &plan, case)?;
+        let is_heard = is_heard(alloc, &plan, OWN, case)?;
         assert!(rt; is_heard, "case {row}");
     }
     Ok(())
@@ -264,7 +337,18 @@ fn a_set_is_heard_by_others(rt: HostRuntime) -> Result<(), Fail> {
     let alloc = rt.alloc();
     let plan = plan(alloc)?;
     for (row, case) in OF_A_SET.iter().enumerate() {
-        let is_heard = is_heard(alloc, &plan, case)?;
+        let is_heard = is_heard(alloc, &plan, OWN, case)?;
+        assert!(rt; is_heard, "case {row}");
+    }
+    Ok(())
+}
+
+#[test]
+fn a_range_is_heard_by_all(rt: HostRuntime) -> Result<(), Fail> {
+    let alloc = rt.alloc();
+    let plan = plan(alloc)?;
+    for (row, (range, case)) in OF_A_RANGE.iter().enumerate() {
+        let is_heard = is_heard(alloc, &plan, *range, case)?;
         assert!(rt; is_heard, "case {row}");
     }
     Ok(())

@@ -15,10 +15,10 @@ pub returns-in-Ok-clause-counted : goal.returns-in-Ok-clause-counted
 unfolding asks_validator
 returns-in-Ok-clause-counted g c =
     let k : ℕ = c.args.cluster in
-    let settled : settle_row c.args.controls.now (members c.args.plan.now k) (overwritten c.args.values.now c.args.pairs.now (members c.args.plan.now k)) ≡ Ok c.in-Ok.row =
+    let settled : settle_row c.args.ranges.now (members c.args.plan.now k) (overwritten c.args.values.now c.args.pairs.now (members c.args.plan.now k)) ≡ Ok c.in-Ok.row =
     sym
-    (c.settle_row.ensures.row ∙ ap (settle_row c.args.controls.now c.members-members.result.now) c.overwritten-row.ensures
-    ∙ ap (λ (cs : List ℕ). settle_row c.args.controls.now cs (overwritten c.args.values.now c.args.pairs.now cs)) c.members-members.ensures.members)
+    (c.settle_row.ensures.row ∙ ap (settle_row c.args.ranges.now c.members-members.result.now) c.overwritten-row.ensures
+    ∙ ap (λ (cs : List ℕ). settle_row c.args.ranges.now cs (overwritten c.args.values.now c.args.pairs.now cs)) c.members-members.ensures.members)
     ∙ c.in-Ok.is in
     c.judge.ensures.counted ∙ ap (λ (n : ℕ). record c.args.work.now { asked = n }) (asked_settled (calls_of c.args.plan.now k).validator _ c.in-Ok.row c.args.work.now.asked settled)
 
@@ -27,9 +27,9 @@ pub returns-in-Err-clause-counted : goal.returns-in-Err-clause-counted
 unfolding asks_validator
 returns-in-Err-clause-counted g c =
     let k : ℕ = c.args.cluster in
-    let unsettled : settle_row c.args.controls.now (members c.args.plan.now k) (overwritten c.args.values.now c.args.pairs.now (members c.args.plan.now k)) ≡ Err c.in-Err.errno =
+    let unsettled : settle_row c.args.ranges.now (members c.args.plan.now k) (overwritten c.args.values.now c.args.pairs.now (members c.args.plan.now k)) ≡ Err c.in-Err.errno =
     sym
-    (c.settle_row.ensures.row ∙ ap (settle_row c.args.controls.now c.members-members.result.now) c.overwritten-row.ensures
-    ∙ ap (λ (cs : List ℕ). settle_row c.args.controls.now cs (overwritten c.args.values.now c.args.pairs.now cs)) c.members-members.ensures.members)
+    (c.settle_row.ensures.row ∙ ap (settle_row c.args.ranges.now c.members-members.result.now) c.overwritten-row.ensures
+    ∙ ap (λ (cs : List ℕ). settle_row c.args.ranges.now cs (overwritten c.args.values.now c.args.pairs.now cs)) c.members-members.ensures.members)
     ∙ c.in-Err.is in
     ap (λ (n : ℕ). record c.args.work.now { asked = n }) (asked_unsettled (calls_of c.args.plan.now k).validator _ c.in-Err.errno c.args.work.now.asked unsettled)

@@ -4,4 +4,4 @@ use Rattle.ctrl_clusters.proofs.rows.takes_row.Given as goal
 
 -- the answer stands among the members that are left
 abbrev pub invariant-loop-place : goal.invariant-loop-place
-invariant-loop-place l = takes_row l.controls (drop l.place l.members) (drop l.place l.row) ≡ takes_row l.controls l.members l.row
+invariant-loop-place l = takes_row l.ranges (drop l.place l.members) (drop l.place l.row) ≡ takes_row l.ranges l.members l.row

@@ -21,11 +21,11 @@ set_row_result-requires-clause-values g c =
 pub set_row_result-requires-clause-room : goal.set_row_result-requires-clause-room
 unfolding AreKeptFrames
 set_row_result-requires-clause-room g c =
-    let s : Setting = setting g.D.Validates.verdict c.args.plan.now c.args.controls.now c.args.grabs.now c.args.values.now in
+    let s : Setting = setting g.D.Validates.verdict c.args.plan.now c.args.ranges.now c.args.grabs.now c.args.values.now in
     let fs : List FrameData = c.args.frames.now.items in
     let p : ℕ = c.args.place in
     let k : ℕ = c.args.cluster in
-    let fails : Values → List Pair → Bool = λ base pairs. is_err (row_after g.D.Validates.verdict c.args.plan.now c.args.controls.now base c.args.grabs.now pairs k) in
+    let fails : Values → List Pair → Bool = λ base pairs. is_err (row_after g.D.Validates.verdict c.args.plan.now c.args.ranges.now base c.args.grabs.now pairs k) in
     let own : c.index_mut-frame.result.now ≡ frame_at fs p = get_or_read_under fs p (length fs) c.index_mut-frame.result.now no_frame c.index_mut-frame.ensures.value c.requires.place refl in
     let read : c.index.result.now ≡ frame_at fs p = get_or_read_under fs p (length fs) c.index.result.now no_frame c.index.ensures c.requires.place refl in
     let asks : c.asked-asked.result.now ≡ (frame_at fs p).asked = c.asked-asked.ensures ∙ ap (λ (f : FrameData). f.asked) read in

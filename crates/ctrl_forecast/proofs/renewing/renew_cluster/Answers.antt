@@ -11,18 +11,18 @@ use Rattle.ctrl_forecast.proofs.renewing.renew_cluster.Goals as goal
 
 pub loop-place-init : goal.loop-place-init
 loop-place-init g c =
-    let s : Setting = setting g.D.Validates.verdict c.args.plan.now c.args.controls.now c.args.grabs.now c.args.values.now in
+    let s : Setting = setting g.D.Validates.verdict c.args.plan.now c.args.ranges.now c.args.grabs.now c.args.values.now in
     let none : c.args.from - c.args.from ≡ 0 = omega arith in
     record {
       renewed = renewed_none s c.args.cluster c.args.from c.args.frames.now.items c.requires.frames c.requires.before;
       many = refl;
-      counted = calls_none c.args.work.now.asked (omega arith) ∙ ap (λ (n : ℕ). with_calls (count_by (asks_at g.D.Validates.verdict c.args.plan.now c.args.controls.now c.args.grabs.now c.args.values.now (map queued_of c.args.frames.now.items) c.args.cluster) (range_with_len c.args.from n)) c.args.work.now.asked) (sym none);
+      counted = calls_none c.args.work.now.asked (omega arith) ∙ ap (λ (n : ℕ). with_calls (count_by (asks_at g.D.Validates.verdict c.args.plan.now c.args.ranges.now c.args.grabs.now c.args.values.now (map queued_of c.args.frames.now.items) c.args.cluster) (range_with_len c.args.from n)) c.args.work.now.asked) (sym none);
       told = refl;
     }
 
 pub loop-place-preserved : goal.loop-place-preserved
 loop-place-preserved g c =
-    let s : Setting = setting g.D.Validates.verdict c.args.plan.now c.args.controls.now c.args.grabs.now c.args.values.now in
+    let s : Setting = setting g.D.Validates.verdict c.args.plan.now c.args.ranges.now c.args.grabs.now c.args.values.now in
     let fs : List FrameData = c.loop-place.frames.items in
     let p : ℕ = c.loop-place.place in
     let k : ℕ = c.args.cluster in
@@ -38,7 +38,7 @@ loop-place-preserved g c =
 pub returns-clause-counted : goal.returns-clause-counted
 returns-clause-counted g c =
     let old : List FrameData = c.args.frames.now.items in
-    let there : ℕ → Bool = asks_at g.D.Validates.verdict c.args.plan.now c.args.controls.now c.args.grabs.now c.args.values.now (map queued_of old) c.args.cluster in
+    let there : ℕ → Bool = asks_at g.D.Validates.verdict c.args.plan.now c.args.ranges.now c.args.grabs.now c.args.values.now (map queued_of old) c.args.cluster in
     let all : c.loop-place.place - c.args.from ≡ length (map queued_of old) - c.args.from =
     omega (arith, c.loop-place-test.false, c.loop-place.auto.place, c.loop-place.auto.place-end, c.len-place-end.ensures, c.args.frames.now.ok, c.requires.from, length-map old queued_of) in
     c.loop-place.invariant.counted ∙ ap (λ (n : ℕ). with_calls (count_by there (range_with_len c.args.from n)) c.args.work.now.asked) all

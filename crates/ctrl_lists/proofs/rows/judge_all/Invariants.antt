@@ -11,7 +11,7 @@ abbrev pub invariant-loop-place : goal.invariant-loop-place
 invariant-loop-place g l = record {
   none : first_from (judging_refusal g.D.Validates.verdict l.plan l.view l.laid) l.place (drop l.place l.pairs) ≡ at_first (judging_refusal g.D.Validates.verdict l.plan l.view l.laid) l.pairs;
   each : clusters_of l.rows.rows ≡ touched l.plan (take l.place l.pairs);
-  become : AreRows g.D.Validates.verdict l.plan l.view.controls l.view.values l.laid l.rows.rows;
+  become : AreRows g.D.Validates.verdict l.plan l.view.ranges l.view.values l.laid l.rows.rows;
   within : All (λ r. r.cluster < length l.plan.clusters) l.rows.rows;
   long : All (λ r. length r.row ≡ length (members l.plan r.cluster)) l.rows.rows;
   few : length l.rows.rows ≤ l.place;

@@ -2,6 +2,7 @@
 use super::looks::{Look, holds, shows};
 use super::planning::{BYTE, Made, Named, plan_of};
 use crate::cluster::common::are_of;
+use ctrl_clusters::Ranges;
 use ctrl_types::{CtrlValue, Errno};
 use std::alloc::Global;
 use std::process::Abort;
@@ -287,8 +288,9 @@ fn holds_under(rt: &impl Abort, alloc: Global, made: &[Made], looks: &[Look]) ->
     if plan.controls().len() != 2 || !are_of(&plan, other.controls()) {
         return Err(Fail::new("two controls"));
     }
+    let ranges = Ranges::of_plan(alloc, &other)?;
     for (row, &look) in looks.iter().enumerate() {
-        let is_shown = shows(alloc, &plan, other.controls(), &[5, 11], look)?;
+        let is_shown = shows(alloc, &plan, &ranges, &[5, 11], look)?;
         assert!(rt; is_shown, "look {row}");
     }
     Ok(())

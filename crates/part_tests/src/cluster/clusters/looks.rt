@@ -8,10 +8,9 @@ use crate::cluster::common::pairs_of;
 use crate::cluster::driver::Strict;
 use bitflags::Flags as FlagSet;
 use ctrl_calls::{ClusterRow, Work};
-use ctrl_clusters::{flags_under, inactive, judge, present_row, validated_row};
+use ctrl_clusters::{Ranges, flags_under, inactive, judge, present_row, validated_row};
 use ctrl_forecast::overlay;
 use ctrl_handlers::Plan;
-use ctrl_settle::Ctrl;
 use ctrl_types::{CtrlValue, Errno, Pair};
 use std::alloc::{AllocError, Global};
 use std::process::Abort;
@@ -46,33 +45,33 @@ fn is_answer(answer: Result<ClusterRow, Errno>, want: Answer) -> bool {
 
 fn is_becoming(
     plan: &Plan<Strict>,
-    controls: &[Ctrl],
+    ranges: &Ranges,
     values: &[CtrlValue],
     cluster: u32,
     pairs: &[Pair],
     want: Answer,
     asked: u64,
 ) -> bool
-    requires controls { AreControlsOf plan.now controls.now }
+    requires ranges { AreControlsOf plan.now ranges.now }
     requires values { length values.now ≡ length plan.now.controls }
 {
     if cluster >= plan.cluster_count() {
         return false;
     }
     let mut work = Work::new();
-    let row = validated_row(plan, controls, cluster, values, pairs, &mut work);
+    let row = validated_row(plan, ranges, cluster, values, pairs, &mut work);
     is_answer(row, want) && is_work(&work, asked, 0)
 }
 
 fn is_judged(
     plan: &Plan<Strict>,
-    controls: &[Ctrl],
+    ranges: &Ranges,
     cluster: u32,
     row: &[CtrlValue],
     want: Answer,
     asked: u64,
 ) -> bool
-    requires controls { AreControlsOf plan.now controls.now }
+    requires ranges { AreControlsOf plan.now ranges.now }
 {
     if cluster >= plan.cluster_count() || row.len() != plan.members(cluster).len() {
         return false;
@@ -81,7 +80,7 @@ fn is_judged(
         return false;
     };
     let mut work = Work::new();
-    let row = judge(plan, controls, cluster, &row, &mut work);
+    let row = judge(plan, ranges, cluster, &row, &mut work);
     is_answer(row, want) && is_work(&work, asked, 0)
 }
 
@@ -111,17 +110,17 @@ fn has_flags(
 fn lays(
     alloc: Global,
     plan: &Plan<Strict>,
-    controls: &[Ctrl],
+    ranges: &Ranges,
     values: &[CtrlValue],
     grabs: &[bool],
     pairs: &[Pair],
     want: (&[CtrlValue], &[u32], u64),
 ) -> Result<bool, AllocError>
-    requires controls { AreControlsOf plan.now controls.now }
+    requires ranges { AreControlsOf plan.now ranges.now }
     requires values { length values.now ≡ length plan.now.controls }
 {
     let mut work = Work::new();
-    let laid = overlay(alloc, plan, controls, values, grabs, pairs, &mut work)?;
+    let laid = overlay(alloc, plan, ranges, values, grabs, pairs, &mut work)?;
     let is_laid = laid.values.as_slice() == want.0 && laid.refused.as_slice() == want.1;
     Ok(is_laid && is_work(&work, want.2, 0))
 }
@@ -129,28 +128,20 @@ fn lays(
 pub fn shows(
     alloc: Global,
     plan: &Plan<Strict>,
-    controls: &[Ctrl],
+    ranges: &Ranges,
     values: &[CtrlValue],
     look: Look,
 ) -> Result<bool, Fail>
-    requires controls { AreControlsOf plan.now controls.now }
+    requires ranges { AreControlsOf plan.now ranges.now }
     requires values { length values.now ≡ length plan.now.controls }
 {
     Ok(match look {
         Look::Becomes(cluster, asked, want, count) => {
             let pairs = pairs_of(alloc, asked)?;
-            is_becoming(
-                plan,
-                controls,
-                values,
-                cluster,
-                pairs.as_slice(),
-                want,
-                count,
-            )
+            is_becoming(plan, ranges, values, cluster, pairs.as_slice(), want, count)
         }
         Look::Judges(cluster, row, want, asked) => {
-            is_judged(plan, controls, cluster, row, want, asked)
+            is_judged(plan, ranges, cluster, row, want, asked)
         }
         Look::Row(members, want) => has_row(values, members, want),
         Look::Inactive(control, want) => {
@@ -160,7 +151,7 @@ pub fn shows(
         Look::Lays(grabs, asked, want, refused, count) => {
             let pairs = pairs_of(alloc, asked)?;
             let want = (want, refused, count);
-            lays(alloc, plan, controls, values, grabs, pairs.as_slice(), want)?
+            lays(alloc, plan, ranges, values, grabs, pairs.as_slice(), want)?
         }
     })
 }
@@ -178,8 +169,9 @@ pub fn holds(
     if values.len() != plan.controls().len() {
         return Err(Fail::new("a value for each control"));
     }
+    let ranges = Ranges::of_plan(alloc, &plan)?;
     for (row, &look) in looks.iter().enumerate() {
-        let is_shown = shows(alloc, &plan, plan.controls(), values, look)?;
+        let is_shown = shows(alloc, &plan, &ranges, values, look)?;
         assert!(rt; is_shown, "look {row}");
     }
     Ok(())

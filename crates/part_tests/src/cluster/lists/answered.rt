@@ -1,6 +1,7 @@
 // What lists are answered.
 use super::listing::{CAMERA, Call, Case, Entry, FIRST, holds, plan_of, shows};
 use crate::cluster::common::are_of;
+use ctrl_clusters::Ranges;
 use ctrl_types::{Errno, Which};
 use std::test::Fail;
 
@@ -280,8 +281,9 @@ fn other_defaults(rt: HostRuntime) -> Result<(), Fail> {
     if !are_of(&plan, other.controls()) {
         return Err(Fail::new("two controls"));
     }
+    let ranges = Ranges::of_plan(alloc, &other)?;
     for (row, &case) in DEFAULTS.iter().enumerate() {
-        let is_shown = shows(alloc, &plan, other.controls(), case)?;
+        let is_shown = shows(alloc, &plan, &ranges, case)?;
         assert!(rt; is_shown, "case {row}");
     }
     Ok(())

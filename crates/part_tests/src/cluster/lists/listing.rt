@@ -6,6 +6,7 @@ use crate::cluster::common::pairs_of;
 use crate::cluster::driver::{Judge, Strict, relation};
 use bitflags::Flags as FlagSet;
 use ctrl_calls::{Calls, Validator, Work};
+use ctrl_clusters::Ranges;
 use ctrl_handlers::{Plan, PlanBuilder};
 use ctrl_lists::{ControlList, View, plan_set, read_list, try_list};
 use ctrl_settle::Ctrl;
@@ -132,7 +133,7 @@ fn answer(
     work: &mut Work,
 ) -> Result<ControlList, Fault>
     requires which { view.now.which ≡ which }
-    requires controls { AreControlsOf plan.now view.now.controls }
+    requires ranges { AreControlsOf plan.now view.now.ranges }
     requires values { length view.now.values ≡ length plan.now.controls }
     requires grabs { length view.now.grabs ≡ length plan.now.controls }
 {
@@ -170,14 +171,9 @@ fn is_answer(answer: &Result<ControlList, Fault>, want: Answer) -> bool {
     }
 }
 
-/// Whether the call is answered so, where a plan's controls are these.
-pub fn shows(
-    alloc: Global,
-    plan: &Plan<Strict>,
-    controls: &[Ctrl],
-    case: Case,
-) -> Result<bool, Fail>
-    requires controls { AreControlsOf plan.now controls.now }
+/// Whether the call is answered so, where a plan's controls have these ranges.
+pub fn shows(alloc: Global, plan: &Plan<Strict>, ranges: &Ranges, case: Case) -> Result<bool, Fail>
+    requires ranges { AreControlsOf plan.now ranges.now }
 {
     let (call, which, before, entries, want, asked) = case;
     let count = plan.controls().len();
@@ -186,7 +182,7 @@ pub fn shows(
     }
     let pairs = pairs_of(alloc, before)?;
     let (values, grabs) = (&VALUES[..count], &GRABS[..count]);
-    let view = View::new(0, which, controls, values, grabs, pairs.as_slice());
+    let view = View::new(0, which, ranges, values, grabs, pairs.as_slice());
     let list = list_of(alloc, entries)?;
     let mut work = Work::new();
     let got = answer(alloc, plan, &view, which, call, &list, &mut work);
@@ -196,8 +192,9 @@ pub fn shows(
 /// The plan of six answers these.
 pub fn holds(rt: &impl Abort, alloc: Global, cases: &[Case]) -> Result<(), Fail> {
     let plan = plan_of(alloc, SIX)?;
+    let ranges = Ranges::of_plan(alloc, &plan)?;
     for (row, &case) in cases.iter().enumerate() {
-        let is_shown = shows(alloc, &plan, plan.controls(), case)?;
+        let is_shown = shows(alloc, &plan, &ranges, case)?;
         assert!(rt; is_shown, "case {row}");
     }
     Ok(())

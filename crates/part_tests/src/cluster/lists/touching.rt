@@ -1,6 +1,7 @@
 // What a set makes of the clusters that it touches.
 use super::listing::{FIRST, SIX, VALUES, are_entries, list_of, plan_of};
 use ctrl_calls::{ClusterRow, Work};
+use ctrl_clusters::Ranges;
 use ctrl_lists::{Touched, View, plan_set};
 use ctrl_types::{CtrlValue, Pair, Which};
 use std::test::Fail;
@@ -44,14 +45,8 @@ fn rows_of_a_set(rt: HostRuntime) -> Result<(), Fail> {
     if plan.controls().len() != 6 {
         return Err(Fail::new("six controls"));
     }
-    let view = View::new(
-        0,
-        Which::Current,
-        plan.controls(),
-        &VALUES,
-        &[false; 6],
-        &[],
-    );
+    let ranges = Ranges::of_plan(alloc, &plan)?;
+    let view = View::new(0, Which::Current, &ranges, &VALUES, &[false; 6], &[]);
     let list = list_of(alloc, &[(FIRST + 4, 1), (FIRST + 1, 2)])?;
     match plan_set(alloc, &plan, &view, &list, &mut Work::new()) {
         Ok(touched) => {

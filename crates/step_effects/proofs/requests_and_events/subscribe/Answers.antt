@@ -9,8 +9,8 @@ use Rattle.step_effects.proofs.requests_and_events.subscribe.Goals as goal
 
 -- the file handle is subscribed, and told where it asks for it
 pub returns-in-Ok-clause-ok : goal.returns-in-Ok-clause-ok
-returns-in-Ok-clause-ok g c verdicts e older is v gs j =
+returns-in-Ok-clause-ok g c verdicts e older is r v gs j =
     c.in-Ok.ensures.ok j.0
     ∙ ap (λ (x : Changes). only_at c.args.fh.0 (after_subscribe c.args.control c.args.flags x c.payload_at-payload.result) j.0 (events_of c.args.events.now j.0)) c.initial_changes-changes.ensures
-    ∙ ap (λ (x : Payload). only_at c.args.fh.0 (after_subscribe c.args.control c.args.flags (initial_changes (control c.args.plan.now c.args.control)) x) j.0 (events_of c.args.events.now j.0)) c.payload_at-payload.ensures
-    ∙ subscribed_step verdicts c.args.plan.now e older c.args.at.now c.args.fh c.args.control c.args.flags j (events_of c.args.events.now j.0) is v gs
+    ∙ ap (λ (x : Payload). only_at c.args.fh.0 (after_subscribe c.args.control c.args.flags (initial_changes (control c.args.plan.now c.args.control).flags) x) j.0 (events_of c.args.events.now j.0)) c.payload_at-payload.ensures
+    ∙ subscribed_step verdicts c.args.plan.now e older c.args.at.now c.args.fh c.args.control c.args.flags j (events_of c.args.events.now j.0) is r v gs

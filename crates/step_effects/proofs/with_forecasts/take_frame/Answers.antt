@@ -1,9 +1,6 @@
 use Rattle.std.proofs.Common.{◌≡◌, ◌+◌, ℕ, List, Option, Some, None, drop, not, nat_eq, filter, ap, sym, ◌∙◌, arith}
 use Rattle.std.specs.List.{position_from, remove}
 use Rattle.std.proofs.lemmas.Iterator.Adapters.{position_from-zero}
-use Rattle.ctrl_settle.specs.Control.{Control}
-use Rattle.ctrl_clusters.specs.Judging.{with_calls}
-use Rattle.ctrl_forecast.specs.Asking.{renewing_count}
 use Rattle.ctrl_forecast.specs.Boards.{asked_at, board_of, named_clusters}
 use Rattle.ctrl_forecast.specs.Forecasts.{QueuedData, named_by_frames}
 use Rattle.step_effects.specs.QueuedFrames.{counted_removing, named_behind}
@@ -18,8 +15,7 @@ returns-in-Some-clause-board g c =
     let taken = one_found c.args.plan.now c.args.request.0 0 c.in-Some.place queued c.requires.once found in
     let at : c.in-Some.place ≡ taken.0 = omega (arith, taken.1) in
     let same : remove queued c.in-Some.place ≡ filter (λ q. not (nat_eq c.args.request.0 q.request.0)) queued = ap (remove queued) at ∙ taken.2 in
-    c.remove.ensures.frames ∙ ap (λ (cs : List Control). board_of g.D.Validates.verdict c.args.plan.now cs c.args.grabs.now c.args.values.now (remove queued c.in-Some.place)) c.controls.ensures.controls
-    ∙ ap (board_of g.D.Validates.verdict c.args.plan.now c.args.plan.now.controls c.args.grabs.now c.args.values.now) same
+    c.remove.ensures.frames ∙ ap (board_of g.D.Validates.verdict c.args.plan.now c.args.ranges.now c.args.grabs.now c.args.values.now) same
 
 -- the clusters that it names are judged anew in the frames behind it that name them
 pub returns-in-Some-clause-asked : goal.returns-in-Some-clause-asked
@@ -36,8 +32,7 @@ pub returns-in-Some-clause-counted : goal.returns-in-Some-clause-counted
 returns-in-Some-clause-counted g c =
     let queued : List QueuedData = c.args.board.now.queued in
     c.remove.ensures.counted
-    ∙ ap (λ (cs : List Control). with_calls (renewing_count g.D.Validates.verdict c.args.plan.now cs c.args.grabs.now c.args.values.now (remove queued c.in-Some.place) c.in-Some.place (named_clusters c.args.plan.now (asked_at queued c.in-Some.place))) c.args.work.now.asked) c.controls.ensures.controls
-    ∙ ap (λ (o : Option ℕ). counted_removing g.D.Validates.verdict c.args.plan.now c.args.grabs.now c.args.values.now queued o c.args.work.now.asked) c.in-Some.ensures
+    ∙ ap (λ (o : Option ℕ). counted_removing g.D.Validates.verdict c.args.plan.now c.args.ranges.now c.args.grabs.now c.args.values.now queued o c.args.work.now.asked) c.in-Some.ensures
 
 -- none is of the request
 pub returns-in_default-clause-board : goal.returns-in_default-clause-board
@@ -45,4 +40,4 @@ returns-in_default-clause-board g c =
     let queued : List QueuedData = c.args.board.now.queued in
     let none : position_from (λ q. nat_eq c.args.request.0 q.request.0) 0 queued ≡ None = sym (position_from-zero (λ (q : QueuedData). nat_eq c.args.request.0 q.request.0) queued) ∙ sym c.in_default.ensures in
     c.requires.board
-    ∙ ap (board_of g.D.Validates.verdict c.args.plan.now c.args.plan.now.controls c.args.grabs.now c.args.values.now) (sym (none_found c.args.request.0 0 queued none))
+    ∙ ap (board_of g.D.Validates.verdict c.args.plan.now c.args.ranges.now c.args.grabs.now c.args.values.now) (sym (none_found c.args.request.0 0 queued none))

@@ -24,7 +24,7 @@ loop-frame-preserved g c =
     ap (λ (l : List QueuedData). l ++ c.frame-item.result ∷ []) (ap (λ (b : BoardData). b.queued) c.loop-frame.invariant.kept)
     ∙ ap (λ (q : QueuedData). take i c.args.queued.now ++ q ∷ []) c.frame-item.is ∙ sym (take_more c.args.queued.now i c.frame-item.result c.loop-frame-test.true) in
     record {
-      kept = c.in_ok-push.ensures.ok ∙ ap (board_of g.D.Validates.verdict c.args.plan.now c.args.controls.now c.args.grabs.now c.args.values.now) asks;
+      kept = c.in_ok-push.ensures.ok ∙ ap (board_of g.D.Validates.verdict c.args.plan.now c.args.ranges.now c.args.grabs.now c.args.values.now) asks;
       asked = omega (arith, c.loop-frame.invariant.asked, c.push.ensures.asked, own, touched_next c.args.plan.now c.args.queued.now i c.frame-item.result c.loop-frame-test.true);
       told = c.push.ensures.told ∙ c.loop-frame.invariant.told;
     }

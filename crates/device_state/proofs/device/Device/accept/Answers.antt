@@ -2,7 +2,7 @@ use Rattle.std.proofs.Common.{List, [], ◌∷◌, ◌++◌, ℕ, length, ◌≡
 use Rattle.history.specs.declared.entry.Entry.{Entry}
 use Rattle.history.specs.Past.{past}
 use Rattle.ctrl_types.specs.declared.ids.Pair.{Pair}
-use Rattle.ctrl_clusters.specs.Rows.{Values}
+use Rattle.ctrl_clusters.specs.Rows.{Values, AreControlsOf}
 use Rattle.frame_queue.specs.Frames.{FramesData}
 use Rattle.device_history.specs.declared.ask.Step.{Step}
 use Rattle.device_history.specs.FrameSteps.{frames_changed}
@@ -17,6 +17,8 @@ use Rattle.device_history.specs.Forecasts.{queued_frames}
 use Rattle.device_state.proofs.BoardLemmas.{board_own, board_same, line_bound, queued_once}
 use Rattle.device_state.proofs.KeptLemmas.{kept_controls_left, numbered}
 use Rattle.ctrl_calls.specs.declared.work.Work.{Work}
+use Rattle.device_history.specs.Ranges.{ranges_now}
+use Rattle.device_history.proofs.RangeLemmas.{ranges_own}
 use Rattle.device_state.proofs.device.Device.accept.Goals as goal
 
 -- the step fits what is kept
@@ -27,7 +29,10 @@ change_with_forecasts-changed-requires-clause-fits g c =
     subst (λ (n : ℕ). FitsIn n c.args.step device.frames) number
     (fits_in g.D.Validates.verdict device.plan device.steps.items device.frames c.args.step c.self.invariant.frames c.self.invariant.legal (rw (← c.self.view_is) at c.requires.follows) c.requires.leaves (rw (← c.self.view_is) at c.requires.known))
 
--- there is a value and a grab for each control
+-- there is a range, a value and a grab for each control
+pub change_with_forecasts-changed-requires-clause-ranges : goal.change_with_forecasts-changed-requires-clause-ranges
+change_with_forecasts-changed-requires-clause-ranges g c = subst (AreControlsOf c.self.inside.plan) (sym c.self.invariant.ranges) (ranges_own c.self.inside.plan (past c.self.inside.steps.items))
+
 pub change_with_forecasts-changed-requires-clause-values : goal.change_with_forecasts-changed-requires-clause-values
 change_with_forecasts-changed-requires-clause-values g c =
     let device = c.self.inside in
@@ -49,8 +54,8 @@ change_with_forecasts-changed-requires-clause-numbers g c = numbered g.D.Validat
 pub change_with_forecasts-changed-requires-clause-board : goal.change_with_forecasts-changed-requires-clause-board
 change_with_forecasts-changed-requires-clause-board g c =
     let device = c.self.inside in
-    board_own g.D.Validates.verdict device.plan (grabbed device.plan (past device.steps.items)) _ (now g.D.Validates.verdict device.plan (past device.steps.items)) _ (queued_frames device.plan (past device.steps.items)) device.board c.self.invariant.board
-    (c.as_slice-2.ensures.value ∙ c.self.invariant.grabs) (c.as_slice.ensures.value ∙ c.self.invariant.values)
+    board_own g.D.Validates.verdict device.plan (ranges_now device.plan (past device.steps.items)) _ (grabbed device.plan (past device.steps.items)) _ (now g.D.Validates.verdict device.plan (past device.steps.items)) _ (queued_frames device.plan (past device.steps.items)) device.board c.self.invariant.board
+    c.self.invariant.ranges (c.as_slice-2.ensures.value ∙ c.self.invariant.grabs) (c.as_slice.ensures.value ∙ c.self.invariant.values)
 
 pub change_with_forecasts-changed-requires-clause-once : goal.change_with_forecasts-changed-requires-clause-once
 change_with_forecasts-changed-requires-clause-once g c =
@@ -71,8 +76,8 @@ invariant_of-self-in-Ok g c =
     ∙ ap (λ (n : ℕ). frames_changed (now g.D.Validates.verdict device.plan P) [] n c.args.step device.frames) number
     ∙ ap (λ (l : List Pair). frames_changed (now g.D.Validates.verdict device.plan P) l (length device.steps.items) c.args.step device.frames)
     (sym (given_controls_left g.D.Validates.verdict device.plan P c.args.step c.requires.leaves)))
-    (c.in-Ok.ensures.events g.D.Validates.verdict entry P refl (c.as_slice.ensures.value ∙ c.self.invariant.values) (c.as_slice-2.ensures.value ∙ c.self.invariant.grabs))
-    (c.in-Ok.ensures.board ∙ board_same g.D.Validates.verdict device.plan c.as_slice-2.ensures.value c.as_slice.ensures.value refl)
+    (c.in-Ok.ensures.events g.D.Validates.verdict entry P refl c.self.invariant.ranges (c.as_slice.ensures.value ∙ c.self.invariant.values) (c.as_slice-2.ensures.value ∙ c.self.invariant.grabs))
+    (c.in-Ok.ensures.board ∙ board_same g.D.Validates.verdict device.plan refl c.as_slice-2.ensures.value c.as_slice.ensures.value refl)
 
 -- validators are asked as often as is said
 pub returns-in-Ok-clause-asked : goal.returns-in-Ok-clause-asked

@@ -12,6 +12,7 @@ use Rattle.device_state.proofs.KeptLemmas.{around, moment, numbered}
 use Rattle.ctrl_forecast.specs.Boards.{BoardData}
 use Rattle.device_state.proofs.BeginLemmas.{begin_reply, begin_some, begun_board, begun_first, begun_some, kept_begin, length_begun}
 use Rattle.device_state.proofs.device.Device.accept_begin.Goals.{in-Ok, in-Err}
+use Rattle.device_history.proofs.RangeLemmas.{ranges_own}
 use Rattle.device_state.proofs.device.Device.accept_begin.Goals as goal
 
 -- there is a value for each control
@@ -29,7 +30,13 @@ notify_between-requires-clause-after g c =
     (sym (ap (λ (b : BoardData). slice_get b.forecasts 0) c.self.invariant.board) ∙ sym c.pop.ensures.first ∙ c.in-Some.is) in
     ap length (c.as_slice-2.ensures ∙ first.0) ∙ length_begun g.D.Validates.verdict device.plan (past device.steps.items) c.args.begun.request.0
 
--- there is a value and a grab for each control, before and afterwards
+-- there is a range, a value and a grab for each control, before and afterwards
+pub raise_step-requires-clause-ranges_before : goal.raise_step-requires-clause-ranges_before
+raise_step-requires-clause-ranges_before g c = ap (λ (m : MomentData). length m.ranges) c.new.ensures ∙ ap length c.self.invariant.ranges ∙ (ranges_own c.self.inside.plan (past c.self.inside.steps.items)).many
+
+pub raise_step-requires-clause-ranges : goal.raise_step-requires-clause-ranges
+raise_step-requires-clause-ranges g c = ap (λ (m : MomentData). length m.ranges) c.new-2.ensures ∙ ap length c.self.invariant.ranges ∙ (ranges_own c.self.inside.plan (past c.self.inside.steps.items)).many
+
 pub raise_step-requires-clause-values_before : goal.raise_step-requires-clause-values_before
 raise_step-requires-clause-values_before g c =
     let device = c.self.inside in
@@ -74,6 +81,7 @@ invariant_of-self-2 g c =
     (rw (c.as_slice.ensures.value, c.as_slice-2.ensures, c.as_slice-3.ensures.value) at c.notify_between.ensures.words)
     (c.raise_step.ensures g.D.Validates.verdict entry (past device.steps.items)
     (around g.D.Validates.verdict g.D.Notifies.told device.plan device.steps.items _ entry c.new.result c.new-2.result c.self.invariant (c.new.ensures ∙ moment c.as_slice-4.ensures.value c.as_slice-5.ensures.value)
+    (ap (λ (m : MomentData). m.ranges) c.new-2.ensures)
     (ap (λ (m : MomentData). m.values) c.new-2.ensures ∙ c.as_slice-6.ensures ∙ first.0)
     (ap (λ (m : MomentData). m.grabs) c.new-2.ensures ∙ c.as_slice-7.ensures.value ∙ c.self.invariant.grabs))
     (c.as_slice-8.ensures.value ∙ begun.are_applied, refl))

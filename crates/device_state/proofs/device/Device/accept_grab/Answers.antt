@@ -2,7 +2,7 @@ use Rattle.std.proofs.Common.{ℕ, List, [], ◌∷◌, ◌++◌, ◌≡◌, ◌
 use Rattle.history.specs.declared.entry.Entry.{Entry}
 use Rattle.history.specs.Past.{past}
 use Rattle.std.proofs.lemmas.List.Elements.{All-cons}
-use Rattle.ctrl_clusters.specs.Rows.{Grabs, is_grabbed}
+use Rattle.ctrl_clusters.specs.Rows.{Grabs, is_grabbed, AreControlsOf}
 use Rattle.ctrl_forecast.specs.Boards.{BoardData}
 use Rattle.ctrl_forecast.specs.Forecasts.{named_by_frames}
 use Rattle.ctrl_raises.specs.Raises.{MomentData}
@@ -13,9 +13,12 @@ use Rattle.device_state.specs.Device.{DeviceData, grab_asks}
 use Rattle.device_state.proofs.KeptLemmas.{around, kept_grab, grab_known, moment, numbered}
 use Rattle.device_history.specs.Values.{now}
 use Rattle.device_history.specs.Forecasts.{queued_frames}
-use Rattle.device_state.proofs.RenewLemmas.{board_kept, board_like, grab_apart}
+use Rattle.device_state.proofs.RenewLemmas.{grab_apart}
 use Rattle.device_history.proofs.GrabLemmas.{grabbed_more}
 use Rattle.device_history.proofs.PresentLemmas.{length_grabbed, length_now}
+use Rattle.device_state.proofs.BoardLemmas.{board_own, board_same}
+use Rattle.device_history.specs.Ranges.{ranges_now}
+use Rattle.device_history.proofs.RangeLemmas.{ranges_own}
 use Rattle.device_state.proofs.device.Device.accept_grab.Goals as goal
 
 -- the control is there
@@ -27,7 +30,13 @@ index_mut-requires g c =
     let many : length c.in_ok-grabs.grabs.items ≡ length device.plan.controls = ap length (c.in_ok-grabs.ensures ∙ c.as_slice.ensures.value ∙ c.self.invariant.grabs) ∙ length_grabbed device.plan (past device.steps.items) in
     omega (arith, known, many, c.in_ok-grabs.grabs.ok.0)
 
--- there is a value and a grab for each control, before and afterwards
+-- there is a range, a value and a grab for each control, before and afterwards
+pub raise_step-requires-clause-ranges_before : goal.raise_step-requires-clause-ranges_before
+raise_step-requires-clause-ranges_before g c = ap (λ (m : MomentData). length m.ranges) c.new.ensures ∙ ap length c.self.invariant.ranges ∙ (ranges_own c.self.inside.plan (past c.self.inside.steps.items)).many
+
+pub raise_step-requires-clause-ranges : goal.raise_step-requires-clause-ranges
+raise_step-requires-clause-ranges g c = ap (λ (m : MomentData). length m.ranges) c.new-2.ensures ∙ ap length c.self.invariant.ranges ∙ (ranges_own c.self.inside.plan (past c.self.inside.steps.items)).many
+
 pub raise_step-requires-clause-values_before : goal.raise_step-requires-clause-values_before
 raise_step-requires-clause-values_before g c =
     let device = c.self.inside in
@@ -69,10 +78,15 @@ invariant_of-self-2 g c =
     (ap (λ (gs : Grabs). slice_set gs c.args.control c.args.on) (c.in_ok-grabs.ensures ∙ c.as_slice.ensures.value))
     (c.raise_step.ensures g.D.Validates.verdict entry (past device.steps.items)
     (around g.D.Validates.verdict g.D.Notifies.told device.plan device.steps.items _ entry c.new.result c.new-2.result c.self.invariant (c.new.ensures ∙ moment c.as_slice-4.ensures.value c.as_slice-5.ensures.value)
+    (ap (λ (m : MomentData). m.ranges) c.new-2.ensures)
     (ap (λ (m : MomentData). m.values) c.new-2.ensures ∙ c.as_slice-6.ensures.value ∙ c.self.invariant.values)
     (ap (λ (m : MomentData). m.grabs) c.new-2.ensures ∙ c.as_slice-7.ensures.value ∙ kept))
     (refl, refl))
-    (c.renew.ensures.frames ∙ board_like g.D.Validates.verdict device.plan c.controls.ensures.controls c.as_slice-3.ensures.value c.as_slice-2.ensures.value refl)
+    (c.renew.ensures.frames ∙ board_same g.D.Validates.verdict device.plan refl c.as_slice-3.ensures.value c.as_slice-2.ensures.value refl)
+
+-- the ranges are of the plan's controls
+pub renew-requires-clause-ranges : goal.renew-requires-clause-ranges
+renew-requires-clause-ranges g c = subst (AreControlsOf c.self.inside.plan) (sym c.self.invariant.ranges) (ranges_own c.self.inside.plan (past c.self.inside.steps.items))
 
 -- there is a value for each control
 pub renew-requires-clause-values : goal.renew-requires-clause-values
@@ -86,12 +100,14 @@ renew-requires-clause-kept g c =
     let device = c.self.inside in
     let P : List (Entry Step) = past device.steps.items in
     let grabs : Grabs = c.in_ok-grabs.grabs.items in (
+      device.ranges,
       c.as_slice-2.result.now,
       grabs,
-      board_kept g.D.Validates.verdict device.plan c.controls.result.now (grabbed device.plan P) grabs (now g.D.Validates.verdict device.plan P) c.as_slice-2.result.now (queued_frames device.plan P) device.board c.self.invariant.board
-          c.controls.ensures.controls (c.in_ok-grabs.ensures ∙ c.as_slice.ensures.value ∙ c.self.invariant.grabs) (c.as_slice-2.ensures.value ∙ c.self.invariant.values),
+      board_own g.D.Validates.verdict device.plan (ranges_now device.plan P) device.ranges (grabbed device.plan P) grabs (now g.D.Validates.verdict device.plan P) c.as_slice-2.result.now (queued_frames device.plan P) device.board c.self.invariant.board
+          c.self.invariant.ranges (c.in_ok-grabs.ensures ∙ c.as_slice.ensures.value ∙ c.self.invariant.grabs) (c.as_slice-2.ensures.value ∙ c.self.invariant.values),
       record {
         many = refl;
+        ranges_stay = λ d apart. refl;
         values_stay = λ d apart. refl;
         grabs_stay = λ d apart. grab_apart device.plan grabs c.args.control c.cluster_of.result c.args.on d c.cluster_of.ensures.cluster apart ∙ ap (λ (gs : Grabs). is_grabbed gs d) (sym c.as_slice-3.ensures.value);
       },

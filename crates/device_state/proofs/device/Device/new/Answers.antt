@@ -9,6 +9,6 @@ pub invariant_of-result : goal.invariant_of-result
 invariant_of-result g c =
     let values = c.in-Ok.ensures ∙ ap (λ (cs : List Control). map (λ x. x.default_value) cs) c.controls.ensures.controls in
     kept_start g.D.Validates.verdict g.D.Notifies.told c.args.plan _ _ c.new-4.ensures.items c.new-2.ensures.empty
-    (c.in-Ok-no_grabs.ensures ∙ ap (λ (cs : List Control). map (λ _. false) cs) c.controls-2.ensures.controls) values
+    (c.in-Ok-no_grabs.ensures ∙ ap (λ (cs : List Control). map (λ _. false) cs) c.controls-2.ensures.controls) c.in-Ok-of_plan.ensures values
     (subst (λ (n : ℕ). ◌≡◌ {A = FramesData} c.in-Ok-new.frames (record { requests = record { controls = n; all = [] }; queue = []; running = None })) c.control_count.ensures.count c.in-Ok-new.ensures)
     (rw (c.as_slice.ensures.value, values) at c.in-Ok-first_words.ensures.words) c.controls.ensures.plan c.new-3.ensures c.empty.ensures

@@ -12,16 +12,19 @@ use Rattle.device_history.specs.Forecasts.{queued_frames}
 use Rattle.std.specs.List.{All}
 use Rattle.std.proofs.lemmas.List.Elements.{All-map}
 use Rattle.ctrl_handlers.specs.Plan.{cluster_of}
-use Rattle.ctrl_clusters.specs.Rows.{Values, value_at}
+use Rattle.ctrl_clusters.specs.Rows.{Values, value_at, AreControlsOf}
 use Rattle.ctrl_clusters.specs.NewRows.{clusters_of, written}
 use Rattle.ctrl_clusters.specs.declared.new_row.NewRow.{NewRow}
 use Rattle.ctrl_clusters.proofs.NewRowLemmas.{length_written}
 use Rattle.ctrl_calls.specs.declared.work.Work.{Work}
 use Rattle.ctrl_forecast.specs.Boards.{BoardData, is_in_one_of}
 use Rattle.ctrl_forecast.specs.Forecasts.{QueuedData, named_by_frames}
-use Rattle.device_state.proofs.RenewLemmas.{board_kept, board_like, written_apart}
+use Rattle.device_state.proofs.RenewLemmas.{written_apart}
 use Rattle.device_state.proofs.SetLemmas.{new_rows}
 use Rattle.device_history.proofs.PresentLemmas.{length_grabbed, length_now}
+use Rattle.device_state.proofs.BoardLemmas.{board_own, board_same}
+use Rattle.device_history.specs.Ranges.{ranges_now}
+use Rattle.device_history.proofs.RangeLemmas.{ranges_own}
 use Rattle.device_state.proofs.device.Device.write_list.Goals as goal
 
 -- there is a value for each control
@@ -40,15 +43,21 @@ pub notify_changed-requires-clause-rows : goal.notify_changed-requires-clause-ro
 notify_changed-requires-clause-rows g c =
     let device = c.self.inside in
     let sets = rw (← c.self.view_is) at c.requires.settable in
-    rw c.new_rows.ensures (new_rows g.D.Validates.verdict device.plan device.plan.controls _ _ c.args.touch.pairs c.args.touch.rows sets.judged)
+    rw c.new_rows.ensures (new_rows g.D.Validates.verdict device.plan (ranges_now device.plan (past device.steps.items)) _ _ c.args.touch.pairs c.args.touch.rows sets.judged)
 
 pub write_rows-requires-clause-rows : goal.write_rows-requires-clause-rows
 write_rows-requires-clause-rows g c =
     let device = c.self.inside in
     let sets = rw (← c.self.view_is) at c.requires.settable in
-    rw c.rows.ensures (new_rows g.D.Validates.verdict device.plan device.plan.controls _ _ c.args.touch.pairs c.args.touch.rows sets.judged)
+    rw c.rows.ensures (new_rows g.D.Validates.verdict device.plan (ranges_now device.plan (past device.steps.items)) _ _ c.args.touch.pairs c.args.touch.rows sets.judged)
 
--- there is a value and a grab for each control, before and afterwards
+-- there is a range, a value and a grab for each control, before and afterwards
+pub raise_step-requires-clause-ranges_before : goal.raise_step-requires-clause-ranges_before
+raise_step-requires-clause-ranges_before g c = ap (λ (m : MomentData). length m.ranges) c.new.ensures ∙ ap length c.self.invariant.ranges ∙ (ranges_own c.self.inside.plan (past c.self.inside.steps.items)).many
+
+pub raise_step-requires-clause-ranges : goal.raise_step-requires-clause-ranges
+raise_step-requires-clause-ranges g c = ap (λ (m : MomentData). length m.ranges) c.new-2.ensures ∙ ap length c.self.invariant.ranges ∙ (ranges_own c.self.inside.plan (past c.self.inside.steps.items)).many
+
 pub raise_step-requires-clause-values_before : goal.raise_step-requires-clause-values_before
 raise_step-requires-clause-values_before g c =
     let device = c.self.inside in
@@ -95,10 +104,15 @@ invariant_of-self-2 g c =
     written (rw (c.as_slice.ensures.value, c.pairs.ensures, c.new_rows.ensures) at c.notify_changed.ensures.words)
     (c.raise_step.ensures g.D.Validates.verdict (with c.args.touch.pairs) (past device.steps.items)
     (around g.D.Validates.verdict g.D.Notifies.told device.plan device.steps.items _ (with c.args.touch.pairs) c.new.result c.new-2.result c.self.invariant (c.new.ensures ∙ moment c.as_slice-5.ensures.value c.as_slice-6.ensures.value)
+    (ap (λ (m : MomentData). m.ranges) c.new-2.ensures)
     (ap (λ (m : MomentData). m.values) c.new-2.ensures ∙ c.as_slice-7.ensures.value ∙ lays)
     (ap (λ (m : MomentData). m.grabs) c.new-2.ensures ∙ c.as_slice-8.ensures.value ∙ c.self.invariant.grabs))
     (c.pairs-2.ensures, refl))
-    (c.renew.ensures.frames ∙ board_like g.D.Validates.verdict device.plan c.controls.ensures.controls c.as_slice-3.ensures.value c.as_slice-2.ensures.value refl)
+    (c.renew.ensures.frames ∙ board_same g.D.Validates.verdict device.plan refl c.as_slice-3.ensures.value c.as_slice-2.ensures.value refl)
+
+-- the ranges are of the plan's controls
+pub renew-requires-clause-ranges : goal.renew-requires-clause-ranges
+renew-requires-clause-ranges g c = subst (AreControlsOf c.self.inside.plan) (sym c.self.invariant.ranges) (ranges_own c.self.inside.plan (past c.self.inside.steps.items))
 
 -- there is a value for each control
 pub renew-requires-clause-values : goal.renew-requires-clause-values
@@ -129,12 +143,14 @@ renew-requires-clause-kept g c =
     let own : c.as_slice-4.result.now ≡ clusters_of rows = c.as_slice-4.ensures.value ∙ c.requires.clusters in
     let after : c.as_slice-2.result.now ≡ written device.plan device.values.items rows =
     c.as_slice-2.ensures.value ∙ c.write_rows.ensures ∙ ap (λ (v : Values). written device.plan v c.rows.result.now) copied ∙ ap (written device.plan device.values.items) c.rows.ensures in (
+      device.ranges,
       c.as_slice.result.now,
       c.as_slice-3.result.now,
-      board_kept g.D.Validates.verdict device.plan c.controls.result.now (grabbed device.plan P) c.as_slice-3.result.now (now g.D.Validates.verdict device.plan P) c.as_slice.result.now (queued_frames device.plan P) device.board
-          c.self.invariant.board c.controls.ensures.controls (c.as_slice-3.ensures.value ∙ c.self.invariant.grabs) (c.as_slice.ensures.value ∙ c.self.invariant.values),
+      board_own g.D.Validates.verdict device.plan (ranges_now device.plan P) device.ranges (grabbed device.plan P) c.as_slice-3.result.now (now g.D.Validates.verdict device.plan P) c.as_slice.result.now (queued_frames device.plan P) device.board
+          c.self.invariant.board c.self.invariant.ranges (c.as_slice-3.ensures.value ∙ c.self.invariant.grabs) (c.as_slice.ensures.value ∙ c.self.invariant.values),
       record {
         many = ap length c.as_slice.ensures.value ∙ sym (ap length after ∙ length_written device.plan device.values.items rows);
+        ranges_stay = λ d apart. refl;
         values_stay = λ d apart.
             ap (λ (v : Values). value_at v d) c.as_slice.ensures.value
             ∙ written_apart device.plan device.values.items rows d (subst (λ (l : List ℕ). is_in_one_of l (cluster_of device.plan d) ≡ false) own apart)

@@ -10,6 +10,7 @@ use Rattle.req_book.proofs.SettingLemmas.{known_latest}
 use Rattle.frame_queue.specs.Frames.{FramesData, after_begin}
 use Rattle.device_history.specs.declared.ask.Step.{Step}
 use Rattle.device_history.specs.declared.ask.Step.TheVariants as steps
+use Rattle.device_history.specs.Ranges.{ranges_now}
 use Rattle.device_history.specs.Grabs.{grabbed, grabbed_after}
 use Rattle.device_history.specs.Requests.{asked, since, stored}
 use Rattle.device_history.specs.Snapshots.{begun_pairs, begun_refused, begun_values}
@@ -21,6 +22,7 @@ use Rattle.device_history.specs.EventSteps.{AreAround}
 use Rattle.history_audit.specs.Replay.{ReplayData}
 use Rattle.history_audit.proofs.FollowLemmas.{begin_there}
 use Rattle.history_audit.proofs.MadeLemmas.{now_next, numbered, replay_add, replayed_next}
+use Rattle.device_history.proofs.RangeLemmas.{ranges_more, ranges_own}
 use Rattle.history_audit.proofs.replay.Replay.begin.Goals as goal
 
 -- the request is there
@@ -37,7 +39,7 @@ applied-requires-clause-values g c =
     let P : List (Entry Step) = past (take r.count r.steps.now) in
     let values = rw (← c.self.view_is) at c.in_ok-overlaid.ensures.values in
     ap length (c.as_slice.ensures ∙ values)
-    ∙ length_overlay g.D.Validates.verdict r.plan.now r.plan.now.controls (now g.D.Validates.verdict r.plan.now P) (grabbed r.plan.now P) (asked r.plan.now P c.args.request.0)
+    ∙ length_overlay g.D.Validates.verdict r.plan.now (ranges_now r.plan.now P) (now g.D.Validates.verdict r.plan.now P) (grabbed r.plan.now P) (asked r.plan.now P c.args.request.0)
     ∙ length_now g.D.Validates.verdict r.plan.now P
 
 -- it asks for controls that are there
@@ -48,7 +50,13 @@ applied-requires-clause-pairs g c =
     subst (λ (l : List Pair). All (λ p. p.control < length r.plan.now.controls) l) (sym asks)
     (known_latest (length r.plan.now.controls) (stored c.args.request.0 (since c.args.request.0 (past (take r.count r.steps.now)))))
 
--- there is a value and a grab for each control, before and afterwards
+-- there is a range, a value and a grab for each control, before and afterwards
+pub raise_step-requires-clause-ranges_before : goal.raise_step-requires-clause-ranges_before
+raise_step-requires-clause-ranges_before g c = ap (λ (m : MomentData). length m.ranges) c.new.ensures ∙ ap length c.self.invariant.made.ranges ∙ (ranges_own c.self.inside.plan.now (past (take c.self.inside.count c.self.inside.steps.now))).many
+
+pub raise_step-requires-clause-ranges : goal.raise_step-requires-clause-ranges
+raise_step-requires-clause-ranges g c = ap (λ (m : MomentData). length m.ranges) c.new-2.ensures ∙ ap length c.self.invariant.made.ranges ∙ (ranges_own c.self.inside.plan.now (past (take c.self.inside.count c.self.inside.steps.now))).many
+
 pub raise_step-requires-clause-values_before : goal.raise_step-requires-clause-values_before
 raise_step-requires-clause-values_before g c =
     let r = c.self.inside in
@@ -65,7 +73,7 @@ raise_step-requires-clause-values g c =
     let P : List (Entry Step) = past (take r.count r.steps.now) in
     let values = rw (← c.self.view_is) at c.in_ok-overlaid.ensures.values in
     ap (λ (m : MomentData). length m.values) c.new-2.ensures ∙ ap length (c.as_slice-5.ensures.value ∙ c.into_vec-values.ensures ∙ values)
-    ∙ length_overlay g.D.Validates.verdict r.plan.now r.plan.now.controls (now g.D.Validates.verdict r.plan.now P) (grabbed r.plan.now P) (asked r.plan.now P c.args.request.0)
+    ∙ length_overlay g.D.Validates.verdict r.plan.now (ranges_now r.plan.now P) (now g.D.Validates.verdict r.plan.now P) (grabbed r.plan.now P) (asked r.plan.now P c.args.request.0)
     ∙ length_now g.D.Validates.verdict r.plan.now P
 
 pub raise_step-requires-clause-grabs : goal.raise_step-requires-clause-grabs
@@ -93,14 +101,16 @@ invariant_of-self g c =
     ∙ ap (λ (l : List ℕ). applied_pairs r.plan.now (begun_values g.D.Validates.verdict r.plan.now P n) l c.asked_by.result.now) (c.as_slice-2.ensures ∙ refused)
     ∙ ap (λ (ps : List Pair). applied_pairs r.plan.now (begun_values g.D.Validates.verdict r.plan.now P n) (begun_refused g.D.Validates.verdict r.plan.now P n) ps) asks in
     let around : AreAround g.D.Validates.verdict r.plan.now c.args.entry.now P c.new.result c.new-2.result = record {
+      old_ranges = ap (λ (m : MomentData). m.ranges) c.new.ensures ∙ made.ranges;
       old_values = ap (λ (m : MomentData). m.values) c.new.ensures ∙ c.as_slice-3.ensures.value ∙ made.values;
       old_grabs = ap (λ (m : MomentData). m.grabs) c.new.ensures ∙ c.as_slice-4.ensures.value ∙ made.grabs;
+      ranges = ap (λ (m : MomentData). m.ranges) c.new-2.ensures ∙ made.ranges ∙ sym (ranges_more r.plan.now c.args.entry.now P);
       values = ap (λ (m : MomentData). m.values) c.new-2.ensures ∙ c.as_slice-5.ensures.value ∙ c.into_vec-values.ensures ∙ values
-          ∙ sym (now_next g.D.Validates.verdict r.plan.now c.args.entry.now P ∙ ap (λ (s : Step). now_after g.D.Validates.verdict r.plan.now (grabbed r.plan.now P) (pairs_asked r.plan.now P s) (now g.D.Validates.verdict r.plan.now P)) step);
+          ∙ sym (now_next g.D.Validates.verdict r.plan.now c.args.entry.now P ∙ ap (λ (s : Step). now_after g.D.Validates.verdict r.plan.now (ranges_now r.plan.now P) (grabbed r.plan.now P) (pairs_asked r.plan.now P s) (now g.D.Validates.verdict r.plan.now P)) step);
       grabs = ap (λ (m : MomentData). m.grabs) c.new-2.ensures ∙ c.as_slice-6.ensures.value ∙ made.grabs ∙ sym (grabbed_more r.plan.now c.args.entry.now P ∙ ap (λ (s : Step). grabbed_after s (grabbed r.plan.now P)) step);
     } in
     replay_add g.D.Validates.verdict r.plan.now r.steps.now r.count _ _ c.args.entry.now c.self.invariant (rw (← c.self.view_is) at c.requires.next) (rw (← c.self.view_is) at c.requires.room) (rw (← c.self.view_is) at c.requires.follows)
-    (rw step made.file_handles) (rw step made.grabs) (rw step (c.into_vec-values.ensures ∙ values))
+    (rw step made.file_handles) (rw step made.grabs) made.ranges (rw step (c.into_vec-values.ensures ∙ values))
     (rw step
     (c.begin.ensures.frames
     ∙ ap (after_begin r.frames) (c.as_slice-8.ensures.value ∙ sym c.as_slice-7.ensures.value ∙ given)

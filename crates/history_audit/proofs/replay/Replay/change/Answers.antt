@@ -5,6 +5,7 @@ use Rattle.device_history.specs.declared.ask.Step.{Step}
 use Rattle.ctrl_types.specs.declared.ids.Pair.{Pair}
 use Rattle.ctrl_clusters.specs.Rows.{Values}
 use Rattle.frame_queue.specs.Frames.{FramesData}
+use Rattle.device_history.specs.Ranges.{ranges_now}
 use Rattle.device_history.specs.FrameSteps.{frames_changed}
 use Rattle.device_history.specs.Grabs.{grabbed}
 use Rattle.device_history.specs.Handles.{opened}
@@ -18,6 +19,7 @@ use Rattle.step_effects.proofs.LeavingLemmas.{opened_controls_left, grabbed_cont
 use Rattle.history_audit.proofs.FollowLemmas.{names_known}
 use Rattle.history_audit.specs.Replay.{ReplayData}
 use Rattle.history_audit.proofs.MadeLemmas.{numbered, replay_add, replayed_next}
+use Rattle.device_history.proofs.RangeLemmas.{ranges_own}
 use Rattle.history_audit.proofs.replay.Replay.change.Goals as goal
 
 -- the step fits what is kept
@@ -33,7 +35,10 @@ change_requests_and_events-requires-clause-known g c =
     let r = c.self.inside in
     names_known g.D.Validates.verdict r.plan.now (past (take r.count r.steps.now)) c.args.entry.now.step c.self.invariant.plans (rw (← c.self.view_is) at c.requires.follows) (rw (← c.self.view_is) at c.requires.known)
 
--- there is a value and a grab for each control
+-- there is a range, a value and a grab for each control
+pub change_requests_and_events-requires-clause-ranges : goal.change_requests_and_events-requires-clause-ranges
+change_requests_and_events-requires-clause-ranges g c = ap length c.self.invariant.made.ranges ∙ (ranges_own c.self.inside.plan.now (past (take c.self.inside.count c.self.inside.steps.now))).many
+
 pub change_requests_and_events-requires-clause-values : goal.change_requests_and_events-requires-clause-values
 change_requests_and_events-requires-clause-values g c =
     let r = c.self.inside in
@@ -61,12 +66,13 @@ invariant_of-self-2 g c =
     replay_add g.D.Validates.verdict r.plan.now r.steps.now r.count _ _ c.args.entry.now c.self.invariant (rw (← c.self.view_is) at c.requires.next) (rw (← c.self.view_is) at c.requires.room) (rw (← c.self.view_is) at c.requires.follows)
     (made.file_handles ∙ sym (opened_controls_left r.count step (opened P) c.requires.leaves))
     (made.grabs ∙ sym (grabbed_controls_left step (grabbed r.plan.now P) c.requires.leaves))
-    (made.values ∙ ap (λ (l : Option (List Pair)). now_after g.D.Validates.verdict r.plan.now (grabbed r.plan.now P) l (now g.D.Validates.verdict r.plan.now P)) (sym (laid_controls_left r.plan.now P step c.requires.leaves)))
+    made.ranges
+    (made.values ∙ ap (λ (l : Option (List Pair)). now_after g.D.Validates.verdict r.plan.now (ranges_now r.plan.now P) (grabbed r.plan.now P) l (now g.D.Validates.verdict r.plan.now P)) (sym (laid_controls_left r.plan.now P step c.requires.leaves)))
     (c.in_ok-change_requests_and_events.ensures.frames
     ∙ ap (λ (v : Values). frames_changed v [] r.count step r.frames) (c.as_slice.ensures.value ∙ made.values)
     ∙ ap (frames_changed (now g.D.Validates.verdict r.plan.now P) [] r.count step) made.frames
     ∙ ap (λ (l : List Pair). frames_changed (now g.D.Validates.verdict r.plan.now P) l r.count step (frames g.D.Validates.verdict r.plan.now P)) (sym (given_controls_left g.D.Validates.verdict r.plan.now P step c.requires.leaves)))
-    (c.in_ok-change_requests_and_events.ensures.events g.D.Validates.verdict c.args.entry.now P refl (c.as_slice.ensures.value ∙ made.values) (c.as_slice-2.ensures.value ∙ made.grabs))
+    (c.in_ok-change_requests_and_events.ensures.events g.D.Validates.verdict c.args.entry.now P refl made.ranges (c.as_slice.ensures.value ∙ made.values) (c.as_slice-2.ensures.value ∙ made.grabs))
 
 -- one more step was replayed
 pub returns-clause-ok : goal.returns-clause-ok

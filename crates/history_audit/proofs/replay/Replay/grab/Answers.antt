@@ -15,6 +15,7 @@ use Rattle.device_history.proofs.PresentLemmas.{length_grabbed, length_now}
 use Rattle.history_audit.proofs.FollowLemmas.{grab_known}
 use Rattle.history_audit.specs.Replay.{ReplayData}
 use Rattle.history_audit.proofs.MadeLemmas.{numbered, replay_add, replayed_next}
+use Rattle.device_history.proofs.RangeLemmas.{ranges_more, ranges_own}
 use Rattle.history_audit.proofs.replay.Replay.grab.Goals as goal
 
 -- the control is there
@@ -26,7 +27,13 @@ index_mut-requires g c =
     let many : length c.in_ok-grabs.grabs.items ≡ length r.plan.now.controls = ap length (c.in_ok-grabs.ensures ∙ c.as_slice.ensures.value ∙ c.self.invariant.made.grabs) ∙ length_grabbed r.plan.now (past (take r.count r.steps.now)) in
     omega (arith, known, many, c.in_ok-grabs.grabs.ok.0)
 
--- there is a value and a grab for each control, before and afterwards
+-- there is a range, a value and a grab for each control, before and afterwards
+pub raise_step-requires-clause-ranges_before : goal.raise_step-requires-clause-ranges_before
+raise_step-requires-clause-ranges_before g c = ap (λ (m : MomentData). length m.ranges) c.new.ensures ∙ ap length c.self.invariant.made.ranges ∙ (ranges_own c.self.inside.plan.now (past (take c.self.inside.count c.self.inside.steps.now))).many
+
+pub raise_step-requires-clause-ranges : goal.raise_step-requires-clause-ranges
+raise_step-requires-clause-ranges g c = ap (λ (m : MomentData). length m.ranges) c.new-2.ensures ∙ ap length c.self.invariant.made.ranges ∙ (ranges_own c.self.inside.plan.now (past (take c.self.inside.count c.self.inside.steps.now))).many
+
 pub raise_step-requires-clause-values_before : goal.raise_step-requires-clause-values_before
 raise_step-requires-clause-values_before g c =
     let r = c.self.inside in
@@ -65,13 +72,15 @@ invariant_of-self g c =
     let kept : slice_set c.in_ok-grabs.grabs.items c.args.control c.args.on ≡ slice_set (grabbed r.plan.now P) c.args.control c.args.on =
     ap (λ (gs : Grabs). slice_set gs c.args.control c.args.on) (c.in_ok-grabs.ensures ∙ c.as_slice.ensures.value ∙ made.grabs) in
     let around : AreAround g.D.Validates.verdict r.plan.now c.args.entry.now P c.new.result c.new-2.result = record {
+      old_ranges = ap (λ (m : MomentData). m.ranges) c.new.ensures ∙ made.ranges;
       old_values = ap (λ (m : MomentData). m.values) c.new.ensures ∙ c.as_slice-2.ensures.value ∙ made.values;
       old_grabs = ap (λ (m : MomentData). m.grabs) c.new.ensures ∙ c.as_slice-3.ensures.value ∙ made.grabs;
+      ranges = ap (λ (m : MomentData). m.ranges) c.new-2.ensures ∙ made.ranges ∙ sym (ranges_more r.plan.now c.args.entry.now P);
       values = ap (λ (m : MomentData). m.values) c.new-2.ensures ∙ c.as_slice-4.ensures.value ∙ made.values ∙ sym (values_controls_left g.D.Validates.verdict r.plan.now c.args.entry.now P (ap (pairs_asked r.plan.now P) step));
       grabs = ap (λ (m : MomentData). m.grabs) c.new-2.ensures ∙ c.as_slice-5.ensures.value ∙ kept ∙ sym (grabbed_more r.plan.now c.args.entry.now P ∙ ap (λ (s : Step). grabbed_after s (grabbed r.plan.now P)) step);
     } in
     replay_add g.D.Validates.verdict r.plan.now r.steps.now r.count _ _ c.args.entry.now c.self.invariant (rw (← c.self.view_is) at c.requires.next) (rw (← c.self.view_is) at c.requires.room) (rw (← c.self.view_is) at c.requires.follows)
-    (rw step made.file_handles) (rw step kept) (rw step made.values) (rw step made.frames)
+    (rw step made.file_handles) (rw step kept) made.ranges (rw step made.values) (rw step made.frames)
     (c.raise_step.ensures g.D.Validates.verdict c.args.entry.now P around (rw step (refl, refl)))
 
 -- one more step was replayed

@@ -5,6 +5,7 @@ use Rattle.ctrl_clusters.specs.Overlay.{overlay}
 use Rattle.ctrl_raises.specs.Raises.{MomentData}
 use Rattle.device_history.specs.declared.ask.Step.{Step}
 use Rattle.device_history.specs.declared.ask.Step.TheVariants as steps
+use Rattle.device_history.specs.Ranges.{ranges_now}
 use Rattle.device_history.specs.EventSteps.{AreAround}
 use Rattle.device_history.specs.Grabs.{grabbed, grabbed_after}
 use Rattle.device_history.specs.Values.{pairs_asked, now, now_after}
@@ -13,6 +14,7 @@ use Rattle.device_history.proofs.PresentLemmas.{length_grabbed, length_now}
 use Rattle.history_audit.specs.Replay.{ReplayData}
 use Rattle.history_audit.proofs.MadeLemmas.{now_next, numbered, replay_add, replayed_next}
 use Rattle.history_audit.proofs.WriteLemmas.{set_rows, set_makes}
+use Rattle.device_history.proofs.RangeLemmas.{ranges_more, ranges_own}
 use Rattle.history_audit.proofs.replay.Replay.write.Goals as goal
 
 -- there is a value for each control
@@ -27,7 +29,13 @@ write_rows-requires-clause-rows g c =
     let r = c.self.inside in
     rw c.rows.ensures (set_rows g.D.Validates.verdict r.plan.now (past (take r.count r.steps.now)) c.args.fh c.args.touch.now.pairs c.args.touch.now (rw (← c.self.view_is) at c.requires.touched))
 
--- there is a value and a grab for each control, before and afterwards
+-- there is a range, a value and a grab for each control, before and afterwards
+pub raise_step-requires-clause-ranges_before : goal.raise_step-requires-clause-ranges_before
+raise_step-requires-clause-ranges_before g c = ap (λ (m : MomentData). length m.ranges) c.new.ensures ∙ ap length c.self.invariant.made.ranges ∙ (ranges_own c.self.inside.plan.now (past (take c.self.inside.count c.self.inside.steps.now))).many
+
+pub raise_step-requires-clause-ranges : goal.raise_step-requires-clause-ranges
+raise_step-requires-clause-ranges g c = ap (λ (m : MomentData). length m.ranges) c.new-2.ensures ∙ ap length c.self.invariant.made.ranges ∙ (ranges_own c.self.inside.plan.now (past (take c.self.inside.count c.self.inside.steps.now))).many
+
 pub raise_step-requires-clause-values_before : goal.raise_step-requires-clause-values_before
 raise_step-requires-clause-values_before g c =
     let r = c.self.inside in
@@ -47,7 +55,7 @@ raise_step-requires-clause-values g c =
     set_makes g.D.Validates.verdict r.plan.now P c.args.fh c.args.touch.now.pairs c.args.touch.now c.rows.result.now c.in_ok-values.values.items c.write_rows.new.values.items c.self.invariant.plans
     (rw (← c.self.view_is) at c.requires.touched) c.rows.ensures (c.in_ok-values.ensures ∙ c.as_slice.ensures.value ∙ c.self.invariant.made.values) c.write_rows.ensures in
     ap (λ (m : MomentData). length m.values) c.new-2.ensures ∙ ap length (c.as_slice-4.ensures.value ∙ made)
-    ∙ ap length (sym (now_next g.D.Validates.verdict r.plan.now c.args.entry.now P ∙ ap (λ (s : Step). now_after g.D.Validates.verdict r.plan.now (grabbed r.plan.now P) (pairs_asked r.plan.now P s) (now g.D.Validates.verdict r.plan.now P)) step))
+    ∙ ap length (sym (now_next g.D.Validates.verdict r.plan.now c.args.entry.now P ∙ ap (λ (s : Step). now_after g.D.Validates.verdict r.plan.now (ranges_now r.plan.now P) (grabbed r.plan.now P) (pairs_asked r.plan.now P s) (now g.D.Validates.verdict r.plan.now P)) step))
     ∙ length_now g.D.Validates.verdict r.plan.now (c.args.entry.now ∷ P)
 
 pub raise_step-requires-clause-grabs : goal.raise_step-requires-clause-grabs
@@ -65,18 +73,20 @@ invariant_of-self g c =
     let made = c.self.invariant.made in
     let step : c.args.entry.now.step ≡ steps.Set c.args.fh c.args.touch.now.pairs = c.requires.step in
     let P : List (Entry Step) = past (take r.count r.steps.now) in
-    let laid_over : c.write_rows.new.values.items ≡ overlay g.D.Validates.verdict r.plan.now r.plan.now.controls (now g.D.Validates.verdict r.plan.now P) (grabbed r.plan.now P) c.args.touch.now.pairs =
+    let laid_over : c.write_rows.new.values.items ≡ overlay g.D.Validates.verdict r.plan.now (ranges_now r.plan.now P) (now g.D.Validates.verdict r.plan.now P) (grabbed r.plan.now P) c.args.touch.now.pairs =
     set_makes g.D.Validates.verdict r.plan.now P c.args.fh c.args.touch.now.pairs c.args.touch.now c.rows.result.now c.in_ok-values.values.items c.write_rows.new.values.items c.self.invariant.plans
     (rw (← c.self.view_is) at c.requires.touched) c.rows.ensures (c.in_ok-values.ensures ∙ c.as_slice.ensures.value ∙ made.values) c.write_rows.ensures in
     let around : AreAround g.D.Validates.verdict r.plan.now c.args.entry.now P c.new.result c.new-2.result = record {
+      old_ranges = ap (λ (m : MomentData). m.ranges) c.new.ensures ∙ made.ranges;
       old_values = ap (λ (m : MomentData). m.values) c.new.ensures ∙ c.as_slice-2.ensures.value ∙ made.values;
       old_grabs = ap (λ (m : MomentData). m.grabs) c.new.ensures ∙ c.as_slice-3.ensures.value ∙ made.grabs;
+      ranges = ap (λ (m : MomentData). m.ranges) c.new-2.ensures ∙ made.ranges ∙ sym (ranges_more r.plan.now c.args.entry.now P);
       values = ap (λ (m : MomentData). m.values) c.new-2.ensures ∙ c.as_slice-4.ensures.value ∙ laid_over
-          ∙ sym (now_next g.D.Validates.verdict r.plan.now c.args.entry.now P ∙ ap (λ (s : Step). now_after g.D.Validates.verdict r.plan.now (grabbed r.plan.now P) (pairs_asked r.plan.now P s) (now g.D.Validates.verdict r.plan.now P)) step);
+          ∙ sym (now_next g.D.Validates.verdict r.plan.now c.args.entry.now P ∙ ap (λ (s : Step). now_after g.D.Validates.verdict r.plan.now (ranges_now r.plan.now P) (grabbed r.plan.now P) (pairs_asked r.plan.now P s) (now g.D.Validates.verdict r.plan.now P)) step);
       grabs = ap (λ (m : MomentData). m.grabs) c.new-2.ensures ∙ c.as_slice-5.ensures.value ∙ made.grabs ∙ sym (grabbed_more r.plan.now c.args.entry.now P ∙ ap (λ (s : Step). grabbed_after s (grabbed r.plan.now P)) step);
     } in
     replay_add g.D.Validates.verdict r.plan.now r.steps.now r.count _ _ c.args.entry.now c.self.invariant (rw (← c.self.view_is) at c.requires.next) (rw (← c.self.view_is) at c.requires.room) (rw (← c.self.view_is) at c.requires.follows)
-    (rw step made.file_handles) (rw step made.grabs) (rw step laid_over) (rw step made.frames)
+    (rw step made.file_handles) (rw step made.grabs) made.ranges (rw step laid_over) (rw step made.frames)
     (c.raise_step.ensures g.D.Validates.verdict c.args.entry.now P around (rw step (c.pairs.ensures, refl)))
 
 -- one more step was replayed

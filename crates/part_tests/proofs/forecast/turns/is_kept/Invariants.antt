@@ -3,4 +3,4 @@ use Rattle.part_tests.proofs.forecast.turns.is_kept.Given as goal
 
 -- the board is kept
 abbrev pub invariant-loop : goal.invariant-loop
-invariant-loop l = IsScene l.plan l.scene.values.items l.scene.grabs.items l.scene.board
+invariant-loop l = IsScene l.plan l.scene.ranges l.scene.values.items l.scene.grabs.items l.scene.board

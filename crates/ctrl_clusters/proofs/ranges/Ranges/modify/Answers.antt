@@ -1,0 +1,11 @@
+use Rattle.std.proofs.Common.{List, slice_set, subst, sym}
+use Rattle.ctrl_settle.specs.Control.{Control}
+use Rattle.ctrl_clusters.specs.Rows.{AreControlsOf}
+use Rattle.ctrl_clusters.proofs.RangeLemmas.{modified_stay}
+use Rattle.ctrl_clusters.proofs.ranges.Ranges.modify.Goals as goal
+
+-- they stay controls of their plan
+pub returns-clause-stay : goal.returns-clause-stay
+returns-clause-stay c plan are =
+    subst (λ (l : List Control). AreControlsOf plan (slice_set l c.args.control c.args.changed)) (sym c.self.view_is)
+    (modified_stay c.args.self.now c.args.control c.args.changed c.requires.same plan are)
