@@ -28,7 +28,7 @@ pub struct Forecast {
     pub request: RequestId,
     /// The number of the request's buffer.
     pub buffer: u32,
-    /// The values of all ranges, in the order of their numbers.
+    /// The values of all controls, in the order of their numbers.
     pub values: ValueRow,
     /// The clusters that will be refused, rising.
     pub refused: ClusterList,
@@ -41,7 +41,7 @@ pub struct Row<'a> {
     pub request: RequestId,
     /// The number of the request's buffer.
     pub buffer: u32,
-    /// The values of all ranges, in the order of their numbers.
+    /// The values of all controls, in the order of their numbers.
     pub values: &'a [CtrlValue],
     /// The clusters that will be refused, rising.
     pub refused: &'a [u32],
