@@ -2,7 +2,7 @@
 use Rattle.std.proofs.Common.{◌≡◌, ℕ, Bool, true, false, not, nat_le, if◌then◌else◌, List, [], ◌∷◌, length, Option, None, Some, Ok, Err, is_some, slice_get, IfSome, subst, sym, ◌∙◌, refl}
 use Rattle.std.specs.Option.{option_map, is_none}
 use Rattle.ctrl_types.specs.declared.errno.Errno.{Errno}
-use Rattle.ctrl_types.specs.declared.errno.Errno.TheVariants.{EBADF, EBUSY, EINVAL, ENOENT, ENOSPC}
+use Rattle.ctrl_types.specs.declared.errno.Errno.TheVariants.{EBADF, EBUSY, EINVAL, ENOENT, ENOSPC, ERANGE}
 use Rattle.ctrl_types.specs.declared.ids.CtrlId.{CtrlId}
 use Rattle.ctrl_types.specs.declared.ids.FhId.{FhId}
 use Rattle.req_book.specs.Requests.{RequestData, is_idle, is_number_held, is_pending}
@@ -15,7 +15,9 @@ use Rattle.ctrl_events.specs.declared.event.Waiting.{Waiting}
 use Rattle.ctrl_events.specs.Events.{event_at}
 use Rattle.ctrl_calls.specs.Meanings.{Verdicts}
 use Rattle.menu_items.specs.declared.item.MenuItem.{MenuItem}
-use Rattle.ctrl_handlers.specs.Plan.{PlanData, menu_item}
+use Rattle.ctrl_settle.specs.Control.{with_range}
+use Rattle.ctrl_settle.specs.FirstFault.{first_fault}
+use Rattle.ctrl_handlers.specs.Plan.{PlanData, control_in}
 use Rattle.ctrl_handlers.specs.Visible.{next_id}
 use Rattle.device_history.specs.declared.ask.Ask.{Ask}
 use Rattle.device_history.specs.declared.ask.Ask.TheVariants as asks
@@ -23,13 +25,14 @@ use Rattle.device_history.specs.declared.ask.Reply.{Reply}
 use Rattle.device_history.specs.Steps.{Past}
 use Rattle.device_history.specs.Refusals.{Answer, fault_of, is_full, refused}
 use Rattle.device_history.specs.Handles.{handler_of, shown, are_all_open}
+use Rattle.device_history.specs.Ranges.{ranges_now}
 use Rattle.device_history.specs.Frames.{queue, running}
 use Rattle.device_history.specs.Requests.{state}
 use Rattle.device_history.specs.Snapshots.{request, request_in, requests}
 use Rattle.device_history.specs.Events.{pending}
 use Rattle.device_history.specs.EventAnswers.{take_of}
 use Rattle.device_history.specs.Forecasts.{forecast, forecast_reply}
-use Rattle.device_history.specs.Queries.{query_one, next_one, next_of, item_one, item_of}
+use Rattle.device_history.specs.Queries.{query_one, next_one, next_of, item_now, item_one, item_of}
 use Rattle.device_history.specs.RequestAnswers as answers
 use Rattle.device_history.specs.Answers.{answer_of, is_list, refusal}
 use Rattle.device_history.specs.Lists.{get_checks, read_view, set_checks, try_checks, write_view}
@@ -97,6 +100,12 @@ open_so true b past reply = (refl, refl)
 open_so false true past reply = (refl, refl)
 open_so false false past reply = either (is_full past) _ _ _ _ (refl, refl) tt
 
+range_so : (a b : Bool) (past : Past) (reply : Reply)
+    → SameErrno (stepped past (if a then Some checks.ControlThere else if b then Some checks.RangeFits else None)) (if a then refused EINVAL else if b then refused ERANGE else if is_full past then refused ENOSPC else Ok reply)
+range_so true b past reply = (refl, refl)
+range_so false true past reply = (refl, refl)
+range_so false false past reply = either (is_full past) _ _ _ _ (refl, refl) tt
+
 begin_so : (verdicts : Verdicts) (plan : PlanData) (past : Past) (rs : List RequestData) (run : Option ℕ) (waits : List ℕ)
     → SameErrno (stepped past (if is_some run then Some checks.NoneRuns else if is_some (slice_get waits 0) then None else Some checks.SomeQueued)) (answers.frame_answer verdicts plan past (if is_some run then Err EBUSY else first_waiting rs waits))
 begin_so verdicts plan past rs (Some r) waits = (refl, refl)
@@ -144,9 +153,9 @@ item_found : (item : Option MenuItem) → SameErrno (if is_some item then None e
 item_found None = (refl, refl)
 item_found (Some item) = tt
 
-item_so : (plan : PlanData) (index : ℕ) (found : Option ℕ) → SameErrno (item_check plan index found) (item_of plan index found)
-item_so plan index None = (refl, refl)
-item_so plan index (Some c) = item_found (menu_item plan c index)
+item_so : (plan : PlanData) (past : Past) (index : ℕ) (found : Option ℕ) → SameErrno (item_check plan past index found) (item_of plan past index found)
+item_so plan past index None = (refl, refl)
+item_so plan past index (Some c) = item_found (item_now plan past c index)
 
 singles_so : (verdicts : Verdicts) (plan : PlanData) (past : Past) (ask : Ask) → is_list ask ≡ false → SameErrno (check_of verdicts plan past ask) (answer_of verdicts plan past [] ask)
 singles_so verdicts plan past (asks.OpenFh handler) h = open_so (nat_le (length plan.handlers) handler) (are_all_open past) past _
@@ -155,6 +164,7 @@ singles_so verdicts plan past (asks.GetCtrls fh which request list) h = cc
 singles_so verdicts plan past (asks.SetCtrls fh which request list) h = cc
 singles_so verdicts plan past (asks.TryCtrls fh which request list) h = cc
 singles_so verdicts plan past (asks.Grab c on) h = one_so (nat_le (length plan.controls) c) past _ _ _ refl
+singles_so verdicts plan past (asks.ModifyRange c low high apart default_value) h = range_so (nat_le (length plan.controls) c) (is_some (first_fault (with_range (control_in (ranges_now plan past) c) low high apart default_value))) past _
 singles_so verdicts plan past asks.Alloc h = stepped_so past _ _ _ (either_fits (nat_le MAX_REQUESTS (length (requests verdicts plan past))) _ _ _ _ refl tt)
 singles_so verdicts plan past (asks.AddBuffer r number) h = stepped_so past _ _ _ (buffer_so (requests verdicts plan past) number (request verdicts plan past r.0))
 singles_so verdicts plan past (asks.Queue r) h = stepped_so past _ _ _ (queue_so (request verdicts plan past r.0))
@@ -172,7 +182,7 @@ singles_so verdicts plan past (asks.Unsubscribe fh id) h = stepped_so past _ _ _
 singles_so verdicts plan past (asks.Take fh) h = take_so past fh (pending verdicts plan past fh)
 singles_so verdicts plan past (asks.Query fh id) h = either (is_some (handler_of past fh)) _ _ _ _ (query_so verdicts plan past (shown plan past fh id)) (refl, refl)
 singles_so verdicts plan past (asks.NextId fh id) h = next_so plan id (handler_of past fh)
-singles_so verdicts plan past (asks.MenuItem fh id index) h = either (is_some (handler_of past fh)) _ _ _ _ (item_so plan index (shown plan past fh id)) (refl, refl)
+singles_so verdicts plan past (asks.MenuItem fh id index) h = either (is_some (handler_of past fh)) _ _ _ _ (item_so plan past index (shown plan past fh id)) (refl, refl)
 singles_so verdicts plan past (asks.Told cluster) h = either (nat_le (length plan.clusters) cluster) _ _ _ _ (refl, refl) tt
 
 own : (check : Check) (errno : Errno) → errno_of check ≡ Some errno → IfSome (errno_of check) (λ own. errno ≡ own)

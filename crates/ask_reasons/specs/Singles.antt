@@ -1,6 +1,6 @@
 -- Which check refuses an ask that is no list: the first that doesn't hold, in the order in which docs/RULES.md names them at the ask. The law `errnos` says
 -- that its errno is the answer's.
-use Rattle.std.specs.Prelude.{ℕ, not, nat_le, slice_get, if◌then◌else◌, List, length, Option, None, Some, is_some}
+use Rattle.std.specs.Prelude.{ℕ, ℤ, not, nat_le, slice_get, if◌then◌else◌, List, length, Option, None, Some, is_some}
 use Rattle.std.specs.Option.{is_none}
 use Rattle.ctrl_types.specs.declared.ids.CtrlId.{CtrlId}
 use Rattle.ctrl_types.specs.declared.ids.FhId.{FhId}
@@ -9,13 +9,18 @@ use Rattle.req_book.specs.declared.limits.TheConstants.{MAX_REQUESTS}
 use Rattle.req_book.specs.Requests.{RequestData, is_idle, is_number_held, is_pending}
 use Rattle.frame_queue.specs.Frames.{is_queued, is_running}
 use Rattle.ctrl_calls.specs.Meanings.{Verdicts}
-use Rattle.ctrl_handlers.specs.Plan.{PlanData, menu_item}
+use Rattle.ctrl_types.specs.Values.{CtrlValue}
+use Rattle.ctrl_settle.specs.Control.{with_range}
+use Rattle.ctrl_settle.specs.FirstFault.{first_fault}
+use Rattle.ctrl_handlers.specs.Plan.{PlanData, control_in}
 use Rattle.ctrl_handlers.specs.Visible.{next_id}
 use Rattle.device_history.specs.declared.ask.Ask.{Ask}
 use Rattle.device_history.specs.declared.ask.Ask.TheVariants as asks
 use Rattle.device_history.specs.Steps.{Past}
 use Rattle.device_history.specs.Refusals.{is_full}
 use Rattle.device_history.specs.Handles.{handler_of, shown, are_all_open}
+use Rattle.device_history.specs.Queries.{item_now}
+use Rattle.device_history.specs.Ranges.{ranges_now}
 use Rattle.device_history.specs.Forecasts.{forecast}
 use Rattle.device_history.specs.Frames.{queue, running}
 use Rattle.device_history.specs.Snapshots.{request, requests}
@@ -44,6 +49,12 @@ open_check plan past handler =
 
 abbrev pub grab_check : PlanData → ℕ → Option Check
 grab_check plan c = if nat_le (length plan.controls) c then Some checks.ControlThere else None
+
+abbrev pub range_check : PlanData → Past → ℕ → ℤ → ℤ → ℕ → CtrlValue → Option Check
+range_check plan past c low high apart default_value =
+    if nat_le (length plan.controls) c then Some checks.ControlThere
+    else if is_some (first_fault (with_range (control_in (ranges_now plan past) c) low high apart default_value)) then Some checks.RangeFits
+    else None
 
 abbrev pub alloc_check : List RequestData → Option Check
 alloc_check rs = if nat_le MAX_REQUESTS (length rs) then Some checks.RoomForRequest else None
@@ -97,9 +108,9 @@ abbrev pub next_check : PlanData → CtrlId → Option ℕ → Option Check
 next_check plan id None = Some checks.HandleOpen
 next_check plan id (Some handler) = if is_some (next_id plan handler id) then None else Some checks.GreaterIdShown
 
-abbrev pub item_check : PlanData → ℕ → Option ℕ → Option Check
-item_check plan index None = Some checks.IdShown
-item_check plan index (Some c) = if is_some (menu_item plan c index) then None else Some checks.ItemThere
+abbrev pub item_check : PlanData → Past → ℕ → Option ℕ → Option Check
+item_check plan past index None = Some checks.IdShown
+item_check plan past index (Some c) = if is_some (item_now plan past c index) then None else Some checks.ItemThere
 
 abbrev pub told_check : PlanData → ℕ → Option Check
 told_check plan cluster = if nat_le (length plan.clusters) cluster then Some checks.ClusterThere else None
@@ -112,6 +123,7 @@ check_of verdicts plan past (asks.GetCtrls fh which request list) = None
 check_of verdicts plan past (asks.SetCtrls fh which request list) = None
 check_of verdicts plan past (asks.TryCtrls fh which request list) = None
 check_of verdicts plan past (asks.Grab c on) = stepped past (grab_check plan c)
+check_of verdicts plan past (asks.ModifyRange c low high apart default_value) = stepped past (range_check plan past c low high apart default_value)
 check_of verdicts plan past asks.Alloc = stepped past (alloc_check (requests verdicts plan past))
 check_of verdicts plan past (asks.AddBuffer r number) = stepped past (buffer_check (requests verdicts plan past) number (request verdicts plan past r.0))
 check_of verdicts plan past (asks.Queue r) = stepped past (queue_check (request verdicts plan past r.0))
@@ -128,5 +140,5 @@ check_of verdicts plan past (asks.Unsubscribe fh id) = stepped past (through pas
 check_of verdicts plan past (asks.Take fh) = stepped past (take_check verdicts plan past fh)
 check_of verdicts plan past (asks.Query fh id) = shown_check plan past fh id
 check_of verdicts plan past (asks.NextId fh id) = next_check plan id (handler_of past fh)
-check_of verdicts plan past (asks.MenuItem fh id index) = through past fh (item_check plan index (shown plan past fh id))
+check_of verdicts plan past (asks.MenuItem fh id index) = through past fh (item_check plan past index (shown plan past fh id))
 check_of verdicts plan past (asks.Told cluster) = told_check plan cluster

@@ -46,6 +46,8 @@ pub enum Check {
     HandleOpen,
     /// There is such a control.
     ControlThere,
+    /// The range that a control is to have has no fault.
+    RangeFits,
     /// There is such a cluster.
     ClusterThere,
     /// The id is shown to the file handle.
@@ -121,7 +123,7 @@ impl Check {
             Check::RequestComplete | Check::EntryReadable | Check::EntryWritable => Some(
                 Errno::EACCES,
             ),
-            Check::EntryInRange => Some(Errno::ERANGE),
+            Check::EntryInRange | Check::RangeFits => Some(Errno::ERANGE),
             Check::ClusterTakes => None,
             Check::RoomForSet | Check::RoomForHandle | Check::RoomForRequest | Check::RoomForStep =>
                 Some(Errno::ENOSPC),
@@ -176,6 +178,7 @@ impl Check {
             Check::EventWaits => 32,
             Check::RoomForStep => 33,
             Check::Memory => 34,
+            Check::RangeFits => 55,
         }
     }
 
@@ -203,6 +206,7 @@ impl Check {
             Check::RoomForHandle => "64 file handles are open",
             Check::HandleOpen => "the file handle isn't open",
             Check::ControlThere => "there is no such control",
+            Check::RangeFits => "these bounds, this step or this default are none for the control",
             Check::ClusterThere => "there is no such cluster",
             Check::IdShown => "the id isn't shown to the file handle",
             Check::GreaterIdShown => "no greater id is shown to the file handle",

@@ -1,11 +1,11 @@
 //! Asks that are no lists.
 
-ghost use Rattle.std.specs.Prelude.{◌≡◌, Option};
+ghost use Rattle.std.specs.Prelude.{◌≡◌, ◌<◌, length, IfSome, Option, Some};
 ghost use Rattle.history.specs.Past.{past};
 ghost use Rattle.device_history.specs.Snapshots.{request as request_of, requests};
 ghost use Rattle.device_history.specs.Handles.{handler_of, shown};
 ghost use Rattle.ask_reasons.specs.declared.check.Check.{Check as CheckOf};
-ghost use Rattle.ask_reasons.specs.Singles.{alloc_check, begin_check, buffer_check, cancel_check, check_of, clear_check, complete_check, forecast_check, grab_check, item_check, next_check, open_check, queue_check, shown_check, stepped, take_check, there_check, through, told_check};
+ghost use Rattle.ask_reasons.specs.Singles.{alloc_check, begin_check, buffer_check, cancel_check, check_of, clear_check, complete_check, forecast_check, grab_check, item_check, next_check, open_check, queue_check, range_check, shown_check, stepped, take_check, there_check, through, told_check};
 
 use crate::check::Check;
 use ctrl_calls::Driver;
@@ -25,6 +25,16 @@ pub fn check_of<D: Driver>(device: &Device<D>, ask: &Ask) -> Option<Check>
         Ask::CloseFh { fh } => through(device, *fh, stepped(device, None)),
         Ask::GetCtrls { .. } | Ask::SetCtrls { .. } | Ask::TryCtrls { .. } => None,
         Ask::Grab { control, .. } => stepped(device, grab_check(device, *control)),
+        Ask::ModifyRange {
+            control,
+            min,
+            max,
+            step,
+            default_value,
+        } => stepped(
+            device,
+            range_check(device, *control, *min, *max, *step, *default_value),
+        ),
         Ask::Alloc => stepped(device, alloc_check(device)),
         Ask::AddBuffer { request, buffer } => {
             stepped(device, buffer_check(device, *request, *buffer))
@@ -89,6 +99,28 @@ fn grab_check<D: Driver>(device: &Device<D>, control: u32) -> Option<Check>
         Some(Check::ControlThere)
     } else {
         None
+    }
+}
+
+fn range_check<D: Driver>(
+    device: &Device<D>,
+    control: u32,
+    min: i64,
+    max: i64,
+    apart: u64,
+    default_value: i64,
+) -> Option<Check>
+    ensures { result ≡ range_check device.now.plan (past device.now.steps) control min max apart default_value }
+{
+    if control >= device.plan().control_count() {
+        return Some(Check::ControlThere);
+    }
+    match device
+        .range(control)
+        .with_range(min, max, apart, default_value)
+    {
+        Ok(_) => None,
+        Err(_) => Some(Check::RangeFits),
     }
 }
 
@@ -204,7 +236,8 @@ fn take_check<D: Driver>(device: &Device<D>, fh: FhId) -> Option<Check>
 
 // The control that is shown to a file handle under an id.
 fn shown<D: Driver>(device: &Device<D>, fh: FhId, id: CtrlId) -> Option<u32>
-    ensures { result ≡ shown device.now.plan (past device.now.steps) fh id }
+    ensures shown { result ≡ shown device.now.plan (past device.now.steps) fh id }
+    ensures known { IfSome result (λ c. c < length device.now.plan.controls) }
 {
     device.plan().find(device.handler_of(fh)?, id).ok()
 }
@@ -231,14 +264,27 @@ fn next_check<D: Driver>(device: &Device<D>, fh: FhId, id: CtrlId) -> Option<Che
 }
 
 fn item_check<D: Driver>(device: &Device<D>, fh: FhId, id: CtrlId, index: u32) -> Option<Check>
-    ensures { result ≡ through (past device.now.steps) fh (item_check device.now.plan index (shown device.now.plan (past device.now.steps) fh id)) }
+    ensures { result ≡ through (past device.now.steps) fh (item_check device.now.plan (past device.now.steps) index (shown device.now.plan (past device.now.steps) fh id)) }
 {
     let Some(control) = shown(device, fh, id) else {
         return through(device, fh, Some(Check::IdShown));
     };
+    through(device, fh, there_is_item(device, control, index))
+}
+
+// A control, which the caller owes to be there, has an item at an index.
+fn there_is_item<D: Driver>(device: &Device<D>, control: u32, index: u32) -> Option<Check>
+    requires { control < length device.now.plan.controls }
+    ensures { result ≡ item_check device.now.plan (past device.now.steps) index (Some control) }
+{
+    let ctrl = device.range(control);
+    let at = i64::from(index);
+    if at < ctrl.minimum() || ctrl.maximum() < at {
+        return Some(Check::ItemThere);
+    }
     match device.plan().menu_item(control, index) {
-        Ok(_) => through(device, fh, None),
-        Err(_) => through(device, fh, Some(Check::ItemThere)),
+        Ok(_) => None,
+        Err(_) => Some(Check::ItemThere),
     }
 }
 

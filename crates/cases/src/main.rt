@@ -51,6 +51,7 @@ const FILES: &[&str] = &[
     "clusters.txt",
     "limits.txt",
     "crowds.txt",
+    "ranges.txt",
 ];
 
 // Lets each command of two scripts pass at once.

@@ -37,6 +37,7 @@ asked_by bound (commands.Get fh which list) = Some (list_ask asks.GetCtrls bound
 asked_by bound (commands.Set fh which list) = Some (list_ask asks.SetCtrls bound fh which list)
 asked_by bound (commands.Try fh which list) = Some (list_ask asks.TryCtrls bound fh which list)
 asked_by bound (commands.Grab control on) = Some (asks.Grab control on)
+asked_by bound (commands.Range control min max step default_value) = Some (asks.ModifyRange control min max step default_value)
 asked_by bound (commands.Query fh id) = Some (asks.Query (fh_of bound fh) id)
 asked_by bound (commands.Next fh id) = Some (asks.NextId (fh_of bound fh) id)
 asked_by bound (commands.Menu fh id index) = Some (asks.MenuItem (fh_of bound fh) id index)

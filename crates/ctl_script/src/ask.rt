@@ -22,6 +22,19 @@ pub fn ask_of(command: Command, names: &Bindings) -> Option<Ask>
         Command::Set { fh, which, list } => set_of(names, fh, which, list),
         Command::Try { fh, which, list } => try_of(names, fh, which, list),
         Command::Grab { control, on } => Ask::Grab { control, on },
+        Command::Range {
+            control,
+            min,
+            max,
+            step,
+            default_value,
+        } => Ask::ModifyRange {
+            control,
+            min,
+            max,
+            step,
+            default_value,
+        },
         Command::Query { fh, id } => Ask::Query {
             fh: names.fh(fh),
             id,

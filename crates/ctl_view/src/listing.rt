@@ -110,7 +110,7 @@ fn put_control(page: &mut Page, known: &ControlWords, device: &Device<Data>, con
     if control >= plan.control_count() {
         return;
     }
-    let ctrl = plan.control(control);
+    let ctrl = *device.range(control);
     put_head(page, word_of(known, control), ctrl.id(), ctrl.kind());
     put_range(page, &ctrl);
     put_value(page, plan, control, &ctrl, value_of(device, control));

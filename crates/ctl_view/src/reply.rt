@@ -113,6 +113,9 @@ fn put_changes(page: &mut Page, changes: Changes) {
     if changes.contains(Changes::CH_FLAGS) {
         page.put(" CH_FLAGS");
     }
+    if changes.contains(Changes::CH_RANGE) {
+        page.put(" CH_RANGE");
+    }
 }
 
 // What a control is like.

@@ -55,13 +55,13 @@ impl View {
     }
 
     /// Whether the queue is shown behind an ask that was accepted: behind a row, where no step was taken since it was shown, and where it is wanted behind
-    /// what changes the queue, or the values and the grabs that it is made of.
+    /// what changes the queue, or the values, the grabs and the ranges that it is made of.
     pub fn shows_queue<D: Driver>(&self, device: &Device<D>, ask: &Ask) -> bool {
         let is_wanted = self.how == How::WithQueue;
         match ask {
             Ask::Forecast { .. } => self.shown_at != Some(device.steps().len()),
             Ask::Queue { .. } | Ask::Begin | Ask::Cancel { .. } | Ask::StreamOff => is_wanted,
-            Ask::SetCtrls { request: None, .. } | Ask::Grab { .. } => {
+            Ask::SetCtrls { request: None, .. } | Ask::Grab { .. } | Ask::ModifyRange { .. } => {
                 is_wanted && device.queued_count() > 0
             }
             _ => false,

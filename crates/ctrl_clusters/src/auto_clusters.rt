@@ -1,7 +1,8 @@
 //! Which controls of an auto cluster are inactive.
 
-ghost use Rattle.std.specs.Prelude.{◌≡◌, ◌<◌, length};
+ghost use Rattle.std.specs.Prelude.{◌≡◌, ◌<◌, length, slice_set};
 ghost use Rattle.ctrl_clusters.specs.AutoClusters.{inactive, is_automatic};
+ghost use Rattle.ctrl_clusters.specs.Rows.{value_at};
 
 use ctrl_calls::Driver;
 use ctrl_handlers::Plan;
@@ -25,6 +26,48 @@ pub fn inactive<D: Driver>(plan: &Plan<D>, values: &[CtrlValue], control: u32) -
     let cluster = plan.cluster_of(control);
     let master = plan.members(cluster)[0];
     master != control && is_automatic(plan.manual(cluster), values[master as usize])
+}
+
+/// Whether a control is inactive, where one control has another value: as `inactive` says of the values with that one (Linux driver API, "V4L2
+/// Controls", "Handling autogain/gain-type Controls with Auto Clusters").
+///
+/// - `plan`, `values`, `control`: as of `inactive`.
+/// - `other`: the number of the control that has another value; the caller owes one below `Plan::control_count`.
+/// - `value`: this value.
+///
+/// It takes no memory and refuses nothing.
+#[tactic(auto, unfolding(crate::specs::AutoClusters::inactive))]
+pub fn inactive_with<D: Driver>(
+    plan: &Plan<D>,
+    values: &[CtrlValue],
+    other: u32,
+    value: CtrlValue,
+    control: u32,
+) -> bool
+    requires known { control < length plan.now.controls }
+    requires values { length values.now ≡ length plan.now.controls }
+    requires other { other < length plan.now.controls }
+    ensures { result ≡ inactive plan.now (slice_set values.now other value) control }
+{
+    let cluster = plan.cluster_of(control);
+    let master = plan.members(cluster)[0];
+    master != control
+        && is_automatic(
+            plan.manual(cluster),
+            value_with(values, other, value, master),
+        )
+}
+
+// The value of a control, where one control, which may be this one, has another value.
+fn value_with(values: &[CtrlValue], other: u32, value: CtrlValue, control: u32) -> CtrlValue
+    requires known { control < length values.now }
+    ensures { result ≡ value_at (slice_set values.now other value) control }
+{
+    if control == other {
+        value
+    } else {
+        values[control as usize]
+    }
 }
 
 // Whether there is a manual value, and a value is another.

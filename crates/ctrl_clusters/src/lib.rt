@@ -16,13 +16,13 @@ mod rows;
 mod start;
 mod writing;
 
-pub use auto_clusters::inactive;
+pub use auto_clusters::{inactive, inactive_with};
 pub use changes::{is_among, is_changed};
 pub use judging::{judge, validated_row};
 pub use new_row::NewRow;
 pub use new_rows::NewRows;
-pub use notifying::{first_words, notify_between, notify_changed};
-pub use present_flags::flags_under;
+pub use notifying::{first_words, notify_between, notify_changed, notify_cluster};
+pub use present_flags::{flags_under, flags_with};
 pub use ranges::Ranges;
 pub use rows::member_value;
 pub use start::{default_values, no_grabs};

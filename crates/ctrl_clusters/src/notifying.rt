@@ -162,6 +162,35 @@ fn notify_where<D: Driver>(
     }
 }
 
+/// Notifies one cluster of its row of the present values, where a member changed, and keeps the word (Linux driver API, "V4L2 Controls", "Adding
+/// Notify Callbacks"; words are of this project).
+///
+/// - `plan`: what the device is built of.
+/// - `values`: the present values; the caller owes one for each control.
+/// - `cluster`: the number of a cluster; the caller owes one below `Plan::cluster_count`.
+/// - `changed`: whether a member changed; where none did, nobody is told.
+/// - `words`: the words; the caller owes one for each cluster.
+/// - `work`: its count `told` is one more where the notifier was called.
+///
+/// It takes no memory and refuses nothing.
+pub fn notify_cluster<D: Driver>(
+    plan: &Plan<D>,
+    values: &[CtrlValue],
+    cluster: u32,
+    changed: bool,
+    words: &mut Vec<u64>,
+    work: &mut Work,
+)
+    requires known { cluster < length plan.now.clusters }
+    requires values { length values.now ≡ length plan.now.controls }
+    requires words { length words.old.items ≡ length plan.now.clusters }
+    ensures words { IsNotified D.told plan.now cluster changed (row_of values.now (members plan.now cluster)) words.old.items words.new.items }
+    ensures work { work.new ≡ record work.old { told = after_change plan.now cluster changed work.old.told } }
+{
+    let row = present_row(values, plan.members(cluster));
+    notify_where(plan, words, cluster, changed, &row, work);
+}
+
 /// Notifies each cluster of its row of a device's first values, in rising number, and answers the words (Linux driver API, "V4L2 Controls",
 /// "Adding Notify Callbacks"; that buttons and READ_ONLY controls are among them is of this project).
 ///

@@ -1,7 +1,9 @@
-ghost use Rattle.std.specs.Prelude.{◌≡◌, ◌<◌, length};
-ghost use Rattle.ctrl_clusters.specs.PresentFlags.{flags_under};
+ghost use Rattle.std.specs.Prelude.{◌≡◌, ◌<◌, length, slice_set};
+ghost use Rattle.ctrl_types.specs.declared.flags.TheConstants.Flags.{GRABBED, INACTIVE};
+ghost use Rattle.ctrl_handlers.specs.Plan.{plan_flags};
+ghost use Rattle.ctrl_clusters.specs.PresentFlags.{flags_under, with_flag_if};
 
-use crate::auto_clusters::inactive;
+use crate::auto_clusters::{inactive, inactive_with};
 use bitflags::Flags as FlagSet;
 use ctrl_calls::Driver;
 use ctrl_handlers::Plan;
@@ -26,11 +28,46 @@ pub fn flags_under<D: Driver>(
     requires grabs { length grabs.now ≡ length plan.now.controls }
     ensures { result ≡ flags_under plan.now values.now grabs.now control }
 {
+    let is_inactive = inactive(plan, values, control);
+    flags_where(plan, grabs[control as usize], is_inactive, control)
+}
+
+/// The flags of a control under a device's values and grabs, where one control has another value: as `flags_under` says of the values with that one
+/// (Linux userspace API, "Control Flags").
+///
+/// - `plan`, `values`, `grabs`, `control`: as of `flags_under`.
+/// - `other`: the number of the control that has another value; the caller owes one below `Plan::control_count`.
+/// - `value`: this value.
+///
+/// It takes no memory and refuses nothing.
+pub fn flags_with<D: Driver>(
+    plan: &Plan<D>,
+    values: &[CtrlValue],
+    grabs: &[bool],
+    other: u32,
+    value: CtrlValue,
+    control: u32,
+) -> Flags
+    requires known { control < length plan.now.controls }
+    requires values { length values.now ≡ length plan.now.controls }
+    requires grabs { length grabs.now ≡ length plan.now.controls }
+    requires other { other < length plan.now.controls }
+    ensures { result ≡ flags_under plan.now (slice_set values.now other value) grabs.now control }
+{
+    let is_inactive = inactive_with(plan, values, other, value, control);
+    flags_where(plan, grabs[control as usize], is_inactive, control)
+}
+
+// The flags of a control, where it is grabbed or isn't, and where it is inactive or isn't.
+fn flags_where<D: Driver>(plan: &Plan<D>, grabbed: bool, inactive: bool, control: u32) -> Flags
+    requires { control < length plan.now.controls }
+    ensures { result ≡ with_flag_if inactive INACTIVE (with_flag_if grabbed GRABBED (plan_flags plan.now control)) }
+{
     let mut flags = plan.flags(control);
-    if grabs[control as usize] {
+    if grabbed {
         flags = flags.union(Flags::GRABBED);
     }
-    if inactive(plan, values, control) {
+    if inactive {
         flags = flags.union(Flags::INACTIVE);
     }
     flags

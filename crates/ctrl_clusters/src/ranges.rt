@@ -1,4 +1,4 @@
-ghost use Rattle.std.specs.Prelude.{◌≡◌, ◌<◌, length, IfOk};
+ghost use Rattle.std.specs.Prelude.{◌≡◌, ◌<◌, ◌↔◌, length, IfOk, IsTrue};
 ghost use Rattle.ctrl_handlers.specs.Plan.{control_in};
 ghost use Rattle.ctrl_clusters.specs.Ranges.{HasRangeFor, StayControlsOf, modified};
 
@@ -46,6 +46,15 @@ impl Ranges {
         ensures { result.now ≡ control_in self.now control }
     {
         &self.controls[control as usize]
+    }
+
+    /// Whether these are the same controls with the same ranges (of this project). It takes no memory and refuses nothing.
+    ///
+    /// - `other`: any.
+    pub fn is_like(&self, other: &Ranges) -> bool
+        ensures { IsTrue result ↔ (self.now ≡ other.now) }
+    {
+        self.controls == other.controls
     }
 
     /// Gives a control another range (Linux driver API, `v4l2_ctrl_modify_range`). It takes no memory and refuses nothing.

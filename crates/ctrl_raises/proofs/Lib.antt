@@ -1,1 +1,2 @@
 pub mod RaiseLemmas
+pub mod RangeLemmas

@@ -1,6 +1,6 @@
 -- What a change of ranges, values and grabs raises for the file handles that are subscribed (Linux userspace API, "ioctl VIDIOC_DQEVENT"; the order of the raises, that
 -- a member which isn't in the list is heard of, and that what can't be read is shown as 0, are of this project).
-use Rattle.std.specs.Prelude.{ℕ, Bool, true, false, not, ◌||◌, pos, nat_eq, cond, List, [], ◌∷◌, Option, None, Some}
+use Rattle.std.specs.Prelude.{ℕ, Bool, true, false, not, ◌||◌, pos, nat_eq, cond, List, [], ◌∷◌, Option, None, Some, slice_set}
 use Rattle.std.specs.Ordering.{int_eq}
 use Rattle.ctrl_types.specs.Values.{CtrlValue}
 use Rattle.ctrl_types.specs.Flags.{contains}
@@ -14,6 +14,7 @@ use Rattle.ctrl_settle.specs.Control.{Control}
 use Rattle.ctrl_events.specs.declared.event.Payload.{Payload}
 use Rattle.ctrl_events.specs.Events.{FileEvents, after_raise}
 use Rattle.ctrl_handlers.specs.Plan.{PlanData, control_in}
+use Rattle.ctrl_clusters.specs.Ranges.{modified}
 use Rattle.ctrl_clusters.specs.Rows.{Grabs, Values, value_at}
 use Rattle.ctrl_clusters.specs.Overlay.{is_among}
 use Rattle.ctrl_clusters.specs.Changes.{is_changed}
@@ -24,6 +25,10 @@ pub record MomentData : Type 0 where
   pub ranges : List Control
   pub values : Values
   pub grabs : Grabs
+
+-- the moment before one at which a control had got another range and another value: it has those that it had, and all else stays
+abbrev pub before_range : MomentData → ℕ → Control → CtrlValue → MomentData
+before_range after c old value = record { ranges = modified after.ranges c old; values = slice_set after.values c value; grabs = after.grabs }
 
 -- the value of a control that an event shows: 0 where it can't be read
 abbrev pub value_shown : Control → CtrlValue → CtrlValue

@@ -1,12 +1,14 @@
 //! What a change of ranges, values and grabs raises for the file handles that are subscribed to the events of controls (Linux userspace API, "ioctl
-//! VIDIOC_DQEVENT"). Nothing here takes memory.
+//! VIDIOC_DQEVENT"): of all controls, where two moments are at hand, or of the one cluster of a control that got another range. Nothing here takes memory.
 #![tactic(auto)]
 
 pub mod laws;
 mod moment;
 mod payloads;
 mod raising;
+mod range_raising;
 
 pub use moment::Moment;
 pub use payloads::{initial_changes, payload_at};
 pub use raising::raise_between;
+pub use range_raising::raise_range;

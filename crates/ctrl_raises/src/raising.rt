@@ -115,8 +115,8 @@ fn changes_between<D: Driver>(
     )
 }
 
-// What changes, where the value does, where the flags do, and where the range does.
-fn changes_of(value: bool, flags: bool, range: bool) -> Changes
+/// What changes, where the value does, where the flags do, and where the range does.
+pub(crate) fn changes_of(value: bool, flags: bool, range: bool) -> Changes
     ensures { result ≡ changes_of value flags range }
 {
     let mut changes = Changes::empty();
@@ -148,8 +148,8 @@ fn flags_differ<D: Driver>(plan: &Plan<D>, before: &Moment, after: &Moment, cont
     old.bits() != new.bits()
 }
 
-// Whether the bounds, the step or the default of a control differ.
-fn range_differs(old: &Ctrl, new: &Ctrl) -> bool
+/// Whether the bounds, the step or the default of a control differ.
+pub(crate) fn range_differs(old: &Ctrl, new: &Ctrl) -> bool
     ensures { result ≡ range_differs old.now new.now }
 {
     old.minimum() != new.minimum()

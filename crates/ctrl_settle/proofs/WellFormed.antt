@@ -1,11 +1,10 @@
 -- Whether a control is well formed can be tested, and so its first fault can be found.
-use Rattle.std.proofs.Common.{◌≡◌, ℕ, ◌+◌, ◌-◌, ◌*◌, ◌/◌, ◌%◌, ◌<◌, ◌≤◌, ◌^◌, ℤ, pos, ◌≤ℤ◌, Bool, true, false, IsTrue, Ok, Err, Result, refl, FitsSigned, w32, w64, ap, arith, int_le, nat_lt, not, ◌&&◌, ◌||◌, ◌==◌, ◌⊎◌, ⊎_elim, inl, inr}
+use Rattle.std.proofs.Common.{◌≡◌, ℕ, ◌+◌, ◌-◌, ◌*◌, ◌/◌, ◌%◌, ◌<◌, ◌≤◌, ◌^◌, ℤ, pos, negsuc, ◌≤ℤ◌, ◌<ℤ◌, Bool, true, false, IsTrue, Ok, Err, Result, None, Some, refl, sym, subst, ◌∙◌, FitsSigned, w32, w64, ap, arith, int_le, int_lt, nat_lt, not, ◌&&◌, ◌||◌, ◌==◌, ◌⊎◌, ⊎_elim, inl, inr}
 use Rattle.std.specs.Bool.{Decides}
-use Rattle.std.specs.Int.Signed.{mag}
 use Rattle.std.specs.Ordering.{int_eq}
-use Rattle.std.proofs.lemmas.Bool.{cases_Bool, cases_lt, and_parts, or_cases, not-true, not_from_false, eqb-true, ltb-true, false≢true, both_ways}
+use Rattle.std.proofs.lemmas.Bool.{cases_Bool, cases_lt, and_parts, or_cases, not-true, not_from_false, eqb-true, ltb-true, both_ways}
 use Rattle.std.proofs.lemmas.Nat.{div-add-mod'}
-use Rattle.std.proofs.lemmas.Bool.Decides.{Decides-and, Decides-like, Decides-eqb, Decides-int_eq, Decides-ltb, not_from_Decides}
+use Rattle.std.proofs.lemmas.Bool.Decides.{Decides-and, Decides-like, Decides-eqb, Decides-int_eq, not_from_Decides}
 use Rattle.std.proofs.lemmas.Int.{ints, by_lt_z}
 use Rattle.ctrl_types.specs.Flags.{union, intersects}
 use Rattle.ctrl_types.specs.declared.errno.Errno.{Errno}
@@ -17,6 +16,7 @@ use Rattle.ctrl_settle.specs.Control.{Control}
 use Rattle.ctrl_settle.specs.Grid.{distance, IsOnGrid}
 use Rattle.ctrl_settle.specs.Settle.{settle, settle_as, IsSettled}
 use Rattle.ctrl_settle.specs.Faults.{has_grid, HasRange, HasItems, HasMask, HasBounds, CanSkip, CanDeclare, FitsKind, IsWellFormed, HasFault, IsFirstFault, turn_of}
+use Rattle.ctrl_settle.specs.FirstFault.{lies_between, has_range, has_items, has_mask, has_bounds, can_skip, can_declare, fits_kind, is_value, takes_default, first_fault}
 use Rattle.ctrl_settle.proofs.Settling.{nearest-on_grid}
 use Rattle.ctrl_settle.specs.declared.fault.CtrlFault.{CtrlFault}
 use Rattle.ctrl_settle.specs.declared.fault.CtrlFault.TheVariants.{BadRange, ZeroStep, BadDefault, KindBounds}
@@ -24,15 +24,31 @@ use Rattle.ctrl_settle.specs.declared.fault.CtrlFault.TheVariants.{BadRange, Zer
 Decides-int_le : (a b : ℤ) → Decides (int_le a b) (a ≤ℤ b)
 Decides-int_le a b = (λ e. grind (arith, ints), λ h. grind (arith, ints))
 
-Decides-fits_32 : (z : ℤ) → Decides (nat_lt (mag z) (2 ^ 31)) (FitsSigned w32 z)
-Decides-fits_32 z = Decides-like (nat_lt (mag z) (2 ^ 31)) (λ h. record { sfits = h }) (λ h. h.sfits) (Decides-ltb (mag z) (2 ^ 31))
+Decides-int_lt : (a b : ℤ) → Decides (int_lt a b) (a <ℤ b)
+Decides-int_lt a b = (λ e. grind (arith, ints), λ h. grind (arith, ints))
 
-Decides-fits_64 : (z : ℤ) → Decides (nat_lt (mag z) (2 ^ 63)) (FitsSigned w64 z)
-Decides-fits_64 z = Decides-like (nat_lt (mag z) (2 ^ 63)) (λ h. record { sfits = h }) (λ h. h.sfits) (Decides-ltb (mag z) (2 ^ 63))
+Decides-between : (least most v : ℤ) → Decides (lies_between least most v) ((least ≤ℤ v) × (v ≤ℤ most))
+Decides-between least most v = Decides-and (int_le least v) (int_le v most) (Decides-int_le least v) (Decides-int_le v most)
 
--- the bounds and the step are these
-abbrev has_range : Control → ℤ → ℤ → ℕ → Bool
-has_range c low high apart = int_eq c.minimum low && (int_eq c.maximum high && (c.step == apart))
+Decides-fits_32 : (v : ℤ) → Decides (lies_between (negsuc (2 ^ 31 - 1)) (pos (2 ^ 31 - 1)) v) (FitsSigned w32 v)
+Decides-fits_32 (pos n) =
+    Decides-like (lies_between (negsuc (2 ^ 31 - 1)) (pos (2 ^ 31 - 1)) (pos n))
+    (λ p. record { sfits = omega (arith, ints, p.1) }) (λ h. (omega (arith, ints), omega (arith, ints, h.sfits)))
+    (Decides-between (negsuc (2 ^ 31 - 1)) (pos (2 ^ 31 - 1)) (pos n))
+Decides-fits_32 (negsuc n) =
+    Decides-like (lies_between (negsuc (2 ^ 31 - 1)) (pos (2 ^ 31 - 1)) (negsuc n))
+    (λ p. record { sfits = omega (arith, ints, p.0) }) (λ h. (omega (arith, ints, h.sfits), omega (arith, ints)))
+    (Decides-between (negsuc (2 ^ 31 - 1)) (pos (2 ^ 31 - 1)) (negsuc n))
+
+Decides-fits_64 : (v : ℤ) → Decides (lies_between (negsuc (2 ^ 63 - 1)) (pos (2 ^ 63 - 1)) v) (FitsSigned w64 v)
+Decides-fits_64 (pos n) =
+    Decides-like (lies_between (negsuc (2 ^ 63 - 1)) (pos (2 ^ 63 - 1)) (pos n))
+    (λ p. record { sfits = omega (arith, ints, p.1) }) (λ h. (omega (arith, ints), omega (arith, ints, h.sfits)))
+    (Decides-between (negsuc (2 ^ 63 - 1)) (pos (2 ^ 63 - 1)) (pos n))
+Decides-fits_64 (negsuc n) =
+    Decides-like (lies_between (negsuc (2 ^ 63 - 1)) (pos (2 ^ 63 - 1)) (negsuc n))
+    (λ p. record { sfits = omega (arith, ints, p.0) }) (λ h. (omega (arith, ints, h.sfits), omega (arith, ints)))
+    (Decides-between (negsuc (2 ^ 63 - 1)) (pos (2 ^ 63 - 1)) (negsuc n))
 
 Decides-has_range : (c : Control) (low high : ℤ) (apart : ℕ) → Decides (has_range c low high apart) (HasRange c low high apart)
 Decides-has_range c low high apart =
@@ -41,10 +57,6 @@ Decides-has_range c low high apart =
     (Decides-and (int_eq c.minimum low) (int_eq c.maximum high && (c.step == apart)) (Decides-int_eq c.minimum low)
     (Decides-and (int_eq c.maximum high) (c.step == apart) (Decides-int_eq c.maximum high) (Decides-eqb c.step apart)))
 
--- the bounds are those of a menu
-abbrev has_items : Control → Bool
-has_items c = int_le (pos 0) c.minimum && (int_le c.maximum (pos 63) && (c.step == 1))
-
 Decides-has_items : (c : Control) → Decides (has_items c) (HasItems c)
 Decides-has_items c =
     Decides-like (has_items c)
@@ -52,42 +64,24 @@ Decides-has_items c =
     (Decides-and (int_le (pos 0) c.minimum) (int_le c.maximum (pos 63) && (c.step == 1)) (Decides-int_le (pos 0) c.minimum)
     (Decides-and (int_le c.maximum (pos 63)) (c.step == 1) (Decides-int_le c.maximum (pos 63)) (Decides-eqb c.step 1)))
 
--- the maximum is a mask
-abbrev has_mask : Control → Bool
-has_mask c = int_eq c.minimum (pos 0) && (int_le (pos 1) c.maximum && (int_le c.maximum (pos (2 ^ 32 - 1)) && (c.step == 0)))
-
 Decides-has_mask : (c : Control) → Decides (has_mask c) (HasMask c)
 Decides-has_mask c =
     Decides-like (has_mask c)
-    (λ p. record { minimum = p.0; not_empty = p.1.0; maximum = omega (arith, ints, p.1.1.0); step = p.1.1.1 })
-    (λ h. (h.minimum, (h.not_empty, (omega (arith, ints, h.maximum), h.step))))
-    (Decides-and (int_eq c.minimum (pos 0)) (int_le (pos 1) c.maximum && (int_le c.maximum (pos (2 ^ 32 - 1)) && (c.step == 0))) (Decides-int_eq c.minimum (pos 0))
-    (Decides-and (int_le (pos 1) c.maximum) (int_le c.maximum (pos (2 ^ 32 - 1)) && (c.step == 0)) (Decides-int_le (pos 1) c.maximum)
-    (Decides-and (int_le c.maximum (pos (2 ^ 32 - 1))) (c.step == 0) (Decides-int_le c.maximum (pos (2 ^ 32 - 1))) (Decides-eqb c.step 0))))
-
--- the bounds and the step are of the kind
-abbrev has_bounds : Kind → Control → Bool
-has_bounds Integer c = nat_lt (mag c.minimum) (2 ^ 31) && nat_lt (mag c.maximum) (2 ^ 31)
-has_bounds Integer64 c = nat_lt (mag c.minimum) (2 ^ 63) && nat_lt (mag c.maximum) (2 ^ 63)
-has_bounds Boolean c = has_range c (pos 0) (pos 1) 1
-has_bounds Bitmask c = has_mask c
-has_bounds Button c = has_range c (pos 0) (pos 0) 0
-has_bounds Menu c = has_items c
-has_bounds IntegerMenu c = has_items c
+    (λ p. record { minimum = p.0; not_empty = p.1.0.0; maximum = omega (arith, ints, p.1.0.1); step = p.1.1 })
+    (λ h. (h.minimum, ((h.not_empty, omega (arith, ints, h.maximum)), h.step)))
+    (Decides-and (int_eq c.minimum (pos 0)) (lies_between (pos 1) (pos (2 ^ 32 - 1)) c.maximum && (c.step == 0)) (Decides-int_eq c.minimum (pos 0))
+    (Decides-and (lies_between (pos 1) (pos (2 ^ 32 - 1)) c.maximum) (c.step == 0) (Decides-between (pos 1) (pos (2 ^ 32 - 1)) c.maximum) (Decides-eqb c.step 0)))
 
 Decides-has_bounds : (kind : Kind) (c : Control) → Decides (has_bounds kind c) (HasBounds kind c)
-Decides-has_bounds Integer c = Decides-and (nat_lt (mag c.minimum) (2 ^ 31)) (nat_lt (mag c.maximum) (2 ^ 31)) (Decides-fits_32 c.minimum) (Decides-fits_32 c.maximum)
-Decides-has_bounds Integer64 c = Decides-and (nat_lt (mag c.minimum) (2 ^ 63)) (nat_lt (mag c.maximum) (2 ^ 63)) (Decides-fits_64 c.minimum) (Decides-fits_64 c.maximum)
+Decides-has_bounds Integer c =
+    Decides-and (lies_between (negsuc (2 ^ 31 - 1)) (pos (2 ^ 31 - 1)) c.minimum) (lies_between (negsuc (2 ^ 31 - 1)) (pos (2 ^ 31 - 1)) c.maximum) (Decides-fits_32 c.minimum) (Decides-fits_32 c.maximum)
+Decides-has_bounds Integer64 c =
+    Decides-and (lies_between (negsuc (2 ^ 63 - 1)) (pos (2 ^ 63 - 1)) c.minimum) (lies_between (negsuc (2 ^ 63 - 1)) (pos (2 ^ 63 - 1)) c.maximum) (Decides-fits_64 c.minimum) (Decides-fits_64 c.maximum)
 Decides-has_bounds Boolean c = Decides-has_range c (pos 0) (pos 1) 1
 Decides-has_bounds Bitmask c = Decides-has_mask c
 Decides-has_bounds Button c = Decides-has_range c (pos 0) (pos 0) 0
 Decides-has_bounds Menu c = Decides-has_items c
 Decides-has_bounds IntegerMenu c = Decides-has_items c
-
-abbrev can_skip : Kind → ℕ → Bool
-can_skip Menu skip = true
-can_skip IntegerMenu skip = true
-can_skip _ skip = skip == 0
 
 Decides-can_skip : (kind : Kind) (skip : ℕ) → Decides (can_skip kind skip) (CanSkip kind skip)
 Decides-can_skip Menu skip = (λ _. tt, λ _. refl)
@@ -98,14 +92,8 @@ Decides-can_skip Boolean skip = Decides-eqb skip 0
 Decides-can_skip Bitmask skip = Decides-eqb skip 0
 Decides-can_skip Button skip = Decides-eqb skip 0
 
-abbrev can_declare : Flags → Bool
-can_declare flags = not (intersects flags (union GRABBED INACTIVE))
-
 Decides-can_declare : (flags : Flags) → Decides (can_declare flags) (CanDeclare flags)
 Decides-can_declare flags = (λ e. not-true (intersects flags (union GRABBED INACTIVE)) e, λ h. not_from_false (intersects flags (union GRABBED INACTIVE)) h)
-
-abbrev fits_kind : Control → Bool
-fits_kind c = has_bounds c.kind c && (can_skip c.kind c.skip && can_declare c.flags)
 
 pub Decides-fits_kind : (c : Control) → Decides (fits_kind c) (FitsKind c)
 Decides-fits_kind c =
@@ -118,10 +106,13 @@ Decides-fits_kind c =
 yes_or_no : {P : Type 0} (b : Bool) → Decides b P → P ⊎ (¬ P)
 yes_or_no b d = ⊎_elim (λ (e : b ≡ true). inl (d.0 e)) (λ (e : b ≡ false). inr (not_from_Decides b d e)) (cases_Bool b)
 
+Decides-value : (v : ℤ) (r : Result ℤ Errno) → Decides (is_value v r) (r ≡ Ok v)
+Decides-value v (Ok w) = (λ e. ap Ok ((Decides-int_eq w v).0 e), λ h. (Decides-int_eq w v).1 (cc))
+Decides-value v (Err e) = (λ h. absurd (cc), λ h. absurd (cc))
+
 -- whether an answer is this value
 answers : (r : Result ℤ Errno) (v : ℤ) → (r ≡ Ok v) ⊎ (¬ (r ≡ Ok v))
-answers (Ok w) v = ⊎_elim (λ (same : w ≡ v). inl (ap Ok same)) (λ (other : ¬ (w ≡ v)). inr (λ e. other (cc))) (yes_or_no (int_eq w v) (Decides-int_eq w v))
-answers (Err e) v = inr (λ h. absurd (cc))
+answers r v = yes_or_no (is_value v r) (Decides-value v r)
 
 -- each fault is the first where it holds and those before it don't
 first-bad_range : (c : Control) → HasFault c BadRange → IsFirstFault c BadRange
@@ -168,6 +159,72 @@ well_formed_or_first_fault c =
     (yes_or_no (fits_kind c) (Decides-fits_kind c)))
     (yes_or_no (has_grid c.kind && (c.step == 0)) (Decides-and (has_grid c.kind) (c.step == 0) (λ e. e, λ e. e) (Decides-eqb c.step 0))))
 
+-- what doesn't hold is tested so, and what doesn't not hold
+no : {P : Type 0} (b : Bool) → Decides b P → (¬ P) → b ≡ false
+no true d none = absurd (none (d.0 refl))
+no false d none = refl
+
+double : {P : Type 0} (b : Bool) → Decides b P → (¬ (¬ P)) → b ≡ true
+double true d some = refl
+double false d some = absurd (some (not_from_Decides false d refl))
+
+-- the tests for faults of which the control has none
+no_range : (c : Control) → (¬ HasFault c BadRange) → int_lt c.maximum c.minimum ≡ false
+no_range c h = no (int_lt c.maximum c.minimum) (Decides-int_lt c.maximum c.minimum) h
+
+no_zero : (c : Control) → (¬ HasFault c ZeroStep) → (has_grid c.kind && (c.step == 0)) ≡ false
+no_zero c h = no (has_grid c.kind && (c.step == 0)) (Decides-and (has_grid c.kind) (c.step == 0) (λ e. e, λ e. e) (Decides-eqb c.step 0)) h
+
+no_bounds : (c : Control) → (¬ HasFault c KindBounds) → fits_kind c ≡ true
+no_bounds c h = double (fits_kind c) (Decides-fits_kind c) h
+
+-- nothing is found where nothing is wrong
+pub nothing_found : (c : Control) → IsWellFormed c → first_fault c ≡ None
+nothing_found c well =
+    rw (
+      no_range c (λ bad. omega (arith, ints, well.in_order, bad)),
+      no_zero c (λ bad. omega (arith, well.stepped bad.0, bad.1)),
+      (Decides-fits_kind c).1 well.fits_kind,
+      (Decides-value c.default_value (settle c c.default_value)).1 well.default_settled,
+    )
+    refl
+
+-- the first fault is found
+pub fault_found : (c : Control) (f : CtrlFault) → IsFirstFault c f → first_fault c ≡ Some f
+fault_found c BadRange first = rw ((Decides-int_lt c.maximum c.minimum).1 first.holds) refl
+fault_found c ZeroStep first =
+    rw (no_range c (first.first BadRange (omega arith)), (Decides-and (has_grid c.kind) (c.step == 0) (λ e. e, λ e. e) (Decides-eqb c.step 0)).1 first.holds) refl
+fault_found c KindBounds first =
+    rw (no_range c (first.first BadRange (omega arith)), no_zero c (first.first ZeroStep (omega arith)), no (fits_kind c) (Decides-fits_kind c) first.holds) refl
+fault_found c BadDefault first =
+    rw (
+      no_range c (first.first BadRange (omega arith)),
+      no_zero c (first.first ZeroStep (omega arith)),
+      no_bounds c (first.first KindBounds (omega arith)),
+      no (takes_default c) (Decides-value c.default_value (settle c c.default_value)) first.holds,
+    )
+    refl
+
+-- where nothing is found, nothing is wrong
+pub well_formed_where_none : (c : Control) → first_fault c ≡ None → IsWellFormed c
+well_formed_where_none c none = ⊎_elim (λ (well : IsWellFormed c). well) (λ (first : (f : CtrlFault) × IsFirstFault c f). absurd (differ (sym none ∙ fault_found c first.0 first.1))) (well_formed_or_first_fault c)
+  where
+    differ : {f : CtrlFault} → None ≡ Some f → ⊥
+    differ e = cc
+
+-- what is found is the first fault
+pub first_fault_where_found : (c : Control) (f : CtrlFault) → first_fault c ≡ Some f → IsFirstFault c f
+first_fault_where_found c f found =
+    ⊎_elim (λ (well : IsWellFormed c). absurd (differ (sym (nothing_found c well) ∙ found)))
+    (λ (first : (g : CtrlFault) × IsFirstFault c g). subst (IsFirstFault c) (same (sym (fault_found c first.0 first.1) ∙ found)) first.1)
+    (well_formed_or_first_fault c)
+  where
+    differ : None ≡ Some f → ⊥
+    differ e = cc
+
+    same : {g : CtrlFault} → Some g ≡ Some f → g ≡ f
+    same e = cc
+
 -- the value stands on the grid: for a control that is written out, this computes
 abbrev is_on_grid : Control → ℤ → Bool
 is_on_grid c v = int_le c.minimum v && (int_le v c.maximum && (distance v c.minimum % c.step == 0))
@@ -181,20 +238,14 @@ IsOnGrid-test c v e =
     let parts : distance v c.minimum / c.step * c.step + distance v c.minimum % c.step ≡ distance v c.minimum = div-add-mod' (distance v c.minimum) c.step in
     record { steps = (distance v c.minimum / c.step, omega (arith, ints)); within = (Decides-int_le v c.maximum).0 q.0 }
 
--- the answer is this value
-abbrev is_value : Result ℤ Errno → ℤ → Bool
-is_value (Ok w) v = int_eq w v
-is_value (Err e) v = false
-
-is_value-true : (r : Result ℤ Errno) (v : ℤ) → is_value r v ≡ true → r ≡ Ok v
-is_value-true (Ok w) v e = ap Ok ((Decides-int_eq w v).0 e)
-is_value-true (Err f) v e = absurd (false≢true e)
+is_value-true : (r : Result ℤ Errno) (v : ℤ) → is_value v r ≡ true → r ≡ Ok v
+is_value-true r v e = (Decides-value v r).0 e
 
 -- a control of this kind takes the value as it is
 abbrev takes : Kind → Control → ℤ → Bool
 takes Integer c v = is_on_grid c v
 takes Integer64 c v = is_on_grid c v
-takes kind c v = is_value (settle_as kind c v) v
+takes kind c v = is_value v (settle_as kind c v)
 
 settled-test : (kind : Kind) (c : Control) (v : ℤ) → takes kind c v ≡ true → settle_as kind c v ≡ Ok v
 settled-test Integer c v e = ap Ok (nearest-on_grid c v (IsOnGrid-test c v e))

@@ -4,3 +4,4 @@ pub mod Config
 pub mod Grid
 pub mod Settle
 pub mod Faults
+pub mod FirstFault

@@ -1,10 +1,11 @@
 //! What follows from the definitions of settling. Each law is the contract of a function that does nothing.
 
-ghost use Rattle.std.specs.Prelude.{◌≡◌, ◌⊎◌, ℤ, ◌≤ℤ◌, FitsSigned};
+ghost use Rattle.std.specs.Prelude.{◌≡◌, ◌⊎◌, ◌↔◌, ℤ, ◌≤ℤ◌, FitsSigned, None, Some};
 ghost use Rattle.std.specs.Int.{w64};
 ghost use Rattle.ctrl_types.specs.Values.{CtrlValue};
 ghost use Rattle.ctrl_settle.specs.Control.{Control};
 ghost use Rattle.ctrl_settle.specs.Faults.{IsFirstFault, IsWellFormed};
+ghost use Rattle.ctrl_settle.specs.FirstFault.{first_fault};
 ghost use Rattle.ctrl_settle.specs.Grid.{IsNearest, nearest};
 ghost use Rattle.ctrl_settle.specs.Settle.{IsSettled, settle, settled_anew};
 ghost use Rattle.ctrl_settle.specs.declared.fault.CtrlFault.{CtrlFault};
@@ -41,4 +42,10 @@ pub fn well_formed_or_first_fault()
     ensures cases { (c : Control) → IsWellFormed c ⊎ ((f : CtrlFault) × IsFirstFault c f) }
     ensures only_one { (c : Control) (f : CtrlFault) → IsFirstFault c f → IsWellFormed c → ⊥ }
     ensures unique { (c : Control) (f g : CtrlFault) → IsFirstFault c f → IsFirstFault c g → f ≡ g }
+{}
+
+/// The first fault of a control can be computed: `first_fault` finds none where nothing is wrong with it, else the first.
+pub fn first_faults()
+    ensures none { (c : Control) → IsWellFormed c ↔ (first_fault c ≡ None) }
+    ensures found { (c : Control) (f : CtrlFault) → IsFirstFault c f ↔ (first_fault c ≡ Some f) }
 {}

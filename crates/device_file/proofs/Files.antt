@@ -1,10 +1,10 @@
 -- Why a text is refused.
-use Rattle.std.proofs.Common.{◌≡◌, ◌≤◌, ◌<◌, ◌∙◌, ◌⊎◌, inl, inr, ℕ, List, length, Option, Some, None, option_map, refl, ap}
+use Rattle.std.proofs.Common.{◌≡◌, ◌≤◌, ◌<◌, ◌∙◌, inl, inr, ℕ, List, length, Some, None, option_map, refl, ap}
 use Rattle.std.specs.Str.{IsUtf8}
 use Rattle.toml.specs.Data.{Members}
 use Rattle.toml.specs.Parse.{parse_document}
 use Rattle.toml.specs.declared.de.error.Error.{Error}
-use Rattle.device_file.specs.Devices.{IsRefusedWith, described, device_of, in_file}
+use Rattle.device_file.specs.Devices.{IsRefusedWith, device_of, in_file}
 use Rattle.device_file.specs.Faults.{FileStops}
 use Rattle.device_file.specs.declared.device.TheConstants.{MAX_FILE}
 use Rattle.device_file.specs.declared.fault.FileFault.{FileFault}

@@ -2,4 +2,3 @@ mod Files
 mod Flags
 mod Indexes
 mod Lists
-mod WellFormed

@@ -1,17 +1,16 @@
 -- The control that a table describes; its keys are the fields of `struct v4l2_ctrl_config` (Linux driver API, "V4L2 Controls").
-use Rattle.std.specs.Prelude.{ℕ, ◌+◌, ◌-◌, ◌*◌, ◌%◌, ◌^◌, ◌==◌, ◌&&◌, ◌||◌, ℤ, pos, negsuc, int_le, int_lt, bit_or, Bool, true, false, not, nat_lt, if◌then◌else◌, List, [], ◌∷◌, length, Option, Some, None, Result, Ok, Err}
+use Rattle.std.specs.Prelude.{ℕ, ◌+◌, ◌-◌, ◌*◌, ◌%◌, ◌^◌, ◌==◌, ◌&&◌, ◌||◌, ℤ, pos, negsuc, int_le, bit_or, Bool, not, nat_lt, if◌then◌else◌, List, [], ◌∷◌, length, Option, Some, None, Result, Ok, Err}
 use Rattle.std.specs.List.{list_any}
 use Rattle.std.specs.Option.{ok_or, option_and_then, option_map}
-use Rattle.std.specs.Ordering.{int_eq}
 use Rattle.toml.specs.Data.{Data, Members, as_integer, as_str}
-use Rattle.ctrl_types.specs.declared.errno.Errno.{Errno}
 use Rattle.ctrl_types.specs.declared.flags.Flags.{Flags}
 use Rattle.ctrl_types.specs.declared.ids.CtrlId.{CtrlId}
 use Rattle.ctrl_types.specs.declared.kind.Kind.{Kind}
 use Rattle.ctrl_types.specs.declared.kind.Kind.TheVariants.{Integer, Boolean, Menu, Button, Integer64, Bitmask, IntegerMenu}
 use Rattle.ctrl_settle.specs.Control.{Control, described}
-use Rattle.ctrl_settle.specs.Faults.{has_grid}
-use Rattle.ctrl_settle.specs.Settle.{settle}
+use Rattle.ctrl_settle.specs.FirstFault.{can_skip, first_fault}
+use Rattle.ctrl_settle.specs.declared.fault.CtrlFault.{CtrlFault}
+use Rattle.ctrl_settle.specs.declared.fault.CtrlFault.TheVariants.{BadRange, ZeroStep, BadDefault, KindBounds}
 use Rattle.device_file.specs.Faults.{◌>>=◌, wrong, wrong_at}
 use Rattle.device_file.specs.Names.{flag_named, kind_named}
 use Rattle.device_file.specs.Reading.{elements_at, elements_in, needed_number_in, needed_text_in, number_or_in, truth_in}
@@ -149,47 +148,29 @@ maximums Boolean = range (pos 1) (pos 1)
 maximums Bitmask = range (pos 1) (pos (2 ^ 32 - 1))
 maximums kind = minimums kind
 
--- only a menu has items to skip
-abbrev pub can_skip : Kind → Bool
-can_skip Menu = true
-can_skip IntegerMenu = true
-can_skip _ = false
-
-abbrev pub fits_skip : Control → Bool
-fits_skip c = can_skip c.kind || (c.skip == 0)
-
--- a number has any step, another type one alone
-abbrev pub fits_step : Control → Bool
-fits_step c = has_grid c.kind || (c.step == usual_step c.kind)
-
--- whether skipped items, bounds and step are of the control's type
-abbrev pub fits_type : Control → Bool
-fits_type c = fits_skip c && (lies_in (minimums c.kind) c.minimum && (lies_in (maximums c.kind) c.maximum && fits_step c))
-
--- the first of them that isn't, where one isn't
+-- The first of skip, minimum and maximum that isn't of the control's type; the step where these are. The flags are never the fault: a file names none that come and go.
 abbrev pub misfit : Control → Key
 misfit c =
-    if not (fits_skip c) then keys.Skip
+    if not (can_skip c.kind c.skip) then keys.Skip
     else if not (lies_in (minimums c.kind) c.minimum) then keys.Min
     else if not (lies_in (maximums c.kind) c.maximum) then keys.Max
     else keys.Step
 
--- whether a control takes its default as it is
-abbrev pub is_value : ℤ → Result ℤ Errno → Bool
-is_value v (Ok w) = int_eq w v
-is_value v (Err _) = false
+-- which key a control's fault is of, and what is wrong there
+abbrev pub said_of : Control → CtrlFault → KeyFault
+said_of c BadRange = wrong keys.Min problems.BadRange
+said_of c ZeroStep = wrong keys.Step problems.ZeroStep
+said_of c KindBounds = wrong (misfit c) (problems.NotOfType c.kind)
+said_of c BadDefault = wrong keys.Default problems.BadDefault
 
-abbrev pub takes_default : Control → Bool
-takes_default c = is_value c.default_value (settle c c.default_value)
+-- a control, unless it has a fault
+abbrev pub unless_fault : Control → Option CtrlFault → Result Control KeyFault
+unless_fault c None = Ok c
+unless_fault c (Some fault) = Err (said_of c fault)
 
 -- a control, where nothing is wrong with what its table says together
 abbrev pub checked : Control → Result Control KeyFault
-checked c =
-    if int_lt c.maximum c.minimum then Err (wrong keys.Min problems.BadRange)
-    else if has_grid c.kind && (c.step == 0) then Err (wrong keys.Step problems.ZeroStep)
-    else if not (fits_type c) then Err (wrong (misfit c) (problems.NotOfType c.kind))
-    else if not (takes_default c) then Err (wrong keys.Default problems.BadDefault)
-    else Ok c
+checked c = unless_fault c (first_fault c)
 
 -- the control that a table describes
 abbrev pub control_at : Members → Result Control KeyFault

@@ -3,7 +3,6 @@ use Rattle.std.specs.Prelude.{ℕ, ◌+◌, ◌^◌, ◌==◌, ◌&&◌, ℤ, Bo
 use Rattle.std.specs.Char.{digit_value}
 use Rattle.std.specs.Str.Parse.{digits_value, without_leading_plus}
 use Rattle.toml.specs.Data.{Data, Items, Members, no_members, member, as_array, as_integer, as_str, as_table}
-use Rattle.menu_items.specs.declared.item.MenuItem.{MenuItem}
 use Rattle.menu_items.specs.declared.item.MenuItem.TheVariants.{Name, Number}
 use Rattle.ctrl_handlers.specs.Builder.{name_refusal, number_refusal}
 use Rattle.ctrl_handlers.specs.Plan.{PlanData, with_item}

@@ -1,7 +1,7 @@
 -- What a plan builder's refusals are in a file.
 use Rattle.std.specs.Prelude.{ℕ, Option, Some, None, Result, Ok, Err}
 use Rattle.ctrl_handlers.specs.declared.fault.PlanFault.{PlanFault}
-use Rattle.ctrl_handlers.specs.declared.fault.PlanFault.TheVariants.{ClusterSize, DuplicateId, InCluster, LaterHandler, Limit, Memory, UnknownNumber}
+use Rattle.ctrl_handlers.specs.declared.fault.PlanFault.TheVariants.{ClusterSize, DuplicateId, Limit, Memory}
 use Rattle.device_file.specs.Faults.{wrong, wrong_at}
 use Rattle.device_file.specs.declared.fault.KeyFault.{KeyFault}
 use Rattle.device_file.specs.declared.fault.ReadError.{ReadError}

@@ -5,8 +5,9 @@ ghost use Rattle.std.specs.List.{list_any};
 ghost use Rattle.std.specs.Result.{result_map_both};
 ghost use Rattle.toml.specs.View.{view, table_view};
 ghost use Rattle.ctrl_settle.specs.Config.{control_of};
-ghost use Rattle.ctrl_settle.specs.Faults.{CanDeclare, IsFirstFault, IsWellFormed};
-ghost use Rattle.device_file.specs.Controls.{bit_at, can_skip, checked, control_at, description_in, flag_bits_of, flag_of, flags_in, id_in, is_sayable, kind_in, last_item, lies_in, maximums, minimums, misfit, divides, name_at, range, skip_bits_of, skip_in, skipped, step_in, usual_maximum, usual_step};
+ghost use Rattle.ctrl_settle.specs.Faults.{CanDeclare, IsWellFormed};
+ghost use Rattle.ctrl_settle.specs.FirstFault.{can_skip};
+ghost use Rattle.device_file.specs.Controls.{bit_at, control_at, description_in, flag_bits_of, flag_of, flags_in, id_in, is_sayable, kind_in, last_item, lies_in, maximums, minimums, misfit, divides, name_at, range, said_of, skip_bits_of, skip_in, skipped, step_in, usual_maximum, usual_step};
 
 use crate::fault::KeyFault;
 use crate::key::Key;
@@ -47,9 +48,7 @@ pub(crate) fn control_in(table: &Table) -> Result<Ctrl, KeyFault>
 
 // Which key of a control that is refused is wrong, and how.
 fn fault_of(config: &CtrlConfig, fault: CtrlFault) -> KeyFault
-    requires declared { CanDeclare config.now.flags }
-    requires first { IsFirstFault (control_of config.now) fault }
-    ensures { checked (control_of config.now) ≡ Err result }
+    ensures { result ≡ said_of (control_of config.now) fault }
 {
     match fault {
         CtrlFault::BadRange => KeyFault::new(Key::Min, Problem::BadRange),
@@ -63,7 +62,7 @@ fn fault_of(config: &CtrlConfig, fault: CtrlFault) -> KeyFault
 fn wrong_key(config: &CtrlConfig) -> Key
     ensures { result ≡ misfit (control_of config.now) }
 {
-    if config.skip != 0 && !is_menu(config.kind) {
+    if !skip_fits(config.kind, config.skip) {
         Key::Skip
     } else if !minimum_fits(config) {
         Key::Min
@@ -74,13 +73,13 @@ fn wrong_key(config: &CtrlConfig) -> Key
     }
 }
 
-fn is_menu(kind: Kind) -> bool
-    ensures { result ≡ can_skip kind }
+fn skip_fits(kind: Kind, skip: u64) -> bool
+    ensures { result ≡ can_skip kind skip }
 {
     match kind {
         Kind::Menu => true,
         Kind::IntegerMenu => true,
-        _ => false,
+        _ => skip == 0,
     }
 }
 

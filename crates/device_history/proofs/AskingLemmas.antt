@@ -290,6 +290,7 @@ may_decided verdicts plan past step may = by may.0 may.1 may.2
         (unrefused_set (fault_at_count (length list)) (first_refusal (set_checks verdicts plan past fh which id list)) (entries_judged verdicts plan (write_view verdicts plan past fh which id) list) h))
     by (asks.TryCtrls fh which id list) h adds = nothing adds
     by (asks.Grab c on) h adds = is (asks.Grab c on) (own _ adds) h adds
+    by (asks.ModifyRange c low high apart default_value) h adds = is (asks.ModifyRange c low high apart default_value) (own _ adds) h adds
     by asks.Alloc h adds = is asks.Alloc (own _ adds) h adds
     by (asks.AddBuffer r number) h adds = is (asks.AddBuffer r number) (own _ adds) h adds
     by (asks.Queue r) h adds = is (asks.Queue r) (own _ adds) h adds

@@ -30,9 +30,9 @@ use Rattle.device_history.specs.declared.ask.Step.{Step}
 use Rattle.device_history.specs.declared.ask.Step.TheVariants as steps
 use Rattle.device_history.specs.Steps.{History, Past}
 use Rattle.device_history.specs.Handles.{ever_opened, handler_of, opened, opened_after, shown}
-use Rattle.device_history.specs.Ranges.{ranges_now}
+use Rattle.device_history.specs.Ranges.{ranges_after, ranges_now}
 use Rattle.device_history.specs.Grabs.{grabbed, grabbed_after}
-use Rattle.device_history.specs.Values.{pairs_asked, now}
+use Rattle.device_history.specs.Values.{now, values_after}
 use Rattle.device_history.specs.Flags.{flags_now}
 use Rattle.device_history.specs.Words.{pairs_applied}
 use Rattle.device_history.specs.Legal.{IsLegal, MayFollow}
@@ -73,6 +73,7 @@ numbered_gone fh (steps.OpenFh handler) hs numbered = numbered
 numbered_gone fh (steps.CloseFh f) hs numbered = numbered
 numbered_gone fh (steps.Set f pairs) hs numbered = numbered
 numbered_gone fh (steps.Grab c on) hs numbered = numbered
+numbered_gone fh (steps.ModifyRange c low high apart default_value) hs numbered = numbered
 numbered_gone fh steps.Alloc hs numbered = numbered
 numbered_gone fh (steps.Store r pairs) hs numbered = numbered
 numbered_gone fh (steps.Buffer r number) hs numbered = numbered
@@ -225,13 +226,15 @@ raises_kept verdicts plan e older fh (c ∷ cs) f hs kept subs = by (raises_kept
         (subst (λ (b : Bool). Kept (cons_option (option_map (λ x. (c, x)) (cond (not b) None (Some change))) rest) hs (if reaches (is_from from fh.0) (flags_in f.subscribed c) then raised c change (told c) f else f)) (sym (hears_reaches fh flags e.step change c))
         (goes more flags (subs c ∙ is) (reaches (is_from from fh.0) (Some flags)) refl))
 
--- a step that lays no pairs, applies none and leaves the grabs
+-- a step that leaves values, grabs and ranges, and applies no pairs
 abbrev ChangesNoControl : Verdicts → PlanData → Past → Step → Type 0
-ChangesNoControl verdicts plan older step = (pairs_asked plan older step ≡ None) × (pairs_applied verdicts plan older step ≡ None) × (grabbed_after step (grabbed plan older) ≡ grabbed plan older)
+ChangesNoControl verdicts plan older step =
+    (values_after verdicts plan older step (now verdicts plan older) ≡ now verdicts plan older) × (pairs_applied verdicts plan older step ≡ None)
+    × (grabbed_after step (grabbed plan older) ≡ grabbed plan older) × (ranges_after step (ranges_now plan older) ≡ ranges_now plan older)
 
-pub values_controls_left : (verdicts : Verdicts) (plan : PlanData) (e : Entry Step) (older : Past) → pairs_asked plan older e.step ≡ None → now verdicts plan (e ∷ older) ≡ now verdicts plan older
+pub values_controls_left : (verdicts : Verdicts) (plan : PlanData) (e : Entry Step) (older : Past) → values_after verdicts plan older e.step (now verdicts plan older) ≡ now verdicts plan older → now verdicts plan (e ∷ older) ≡ now verdicts plan older
 unfolding now
-values_controls_left verdicts plan e older none = rw none refl
+values_controls_left verdicts plan e older same = same
 
 -- a range doesn't differ from itself
 range_same : (x : Control) → range_differs x x ≡ false
@@ -242,7 +245,7 @@ range_same x = rw (itself x.minimum, itself x.maximum, eq-eqb x.step x.step refl
 
 -- such a step changes nothing
 changes_none : (verdicts : Verdicts) (plan : PlanData) (e : Entry Step) (older : Past) → ChangesNoControl verdicts plan older e.step → (c : ℕ) → is_nothing (changed verdicts plan e older c) ≡ true
-changes_none verdicts plan e older is c = rw (values_controls_left verdicts plan e older is.0, grabbed_more plan e older ∙ is.2, is.1, eq-eqb (flags_now verdicts plan older c).0 (flags_now verdicts plan older c).0 refl, ranges_more plan e older, range_same (control_in (ranges_now plan older) c)) refl
+changes_none verdicts plan e older is c = rw (values_controls_left verdicts plan e older is.0, grabbed_more plan e older ∙ is.2, is.1, eq-eqb (flags_now verdicts plan older c).0 (flags_now verdicts plan older c).0 refl, ranges_more plan e older ∙ is.3, range_same (control_in (ranges_now plan older) c)) refl
 
 -- nobody hears of nothing
 heard_nothing : (fh : FhId) (o : Option SubFlags) (step : Step) (change : Changes) (c : ℕ) → is_nothing change ≡ true → heard fh o step change c ≡ None
@@ -284,6 +287,7 @@ gone_closed verdicts plan older fh (steps.OpenFh handler) hs may shut = refl
 gone_closed verdicts plan older fh (steps.CloseFh f) hs may shut = refl
 gone_closed verdicts plan older fh (steps.Set f pairs) hs may shut = refl
 gone_closed verdicts plan older fh (steps.Grab c on) hs may shut = refl
+gone_closed verdicts plan older fh (steps.ModifyRange c low high apart default_value) hs may shut = refl
 gone_closed verdicts plan older fh steps.Alloc hs may shut = refl
 gone_closed verdicts plan older fh (steps.Store r pairs) hs may shut = refl
 gone_closed verdicts plan older fh (steps.Buffer r number) hs may shut = refl
@@ -356,6 +360,7 @@ closed_more verdicts plan e older fh f may shut none = by e.step refl
     by (steps.CloseFh g) is = closing (nat_eq g.0 fh.0)
     by (steps.Set g pairs) is = all _
     by (steps.Grab c on) is = all _
+    by (steps.ModifyRange c low high apart default_value) is = all _
     by steps.Alloc is = none
     by (steps.Store r pairs) is = none
     by (steps.Buffer r number) is = none
@@ -497,7 +502,7 @@ subscribes_own verdicts plan e older fh g c0 flags f plans legal may is own live
     each : (c : ℕ) → raised_for verdicts plan e older fh c ≡ cond (nat_eq c0 c) (initially (subscribed older fh c0) (Some flags) (control plan c0).flags) None
     each c =
         ap (λ (o : Option Changes). option_or o (initially (subscribed older fh c) (subscribed_by fh c e.step) (control plan c).flags))
-        (heard_nothing fh (subscribed older fh c) e.step (changed verdicts plan e older c) c (changes_none verdicts plan e older (ap (pairs_asked plan older) is, ap (pairs_applied verdicts plan older) is, ap (λ (s : Step). grabbed_after s (grabbed plan older)) is) c))
+        (heard_nothing fh (subscribed older fh c) e.step (changed verdicts plan e older c) c (changes_none verdicts plan e older (ap (λ (s : Step). values_after verdicts plan older s (now verdicts plan older)) is, ap (pairs_applied verdicts plan older) is, ap (λ (s : Step). grabbed_after s (grabbed plan older)) is, ap (λ (s : Step). ranges_after s (ranges_now plan older)) is) c))
         ∙ ap (λ (o : Option SubFlags). initially (subscribed older fh c) o (control plan c).flags) (asks c) ∙ at (nat_eq c0 c) refl
       where
         at : (b : Bool) → nat_eq c0 c ≡ b → initially (subscribed older fh c) (cond b (Some flags) None) (control plan c).flags ≡ cond b (initially (subscribed older fh c0) (Some flags) (control plan c0).flags) None
@@ -571,7 +576,7 @@ ends_own verdicts plan e older fh g d f legal may is own live still are = by d r
     hs = happened verdicts plan older fh
 
     calm : ChangesNoControl verdicts plan older e.step
-    calm = (ap (pairs_asked plan older) is, ap (pairs_applied verdicts plan older) is, ap (λ (s : Step). grabbed_after s (grabbed plan older)) is)
+    calm = (ap (λ (s : Step). values_after verdicts plan older s (now verdicts plan older)) is, ap (pairs_applied verdicts plan older) is, ap (λ (s : Step). grabbed_after s (grabbed plan older)) is, ap (λ (s : Step). ranges_after s (ranges_now plan older)) is)
 
     now_happened : happened verdicts plan (e ∷ older) fh ≡ withdrawn_if_named d hs
     now_happened =
@@ -599,7 +604,7 @@ takes_own verdicts plan e older fh g c0 f legal may is own live still are = by f
     hs = happened verdicts plan older fh
 
     calm : ChangesNoControl verdicts plan older e.step
-    calm = (ap (pairs_asked plan older) is, ap (pairs_applied verdicts plan older) is, ap (λ (s : Step). grabbed_after s (grabbed plan older)) is)
+    calm = (ap (λ (s : Step). values_after verdicts plan older s (now verdicts plan older)) is, ap (pairs_applied verdicts plan older) is, ap (λ (s : Step). grabbed_after s (grabbed plan older)) is, ap (λ (s : Step). ranges_after s (ranges_now plan older)) is)
 
     now_happened : happened verdicts plan (e ∷ older) fh ≡ withdrawn c0 ∷ hs
     now_happened =
@@ -655,44 +660,45 @@ opened_more_events verdicts plan e older fh f plans legal may live are = by e.st
       where
         at : (b : Bool) → nat_eq fh.0 (length older) ≡ b → AreEvents verdicts plan (e ∷ older) fh f
         at true own = absurd (true≢false (sym live ∙ ap is_some (not_yet older fh (omega (arith, equal fh.0 (length older) own)))))
-        at false other = calm _ is (ap is_some (handler_other e older handler fh is other) ∙ live) (refl, refl, refl) (λ c. refl) refl (λ c. or_none (subscribed older fh c))
+        at false other = calm _ is (ap is_some (handler_other e older handler fh is other) ∙ live) (refl, refl, refl, refl) (λ c. refl) refl (λ c. or_none (subscribed older fh c))
 
     closes_it : (g : FhId) → e.step ≡ steps.CloseFh g → (b : Bool) → nat_eq g.0 fh.0 ≡ b → AreEvents verdicts plan (e ∷ older) fh (cond b no_events f)
     closes_it g is true own = nothing_closed verdicts plan (e ∷ older) fh no_events (ap is_some (handler_gone e older g fh is own)) nothing_first
-    closes_it g is false other = calm _ is (ap is_some (handler_left e older g fh is other) ∙ live) (refl, refl, refl) (λ c. refl) refl (λ c. ap (λ (b : Bool). cond b None (subscribed older fh c)) other)
+    closes_it g is false other = calm _ is (ap is_some (handler_left e older g fh is other) ∙ live) (refl, refl, refl, refl) (λ c. refl) refl (λ c. ap (λ (b : Bool). cond b None (subscribed older fh c)) other)
 
     subscribes : (g : FhId) (c0 : ℕ) (flags : SubFlags) → e.step ≡ steps.Subscribe g c0 flags → (b : Bool) → nat_eq g.0 fh.0 ≡ b
         → AreEvents verdicts plan (e ∷ older) fh (cond b (after_subscribe c0 flags (initial_changes (control plan c0).flags) (payload verdicts plan (e ∷ older) c0) f) f)
     subscribes g c0 flags is true own = subscribes_own verdicts plan e older fh g c0 flags f plans legal may is own live (still _ is refl) are
     subscribes g c0 flags is false other =
-        simple _ is refl (refl, refl, refl) (λ c. ap (λ (b : Bool). cond (b && nat_eq c0 c) (Some flags) None) other) refl
+        simple _ is refl (refl, refl, refl, refl) (λ c. ap (λ (b : Bool). cond (b && nat_eq c0 c) (Some flags) None) other) refl
         (λ c. ap (λ (b : Bool). option_or (subscribed older fh c) (cond (b && nat_eq c0 c) (Some flags) None)) other)
 
     ends : (g : FhId) (d : Option ℕ) → e.step ≡ steps.Unsubscribe g d → (b : Bool) → nat_eq g.0 fh.0 ≡ b → AreEvents verdicts plan (e ∷ older) fh (cond b (unsubscribed_if_named d f) f)
     ends g d is true own = ends_own verdicts plan e older fh g d f legal may is own live (still _ is refl) are
     ends g d is false other =
-        simple _ is refl (refl, refl, refl) (λ c. refl) (ap (λ (b : Bool). cond b (withdrawn_if_named d (happened verdicts plan older fh)) (happened verdicts plan older fh)) other)
+        simple _ is refl (refl, refl, refl, refl) (λ c. refl) (ap (λ (b : Bool). cond b (withdrawn_if_named d (happened verdicts plan older fh)) (happened verdicts plan older fh)) other)
         (λ c. ap (λ (b : Bool). cond (b && is_control c d) None (option_or (subscribed older fh c) None)) other)
 
     takes : (g : FhId) (c0 : ℕ) → e.step ≡ steps.Take g c0 → (b : Bool) → nat_eq g.0 fh.0 ≡ b → AreEvents verdicts plan (e ∷ older) fh (cond b (after_take f) f)
     takes g c0 is true own = takes_own verdicts plan e older fh g c0 f legal may is own live (still _ is refl) are
-    takes g c0 is false other = simple _ is refl (refl, refl, refl) (λ c. refl) (ap (λ (b : Bool). cond b (withdrawn c0 ∷ happened verdicts plan older fh) (happened verdicts plan older fh)) other) (λ c. refl)
+    takes g c0 is false other = simple _ is refl (refl, refl, refl, refl) (λ c. refl) (ap (λ (b : Bool). cond b (withdrawn c0 ∷ happened verdicts plan older fh) (happened verdicts plan older fh)) other) (λ c. refl)
 
     by : (step : Step) → e.step ≡ step → AreEvents verdicts plan (e ∷ older) fh (events_by verdicts plan e older fh step f)
     by (steps.OpenFh handler) is = opens handler is
     by (steps.CloseFh g) is = closes_it g is (nat_eq g.0 fh.0) refl
     by (steps.Set g pairs) is = raises _ is refl (λ c. refl) refl (λ c. refl)
     by (steps.Grab c on) is = raises _ is refl (λ d. refl) refl (λ d. refl)
-    by steps.Alloc is = simple _ is refl (refl, refl, refl) (λ c. refl) refl (λ c. refl)
-    by (steps.Store r pairs) is = simple _ is refl (refl, refl, refl) (λ c. refl) refl (λ c. refl)
-    by (steps.Buffer r number) is = simple _ is refl (refl, refl, refl) (λ c. refl) refl (λ c. refl)
-    by (steps.Queue r) is = simple _ is refl (refl, refl, refl) (λ c. refl) refl (λ c. refl)
+    by (steps.ModifyRange c low high apart default_value) is = raises _ is refl (λ d. refl) refl (λ d. refl)
+    by steps.Alloc is = simple _ is refl (refl, refl, refl, refl) (λ c. refl) refl (λ c. refl)
+    by (steps.Store r pairs) is = simple _ is refl (refl, refl, refl, refl) (λ c. refl) refl (λ c. refl)
+    by (steps.Buffer r number) is = simple _ is refl (refl, refl, refl, refl) (λ c. refl) refl (λ c. refl)
+    by (steps.Queue r) is = simple _ is refl (refl, refl, refl, refl) (λ c. refl) refl (λ c. refl)
     by (steps.Begin r) is = raises _ is refl (λ c. refl) refl (λ c. refl)
-    by (steps.Complete r) is = simple _ is refl (refl, refl, refl) (λ c. refl) refl (λ c. refl)
-    by (steps.Cancel r) is = simple _ is refl (refl, refl, refl) (λ c. refl) refl (λ c. refl)
-    by steps.StreamOff is = simple _ is refl (refl, refl, refl) (λ c. refl) refl (λ c. refl)
-    by (steps.Reinit r) is = simple _ is refl (refl, refl, refl) (λ c. refl) refl (λ c. refl)
-    by (steps.Free r) is = simple _ is refl (refl, refl, refl) (λ c. refl) refl (λ c. refl)
+    by (steps.Complete r) is = simple _ is refl (refl, refl, refl, refl) (λ c. refl) refl (λ c. refl)
+    by (steps.Cancel r) is = simple _ is refl (refl, refl, refl, refl) (λ c. refl) refl (λ c. refl)
+    by steps.StreamOff is = simple _ is refl (refl, refl, refl, refl) (λ c. refl) refl (λ c. refl)
+    by (steps.Reinit r) is = simple _ is refl (refl, refl, refl, refl) (λ c. refl) refl (λ c. refl)
+    by (steps.Free r) is = simple _ is refl (refl, refl, refl, refl) (λ c. refl) refl (λ c. refl)
     by (steps.Subscribe g c0 flags) is = subscribes g c0 flags is (nat_eq g.0 fh.0) refl
     by (steps.Unsubscribe g d) is = ends g d is (nat_eq g.0 fh.0) refl
     by (steps.Take g c0) is = takes g c0 is (nat_eq g.0 fh.0) refl
@@ -744,6 +750,7 @@ events_more verdicts plan e older fh f plans legal may are = by (is_open older f
     each shut (steps.CloseFh g) is = closes_it shut g is (nat_eq g.0 fh.0) refl
     each shut (steps.Set g pairs) is = same shut _ is refl
     each shut (steps.Grab c on) is = same shut _ is refl
+    each shut (steps.ModifyRange c low high apart default_value) is = same shut _ is refl
     each shut steps.Alloc is = same shut _ is refl
     each shut (steps.Store r pairs) is = same shut _ is refl
     each shut (steps.Buffer r number) is = same shut _ is refl
@@ -812,6 +819,7 @@ raises_gone fh (steps.OpenFh handler) hs = refl
 raises_gone fh (steps.CloseFh f) hs = refl
 raises_gone fh (steps.Set f pairs) hs = refl
 raises_gone fh (steps.Grab c on) hs = refl
+raises_gone fh (steps.ModifyRange c low high apart default_value) hs = refl
 raises_gone fh steps.Alloc hs = refl
 raises_gone fh (steps.Store r pairs) hs = refl
 raises_gone fh (steps.Buffer r number) hs = refl

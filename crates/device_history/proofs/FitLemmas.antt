@@ -138,6 +138,7 @@ fits verdicts plan older step may = by may.0 may.1 may.2
         adds
     by (asks.TryCtrls fh which id list) h adds = nothing verdicts plan older step adds
     by (asks.Grab c on) h adds = is _ tt adds
+    by (asks.ModifyRange c low high apart default_value) h adds = is _ tt adds
     by asks.Alloc h adds = is _ tt adds
     by (asks.AddBuffer r number) h adds = is (steps.Buffer r number) (unrefused_step _ older _ h) adds
     by (asks.Queue r) h adds = is (steps.Queue r) (unrefused_step _ older _ h) adds

@@ -81,6 +81,7 @@ not_earlier r n (steps.OpenFh handler) lt = refl
 not_earlier r n (steps.CloseFh fh) lt = refl
 not_earlier r n (steps.Set fh pairs) lt = refl
 not_earlier r n (steps.Grab c on) lt = refl
+not_earlier r n (steps.ModifyRange c low high apart default_value) lt = refl
 not_earlier r n (steps.Store id pairs) lt = refl
 not_earlier r n (steps.Buffer id number) lt = refl
 not_earlier r n (steps.Queue id) lt = refl

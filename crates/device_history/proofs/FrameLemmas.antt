@@ -19,7 +19,7 @@ use Rattle.req_book.specs.Refusals.{store_refusal, buffer_refusal, queue_refusal
 use Rattle.frame_queue.specs.Frames.{FramesData, QueueFitsRequests, AreOnce, is_in, is_queued, is_running, after_begin, after_complete, ended_request, cancel_refusal}
 use Rattle.frame_queue.proofs.FrameLemmas.{queued_kept, begun_kept, completed_kept, cancelled_kept, off_kept, state_kept, rests, cleared_kept, freed_kept, added_kept}
 use Rattle.device_history.specs.declared.ask.Step.{Step}
-use Rattle.device_history.specs.declared.ask.Step.TheVariants.{OpenFh, CloseFh, Set, Grab, Alloc, Store, Buffer, Queue, Begin, Complete, Cancel, StreamOff, Reinit, Free, Subscribe, Unsubscribe, Take}
+use Rattle.device_history.specs.declared.ask.Step.TheVariants.{OpenFh, CloseFh, Set, Grab, Alloc, Store, Buffer, Queue, Begin, Complete, Cancel, StreamOff, Reinit, Free, Subscribe, Unsubscribe, Take, ModifyRange}
 use Rattle.device_history.specs.Steps.{Past}
 use Rattle.device_history.specs.Requests.{made, ever_made, state, last_state_left, is_off_since}
 use Rattle.device_history.specs.Frames.{all_but, queue, queue_after, last_begun, running, running_after, unless_equal, first_of}
@@ -55,6 +55,7 @@ after_none verdicts plan older n (OpenFh handler) r none = refl
 after_none verdicts plan older n (CloseFh fh) r none = refl
 after_none verdicts plan older n (Set fh pairs) r none = refl
 after_none verdicts plan older n (Grab c on) r none = refl
+after_none verdicts plan older n (ModifyRange c low high apart default_value) r none = refl
 after_none verdicts plan older n Alloc r none = grind (arith, nat_tests, none)
 after_none verdicts plan older n (Store q pairs) r none = nothing (nat_eq q.0 r)
 after_none verdicts plan older n (Buffer q number) r none = nothing (nat_eq q.0 r)
@@ -251,6 +252,7 @@ after_kept verdicts plan older (OpenFh handler) fit kept fits = kept
 after_kept verdicts plan older (CloseFh fh) fit kept fits = kept
 after_kept verdicts plan older (Set fh pairs) fit kept fits = kept
 after_kept verdicts plan older (Grab c on) fit kept fits = kept
+after_kept verdicts plan older (ModifyRange c low high apart default_value) fit kept fits = kept
 after_kept verdicts plan older Alloc fit kept fits = added_kept (frames verdicts plan older) (length older) kept (find_request verdicts plan older (length older) fit ∙ next_none verdicts plan older fit)
 after_kept verdicts plan older (Store r pairs) fit kept fits = state_kept (frames verdicts plan older) r.0 (with_pairs (length plan.controls) pairs) kept (λ q. refl) (λ q. refl) (λ q h. h)
 after_kept verdicts plan older (Buffer r number) fit kept fits = state_kept (frames verdicts plan older) r.0 (with_buffer number) kept (λ q. refl) (λ q. refl) (λ q h. refl)
@@ -319,6 +321,7 @@ frames_from verdicts plan e older fit kept fits = by e.step refl fits
     by (CloseFh fh) is fits = other _ is fits refl (λ j. refl) refl refl
     by (Set fh pairs) is fits = other _ is fits refl (λ j. refl) refl refl
     by (Grab c on) is fits = other _ is fits refl (λ j. refl) refl refl
+    by (ModifyRange c low high apart default_value) is fits = other _ is fits refl (λ j. refl) refl refl
     by Alloc is fits =
         let none : request verdicts plan older (length older) ≡ None = next_none verdicts plan older fit in
         seen_same (rs (requests verdicts plan (e ∷ older))) (rs (requests verdicts plan older ++ new_request (length older) ∷ [])) (queue (e ∷ older)) (queue older) (running (e ∷ older)) (running older)

@@ -62,6 +62,7 @@ grabbed_more plan e older = by e.step refl
     by : (step : Step) → e.step ≡ step → grabbed plan (e ∷ older) ≡ grabbed_after step (grabbed plan older)
     by (steps.Grab c on) is = rw is (one_held (grabs_made older) c on (length plan.controls))
     by (steps.OpenFh handler) is = rw is refl
+    by (steps.ModifyRange c low high apart default_value) is = rw is refl
     by (steps.CloseFh fh) is = rw is refl
     by (steps.Set fh pairs) is = rw is refl
     by steps.Alloc is = rw is refl

@@ -29,7 +29,7 @@ use Rattle.device_history.specs.Snapshots.{frames}
 use Rattle.device_history.specs.RequestAnswers.{stepped, frame_answer, state_reply}
 use Rattle.frame_queue.specs.Frames.{begin_answer}
 use Rattle.req_book.specs.declared.state.RequestState.{RequestState}
-use Rattle.device_history.specs.Queries.{query_one, next_one, next_of, item_one, item_of}
+use Rattle.device_history.specs.Queries.{query_one, next_one, next_of, item_one, item_of, item_now}
 
 -- where the answer is a refusal, whether it has an index is b
 HasIndex : Bool → Answer → Type 0
@@ -80,9 +80,9 @@ next : (plan : PlanData) (id : CtrlId) (handler : Option ℕ) → HasIndex false
 next plan id None = plain _
 next plan id (Some h) = next_found (next_id plan h id)
 
-item : (plan : PlanData) (index : ℕ) (found : Option ℕ) → HasIndex false (item_of plan index found)
-item plan index None = plain _
-item plan index (Some c) = item_found (menu_item plan c index)
+item : (plan : PlanData) (past : Past) (index : ℕ) (found : Option ℕ) → HasIndex false (item_of plan past index found)
+item plan past index None = plain _
+item plan past index (Some c) = item_found (item_now plan past c index)
 
 stepped_so : (errno : Option Errno) (past : Past) (reply : Reply) → HasIndex false (stepped errno past reply)
 stepped_so None past reply = either false (is_full past) _ _ (plain _) (accepted false reply)
@@ -111,6 +111,7 @@ told_so verdicts plan past words (asks.GetCtrls fh which request list) = faulty 
 told_so verdicts plan past words (asks.SetCtrls fh which request list) = faulty (fault_at_count (length list)) _ _ (at_count (length list))
 told_so verdicts plan past words (asks.TryCtrls fh which request list) = faulty (fault_at_entry (length list)) _ _ (at_entry (length list))
 told_so verdicts plan past words (asks.Grab c on) = search (either, plain, accepted)
+told_so verdicts plan past words (asks.ModifyRange c low high apart default_value) = search (either, plain, accepted)
 told_so verdicts plan past words asks.Alloc = stepped_so _ past _
 told_so verdicts plan past words (asks.AddBuffer r number) = stepped_so _ past _
 told_so verdicts plan past words (asks.Queue r) = stepped_so _ past _
@@ -137,6 +138,7 @@ lacking (asks.GetCtrls fh which request list) = at _ _
 lacking (asks.SetCtrls fh which request list) = at _ _
 lacking (asks.TryCtrls fh which request list) = at _ _
 lacking (asks.Grab c on) = plain _
+lacking (asks.ModifyRange c low high apart default_value) = plain _
 lacking asks.Alloc = plain _
 lacking (asks.AddBuffer r number) = plain _
 lacking (asks.Queue r) = plain _

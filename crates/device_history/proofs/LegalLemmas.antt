@@ -26,6 +26,7 @@ refusal_of verdicts plan past words (asks.GetCtrls fh which request list) = refl
 refusal_of verdicts plan past words (asks.SetCtrls fh which request list) = refl
 refusal_of verdicts plan past words (asks.TryCtrls fh which request list) = refl
 refusal_of verdicts plan past words (asks.Grab c on) = refl
+refusal_of verdicts plan past words (asks.ModifyRange c low high apart default_value) = refl
 refusal_of verdicts plan past words asks.Alloc = refl
 refusal_of verdicts plan past words (asks.AddBuffer r number) = refl
 refusal_of verdicts plan past words (asks.Queue r) = refl

@@ -9,7 +9,7 @@ use Rattle.req_book.specs.Requests.{RequestData, RequestsData, find, with_reques
 use Rattle.req_book.proofs.ObjectLemmas.{Tells}
 use Rattle.frame_queue.specs.Frames.{AreOnce}
 use Rattle.device_history.specs.declared.ask.Step.{Step}
-use Rattle.device_history.specs.declared.ask.Step.TheVariants.{OpenFh, CloseFh, Set, Grab, Alloc, Store, Buffer, Queue, Begin, Complete, Cancel, StreamOff, Reinit, Free, Subscribe, Unsubscribe, Take}
+use Rattle.device_history.specs.declared.ask.Step.TheVariants.{OpenFh, CloseFh, Set, Grab, Alloc, Store, Buffer, Queue, Begin, Complete, Cancel, StreamOff, Reinit, Free, Subscribe, Unsubscribe, Take, ModifyRange}
 use Rattle.device_history.specs.Steps.{Past}
 use Rattle.device_history.specs.Requests.{made, ever_made}
 use Rattle.device_history.specs.FrameSteps.{changed_if_named}
@@ -20,6 +20,7 @@ made_own r n (OpenFh handler) off = refl
 made_own r n (CloseFh fh) off = refl
 made_own r n (Set fh pairs) off = refl
 made_own r n (Grab c on) off = refl
+made_own r n (ModifyRange c low high apart default_value) off = refl
 made_own r n Alloc off = or_from (nat_eq r n) false off refl
 made_own r n (Store q pairs) off = refl
 made_own r n (Buffer q number) off = refl
@@ -83,6 +84,7 @@ made_once (e ∷ older) = by e.step (made_once older)
     by (CloseFh fh) once = once_append (ever_made older) once
     by (Set fh pairs) once = once_append (ever_made older) once
     by (Grab c on) once = once_append (ever_made older) once
+    by (ModifyRange c low high apart default_value) once = once_append (ever_made older) once
     by Alloc once = once_last (ever_made older) (length older) once (next_not_made older)
     by (Store r pairs) once = once_append (ever_made older) once
     by (Buffer r number) once = once_append (ever_made older) once

@@ -19,7 +19,7 @@ use Rattle.device_history.specs.Handles.{opening, ever_opened, closes, behind, i
 use Rattle.device_history.specs.Grabs.{grabbed, grabbed_after}
 use Rattle.ctrl_clusters.specs.PresentFlags.{flags_under}
 use Rattle.device_history.specs.Flags.{flags_now}
-use Rattle.device_history.specs.Values.{defaults, pairs_asked, now, now_after}
+use Rattle.device_history.specs.Values.{defaults, pairs_asked, now, values_after}
 use Rattle.device_history.proofs.GrabLemmas.{grabbed_start, grabbed_add}
 use Rattle.device_history.specs.Legal.{IsLegal, MayFollow}
 
@@ -37,7 +37,11 @@ unfolding IsLegal
 legal_start verdicts plan = tt
 
 -- the present values after one more entry
-pub now_add : (verdicts : Verdicts) (plan : PlanData) (steps : History) (e : Entry Step) → now verdicts plan (past (steps ++ e ∷ [])) ≡ now_after verdicts plan (ranges_now plan (past steps)) (grabbed plan (past steps)) (pairs_asked plan (past steps) e.step) (now verdicts plan (past steps))
+pub now_more : (verdicts : Verdicts) (plan : PlanData) (e : Entry Step) (older : Past) → now verdicts plan (e ∷ older) ≡ values_after verdicts plan older e.step (now verdicts plan older)
+unfolding now
+now_more verdicts plan e older = refl
+
+pub now_add : (verdicts : Verdicts) (plan : PlanData) (steps : History) (e : Entry Step) → now verdicts plan (past (steps ++ e ∷ [])) ≡ values_after verdicts plan (past steps) e.step (now verdicts plan (past steps))
 unfolding now
 now_add verdicts plan steps e = rw (past_add steps e) refl
 
@@ -46,7 +50,7 @@ pub flags_start : (verdicts : Verdicts) (plan : PlanData) (c : ℕ) → flags_no
 flags_start verdicts plan c = rw (now_start verdicts plan, grabbed_start plan) refl
 
 pub flags_add : (verdicts : Verdicts) (plan : PlanData) (steps : History) (e : Entry Step) (c : ℕ) → flags_now verdicts plan (past (steps ++ e ∷ [])) c
-    ≡ flags_under plan (now_after verdicts plan (ranges_now plan (past steps)) (grabbed plan (past steps)) (pairs_asked plan (past steps) e.step) (now verdicts plan (past steps))) (grabbed_after e.step (grabbed plan (past steps))) c
+    ≡ flags_under plan (values_after verdicts plan (past steps) e.step (now verdicts plan (past steps))) (grabbed_after e.step (grabbed plan (past steps))) c
 flags_add verdicts plan steps e c = rw (now_add verdicts plan steps e, grabbed_add plan steps e) refl
 
 -- what makes one more entry legal
@@ -98,6 +102,7 @@ opening_below n (steps.OpenFh handler) = (omega arith, tt)
 opening_below n (steps.CloseFh fh) = tt
 opening_below n (steps.Set fh pairs) = tt
 opening_below n (steps.Grab c on) = tt
+opening_below n (steps.ModifyRange c low high apart default_value) = tt
 opening_below n steps.Alloc = tt
 opening_below n (steps.Store r pairs) = tt
 opening_below n (steps.Buffer r number) = tt
@@ -176,6 +181,7 @@ opened_more e older = by e.step refl
     by (steps.CloseFh fh) is = filter-append _ (ever_opened older) [] ∙ append-nil _ ∙ older_kept e older _ is ∙ filter_both (λ h. nat_eq fh.0 h.0) (λ h. is_closed older h.0) (ever_opened older)
     by (steps.Set fh pairs) is = filter-append _ (ever_opened older) [] ∙ append-nil _ ∙ older_kept e older _ is
     by (steps.Grab c on) is = filter-append _ (ever_opened older) [] ∙ append-nil _ ∙ older_kept e older _ is
+    by (steps.ModifyRange c low high apart default_value) is = filter-append _ (ever_opened older) [] ∙ append-nil _ ∙ older_kept e older _ is
     by steps.Alloc is = filter-append _ (ever_opened older) [] ∙ append-nil _ ∙ older_kept e older _ is
     by (steps.Store r pairs) is = filter-append _ (ever_opened older) [] ∙ append-nil _ ∙ older_kept e older _ is
     by (steps.Buffer r number) is = filter-append _ (ever_opened older) [] ∙ append-nil _ ∙ older_kept e older _ is
@@ -252,6 +258,7 @@ after_rising n (steps.OpenFh handler) os h b = rising_push n handler os h b
 after_rising n (steps.CloseFh fh) os h b = rising_filter _ os h
 after_rising n (steps.Set fh pairs) os h b = h
 after_rising n (steps.Grab c on) os h b = h
+after_rising n (steps.ModifyRange c low high apart default_value) os h b = h
 after_rising n steps.Alloc os h b = h
 after_rising n (steps.Store r pairs) os h b = h
 after_rising n (steps.Buffer r number) os h b = h
@@ -333,6 +340,7 @@ after_absent n (steps.OpenFh handler) k os lt h = absent_push k n handler os lt 
 after_absent n (steps.CloseFh fh) k os lt h = still_absent k _ os h
 after_absent n (steps.Set fh pairs) k os lt h = h
 after_absent n (steps.Grab c on) k os lt h = h
+after_absent n (steps.ModifyRange c low high apart default_value) k os lt h = h
 after_absent n steps.Alloc k os lt h = h
 after_absent n (steps.Store r pairs) k os lt h = h
 after_absent n (steps.Buffer r number) k os lt h = h

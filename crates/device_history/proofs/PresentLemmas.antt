@@ -1,29 +1,58 @@
 -- There is a present value, and a grab, for each control.
 use Rattle.std.proofs.Common.{◌≡◌, List, [], ◌∷◌, length, Option, None, Some, refl, ◌∙◌}
 use Rattle.std.specs.List.{range_with_len}
-use Rattle.std.proofs.lemmas.List.{length-map}
+use Rattle.std.proofs.lemmas.List.{length-map, length-set}
 use Rattle.std.proofs.lemmas.List.FromFn.{length-range_with_len}
 use Rattle.ctrl_calls.specs.Meanings.{Verdicts}
 use Rattle.ctrl_types.specs.declared.ids.Pair.{Pair}
 use Rattle.ctrl_settle.specs.Control.{Control}
 use Rattle.ctrl_handlers.specs.Plan.{PlanData}
+use Rattle.device_history.specs.declared.ask.Step.{Step}
+use Rattle.device_history.specs.declared.ask.Step.TheVariants as steps
 use Rattle.device_history.specs.Steps.{Past}
 use Rattle.ctrl_clusters.specs.Rows.{Grabs, Values}
-use Rattle.device_history.specs.Ranges.{ranges_now}
+use Rattle.device_history.specs.Ranges.{ranges_now, settled_after}
 use Rattle.device_history.specs.Grabs.{grabbed}
 use Rattle.ctrl_clusters.proofs.OverlayLemmas.{length_overlay}
-use Rattle.device_history.specs.Values.{pairs_asked, now, now_after}
+use Rattle.device_history.specs.Values.{pairs_asked, now, now_after, values_after}
 
 -- pairs that are laid leave as many values
 length_now_after : (verdicts : Verdicts) (plan : PlanData) (controls : List Control) (grabs : Grabs) (pairs : Option (List Pair)) (values : Values) → length (now_after verdicts plan controls grabs pairs values) ≡ length values
 length_now_after verdicts plan controls grabs None values = refl
 length_now_after verdicts plan controls grabs (Some pairs) values = length_overlay verdicts plan controls values grabs pairs
 
+-- a range change leaves as many
+length_settled : (step : Step) (controls : List Control) (values : Values) → length (settled_after step controls values) ≡ length values
+length_settled (steps.ModifyRange c low high apart default_value) controls values = length-set values c _
+length_settled (steps.OpenFh handler) controls values = refl
+length_settled (steps.CloseFh fh) controls values = refl
+length_settled (steps.Set fh pairs) controls values = refl
+length_settled (steps.Grab c on) controls values = refl
+length_settled steps.Alloc controls values = refl
+length_settled (steps.Store r pairs) controls values = refl
+length_settled (steps.Buffer r number) controls values = refl
+length_settled (steps.Queue r) controls values = refl
+length_settled (steps.Begin r) controls values = refl
+length_settled (steps.Complete r) controls values = refl
+length_settled (steps.Cancel r) controls values = refl
+length_settled steps.StreamOff controls values = refl
+length_settled (steps.Reinit r) controls values = refl
+length_settled (steps.Free r) controls values = refl
+length_settled (steps.Subscribe f c flags) controls values = refl
+length_settled (steps.Unsubscribe f c) controls values = refl
+length_settled (steps.Take f c) controls values = refl
+
+-- so does any step
+pub length_values_after : (verdicts : Verdicts) (plan : PlanData) (older : Past) (step : Step) (values : Values) → length (values_after verdicts plan older step values) ≡ length values
+length_values_after verdicts plan older step values =
+    length_settled step (ranges_now plan older) (now_after verdicts plan (ranges_now plan older) (grabbed plan older) (pairs_asked plan older step) values)
+    ∙ length_now_after verdicts plan (ranges_now plan older) (grabbed plan older) (pairs_asked plan older step) values
+
 -- there is a value for each control of the plan
 pub length_now : (verdicts : Verdicts) (plan : PlanData) (past : Past) → length (now verdicts plan past) ≡ length plan.controls
 unfolding now
 length_now verdicts plan [] = length-map plan.controls _
-length_now verdicts plan (e ∷ older) = length_now_after verdicts plan (ranges_now plan older) (grabbed plan older) (pairs_asked plan older e.step) (now verdicts plan older) ∙ length_now verdicts plan older
+length_now verdicts plan (e ∷ older) = length_values_after verdicts plan older e.step (now verdicts plan older) ∙ length_now verdicts plan older
 
 -- for each control of the plan it is said whether it is grabbed
 pub length_grabbed : (plan : PlanData) (past : Past) → length (grabbed plan past) ≡ length plan.controls

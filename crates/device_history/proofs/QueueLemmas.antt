@@ -7,7 +7,7 @@ use Rattle.req_book.specs.declared.state.RequestState.{RequestState}
 use Rattle.req_book.specs.declared.state.RequestState.TheVariants as states
 use Rattle.frame_queue.specs.Frames.{is_queued, is_running}
 use Rattle.device_history.specs.declared.ask.Step.{Step}
-use Rattle.device_history.specs.declared.ask.Step.TheVariants.{OpenFh, CloseFh, Set, Grab, Alloc, Store, Buffer, Queue, Begin, Complete, Cancel, StreamOff, Reinit, Free, Subscribe, Unsubscribe, Take}
+use Rattle.device_history.specs.declared.ask.Step.TheVariants.{OpenFh, CloseFh, Set, Grab, Alloc, Store, Buffer, Queue, Begin, Complete, Cancel, StreamOff, Reinit, Free, Subscribe, Unsubscribe, Take, ModifyRange}
 use Rattle.device_history.specs.Steps.{Past}
 use Rattle.device_history.specs.Requests.{state, state_after, state_of_named, is_there, ended_state}
 use Rattle.device_history.specs.Frames.{all_but, begun_by, ever_queued, queue, queue_after, last_begun, if_running, running, running_after, unless_equal}
@@ -94,6 +94,7 @@ queue_more e older = rw (ever_queued_more e older) (by e.step refl)
     by (CloseFh fh) is = alike test _ (ever_queued older) (there_more is_queued e older _ is)
     by (Set fh pairs) is = alike test _ (ever_queued older) (there_more is_queued e older _ is)
     by (Grab c on) is = alike test _ (ever_queued older) (there_more is_queued e older _ is)
+    by (ModifyRange c low high apart default_value) is = alike test _ (ever_queued older) (there_more is_queued e older _ is)
     by Alloc is = dropped Alloc is (length older) (Some states.Idle) refl (λ j. refl)
     by (Store r pairs) is = dropped _ is r.0 (Some states.Idle) refl (λ j. refl)
     by (Buffer r number) is = dropped _ is r.0 (Some states.Idle) refl (λ j. refl)
@@ -146,6 +147,7 @@ running_more e older = by e.step refl
     by (CloseFh fh) is = same (last_begun older) (there_more is_running e older _ is)
     by (Set fh pairs) is = same (last_begun older) (there_more is_running e older _ is)
     by (Grab c on) is = same (last_begun older) (there_more is_running e older _ is)
+    by (ModifyRange c low high apart default_value) is = same (last_begun older) (there_more is_running e older _ is)
     by Alloc is = dropped Alloc is (length older) (Some states.Idle) refl (λ j. refl)
     by (Store r pairs) is = dropped _ is r.0 (Some states.Idle) refl (λ j. refl)
     by (Buffer r number) is = dropped _ is r.0 (Some states.Idle) refl (λ j. refl)

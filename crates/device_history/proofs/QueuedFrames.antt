@@ -67,6 +67,7 @@ frame_stands verdicts plan older (steps.OpenFh handler) j fit fits waits = rw (a
 frame_stands verdicts plan older (steps.CloseFh fh) j fit fits waits = rw (asked_same plan older j) refl
 frame_stands verdicts plan older (steps.Set fh pairs) j fit fits waits = rw (asked_same plan older j) refl
 frame_stands verdicts plan older (steps.Grab c on) j fit fits waits = rw (asked_same plan older j) refl
+frame_stands verdicts plan older (steps.ModifyRange c low high apart default_value) j fit fits waits = rw (asked_same plan older j) refl
 frame_stands verdicts plan older steps.Alloc j fit fits waits =
     let other : nat_eq (length older) j ≡ false = others verdicts plan older (length older) j (ap (is_in is_queued) (next_none verdicts plan older fit)) waits in
     rw (other, asked_same plan older j) refl
@@ -157,6 +158,7 @@ frames_waiting verdicts plan e older fit fits = by e.step refl fits
     by (steps.CloseFh fh) is fits_it = same _ is refl
     by (steps.Set fh pairs) is fits_it = same _ is refl
     by (steps.Grab c held) is fits_it = same _ is refl
+    by (steps.ModifyRange c low high apart default_value) is fits_it = same _ is refl
     by steps.Alloc is fits_it = same _ is refl
     by (steps.Store r pairs) is fits_it = same _ is refl
     by (steps.Buffer r number) is fits_it = same _ is refl

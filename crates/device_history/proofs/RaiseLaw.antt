@@ -1,11 +1,12 @@
 -- What the raises between two moments make of the events of a file handle is what the history says.
-use Rattle.std.proofs.Common.{arith, suc, ◌++◌, append-nil, append_assoc, length-append, ◌≡◌, ◌∙◌, ◌≤◌, ◌+◌, ◌*◌, mul-le-mul, ℕ, Bool, true, false, not, ◌&&◌, ◌||◌, List, [], ◌∷◌, length, Option, None, Some, refl, ap, sym}
+use Rattle.std.proofs.Common.{arith, suc, ◌++◌, append-nil, append_assoc, length-append, ◌≡◌, ◌∙◌, ◌≤◌, ◌+◌, ◌*◌, mul-le-mul, ℕ, ℤ, Bool, true, false, not, ◌&&◌, ◌||◌, List, [], ◌∷◌, length, Option, None, Some, refl, ap, sym}
 use Rattle.std.proofs.lemmas.Bool.Decides.{Decides-int_eq}
 use Rattle.std.specs.Ordering.{int_eq}
 use Rattle.history.specs.declared.entry.Entry.{Entry}
 use Rattle.ctrl_types.specs.Flags.{contains}
 use Rattle.ctrl_types.specs.declared.changes.Changes.{Changes}
 use Rattle.ctrl_types.specs.declared.flags.TheConstants.Flags.{EXECUTE_ON_WRITE}
+use Rattle.ctrl_types.specs.Values.{CtrlValue}
 use Rattle.ctrl_types.specs.declared.ids.FhId.{FhId}
 use Rattle.ctrl_types.specs.declared.ids.Pair.{Pair}
 use Rattle.ctrl_types.specs.declared.ids.RequestId.{RequestId}
@@ -28,7 +29,7 @@ use Rattle.device_history.specs.declared.limits.TheConstants.{MAX_STEPS}
 use Rattle.device_history.specs.Steps.{History, Past}
 use Rattle.device_history.specs.Ranges.{ranges_now}
 use Rattle.device_history.specs.Grabs.{grabbed}
-use Rattle.device_history.specs.Values.{pairs_asked, now}
+use Rattle.device_history.specs.Values.{now, values_after}
 use Rattle.device_history.specs.Flags.{flags_now}
 use Rattle.device_history.specs.Snapshots.{begun_pairs}
 use Rattle.device_history.specs.Words.{pairs_applied, changes}
@@ -112,8 +113,17 @@ pub grab_raises : (verdicts : Verdicts) (plan : PlanData) (e : Entry Step) (olde
     → raised_all (changed_between plan before after []) (payload_at plan after) (λ c. needing_feedback None [] (changed_between plan before after [] c) c) fh.0 cs f ≡ raised_by verdicts plan e older fh cs f
 grab_raises verdicts plan e older before after d on fh cs f is around =
     raised_around verdicts plan e older before after [] None fh cs f around
-    (λ c. ap (λ (vs : Values). is_changed plan (now verdicts plan older) [] c (value_at vs c)) (values_controls_left verdicts plan e older (ap (pairs_asked plan older) is)) ∙ unchanged plan (now verdicts plan older) c
+    (λ c. ap (λ (vs : Values). is_changed plan (now verdicts plan older) [] c (value_at vs c)) (values_controls_left verdicts plan e older (ap (λ (s : Step). values_after verdicts plan older s (now verdicts plan older)) is)) ∙ unchanged plan (now verdicts plan older) c
     ∙ sym (ap (λ (s : Step). changes plan (now verdicts plan older) (now verdicts plan (e ∷ older)) (pairs_applied verdicts plan older s) c) is))
+    (λ change c. sym (ap (λ (s : Step). from_of s change c) is))
+
+-- The raises of a range change.
+pub range_raises : (verdicts : Verdicts) (plan : PlanData) (e : Entry Step) (older : Past) (before after : MomentData) (d : ℕ) (low high : ℤ) (apart : ℕ) (default_value : CtrlValue) (fh : FhId) (cs : List ℕ) (f : FileEvents)
+    → e.step ≡ steps.ModifyRange d low high apart default_value → AreAround verdicts plan e older before after
+    → raised_all (changed_between plan before after []) (payload_at plan after) (λ c. needing_feedback None [] (changed_between plan before after [] c) c) fh.0 cs f ≡ raised_by verdicts plan e older fh cs f
+range_raises verdicts plan e older before after d low high apart default_value fh cs f is around =
+    raised_around verdicts plan e older before after [] None fh cs f around
+    (λ c. sym (ap (λ (s : Step). changes plan (now verdicts plan older) (now verdicts plan (e ∷ older)) (pairs_applied verdicts plan older s) c) is))
     (λ change c. sym (ap (λ (s : Step). from_of s change c) is))
 
 -- What a subscription tells at once.

@@ -323,6 +323,7 @@ early_after verdicts plan older (steps.OpenFh handler) j fits rest early = rest 
 early_after verdicts plan older (steps.CloseFh fh) j fits rest early = rest early
 early_after verdicts plan older (steps.Set fh pairs) j fits rest early = rest early
 early_after verdicts plan older (steps.Grab c on) j fits rest early = rest early
+early_after verdicts plan older (steps.ModifyRange c low high apart default_value) j fits rest early = rest early
 early_after verdicts plan older steps.Alloc j fits rest early = by (eqb_tells (length older) j)
   where
     by : Tells (length older) j → begin_after older steps.Alloc j ≡ None
@@ -394,6 +395,7 @@ after_step verdicts plan older (steps.OpenFh handler) fit fits j = same_fields v
 after_step verdicts plan older (steps.CloseFh fh) fit fits j = same_fields verdicts plan older (steps.CloseFh fh) j (λ s. rw (asked_same plan older j) refl)
 after_step verdicts plan older (steps.Set fh pairs) fit fits j = same_fields verdicts plan older (steps.Set fh pairs) j (λ s. rw (asked_same plan older j) refl)
 after_step verdicts plan older (steps.Grab c on) fit fits j = same_fields verdicts plan older (steps.Grab c on) j (λ s. rw (asked_same plan older j) refl)
+after_step verdicts plan older (steps.ModifyRange c low high apart default_value) fit fits j = same_fields verdicts plan older (steps.ModifyRange c low high apart default_value) j (λ s. rw (asked_same plan older j) refl)
 after_step verdicts plan older steps.Alloc fit fits j = made_request verdicts plan older j
 after_step verdicts plan older (steps.Store r pairs) fit fits j = stored_request verdicts plan older r pairs j (stored_idle verdicts plan older r.0 fits)
 after_step verdicts plan older (steps.Buffer r number) fit fits j = buffered_request verdicts plan older r number j (buffered_idle verdicts plan older (requests verdicts plan older) number r.0 fits)

@@ -31,12 +31,12 @@ use Rattle.device_history.specs.declared.ask.Reply.TheVariants as replies
 use Rattle.device_history.specs.declared.ask.Step.{Step}
 use Rattle.device_history.specs.declared.ask.Step.TheVariants as steps
 use Rattle.device_history.specs.Steps.{History, Past}
-use Rattle.device_history.specs.Ranges.{ranges_now}
+use Rattle.device_history.specs.Ranges.{ranges_after, ranges_now}
 use Rattle.device_history.specs.Refusals.{refused, is_full, fault_of}
 use Rattle.device_history.specs.Grabs.{grabbed, grabbed_after}
 use Rattle.device_history.specs.Requests.{asked, buffer}
 use Rattle.device_history.specs.Frames.{begun_by, queue, running}
-use Rattle.device_history.specs.Values.{pairs_asked, now, now_after}
+use Rattle.device_history.specs.Values.{pairs_asked, now, values_after}
 use Rattle.device_history.specs.Snapshots.{request, request_in, requests, frames, begun_refused}
 use Rattle.device_history.specs.RequestAnswers.{begin_frame_answer, frame_answer}
 use Rattle.device_history.specs.Lists.{list_pairs, meant, pairs_step, which_or}
@@ -77,7 +77,7 @@ first_row verdicts plan older r ids is = ap (λ (js : List ℕ). forecasts verdi
 begun_now : (verdicts : Verdicts) (plan : PlanData) (e : Entry Step) (older : Past) (r : RequestId) → e.step ≡ steps.Begin r
     → now verdicts plan (e ∷ older) ≡ overlay verdicts plan (ranges_now plan older) (now verdicts plan older) (grabbed plan older) (asked plan older r.0)
 unfolding now
-begun_now verdicts plan e older r is = ap (λ (s : Step). now_after verdicts plan (ranges_now plan older) (grabbed plan older) (pairs_asked plan older s) (now verdicts plan older)) is
+begun_now verdicts plan e older r is = ap (λ (s : Step). values_after verdicts plan older s (now verdicts plan older)) is
 
 -- a row behind the first
 row_behind : (verdicts : Verdicts) (plan : PlanData) (controls : List Control) (grabs : Grabs) (values : Values) (q : QueuedData) (qs : List QueuedData) (i : ℕ)
@@ -92,21 +92,21 @@ unfolding now
 next_row verdicts plan e older i row fit fits on stood = by e.step refl fits on stood
   where
     stays : (step : Step) → e.step ≡ step → (added : List QueuedData) → waiting_after plan older step (queued_frames plan older) ≡ queued_frames plan older ++ added
-        → grabbed_after step (grabbed plan older) ≡ grabbed plan older → now_after verdicts plan (ranges_now plan older) (grabbed plan older) (pairs_asked plan older step) (now verdicts plan older) ≡ now verdicts plan older
+        → grabbed_after step (grabbed plan older) ≡ grabbed plan older → ranges_after step (ranges_now plan older) ≡ ranges_now plan older → values_after verdicts plan older step (now verdicts plan older) ≡ now verdicts plan older
         → slice_get (forecast verdicts plan older) i ≡ Some row → slice_get (forecast verdicts plan (e ∷ older)) i ≡ Some row
-    stays step is added line grabs values stood =
+    stays step is added line grabs ranges values stood =
         ap (λ (rows : List Forecast). slice_get rows i)
         (forecast_of verdicts plan (ranges_now plan (e ∷ older)) (ranges_now plan older) (grabbed plan (e ∷ older)) (grabbed plan older) (now verdicts plan (e ∷ older)) (now verdicts plan older) (queued_frames plan (e ∷ older)) (queued_frames plan older ++ added)
-        (ranges_more plan e older)
+        (ranges_more plan e older ∙ ap (λ (s : Step). ranges_after s (ranges_now plan older)) is ∙ ranges)
         (grabbed_more plan e older ∙ ap (λ (s : Step). grabbed_after s (grabbed plan older)) is ∙ grabs)
-        (ap (λ (s : Step). now_after verdicts plan (ranges_now plan older) (grabbed plan older) (pairs_asked plan older s) (now verdicts plan older)) is ∙ values)
+        (ap (λ (s : Step). values_after verdicts plan older s (now verdicts plan older)) is ∙ values)
         (frames_waiting verdicts plan e older fit fits ∙ ap (λ (s : Step). waiting_after plan older s (queued_frames plan older)) is ∙ line))
         ∙ row_stands verdicts plan (ranges_now plan older) (grabbed plan older) (now verdicts plan older) (queued_frames plan older) added i row stood
 
     same : (step : Step) → e.step ≡ step → waiting_after plan older step (queued_frames plan older) ≡ queued_frames plan older
-        → grabbed_after step (grabbed plan older) ≡ grabbed plan older → now_after verdicts plan (ranges_now plan older) (grabbed plan older) (pairs_asked plan older step) (now verdicts plan older) ≡ now verdicts plan older
+        → grabbed_after step (grabbed plan older) ≡ grabbed plan older → ranges_after step (ranges_now plan older) ≡ ranges_now plan older → values_after verdicts plan older step (now verdicts plan older) ≡ now verdicts plan older
         → slice_get (forecast verdicts plan older) i ≡ Some row → slice_get (forecast verdicts plan (e ∷ older)) i ≡ Some row
-    same step is line grabs values stood = stays step is [] (line ∙ sym (append-nil (queued_frames plan older))) grabs values stood
+    same step is line grabs ranges values stood = stays step is [] (line ∙ sym (append-nil (queued_frames plan older))) grabs ranges values stood
 
     begun : (r : RequestId) → e.step ≡ steps.Begin r → FitsFrames verdicts plan older (steps.Begin r) → slice_get (forecast verdicts plan older) (suc i) ≡ Some row → slice_get (forecast verdicts plan (e ∷ older)) i ≡ Some row
     begun r is fits_it stood =
@@ -114,7 +114,7 @@ next_row verdicts plan e older i row fit fits on stood = by e.step refl fits on 
         let frames : queued_frames plan older ≡ queued_frame plan older r.0 ∷ map (queued_frame plan older) first.0 = ap (map (queued_frame plan older)) first.1 in
         ap (λ (rows : List Forecast). slice_get rows i)
         (forecast_of verdicts plan (ranges_now plan (e ∷ older)) (ranges_now plan older) (grabbed plan (e ∷ older)) (grabbed plan older) (now verdicts plan (e ∷ older)) (overlay verdicts plan (ranges_now plan older) (now verdicts plan older) (grabbed plan older) (asked plan older r.0)) (queued_frames plan (e ∷ older)) (map (queued_frame plan older) first.0)
-        (ranges_more plan e older)
+        (ranges_more plan e older ∙ ap (λ (s : Step). ranges_after s (ranges_now plan older)) is)
         (grabbed_more plan e older ∙ ap (λ (s : Step). grabbed_after s (grabbed plan older)) is)
         (begun_now verdicts plan e older r is)
         (frames_waiting verdicts plan e older fit fits ∙ ap (λ (s : Step). waiting_after plan older s (queued_frames plan older)) is ∙ ap (drop 1) frames))
@@ -123,23 +123,24 @@ next_row verdicts plan e older i row fit fits on stood = by e.step refl fits on 
 
     by : (step : Step) → e.step ≡ step → FitsFrames verdicts plan older step → goes_on step ≡ true
         → slice_get (forecast verdicts plan older) (cond (is_some (begun_by step)) (suc i) i) ≡ Some row → slice_get (forecast verdicts plan (e ∷ older)) i ≡ Some row
-    by (steps.OpenFh handler) is fits_it on stood = same _ is refl refl refl stood
-    by (steps.CloseFh fh) is fits_it on stood = same _ is refl refl refl stood
+    by (steps.OpenFh handler) is fits_it on stood = same _ is refl refl refl refl stood
+    by (steps.CloseFh fh) is fits_it on stood = same _ is refl refl refl refl stood
     by (steps.Set fh pairs) is fits_it on stood = cc
     by (steps.Grab c on_it) is fits_it on stood = cc
-    by steps.Alloc is fits_it on stood = same _ is refl refl refl stood
-    by (steps.Store r pairs) is fits_it on stood = same _ is refl refl refl stood
-    by (steps.Buffer r number) is fits_it on stood = same _ is refl refl refl stood
-    by (steps.Queue r) is fits_it on stood = stays _ is (queued_frame plan older r.0 ∷ []) refl refl refl stood
+    by (steps.ModifyRange c low high apart default_value) is fits_it on stood = cc
+    by steps.Alloc is fits_it on stood = same _ is refl refl refl refl stood
+    by (steps.Store r pairs) is fits_it on stood = same _ is refl refl refl refl stood
+    by (steps.Buffer r number) is fits_it on stood = same _ is refl refl refl refl stood
+    by (steps.Queue r) is fits_it on stood = stays _ is (queued_frame plan older r.0 ∷ []) refl refl refl refl stood
     by (steps.Begin r) is fits_it on stood = begun r is fits_it stood
-    by (steps.Complete r) is fits_it on stood = same _ is refl refl refl stood
+    by (steps.Complete r) is fits_it on stood = same _ is refl refl refl refl stood
     by (steps.Cancel r) is fits_it on stood = cc
     by steps.StreamOff is fits_it on stood = cc
-    by (steps.Reinit r) is fits_it on stood = same _ is refl refl refl stood
-    by (steps.Free r) is fits_it on stood = same _ is refl refl refl stood
-    by (steps.Subscribe f c flags) is fits_it on stood = same _ is refl refl refl stood
-    by (steps.Unsubscribe f c) is fits_it on stood = same _ is refl refl refl stood
-    by (steps.Take f c) is fits_it on stood = same _ is refl refl refl stood
+    by (steps.Reinit r) is fits_it on stood = same _ is refl refl refl refl stood
+    by (steps.Free r) is fits_it on stood = same _ is refl refl refl refl stood
+    by (steps.Subscribe f c flags) is fits_it on stood = same _ is refl refl refl refl stood
+    by (steps.Unsubscribe f c) is fits_it on stood = same _ is refl refl refl refl stood
+    by (steps.Take f c) is fits_it on stood = same _ is refl refl refl refl stood
 
 -- the rows of a forecast stand while a legal history goes on; each frame that is begun moves them up
 pub rows_stand : (verdicts : Verdicts) (plan : PlanData) (entries more : History) (i : ℕ) (row : Forecast) → IsLegal verdicts plan (past (entries ++ more)) → all_go_on more ≡ true
@@ -215,6 +216,7 @@ begin_unrefused verdicts plan older r may = by may.0 may.1 may.2
     by (asks.SetCtrls fh which id entries) h adds = list (meant (which_or (which_of which)) id) fh (list_pairs plan older fh which entries) adds
     by (asks.TryCtrls fh which id list) h adds = cc
     by (asks.Grab c on) h adds = cc
+    by (asks.ModifyRange c low high apart default_value) h adds = cc
     by asks.Alloc h adds = cc
     by (asks.AddBuffer id number) h adds = cc
     by (asks.Queue id) h adds = cc

@@ -14,9 +14,9 @@ use Rattle.ctrl_clusters.specs.Changes.{is_changed, row_changes}
 use Rattle.ctrl_clusters.specs.Notified.{MaySay}
 use Rattle.ctrl_clusters.proofs.NotifyLemmas.{same_row}
 use Rattle.ctrl_clusters.specs.Rows.{Values, value_at, row_of}
-use Rattle.device_history.specs.Values.{pairs_asked, now, now_after}
+use Rattle.device_history.specs.Values.{pairs_asked, now, values_after}
 use Rattle.device_history.specs.Steps.{History, Past}
-use Rattle.device_history.specs.Ranges.{ranges_now}
+use Rattle.device_history.specs.Ranges.{ranges_now, settled_after}
 use Rattle.history.specs.declared.entry.Entry.{Entry}
 use Rattle.history.specs.Past.{past}
 use Rattle.device_history.specs.Words.{pairs_applied, changes}
@@ -38,11 +38,13 @@ unchanged_row plan values after pairs cs h = sym (same_row plan values pairs cs 
 
 -- a step that leaves some controls unchanged leaves their row
 row_stays : (verdicts : Verdicts) (plan : PlanData) (older : Past) (step : Step) (values : Values) (cs : List ℕ)
-    → list_any (changes plan values (now_after verdicts plan (ranges_now plan older) (grabbed plan older) (pairs_asked plan older step) values) (pairs_applied verdicts plan older step)) cs ≡ false
-    → row_of (now_after verdicts plan (ranges_now plan older) (grabbed plan older) (pairs_asked plan older step) values) cs ≡ row_of values cs
+    → list_any (changes plan values (values_after verdicts plan older step values) (pairs_applied verdicts plan older step)) cs ≡ false
+    → row_of (values_after verdicts plan older step values) cs ≡ row_of values cs
 row_stays verdicts plan older (steps.Set fh pairs) values cs h = unchanged_row plan values (overlay verdicts plan (ranges_now plan older) values (grabbed plan older) pairs) pairs cs h
 row_stays verdicts plan older (steps.Begin r) values cs h =
     unchanged_row plan values (overlay verdicts plan (ranges_now plan older) values (grabbed plan older) (asked plan older r.0)) (begun_pairs verdicts plan older r.0) cs h
+row_stays verdicts plan older (steps.ModifyRange c low high apart default_value) values cs h =
+    unchanged_row plan values (settled_after (steps.ModifyRange c low high apart default_value) (ranges_now plan older) values) [] cs h
 row_stays verdicts plan older (steps.OpenFh handler) values cs h = refl
 row_stays verdicts plan older (steps.CloseFh fh) values cs h = refl
 row_stays verdicts plan older (steps.Grab c on) values cs h = refl
@@ -61,7 +63,7 @@ row_stays verdicts plan older (steps.Take f c) values cs h = refl
 
 -- a cluster of which no member changes keeps a word that it may have been told
 pub word_stays : (told : Words) (verdicts : Verdicts) (plan : PlanData) (entries : History) (e : Entry Step) (k word : ℕ)
-    → list_any (changes plan (now verdicts plan (past entries)) (now_after verdicts plan (ranges_now plan (past entries)) (grabbed plan (past entries)) (pairs_asked plan (past entries) e.step) (now verdicts plan (past entries))) (pairs_applied verdicts plan (past entries) e.step)) (members plan k) ≡ false
+    → list_any (changes plan (now verdicts plan (past entries)) (values_after verdicts plan (past entries) e.step (now verdicts plan (past entries))) (pairs_applied verdicts plan (past entries) e.step)) (members plan k) ≡ false
     → MaySay told (calls_of plan k).notifier (row_of (now verdicts plan (past entries)) (members plan k)) word
     → MaySay told (calls_of plan k).notifier (row_of (now verdicts plan (past (entries ++ e ∷ []))) (members plan k)) word
 word_stays told verdicts plan entries e k word same may =

@@ -14,6 +14,7 @@ use Rattle.device_history.specs.Steps.{Past}
 use Rattle.device_history.specs.Refusals.{Answer, fault_of}
 use Rattle.device_history.specs.Handles.{open_answer, close_answer, shown}
 use Rattle.device_history.specs.Grabs.{grab_answer}
+use Rattle.device_history.specs.Ranges.{range_answer}
 use Rattle.device_history.specs.Frames.{queue, running, first_of}
 use Rattle.device_history.specs.RequestAnswers.{alloc_answer, add_buffer_answer, queue_answer, begin_frame_answer, complete_answer, cancel_answer, off_answer, clear_answer, state_answer}
 use Rattle.device_history.specs.EventAnswers.{subscribe_answer, subscribe_step, unsubscribe_answer, take_answer, take_step}
@@ -29,6 +30,7 @@ answer_of verdicts plan past words (asks.GetCtrls fh which request list) = get_l
 answer_of verdicts plan past words (asks.SetCtrls fh which request list) = set_list_answer verdicts plan past fh which request list
 answer_of verdicts plan past words (asks.TryCtrls fh which request list) = try_list_answer verdicts plan past fh which request list
 answer_of verdicts plan past words (asks.Grab c on) = grab_answer plan past c
+answer_of verdicts plan past words (asks.ModifyRange c low high apart default_value) = range_answer plan past c low high apart default_value
 answer_of verdicts plan past words asks.Alloc = alloc_answer verdicts plan past
 answer_of verdicts plan past words (asks.AddBuffer r number) = add_buffer_answer verdicts plan past r number
 answer_of verdicts plan past words (asks.Queue r) = queue_answer verdicts plan past r
@@ -67,6 +69,7 @@ MayLackMemory verdicts plan past (asks.Told cluster) = ⊥
 MayLackMemory verdicts plan past (asks.OpenFh handler) = IsOk (answer_of verdicts plan past [] (asks.OpenFh handler))
 MayLackMemory verdicts plan past (asks.CloseFh fh) = IsOk (answer_of verdicts plan past [] (asks.CloseFh fh))
 MayLackMemory verdicts plan past (asks.Grab c on) = IsOk (answer_of verdicts plan past [] (asks.Grab c on))
+MayLackMemory verdicts plan past (asks.ModifyRange c low high apart default_value) = IsOk (answer_of verdicts plan past [] (asks.ModifyRange c low high apart default_value))
 MayLackMemory verdicts plan past asks.Alloc = IsOk (answer_of verdicts plan past [] asks.Alloc)
 MayLackMemory verdicts plan past (asks.AddBuffer r number) = IsOk (answer_of verdicts plan past [] (asks.AddBuffer r number))
 MayLackMemory verdicts plan past (asks.Queue r) = IsOk (answer_of verdicts plan past [] (asks.Queue r))
@@ -108,6 +111,7 @@ step_of verdicts plan past (asks.OpenFh handler) = Some (steps.OpenFh handler)
 step_of verdicts plan past (asks.CloseFh fh) = Some (steps.CloseFh fh)
 step_of verdicts plan past (asks.SetCtrls fh which request list) = Some (list_step plan past fh which request list)
 step_of verdicts plan past (asks.Grab c on) = Some (steps.Grab c on)
+step_of verdicts plan past (asks.ModifyRange c low high apart default_value) = Some (steps.ModifyRange c low high apart default_value)
 step_of verdicts plan past asks.Alloc = Some steps.Alloc
 step_of verdicts plan past (asks.AddBuffer r number) = Some (steps.Buffer r number)
 step_of verdicts plan past (asks.Queue r) = Some (steps.Queue r)

@@ -65,6 +65,7 @@ ask_by plan past (steps.OpenFh handler) = asks.OpenFh handler
 ask_by plan past (steps.CloseFh fh) = asks.CloseFh fh
 ask_by plan past (steps.Set fh pairs) = asks.SetCtrls fh 0 None (entries_of plan pairs)
 ask_by plan past (steps.Grab c on) = asks.Grab c on
+ask_by plan past (steps.ModifyRange c low high apart default_value) = asks.ModifyRange c low high apart default_value
 ask_by plan past steps.Alloc = asks.Alloc
 ask_by plan past (steps.Store r pairs) = asks.SetCtrls (storer plan past pairs) 0x0f010000 (Some r) (entries_of plan pairs)
 ask_by plan past (steps.Buffer r number) = asks.AddBuffer r number

@@ -44,11 +44,12 @@ abbrev pub unsubscribed_if_named : Option ℕ → FileEvents → FileEvents
 unsubscribed_if_named None f = f
 unsubscribed_if_named (Some c) f = after_unsubscribe c f
 
--- What an entry makes of the events of a file handle: a set, a begin and a grab raise what they change, in the order of control numbers.
+-- What an entry makes of the events of a file handle: a set, a begin, a grab and a range change raise what they change, in the order of control numbers.
 abbrev pub events_by : Verdicts → PlanData → Entry Step → Past → FhId → Step → FileEvents → FileEvents
 events_by verdicts plan e older fh (steps.CloseFh from) f = where_own from fh no_events f
 events_by verdicts plan e older fh (steps.Set from pairs) f = raised_by verdicts plan e older fh (range_with_len 0 (length plan.controls)) f
 events_by verdicts plan e older fh (steps.Grab c on) f = raised_by verdicts plan e older fh (range_with_len 0 (length plan.controls)) f
+events_by verdicts plan e older fh (steps.ModifyRange c low high apart default_value) f = raised_by verdicts plan e older fh (range_with_len 0 (length plan.controls)) f
 events_by verdicts plan e older fh (steps.Begin r) f = raised_by verdicts plan e older fh (range_with_len 0 (length plan.controls)) f
 events_by verdicts plan e older fh (steps.Subscribe from c flags) f =
     where_own from fh (after_subscribe c flags (initial_changes (control plan c).flags) (payload verdicts plan (e ∷ older) c) f) f

@@ -53,6 +53,7 @@ abbrev pub from_of : Step → Changes → ℕ → Option ℕ
 from_of (steps.Set from pairs) change c = needing_feedback (Some from.0) pairs change c
 from_of (steps.Begin r) change c = None
 from_of (steps.Grab d on) change c = None
+from_of (steps.ModifyRange d low high apart default_value) change c = None
 from_of (steps.OpenFh handler) change c = None
 from_of (steps.CloseFh fh) change c = None
 from_of steps.Alloc change c = None

@@ -1,6 +1,6 @@
 -- Queries: what a control is like, the next id, the items of a menu, and the word that a cluster was told last (Linux userspace
 -- API, "ioctls VIDIOC_QUERYCTRL, VIDIOC_QUERY_EXT_CTRL and VIDIOC_QUERYMENU"; words are of this project).
-use Rattle.std.specs.Prelude.{ℕ, nat_le, if◌then◌else◌, List, length, Option, None, Some, is_some, slice_index, Ok}
+use Rattle.std.specs.Prelude.{ℕ, pos, int_le, Bool, ◌&&◌, cond, nat_le, if◌then◌else◌, List, length, Option, None, Some, is_some, slice_index, Ok}
 use Rattle.ctrl_types.specs.declared.errno.Errno.TheVariants.{EBADF, EINVAL}
 use Rattle.ctrl_types.specs.declared.flags.Flags.{Flags}
 use Rattle.ctrl_types.specs.declared.ids.CtrlId.{CtrlId}
@@ -53,20 +53,28 @@ next_of plan id (Some handler) = next_one (next_id plan handler id)
 abbrev pub next_answer : PlanData → Past → FhId → CtrlId → Answer
 next_answer plan past fh id = next_of plan id (handler_of past fh)
 
--- An item of a menu: EINVAL where nothing was given at the index.
+-- whether an index lies within the range of a menu
+abbrev pub has_index : Control → ℕ → Bool
+has_index ctrl index = int_le ctrl.minimum (pos index) && int_le (pos index) ctrl.maximum
+
+-- the item at an index of a menu, where the index lies within its range of the moment, isn't skipped, and was given a name or a number
+abbrev pub item_now : PlanData → Past → ℕ → ℕ → Option MenuItem
+item_now plan past c index = cond (has_index (control_in (ranges_now plan past) c) index) (menu_item plan c index) None
+
+-- An item of a menu: EINVAL where there is none at the index.
 abbrev pub item_one : Option MenuItem → Answer
 item_one None = refused EINVAL
 item_one (Some item) = Ok (Item item)
 
 -- An item of a control: EINVAL where the control isn't shown; then as of it.
-abbrev pub item_of : PlanData → ℕ → Option ℕ → Answer
-item_of plan index None = refused EINVAL
-item_of plan index (Some c) = item_one (menu_item plan c index)
+abbrev pub item_of : PlanData → Past → ℕ → Option ℕ → Answer
+item_of plan past index None = refused EINVAL
+item_of plan past index (Some c) = item_one (item_now plan past c index)
 
 -- An item of a menu, asked through a file handle: EBADF where it isn't open; then as of the control that is shown to it.
 abbrev pub item_answer : PlanData → Past → FhId → CtrlId → ℕ → Answer
 item_answer plan past fh id index =
-    if is_some (handler_of past fh) then item_of plan index (shown plan past fh id) else refused EBADF
+    if is_some (handler_of past fh) then item_of plan past index (shown plan past fh id) else refused EBADF
 
 -- The word that a cluster was told last: EINVAL where there is no such cluster. A cluster without a notifier was told 0.
 abbrev pub told_answer : PlanData → List ℕ → ℕ → Answer

@@ -7,10 +7,11 @@ use Rattle.device_history.specs.Steps.{History}
 use Rattle.device_history.specs.Frames.{begun_by}
 
 -- A step that leaves the rows of a forecast as they stand, but that a begin takes the first and a queueing adds one last: any but a set of present
--- values, a grab or its release, a cancellation and the end of the stream.
+-- values, a grab or its release, a range change, a cancellation and the end of the stream.
 abbrev pub goes_on : Step → Bool
 goes_on (steps.Set fh pairs) = false
 goes_on (steps.Grab c on) = false
+goes_on (steps.ModifyRange c low high apart default_value) = false
 goes_on (steps.Cancel r) = false
 goes_on steps.StreamOff = false
 goes_on (steps.OpenFh handler) = true

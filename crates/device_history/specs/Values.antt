@@ -1,4 +1,4 @@
--- The present values (Linux userspace API, "Extended Controls API" and "Request API").
+-- The present values (Linux userspace API, "Extended Controls API" and "Request API"; Linux driver API, `v4l2_ctrl_modify_range`).
 use Rattle.std.specs.Prelude.{[], ◌∷◌, List, map, Option, None, Some}
 use Rattle.ctrl_types.specs.declared.ids.Pair.{Pair}
 use Rattle.ctrl_clusters.specs.Rows.{Values, Grabs}
@@ -9,7 +9,7 @@ use Rattle.ctrl_handlers.specs.Plan.{PlanData}
 use Rattle.device_history.specs.declared.ask.Step.{Step}
 use Rattle.device_history.specs.declared.ask.Step.TheVariants as steps
 use Rattle.device_history.specs.Steps.{Past}
-use Rattle.device_history.specs.Ranges.{ranges_now}
+use Rattle.device_history.specs.Ranges.{ranges_now, settled_after}
 use Rattle.device_history.specs.Grabs.{grabbed}
 use Rattle.device_history.specs.Requests.{asked}
 
@@ -24,6 +24,7 @@ pairs_asked plan older (steps.Begin r) = Some (asked plan older r.0)
 pairs_asked plan older (steps.OpenFh handler) = None
 pairs_asked plan older (steps.CloseFh fh) = None
 pairs_asked plan older (steps.Grab c on) = None
+pairs_asked plan older (steps.ModifyRange c low high apart default_value) = None
 pairs_asked plan older steps.Alloc = None
 pairs_asked plan older (steps.Store r pairs) = None
 pairs_asked plan older (steps.Buffer r number) = None
@@ -42,7 +43,11 @@ abbrev pub now_after : Verdicts → PlanData → List Control → Grabs → Opti
 now_after verdicts plan controls grabs None values = values
 now_after verdicts plan controls grabs (Some pairs) values = overlay verdicts plan controls values grabs pairs
 
+-- What a step that follows a history makes of the values: it lays pairs over them, or settles the value of a control whose range it changes.
+abbrev pub values_after : Verdicts → PlanData → Past → Step → Values → Values
+values_after verdicts plan older step values = settled_after step (ranges_now plan older) (now_after verdicts plan (ranges_now plan older) (grabbed plan older) (pairs_asked plan older step) values)
+
 -- the present values after a history: the defaults at first, and then what each step makes of them
 unfoldable pub now : Verdicts → PlanData → Past → Values
 now verdicts plan [] = defaults plan
-now verdicts plan (e ∷ older) = now_after verdicts plan (ranges_now plan older) (grabbed plan older) (pairs_asked plan older e.step) (now verdicts plan older)
+now verdicts plan (e ∷ older) = values_after verdicts plan older e.step (now verdicts plan older)

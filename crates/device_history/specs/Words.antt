@@ -1,5 +1,5 @@
 -- Which controls a step changes, so that their clusters are notified (Linux driver API, "V4L2 Controls", "Adding Notify Callbacks").
-use Rattle.std.specs.Prelude.{ℕ, Bool, false, List, Option, None, Some}
+use Rattle.std.specs.Prelude.{ℕ, Bool, false, List, [], Option, None, Some}
 use Rattle.ctrl_types.specs.declared.ids.Pair.{Pair}
 use Rattle.ctrl_calls.specs.Meanings.{Verdicts}
 use Rattle.ctrl_handlers.specs.Plan.{PlanData}
@@ -11,13 +11,14 @@ use Rattle.device_history.specs.Steps.{Past}
 use Rattle.device_history.specs.Snapshots.{begun_pairs}
 
 -- The pairs of a step that were applied, so that a control among them that acts on each write does so: all that are set; of a request
--- whose frame is begun those of the clusters that aren't refused.
+-- whose frame is begun those of the clusters that aren't refused; of a range change, which can change a value too, none. No other step changes a value.
 abbrev pub pairs_applied : Verdicts → PlanData → Past → Step → Option (List Pair)
 pairs_applied verdicts plan older (steps.Set fh pairs) = Some pairs
 pairs_applied verdicts plan older (steps.Begin r) = Some (begun_pairs verdicts plan older r.0)
 pairs_applied verdicts plan older (steps.OpenFh handler) = None
 pairs_applied verdicts plan older (steps.CloseFh fh) = None
 pairs_applied verdicts plan older (steps.Grab c on) = None
+pairs_applied verdicts plan older (steps.ModifyRange c low high apart default_value) = Some []
 pairs_applied verdicts plan older steps.Alloc = None
 pairs_applied verdicts plan older (steps.Store r pairs) = None
 pairs_applied verdicts plan older (steps.Buffer r number) = None
@@ -31,7 +32,7 @@ pairs_applied verdicts plan older (steps.Subscribe fh c flags) = None
 pairs_applied verdicts plan older (steps.Unsubscribe fh c) = None
 pairs_applied verdicts plan older (steps.Take fh c) = None
 
--- whether applied pairs change a control, from the values before to those after
+-- whether a step changes a control, from the values before to those after, where these pairs were applied; a step that can change no value changes none
 abbrev pub changes : PlanData → Values → Values → Option (List Pair) → ℕ → Bool
 changes plan before after None c = false
 changes plan before after (Some pairs) c = is_changed plan before pairs c (value_at after c)

@@ -60,6 +60,19 @@ pub enum Ask {
         /// Whether it is to be grabbed.
         on: bool,
     },
+    /// Gives a control another range (Linux driver API, `v4l2_ctrl_modify_range`): its value is settled anew.
+    ModifyRange {
+        /// The control's number.
+        control: u32,
+        /// The least value from then on, or a menu's first index.
+        min: i64,
+        /// The greatest value, or a menu's last index; of a BITMASK all its bits.
+        max: i64,
+        /// How far its values lie apart; 0 for a BUTTON and a BITMASK.
+        step: u64,
+        /// The default, which the control has to take as it is within this range.
+        default_value: i64,
+    },
     /// Makes a media request (`MEDIA_IOC_REQUEST_ALLOC`).
     Alloc,
     /// Gives a request the buffer of its frame (`VIDIOC_QBUF` with `request_fd`).
@@ -220,6 +233,19 @@ pub enum Step {
         /// Whether it was grabbed.
         on: bool,
     },
+    /// A control was given another range.
+    ModifyRange {
+        /// The control's number.
+        control: u32,
+        /// The least value from then on.
+        min: i64,
+        /// The greatest value.
+        max: i64,
+        /// How far its values lie apart.
+        step: u64,
+        /// The default.
+        default_value: i64,
+    },
     /// A request was made; its id is the number of this step.
     Alloc,
     /// Values were stored in a request.
@@ -320,6 +346,13 @@ impl Drop for Ask {
                 list: _,
             }
             | Ask::Grab { control: _, on: _ }
+            | Ask::ModifyRange {
+                control: _,
+                min: _,
+                max: _,
+                step: _,
+                default_value: _,
+            }
             | Ask::Alloc
             | Ask::AddBuffer {
                 request: _,
@@ -383,6 +416,13 @@ impl Drop for Step {
             | Step::CloseFh { fh: _ }
             | Step::Set { fh: _, pairs: _ }
             | Step::Grab { control: _, on: _ }
+            | Step::ModifyRange {
+                control: _,
+                min: _,
+                max: _,
+                step: _,
+                default_value: _,
+            }
             | Step::Alloc
             | Step::Store {
                 request: _,

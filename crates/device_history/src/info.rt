@@ -18,7 +18,7 @@ pub struct CtrlInfo {
     pub maximum: i64,
     /// How far its values lie apart; 0 for a BUTTON and a BITMASK.
     pub step: u64,
-    /// The value that it has before the first set.
+    /// The default of the moment.
     pub default_value: i64,
     /// Its present flags: those that it was described with, UPDATE of an auto cluster's master, GRABBED and INACTIVE.
     pub flags: Flags,
@@ -27,7 +27,7 @@ pub struct CtrlInfo {
 impl CtrlInfo {
     /// What a query tells of a control.
     ///
-    /// - `ctrl`: the control, as it was described.
+    /// - `ctrl`: the control, with its range of the moment.
     /// - `flags`: its present flags.
     pub fn of(ctrl: &Ctrl, flags: Flags) -> CtrlInfo
         ensures { result ≡ info_of ctrl.now flags }

@@ -1,7 +1,7 @@
 //! What the definitions over the history say of one more entry, and what a whole stretch of a history makes of a forecast. Each function is a
 //! law that its contract states; none has anything to do.
 
-ghost use Rattle.std.specs.Prelude.{◌≡◌, ◌<◌, ◌≤◌, ◌+◌, ◌*◌, ℕ, Bool, Option, true, false, [], ◌∷◌, ◌++◌, List, length, map, is_some, slice_get, None, Some, Ok, Err};
+ghost use Rattle.std.specs.Prelude.{◌≡◌, ◌<◌, ◌≤◌, ◌+◌, ◌*◌, ℕ, ℤ, Bool, Option, true, false, [], ◌∷◌, ◌++◌, List, length, map, is_some, slice_get, None, Some, Ok, Err};
 ghost use Rattle.std.specs.List.{list_any};
 ghost use Rattle.history.specs.declared.entry.Entry.{Entry};
 ghost use Rattle.history.specs.Past.{past};
@@ -9,6 +9,7 @@ ghost use Rattle.ctrl_calls.specs.Meanings.{Verdicts};
 ghost use Rattle.ctrl_types.specs.declared.errno.Fault.{Fault};
 ghost use Rattle.ctrl_types.specs.declared.ids.ExtControl.{ExtControl};
 ghost use Rattle.ctrl_types.specs.Classes.{which_of};
+ghost use Rattle.ctrl_types.specs.Values.{CtrlValue};
 ghost use Rattle.ctrl_types.specs.declared.ids.FhId.{FhId};
 ghost use Rattle.ctrl_types.specs.declared.ids.RequestId.{RequestId};
 ghost use Rattle.ctrl_types.specs.declared.ids.Pair.{Pair};
@@ -16,19 +17,19 @@ ghost use Rattle.device_history.specs.declared.ask.Ask.{Ask};
 ghost use Rattle.device_history.specs.declared.ask.Ask.TheVariants as asks;
 ghost use Rattle.device_history.specs.declared.ask.Reply.TheVariants.{Controls, Frame};
 ghost use Rattle.device_history.specs.declared.ask.Step.{Step};
-ghost use Rattle.device_history.specs.declared.ask.Step.TheVariants.{Begin, CloseFh, Grab, Set};
+ghost use Rattle.device_history.specs.declared.ask.Step.TheVariants.{Begin, CloseFh, Grab, ModifyRange, Set};
 ghost use Rattle.ctrl_handlers.specs.Plan.{PlanData, IsPlan, calls_of, control, members};
-ghost use Rattle.ctrl_clusters.specs.Rows.{value_at, row_of};
+ghost use Rattle.ctrl_clusters.specs.Rows.{AreControlsOf, value_at, row_of};
 ghost use Rattle.device_history.specs.Grabs.{grabbed, grabbed_after};
 ghost use Rattle.ctrl_clusters.specs.Notified.{MaySay};
 ghost use Rattle.ctrl_clusters.specs.Overlay.{row_after};
 ghost use Rattle.ctrl_clusters.specs.PresentFlags.{flags_under};
 ghost use Rattle.device_history.specs.Flags.{flags_now};
 ghost use Rattle.device_history.specs.Steps.{History, Past};
-ghost use Rattle.device_history.specs.Ranges.{ranges_now};
+ghost use Rattle.device_history.specs.Ranges.{ranges_after, ranges_now};
 ghost use Rattle.device_history.specs.Refusals.{fault_of};
 ghost use Rattle.device_history.specs.Handles.{opened, opened_after, handler_of};
-ghost use Rattle.device_history.specs.Values.{defaults, pairs_asked, now, now_after};
+ghost use Rattle.device_history.specs.Values.{defaults, now, values_after};
 ghost use Rattle.device_history.specs.Answers.{MayAnswer, answer_of, is_list, refusal, step_of};
 ghost use Rattle.device_history.specs.Lists.{list_pairs, meant, set_list_answer, values_set, which_or};
 ghost use Rattle.device_history.specs.Legal.{IsLegal, MayFollow};
@@ -67,11 +68,20 @@ pub fn closed_handles()
     ensures for_good { (steps more : History) (fh : FhId) → fh.0 < length steps → handler_of (past steps) fh ≡ None → handler_of (past (steps ++ more)) fh ≡ None }
 {}
 
+/// At first the ranges are the plan's; one more entry makes of them what its step makes of them. At every moment they are of the plan's controls: a range
+/// change leaves id, kind, flags and skipped items.
+#[tactic(auto, using(crate::proofs::RangeLemmas::ranges_start, crate::proofs::RangeLemmas::ranges_add))]
+pub fn present_ranges()
+    ensures start { (plan : PlanData) → ranges_now plan (past []) ≡ plan.controls }
+    ensures one_more { (plan : PlanData) (steps : History) (e : Entry Step) → ranges_now plan (past (steps ++ e ∷ [])) ≡ ranges_after e.step (ranges_now plan (past steps)) }
+    ensures own { (plan : PlanData) (older : Past) → AreControlsOf plan (ranges_now plan older) }
+{}
+
 /// At first the present values are the defaults; one more entry makes of them what its step makes of them.
 #[tactic(auto, using(crate::proofs::PastLemmas::now_start, crate::proofs::PastLemmas::now_add))]
 pub fn present_values()
     ensures start { (verdicts : Verdicts) (plan : PlanData) → now verdicts plan (past []) ≡ defaults plan }
-    ensures one_more { (verdicts : Verdicts) (plan : PlanData) (steps : History) (e : Entry Step) → now verdicts plan (past (steps ++ e ∷ [])) ≡ now_after verdicts plan (ranges_now plan (past steps)) (grabbed plan (past steps)) (pairs_asked plan (past steps) e.step) (now verdicts plan (past steps)) }
+    ensures one_more { (verdicts : Verdicts) (plan : PlanData) (steps : History) (e : Entry Step) → now verdicts plan (past (steps ++ e ∷ [])) ≡ values_after verdicts plan (past steps) e.step (now verdicts plan (past steps)) }
 {}
 
 /// A set of present values that is accepted is made whole: no cluster is refused, so that each has the row that its pairs make of it; and each entry is answered
@@ -98,13 +108,13 @@ pub fn grabbed_controls()
 pub fn present_flags()
     ensures start { (verdicts : Verdicts) (plan : PlanData) (c : ℕ) → flags_now verdicts plan (past []) c ≡ flags_under plan (defaults plan) (map (λ _. false) plan.controls) c }
     ensures one_more { (verdicts : Verdicts) (plan : PlanData) (steps : History) (e : Entry Step) (c : ℕ) → flags_now verdicts plan (past (steps ++ e ∷ [])) c
-        ≡ flags_under plan (now_after verdicts plan (ranges_now plan (past steps)) (grabbed plan (past steps)) (pairs_asked plan (past steps) e.step) (now verdicts plan (past steps))) (grabbed_after e.step (grabbed plan (past steps))) c }
+        ≡ flags_under plan (values_after verdicts plan (past steps) e.step (now verdicts plan (past steps))) (grabbed_after e.step (grabbed plan (past steps))) c }
 {}
 
 /// A driver's cluster, no member of which changes, keeps a word that it may have been told, also where other clusters change.
 pub fn told_words<D: Driver>()
     ensures { (verdicts : Verdicts) (plan : PlanData) (steps : History) (e : Entry Step) (k word : ℕ)
-        → list_any (changes plan (now verdicts plan (past steps)) (now_after verdicts plan (ranges_now plan (past steps)) (grabbed plan (past steps)) (pairs_asked plan (past steps) e.step) (now verdicts plan (past steps))) (pairs_applied verdicts plan (past steps) e.step)) (members plan k) ≡ false
+        → list_any (changes plan (now verdicts plan (past steps)) (values_after verdicts plan (past steps) e.step (now verdicts plan (past steps))) (pairs_applied verdicts plan (past steps) e.step)) (members plan k) ≡ false
         → MaySay D.told (calls_of plan k).notifier (row_of (now verdicts plan (past steps)) (members plan k)) word
         → MaySay D.told (calls_of plan k).notifier (row_of (now verdicts plan (past (steps ++ e ∷ []))) (members plan k)) word }
 {}
@@ -219,7 +229,7 @@ pub fn added_raises()
         ≡ raises verdicts plan (past steps) fh ++ raises_from (length (raises verdicts plan (past steps) fh)) (payload verdicts plan (past (steps ++ e ∷ []))) (all_raised_for verdicts plan e (past steps) fh) }
 {}
 
-/// What a set, a begin and a grab raise is what changes between the ranges, values and grabs before and those after; the payload of what a
+/// What a set, a begin, a grab and a range change raise is what changes between the ranges, values and grabs before and those after; the payload of what a
 /// subscription raises is read of those after.
 pub fn raised_events()
     ensures set { (verdicts : Verdicts) (plan : PlanData) (e : Entry Step) (older : Past) (before after : MomentData) (from : FhId) (pairs : List Pair) (fh : FhId) (cs : List ℕ) (f : FileEvents) → e.step ≡ Set from pairs → AreAround verdicts plan e older before after
@@ -229,11 +239,13 @@ pub fn raised_events()
         ≡ raised_by verdicts plan e older fh cs f }
     ensures grab { (verdicts : Verdicts) (plan : PlanData) (e : Entry Step) (older : Past) (before after : MomentData) (d : ℕ) (on : Bool) (fh : FhId) (cs : List ℕ) (f : FileEvents) → e.step ≡ Grab d on → AreAround verdicts plan e older before after
         → raised_all (changed_between plan before after []) (payload_at plan after) (λ c. needing_feedback None [] (changed_between plan before after [] c) c) fh.0 cs f ≡ raised_by verdicts plan e older fh cs f }
+    ensures range { (verdicts : Verdicts) (plan : PlanData) (e : Entry Step) (older : Past) (before after : MomentData) (d : ℕ) (low high : ℤ) (apart : ℕ) (default_value : CtrlValue) (fh : FhId) (cs : List ℕ) (f : FileEvents) → e.step ≡ ModifyRange d low high apart default_value → AreAround verdicts plan e older before after
+        → raised_all (changed_between plan before after []) (payload_at plan after) (λ c. needing_feedback None [] (changed_between plan before after [] c) c) fh.0 cs f ≡ raised_by verdicts plan e older fh cs f }
     ensures subscription { (verdicts : Verdicts) (plan : PlanData) (e : Entry Step) (older : Past) (at : MomentData) (c : ℕ) → at.ranges ≡ ranges_now plan (e ∷ older) → at.values ≡ now verdicts plan (e ∷ older) → at.grabs ≡ grabbed plan (e ∷ older) → payload_at plan at c ≡ payload verdicts plan (e ∷ older) c }
 {}
 
 /// What is forecast is what a begin then makes, whichever seats make the steps, as long as no set of present values, no grab or release, no
-/// cancellation and no end of the stream comes between. A forecast has a row for each queued request, in the order of the queue. While a legal
+/// range change, no cancellation and no end of the stream comes between. A forecast has a row for each queued request, in the order of the queue. While a legal
 /// history goes on without these steps, the rows stand as they are, and each begin of a frame moves them up by one. So the begin behind i others
 /// is of the request of row i, counted from 0; it makes the present values those of the row, and its answer is the row's request, buffer and
 /// refused clusters.

@@ -1,5 +1,5 @@
 //! The history of a device: what is asked, what is answered, the steps that are accepted, and what they make of file handles,
-//! grabs, values, flags, words, requests, frames, subscriptions and events.
+//! grabs, ranges, values, flags, words, requests, frames, subscriptions and events.
 #![tactic(auto)]
 
 mod ask;

@@ -14,10 +14,10 @@ use Rattle.req_book.specs.declared.state.RequestState.{RequestState}
 use Rattle.frame_queue.specs.Frames.{AreOnce, FramesData, buffer_number}
 use Rattle.device_history.specs.declared.ask.Step.{Step}
 use Rattle.device_history.specs.declared.ask.Step.TheVariants as steps
-use Rattle.device_history.specs.Ranges.{ranges_now}
+use Rattle.device_history.specs.Ranges.{ranges_after, ranges_now}
 use Rattle.device_history.specs.Steps.{History, Past}
 use Rattle.device_history.specs.Grabs.{grabbed, grabbed_after}
-use Rattle.device_history.specs.Values.{pairs_asked, now, now_after}
+use Rattle.device_history.specs.Values.{now, values_after}
 use Rattle.device_history.specs.Frames.{queue}
 use Rattle.device_history.specs.Requests.{state}
 use Rattle.device_history.specs.Snapshots.{frames, request, request_in}
@@ -48,7 +48,7 @@ board_start verdicts plan = rw ever_queued_start refl
 -- what one more step makes of a board
 abbrev pub board_after : Verdicts → PlanData → Step → Past → BoardData
 board_after verdicts plan step older =
-    board_of verdicts plan (ranges_now plan older) (grabbed_after step (grabbed plan older)) (now_after verdicts plan (ranges_now plan older) (grabbed plan older) (pairs_asked plan older step) (now verdicts plan older)) (waiting_after plan older step (queued_frames plan older))
+    board_of verdicts plan (ranges_after step (ranges_now plan older)) (grabbed_after step (grabbed plan older)) (values_after verdicts plan older step (now verdicts plan older)) (waiting_after plan older step (queued_frames plan older))
 
 pub board_add : (verdicts : Verdicts) (plan : PlanData) (entries : History) (e : Entry Step) → IsLegal verdicts plan (past entries) → MayFollow verdicts plan (past entries) e.step
     → board verdicts plan (past (entries ++ e ∷ [])) ≡ board_after verdicts plan e.step (past entries)
@@ -73,6 +73,7 @@ line_is verdicts plan older (steps.OpenFh handler) queued legal fits_it leaves =
 line_is verdicts plan older (steps.CloseFh fh) queued legal fits_it leaves = cc
 line_is verdicts plan older (steps.Set fh pairs) queued legal fits_it leaves = cc
 line_is verdicts plan older (steps.Grab c on) queued legal fits_it leaves = cc
+line_is verdicts plan older (steps.ModifyRange c low high apart default_value) queued legal fits_it leaves = cc
 line_is verdicts plan older steps.Alloc queued legal fits_it leaves = refl
 line_is verdicts plan older (steps.Store r pairs) queued legal fits_it leaves = refl
 line_is verdicts plan older (steps.Buffer r number) queued legal fits_it leaves = refl

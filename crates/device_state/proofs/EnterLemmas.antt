@@ -13,11 +13,9 @@ use Rattle.device_history.specs.declared.ask.Ask.{Ask}
 use Rattle.device_history.specs.declared.ask.Reply.{Reply}
 use Rattle.device_history.specs.declared.ask.Step.{Step}
 use Rattle.device_history.specs.declared.ask.Step.TheVariants as steps
-use Rattle.device_history.specs.Ranges.{ranges_now}
 use Rattle.device_history.specs.Steps.{History, Past}
 use Rattle.device_history.specs.Refusals.{is_full, refused, fault_of}
-use Rattle.device_history.specs.Grabs.{grabbed}
-use Rattle.device_history.specs.Values.{pairs_asked, now, now_after}
+use Rattle.device_history.specs.Values.{now, values_after}
 use Rattle.device_history.specs.Words.{changes}
 use Rattle.device_history.specs.Forecasts.{queued_frames}
 use Rattle.device_history.specs.Snapshots.{applied, before_completion, frames, request, request_in, snapshot}
@@ -91,7 +89,7 @@ entered_follows verdicts plan older words ask step reply is room = (ask, ap faul
 -- such a step changes no control
 left_unchanged : (verdicts : Verdicts) (plan : PlanData) (older : Past) (step : Step) (c : ℕ) → leaves_controls step ≡ true → step_changes verdicts plan older (Some step) c ≡ false
 left_unchanged verdicts plan older step c leaves =
-    ap (λ (l : Option (List Pair)). changes plan (now verdicts plan older) (now_after verdicts plan (ranges_now plan older) (grabbed plan older) (pairs_asked plan older step) (now verdicts plan older)) l c) (acted_controls_left verdicts plan older step leaves)
+    ap (λ (l : Option (List Pair)). changes plan (now verdicts plan older) (values_after verdicts plan older step (now verdicts plan older)) l c) (acted_controls_left verdicts plan older step leaves)
 
 -- a call that adds one
 pub handles_controls_left : (verdicts : Verdicts) (old : DeviceData) (work : Work) (seat : ℕ) (ask : Ask) (step : Step) (reply : Reply) → work.told ≡ 0 → work.asked ≤ may_ask verdicts old.plan (past old.steps) ask

@@ -34,7 +34,7 @@ use Rattle.device_history.specs.Forecasts.{queued_frames}
 use Rattle.ctrl_forecast.specs.Forecasts.{named_by_frames}
 use Rattle.ctrl_clusters.specs.NewRows.{clusters_of}
 use Rattle.ctrl_lists.specs.declared.refusal.Refusal.{Refusal}
-use Rattle.device_state.specs.Device.{DeviceData, Handles, forecast_asks, grab_asks, list_most, list_touches, may_ask, must_ask, with_step, step_changes}
+use Rattle.device_state.specs.Device.{DeviceData, Handles, forecast_asks, cluster_asks, list_most, list_touches, may_ask, must_ask, with_step, step_changes}
 use Rattle.device_state.proofs.BoundLemmas.{forecasts_asked, set_opened}
 use Rattle.device_state.specs.Setting.{IsSettable, SetsAll}
 use Rattle.ctrl_clusters.specs.Changes.{cluster_changes}
@@ -182,7 +182,7 @@ handles_close verdicts old work seat fh rest is = record {
 }
 
 -- a grab tells nobody
-pub handles_grab : (verdicts : Verdicts) (old : DeviceData) (start work : Work) (seat c : ℕ) (on : Bool) → start ≡ at_rest → work.told ≡ start.told → work.asked ≤ start.asked + grab_asks old.plan (past old.steps) (cluster_of old.plan c)
+pub handles_grab : (verdicts : Verdicts) (old : DeviceData) (start work : Work) (seat c : ℕ) (on : Bool) → start ≡ at_rest → work.told ≡ start.told → work.asked ≤ start.asked + cluster_asks old.plan (past old.steps) (cluster_of old.plan c)
     → grab_answer old.plan (past old.steps) c ≡ Ok Done
     → Handles verdicts old (with_step (record old { work = work }) seat (Grab c on)) seat (asks.Grab c on) (Ok Done)
 handles_grab verdicts old start work seat c on rest untold asked is = record {

@@ -18,7 +18,7 @@ use Rattle.device_history.specs.declared.ask.Step.{Step}
 use Rattle.device_history.specs.declared.ask.Step.TheVariants.{OpenFh, CloseFh, Set, Grab}
 use Rattle.ctrl_events.specs.Events.{EventsData, FileEvents, events_of, no_events, only_at}
 use Rattle.ctrl_raises.specs.Raises.{MomentData}
-use Rattle.device_history.specs.Ranges.{ranges_now}
+use Rattle.device_history.specs.Ranges.{ranges_after, ranges_now}
 use Rattle.device_history.specs.EventSteps.{AreAround, AreEvents, events_after}
 use Rattle.device_history.proofs.EventLemmas.{events_add, events_start}
 use Rattle.device_history.proofs.RaiseLaw.{numbers_left}
@@ -36,7 +36,7 @@ use Rattle.device_state.proofs.BoardLemmas.{board_add, board_after, board_same, 
 use Rattle.device_history.specs.FrameSteps.{frames_after}
 use Rattle.frame_queue.specs.Frames.{FramesData}
 use Rattle.device_history.proofs.FrameLaw.{frames_start, frames_add}
-use Rattle.device_history.specs.Values.{pairs_asked, now, defaults, now_after}
+use Rattle.device_history.specs.Values.{now, defaults, values_after}
 use Rattle.ctrl_clusters.specs.Notified.{HaveWords, AreNotified}
 use Rattle.ctrl_clusters.specs.Changes.{cluster_changes}
 use Rattle.ctrl_clusters.specs.NewRows.{row_or_empty, written}
@@ -49,7 +49,7 @@ use Rattle.device_history.specs.Legal.{IsLegal, MayFollow}
 use Rattle.device_state.specs.Kept.{Caches, IsKept}
 use Rattle.device_state.specs.Setting.{IsSettable}
 use Rattle.step_effects.specs.Leaving.{leaves_controls}
-use Rattle.step_effects.proofs.LeavingLemmas.{opened_controls_left, grabbed_controls_left, laid_controls_left}
+use Rattle.step_effects.proofs.LeavingLemmas.{opened_controls_left, grabbed_controls_left, ranges_left, values_left}
 use Rattle.device_history.proofs.PastLemmas.{opened_add, opened_fresh, opened_rising, drops_one, now_add, legal_add}
 use Rattle.device_history.proofs.GrabLemmas.{grabbed_start, grabbed_add, grabbed_more}
 use Rattle.device_history.proofs.LegalLemmas.{unrefused}
@@ -86,8 +86,8 @@ kept_fresh verdicts told plan steps caches kept =
 -- one more entry of a step that may follow, with the parts that it makes
 pub kept_add : (verdicts : Verdicts) (told : Words) (plan : PlanData) (steps steps' : History) (caches caches' : Caches) (e : Entry Step)
     → IsKept verdicts told plan steps caches → length steps < MAX_STEPS → MayFollow verdicts plan (past steps) e.step → steps' ≡ steps ++ e ∷ []
-    → caches'.file_handles ≡ opened_after (length steps) e.step (opened (past steps)) → caches'.grabs ≡ grabbed_after e.step (grabbed plan (past steps)) → caches'.ranges ≡ ranges_now plan (past steps)
-    → caches'.values ≡ now_after verdicts plan (ranges_now plan (past steps)) (grabbed plan (past steps)) (pairs_asked plan (past steps) e.step) (now verdicts plan (past steps))
+    → caches'.file_handles ≡ opened_after (length steps) e.step (opened (past steps)) → caches'.grabs ≡ grabbed_after e.step (grabbed plan (past steps)) → caches'.ranges ≡ ranges_after e.step (ranges_now plan (past steps))
+    → caches'.values ≡ values_after verdicts plan (past steps) e.step (now verdicts plan (past steps))
     → caches'.frames ≡ frames_after verdicts plan (past steps) (length steps) e.step (frames verdicts plan (past steps)) → HaveWords told plan caches'.values caches'.words
     → ((fh : FhId) → events_of caches'.events fh.0 ≡ events_after verdicts plan e (past steps) fh (events_of caches.events fh.0))
     → caches'.board ≡ board_after verdicts plan e.step (past steps) → IsKept verdicts told plan steps' caches'
@@ -177,7 +177,7 @@ kept_set verdicts told plan steps steps' caches values b events words seat fh wh
     let adds : step_of verdicts plan (past steps) (asks.SetCtrls fh which request list) ≡ Some (Set fh touch.pairs) =
     ap Some (set_step (meant (which_or (which_of which)) request) fh (list_pairs plan (past steps) fh which list) current) ∙ ap (λ (pairs : List Pair). Some (Set fh pairs)) (sym sets.own_pairs) in
     let accepted : IsOk (set_list_answer verdicts plan (past steps) fh which request list) = accepted_set (set_list_answer verdicts plan (past steps) fh which request list) (Controls touch.answers) sets.accepted in
-    let lays : values ≡ now_after verdicts plan (ranges_now plan (past steps)) (grabbed plan (past steps)) (pairs_asked plan (past steps) (Set fh touch.pairs)) (now verdicts plan (past steps)) =
+    let lays : values ≡ values_after verdicts plan (past steps) (Set fh touch.pairs) (now verdicts plan (past steps)) =
     v ∙ ap (λ (v : Values). written plan v touch.rows) kept.values ∙ sym (laid_written verdicts plan (ranges_now plan (past steps)) (now verdicts plan (past steps)) (grabbed plan (past steps)) touch.pairs touch.rows sets.plans present sets.free) in
     kept_add verdicts told plan steps steps' caches (record caches { values = values; board = b; events = events; words = words }) (record { seat = seat; step = Set fh touch.pairs }) kept (set_room steps sets.room)
     (asks.SetCtrls fh which request list, unrefused (set_list_answer verdicts plan (past steps) fh which request list) accepted, adds) s
@@ -190,7 +190,7 @@ kept_set verdicts told plan steps steps' caches values b events words seat fh wh
 -- what a set lays over the values
 pub set_lays : (verdicts : Verdicts) (told : Words) (plan : PlanData) (steps : History) (caches : Caches) (values : Values) (fh : FhId) (which : ℕ) (request : Option RequestId) (list : List ExtControl) (touch : TouchedData) → IsKept verdicts told plan steps caches
     → IsSettable verdicts plan (past steps) fh which request list touch → meant (which_or (which_of which)) request ≡ None → values ≡ written plan caches.values touch.rows
-    → values ≡ now_after verdicts plan (ranges_now plan (past steps)) (grabbed plan (past steps)) (pairs_asked plan (past steps) (Set fh touch.pairs)) (now verdicts plan (past steps))
+    → values ≡ values_after verdicts plan (past steps) (Set fh touch.pairs) (now verdicts plan (past steps))
 set_lays verdicts told plan steps caches values fh which request list touch kept sets current v =
     v ∙ ap (λ (v : Values). written plan v touch.rows) kept.values
     ∙ sym (laid_written verdicts plan (ranges_now plan (past steps)) (now verdicts plan (past steps)) (grabbed plan (past steps)) touch.pairs touch.rows sets.plans (own_judged verdicts plan (past steps) fh which request list touch sets current) sets.free)
@@ -204,21 +204,29 @@ pub kept_controls_left : (verdicts : Verdicts) (told : Words) (plan : PlanData) 
 kept_controls_left verdicts told plan steps steps' caches f b events seat step kept room may leaves s made ev renewed =
     kept_add verdicts told plan steps steps' caches (record caches { frames = f; board = b; events = events }) (record { seat = seat; step = step }) kept (set_room steps room) may s
     (kept.file_handles ∙ sym (opened_controls_left (length steps) step (opened (past steps)) leaves))
-    (kept.grabs ∙ sym (grabbed_controls_left step (grabbed plan (past steps)) leaves))
-    kept.ranges
-    (kept.values ∙ ap (λ (l : Option (List Pair)). now_after verdicts plan (ranges_now plan (past steps)) (grabbed plan (past steps)) l (now verdicts plan (past steps))) (sym (laid_controls_left plan (past steps) step leaves)))
+    grabs
+    ranges
+    values
     (made ∙ ap (frames_after verdicts plan (past steps) (length steps) step) kept.frames) kept.words ev
     (renewed
-    ∙ board_same verdicts plan kept.ranges (kept.grabs ∙ sym (grabbed_controls_left step (grabbed plan (past steps)) leaves))
-    (kept.values ∙ ap (λ (l : Option (List Pair)). now_after verdicts plan (ranges_now plan (past steps)) (grabbed plan (past steps)) l (now verdicts plan (past steps))) (sym (laid_controls_left plan (past steps) step leaves)))
+    ∙ board_same verdicts plan ranges grabs values
     (line_kept verdicts plan (past steps) step caches.frames caches.board.queued kept.legal may leaves kept.frames (ap (λ (x : BoardData). x.queued) kept.board)))
+  where
+    grabs : caches.grabs ≡ grabbed_after step (grabbed plan (past steps))
+    grabs = kept.grabs ∙ sym (grabbed_controls_left step (grabbed plan (past steps)) leaves)
+
+    ranges : caches.ranges ≡ ranges_after step (ranges_now plan (past steps))
+    ranges = kept.ranges ∙ sym (ranges_left step (ranges_now plan (past steps)) leaves)
+
+    values : caches.values ≡ values_after verdicts plan (past steps) step (now verdicts plan (past steps))
+    values = kept.values ∙ sym (values_left verdicts plan (past steps) step (now verdicts plan (past steps)) leaves)
 
 -- there is a number for each raise of one more step
 pub numbered : (verdicts : Verdicts) (told : Words) (plan : PlanData) (steps : History) (caches : Caches) → IsKept verdicts told plan steps caches → (j : ℕ) → (events_of caches.events j).next + length plan.controls ≤ 4294967295
 numbered verdicts told plan steps caches kept j = numbers_left verdicts plan (past steps) (record { 0 = j }) (events_of caches.events j) kept.plans (omega (arith, length_past steps, kept.few)) (kept.events (record { 0 = j }))
 
 -- the present values after one more step
-pub now_next : (verdicts : Verdicts) (plan : PlanData) (e : Entry Step) (older : Past) → now verdicts plan (e ∷ older) ≡ now_after verdicts plan (ranges_now plan older) (grabbed plan older) (pairs_asked plan older e.step) (now verdicts plan older)
+pub now_next : (verdicts : Verdicts) (plan : PlanData) (e : Entry Step) (older : Past) → now verdicts plan (e ∷ older) ≡ values_after verdicts plan older e.step (now verdicts plan older)
 unfolding now
 now_next verdicts plan e older = refl
 
@@ -228,13 +236,13 @@ moment v g = rw (v, g) refl
 
 -- the ranges, values and grabs around a step
 pub around : (verdicts : Verdicts) (told : Words) (plan : PlanData) (steps : History) (caches : Caches) (e : Entry Step) (before after : MomentData) → IsKept verdicts told plan steps caches
-    → before ≡ record { ranges = caches.ranges; values = caches.values; grabs = caches.grabs } → after.ranges ≡ caches.ranges → after.values ≡ now_after verdicts plan (ranges_now plan (past steps)) (grabbed plan (past steps)) (pairs_asked plan (past steps) e.step) (now verdicts plan (past steps))
+    → before ≡ record { ranges = caches.ranges; values = caches.values; grabs = caches.grabs } → after.ranges ≡ ranges_after e.step (ranges_now plan (past steps)) → after.values ≡ values_after verdicts plan (past steps) e.step (now verdicts plan (past steps))
     → after.grabs ≡ grabbed_after e.step (grabbed plan (past steps)) → AreAround verdicts plan e (past steps) before after
 around verdicts told plan steps caches e before after kept b r v g = record {
   old_ranges = ap (λ (m : MomentData). m.ranges) b ∙ kept.ranges;
   old_values = ap (λ (m : MomentData). m.values) b ∙ kept.values;
   old_grabs = ap (λ (m : MomentData). m.grabs) b ∙ kept.grabs;
-  ranges = r ∙ kept.ranges ∙ sym (ranges_more plan e (past steps));
+  ranges = r ∙ sym (ranges_more plan e (past steps));
   values = v ∙ sym (now_next verdicts plan e (past steps));
   grabs = g ∙ sym (grabbed_more plan e (past steps));
 }

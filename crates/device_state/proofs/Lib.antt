@@ -10,5 +10,6 @@ pub mod BoardLemmas
 pub mod RenewLemmas
 pub mod KeptLemmas
 pub mod HandleLemmas
+pub mod RangingLemmas
 pub mod RunLemmas
 pub mod AuditLemmas

@@ -1,12 +1,12 @@
--- What a set and a grab change, for the forecasts that are renewed.
-use Rattle.std.proofs.Common.{◌≡◌, ◌≢◌, ℕ, ◌<◌, ◌≤◌, ◌⊎◌, ◌==◌, Bool, true, false, nat_eq, List, [], ◌∷◌, length, pos, slice_set, Option, None, Some, is_some, unwrap_or, inl, inr, refl, ap, sym, subst, ◌∙◌, arith}
+-- What a set, a grab and a range change change, for the forecasts that are renewed.
+use Rattle.std.proofs.Common.{◌≡◌, ◌≢◌, ℕ, ◌<◌, ◌≤◌, ◌⊎◌, true, false, nat_eq, List, [], ◌∷◌, length, get_or, pos, slice_set, Option, None, Some, is_some, unwrap_or, inl, inr, refl, ap, sym, subst, ◌∙◌, arith}
 use Rattle.std.specs.Option.{option_and_then}
-use Rattle.std.proofs.lemmas.Bool.Decides.{eqb_tells, leb_tells, nat_tests}
+use Rattle.std.proofs.lemmas.Bool.Decides.{leb_tells, nat_tests}
 use Rattle.std.proofs.lemmas.List.{get_or-set_other, get_or_past}
 use Rattle.std.proofs.Math.Dec.{leb}
 use Rattle.ctrl_types.specs.Values.{CtrlValue}
 use Rattle.ctrl_handlers.specs.Plan.{PlanData, cluster_of, members}
-use Rattle.ctrl_clusters.specs.Rows.{Grabs, Values, value_at, member_value, is_grabbed}
+use Rattle.ctrl_clusters.specs.Rows.{Values, value_at, member_value}
 use Rattle.ctrl_clusters.specs.NewRows.{clusters_of, row_among, value_among, written}
 use Rattle.ctrl_clusters.specs.declared.new_row.NewRow.{NewRow}
 use Rattle.ctrl_clusters.proofs.NewRowLemmas.{has_row, length_written, written_at}
@@ -30,9 +30,9 @@ written_apart plan values rows c apart = by (leb_tells (length values) c)
     by (inl past) = get_or_past values c (pos 0) past.1 ∙ sym (get_or_past (written plan values rows) c (pos 0) (omega (arith, past.1, length_written plan values rows)))
     by (inr within) = sym (written_at plan values rows c within.1 ∙ ap (λ (o : Option CtrlValue). unwrap_or o (value_at values c)) (nothing_among plan rows (cluster_of plan c) c apart))
 
--- a grab changes the grabs in the cluster of its control alone
-pub grab_apart : (plan : PlanData) (grabs : Grabs) (c k : ℕ) (on : Bool) (d : ℕ) → cluster_of plan c ≡ Some k → is_in_one_of (k ∷ []) (cluster_of plan d) ≡ false → is_grabbed grabs d ≡ is_grabbed (slice_set grabs c on) d
-grab_apart plan grabs c k on d is apart = by (eqb_tells d c)
+-- a control of another cluster is another control
+apart_other : (plan : PlanData) (c k d : ℕ) → cluster_of plan c ≡ Some k → is_in_one_of (k ∷ []) (cluster_of plan d) ≡ false → d ≢ c
+apart_other plan c k d is apart same = clash (subst (λ (o : Option ℕ). is_in_one_of (k ∷ []) o ≡ false) (ap (cluster_of plan) same ∙ is) apart)
   where
     own : nat_eq k k ≡ true
     own = grind (arith, nat_tests)
@@ -43,6 +43,6 @@ grab_apart plan grabs c k on d is apart = by (eqb_tells d c)
     clash : is_in_one_of (k ∷ []) (Some k) ≡ false → ⊥
     clash h = differ (sym (or_true (nat_eq k k) false own) ∙ h)
 
-    by : ((d == c) ≡ true × (d ≡ c)) ⊎ ((d == c) ≡ false × (d ≢ c)) → is_grabbed grabs d ≡ is_grabbed (slice_set grabs c on) d
-    by (inl same) = absurd (clash (subst (λ (o : Option ℕ). is_in_one_of (k ∷ []) o ≡ false) (ap (cluster_of plan) same.1 ∙ is) apart))
-    by (inr other) = sym (get_or-set_other grabs c d on false other.1)
+-- where one control gets something else, each of another cluster has what it had
+pub set_apart : {X : Type 0} (plan : PlanData) (xs : List X) (none : X) (c k : ℕ) (x : X) (d : ℕ) → cluster_of plan c ≡ Some k → is_in_one_of (k ∷ []) (cluster_of plan d) ≡ false → get_or xs d none ≡ get_or (slice_set xs c x) d none
+set_apart plan xs none c k x d is apart = sym (get_or-set_other xs c d x none (apart_other plan c k d is apart))

@@ -1,5 +1,5 @@
 -- What rows that a list's clusters get make of values and words.
-use Rattle.std.proofs.Common.{◌≡◌, ℕ, zero, suc, cond, ◌<◌, ◌+◌, ◌&&◌, ◌||◌, not, Bool, true, false, List, [], ◌∷◌, length, nat_eq, Option, None, Some, is_some, Result, Ok, count_by, slice_index, refl, sym, ap, subst, ◌∙◌, arith}
+use Rattle.std.proofs.Common.{◌≡◌, ℕ, zero, suc, cond, ◌<◌, ◌≤◌, ◌+◌, ◌&&◌, ◌||◌, not, Bool, true, false, List, [], ◌∷◌, length, nat_eq, Option, None, Some, is_some, Result, Ok, count_by, slice_index, refl, sym, ap, subst, ◌∙◌, arith}
 use Rattle.std.specs.List.{list_any, range_with_len}
 use Rattle.std.specs.Ordering.{int_eq}
 use Rattle.std.proofs.lemmas.Bool.Decides.{Decides-int_eq}
@@ -76,12 +76,12 @@ row_written verdicts plan controls values grabs pairs rows k None is many lt jud
 row_written verdicts plan controls values grabs pairs rows k (Some row) is many lt judged free found =
     overlaid_row verdicts plan controls values grabs pairs k row is many lt (row_then verdicts plan controls values grabs pairs rows k (Some row) is many lt judged free found)
 
-unchanged : (v : CtrlValue) (y a : Bool) → a ≡ false → (not (int_eq v v) || (y && a)) ≡ false
+pub and_false : (y : Bool) → (y && false) ≡ false
+and_false true = refl
+and_false false = refl
+
+pub unchanged : (v : CtrlValue) (y a : Bool) → a ≡ false → (not (int_eq v v) || (y && a)) ≡ false
 unchanged v y a h = rw ((Decides-int_eq v v).1 refl, h) (and_false y)
-  where
-    and_false : (y : Bool) → (y && false) ≡ false
-    and_false true = refl
-    and_false false = refl
 
 -- the present row changes nothing, where no pair is one of a member
 changes_same : (plan : PlanData) (values : Values) (pairs : List Pair) (cs : List ℕ) → is_touched pairs cs ≡ false → row_changes plan values pairs cs (row_of values cs) ≡ false
@@ -148,10 +148,11 @@ notified_from plan f g a (suc n) same =
 pub notified_same : (plan : PlanData) (f g : ℕ → Bool) → ((k : ℕ) → k < length plan.clusters → f k ≡ g k) → notified_count plan f ≡ notified_count plan g
 notified_same plan f g same = notified_from plan f g 0 (length plan.clusters) (λ k lt. same k (omega (arith, lt)))
 
-none_from : (plan : PlanData) (f : ℕ → Bool) (a n : ℕ) → ((k : ℕ) → f k ≡ false) → count_by (λ k. is_some (calls_of plan k).notifier && f k) (range_with_len a n) ≡ 0
+-- of clusters from a number on none is notified where none is changed
+pub none_from : (plan : PlanData) (f : ℕ → Bool) (a n : ℕ) → ((k : ℕ) → a ≤ k → f k ≡ false) → count_by (λ k. is_some (calls_of plan k).notifier && f k) (range_with_len a n) ≡ 0
 none_from plan f a zero none = refl
 none_from plan f a (suc n) none =
-    sum_by-cons (λ k. cond (is_some (calls_of plan k).notifier && f k) 1 0) a (range_with_len (a + 1) n) ∙ rw (none a, none_from plan f (a + 1) n none) (by (is_some (calls_of plan a).notifier))
+    sum_by-cons (λ k. cond (is_some (calls_of plan k).notifier && f k) 1 0) a (range_with_len (a + 1) n) ∙ rw (none a (omega arith), none_from plan f (a + 1) n (λ k at. none k (omega (arith, at)))) (by (is_some (calls_of plan a).notifier))
   where
     by : (b : Bool) → cond (b && false) 1 0 + 0 ≡ 0
     by true = refl
@@ -159,4 +160,4 @@ none_from plan f a (suc n) none =
 
 -- nobody is notified where no control changes
 pub notified_none : (plan : PlanData) (f : ℕ → Bool) → ((c : ℕ) → f c ≡ false) → notified_count plan (λ k. list_any f (members plan k)) ≡ 0
-notified_none plan f none = none_from plan (λ k. list_any f (members plan k)) 0 (length plan.clusters) (λ k. none_any f (members plan k) (λ c among. none c))
+notified_none plan f none = none_from plan (λ k. list_any f (members plan k)) 0 (length plan.clusters) (λ k at. none_any f (members plan k) (λ c among. none c))

@@ -12,10 +12,8 @@ use Rattle.ctrl_calls.specs.Meanings.{Verdicts}
 use Rattle.ctrl_clusters.specs.Notified.{notified_count}
 use Rattle.ctrl_lists.specs.Checks.{first_refusal}
 use Rattle.ctrl_lists.specs.Touched.{touched, judged_count, none_where, with_calls}
-use Rattle.device_history.specs.Ranges.{ranges_now}
 use Rattle.device_history.specs.Steps.{History, Past}
-use Rattle.device_history.specs.Grabs.{grabbed}
-use Rattle.device_history.specs.Values.{pairs_asked, now, now_after}
+use Rattle.device_history.specs.Values.{now, values_after}
 use Rattle.device_history.specs.Words.{pairs_applied, changes}
 use Rattle.device_history.specs.Snapshots.{frames}
 use Rattle.ctrl_forecast.specs.Forecasts.{named_by_frames}
@@ -47,7 +45,7 @@ with_step device seat step = record device { steps = device.steps ++ record { se
 abbrev pub step_changes : Verdicts → PlanData → Past → Option Step → ℕ → Bool
 step_changes verdicts plan past None c = false
 step_changes verdicts plan past (Some step) c =
-    changes plan (now verdicts plan past) (now_after verdicts plan (ranges_now plan past) (grabbed plan past) (pairs_asked plan past step) (now verdicts plan past)) (pairs_applied verdicts plan past step) c
+    changes plan (now verdicts plan past) (values_after verdicts plan past step (now verdicts plan past)) (pairs_applied verdicts plan past step) c
 
 -- so many validators at most, and none where a check before judging refuses the list
 abbrev pub list_most : Verdicts → PlanData → Past → FhId → ℕ → Option RequestId → Bool → List ExtControl → ℕ → ℕ
@@ -63,15 +61,15 @@ abbrev pub forecast_asks : PlanData → Past → Which → List ℕ → ℕ
 forecast_asks plan past Request clusters = 0
 forecast_asks plan past _ clusters = named_by_frames plan (queued_frames plan past) clusters
 
--- how many where the cluster of a control is grabbed
-abbrev pub grab_asks : PlanData → Past → Option ℕ → ℕ
-grab_asks plan past None = 0
-grab_asks plan past (Some k) = named_by_frames plan (queued_frames plan past) (k ∷ [])
+-- how many where a control of a cluster is grabbed, or given another range
+abbrev pub cluster_asks : PlanData → Past → Option ℕ → ℕ
+cluster_asks plan past None = 0
+cluster_asks plan past (Some k) = named_by_frames plan (queued_frames plan past) (k ∷ [])
 
 -- How many validators an ask may have asked: a set and a try one for each cluster that they touch, and a set of present values one more for each
 -- queued frame that names the cluster, but none where the list is refused before a cluster is judged; queueing one for each cluster that its
--- request names, and a cancellation one for each of these and each frame queued behind that names it too; a grab one for each queued frame that
--- names the cluster; every other ask none, so that the begin of a frame and a forecast ask nobody.
+-- request names, and a cancellation one for each of these and each frame queued behind that names it too; a grab and a range change one for each queued
+-- frame that names the cluster; every other ask none, so that the begin of a frame and a forecast ask nobody.
 abbrev pub may_ask : Verdicts → PlanData → Past → Ask → ℕ
 may_ask verdicts plan past (asks.SetCtrls fh which request list) =
     list_most verdicts plan past fh which request true list
@@ -79,7 +77,8 @@ may_ask verdicts plan past (asks.SetCtrls fh which request list) =
 may_ask verdicts plan past (asks.TryCtrls fh which request list) = list_most verdicts plan past fh which request false list (list_touches plan past fh which list)
 may_ask verdicts plan past (asks.Queue id) = asks_at_most plan (frames verdicts plan past) (steps.Queue id) (queued_frames plan past)
 may_ask verdicts plan past (asks.Cancel id) = asks_at_most plan (frames verdicts plan past) (steps.Cancel id) (queued_frames plan past)
-may_ask verdicts plan past (asks.Grab c on) = grab_asks plan past (cluster_of plan c)
+may_ask verdicts plan past (asks.Grab c on) = cluster_asks plan past (cluster_of plan c)
+may_ask verdicts plan past (asks.ModifyRange c low high apart default_value) = cluster_asks plan past (cluster_of plan c)
 may_ask verdicts plan past _ = 0
 
 -- how many validators a set and a try ask at least, where they are accepted: one for each cluster that they touch and that has one; every other ask none
@@ -90,6 +89,7 @@ must_ask plan past (asks.OpenFh handler) = 0
 must_ask plan past (asks.CloseFh fh) = 0
 must_ask plan past (asks.GetCtrls fh which request list) = 0
 must_ask plan past (asks.Grab c on) = 0
+must_ask plan past (asks.ModifyRange c low high apart default_value) = 0
 must_ask plan past asks.Alloc = 0
 must_ask plan past (asks.AddBuffer r number) = 0
 must_ask plan past (asks.Queue r) = 0

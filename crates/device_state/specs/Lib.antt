@@ -21,6 +21,7 @@ pub use Rattle.device_history.specs.Steps
 pub use Rattle.device_history.specs.Refusals
 pub use Rattle.device_history.specs.Handles
 pub use Rattle.device_history.specs.Grabs
+pub use Rattle.device_history.specs.Ranges
 pub use Rattle.device_history.specs.Values
 pub use Rattle.device_history.specs.Requests
 pub use Rattle.device_history.specs.Frames
@@ -39,5 +40,6 @@ pub mod Device
 pub mod Setting
 pub mod Entering
 pub mod Beginning
+pub mod Ranging
 pub mod Kept
 pub mod Runs

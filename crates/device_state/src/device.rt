@@ -12,18 +12,19 @@ ghost use Rattle.device_history.specs.Handles.{opened, handler_of, shown, open_a
 ghost use Rattle.device_history.specs.Values.{defaults, now};
 ghost use Rattle.ctrl_clusters.specs.Notified.{HaveWords};
 ghost use Rattle.device_history.specs.Refusals.{refused, is_full};
-ghost use Rattle.device_history.specs.Queries.{query_answer, next_answer, told_answer};
+ghost use Rattle.device_history.specs.Queries.{has_index, query_answer, next_answer, told_answer};
 ghost use Rattle.device_history.specs.RequestAnswers.{state_answer};
 ghost use Rattle.device_history.specs.Answers.{MayAnswer};
 ghost use Rattle.device_history.specs.Legal.{IsLegal};
 ghost use Rattle.history_audit.specs.Scratch.{Agrees};
 ghost use Rattle.ctrl_handlers.specs.Plan.{cluster_of, control_in};
-ghost use Rattle.device_state.specs.Device.{Handles, grab_asks, with_step};
+ghost use Rattle.device_state.specs.Device.{Handles, cluster_asks, with_step};
 
 mod begin;
 mod events;
 mod forecasts;
 mod lists;
+mod ranges;
 mod requests;
 
 use ctrl_calls::{Driver, Work};
@@ -225,7 +226,7 @@ impl<D: Driver> Device<D> {
         self.file_handles.len()
     }
 
-    /// Whether what an audit worked out of some history is what the device has: the present values and flags, the requests with their
+    /// Whether what an audit worked out of some history is what the device has: the present ranges, values and flags, the requests with their
     /// state, buffer and pairs, and of complete ones the snapshot, the queue with its forecasts, and of each open file handle the events that wait and the number of its next
     /// one (of this project). What a begin applied of a request isn't compared, neither of a complete nor of a running one. It takes no memory, and neither validators nor notifiers are called. An audit of the device's own plan and steps agrees, as the law `own_audits` says.
     ///
@@ -235,6 +236,7 @@ impl<D: Driver> Device<D> {
     {
         scratch.has_parts(
             &self.plan,
+            &self.ranges,
             self.values(),
             self.grabs(),
             &self.frames,
@@ -266,6 +268,10 @@ impl<D: Driver> Device<D> {
     /// - `Grab` grabs a control, whatever its flags, or lets it go (Linux driver API, `v4l2_ctrl_grab`): 13 (EINVAL). As long as it is grabbed it
     ///   has GRABBED and a set of it is refused. A grab that holds already is accepted, and is a step. It asks at most one validator for each
     ///   queued frame that names the control's cluster, as its forecast follows.
+    /// - `ModifyRange` gives a control another range, grabbed or not (Linux driver API, `v4l2_ctrl_modify_range`): 13 (EINVAL), 55 (ERANGE, 34).
+    ///   Its present value is settled by this range, and becomes the new default where the range takes none; the cluster isn't judged. Where the
+    ///   value changes, the cluster is told its new row. It asks at most one validator for each queued frame that names the control's cluster, as
+    ///   its forecast follows. Requests keep their values as they were given; these are settled when their frame begins.
     ///
     /// Media requests (Linux userspace API, "Request API"; limits, buffers, begins, cancellations and freeing are of this project):
     ///
@@ -284,11 +290,12 @@ impl<D: Driver> Device<D> {
     /// - `StateOf` reads a request's state: 19 (EINVAL). It takes no memory.
     ///
     /// Control events (Linux userspace API, "ioctl VIDIOC_SUBSCRIBE_EVENT, VIDIOC_UNSUBSCRIBE_EVENT", "ioctl VIDIOC_DQEVENT"; the order of the
-    /// events of one step, and that a member which isn't in the list is heard of, are of this project). A set, the begin of a frame and a grab
-    /// raise an event of each control whose value or flags change, in the order of the controls' numbers, for each file handle that is subscribed
-    /// to it; but the file handle whose set it is hears of a control of its list only where its subscription allows feedback, or the flags
-    /// change. At most one event of a control waits for a file handle: a later one takes its place at the end, and has the changes of both. Each
-    /// raise takes the next number of its file handle, from 0. Closing a file handle ends its subscriptions, and drops what waits.
+    /// events of one step, and that a member which isn't in the list is heard of, are of this project). A set, the begin of a frame, a grab and a range
+    /// change raise an event of each control whose value or flags change, and a range change one of its control where a bound, the step or the
+    /// default does, in the order of the controls' numbers, for each file handle that is subscribed to it; but the file handle whose set it is hears
+    /// of a control of its list only where its subscription allows feedback, or the flags change. At most one event of a control waits for a file
+    /// handle: a later one takes its place at the end, and has the changes of both. Each raise takes the next number of its file handle, from 0.
+    /// Closing a file handle ends its subscriptions, and drops what waits.
     ///
     /// - `Subscribe` subscribes a file handle to the events of a control: 12 (EBADF), 15 (EINVAL). Where `flags` say so, an event with its present
     ///   value and flags is raised for it at once. A subscription that is there already stays as it is, and the ask is accepted.
@@ -337,6 +344,13 @@ impl<D: Driver> Device<D> {
                 list,
             } => self.try_set(*fh, *which, *request, list),
             Ask::Grab { control, on } => self.grab(seat, *control, *on),
+            Ask::ModifyRange {
+                control,
+                min,
+                max,
+                step,
+                default_value,
+            } => self.modify_range(seat, *control, *min, *max, *step, *default_value),
             Ask::Alloc => {
                 let refusal = self.alloc_refusal();
                 let request = RequestId(self.steps.len() as u32);
@@ -581,7 +595,7 @@ impl<D: Driver> Device<D> {
     fn accept_grab(&mut self, seat: u32, control: u32, on: bool) -> Result<(), AllocError>
         requires { IsOk (grab_answer self.old.plan (past self.old.steps) control) }
         ensures ok { OnOk result (self.new ≡ with_step (record self.old { work = self.new.work }) seat (steps.Grab control on)) }
-        ensures asked { OnOk result (self.new.work.asked ≤ self.old.work.asked + grab_asks self.old.plan (past self.old.steps) (cluster_of self.old.plan control)) }
+        ensures asked { OnOk result (self.new.work.asked ≤ self.old.work.asked + cluster_asks self.old.plan (past self.old.steps) (cluster_of self.old.plan control)) }
         ensures told { OnOk result (self.new.work.told ≡ self.old.work.told) }
         ensures err { OnErr result (self.new ≡ self.old) }
     {
@@ -674,7 +688,7 @@ impl<D: Driver> Device<D> {
         }
     }
 
-    // The item at an index of a menu that is shown to a file handle.
+    // The item at an index of a menu that is shown to a file handle, where the index lies within the range of the moment.
     fn menu_item(&self, fh: FhId, id: CtrlId, index: u32) -> Result<Reply, Fault>
         ensures { MayAnswer D.verdict self.now.plan (past self.now.steps) self.now.words (asks.MenuItem fh id index) result }
     {
@@ -684,6 +698,9 @@ impl<D: Driver> Device<D> {
         let Some(number) = self.shown(fh, id) else {
             return refused(Errno::EINVAL);
         };
+        if !self.has_index(number, index) {
+            return refused(Errno::EINVAL);
+        }
         let Ok(item) = self.plan.menu_item(number, index) else {
             return refused(Errno::EINVAL);
         };
@@ -691,6 +708,16 @@ impl<D: Driver> Device<D> {
             Ok(item) => Ok(Reply::Item(item)),
             Err(_) => refused(Errno::ENOMEM),
         }
+    }
+
+    // Whether an index lies within the range that a control has now.
+    fn has_index(&self, control: u32, index: u32) -> bool
+        requires { control < length self.now.plan.controls }
+        ensures { result ≡ has_index (control_in (ranges_now self.now.plan (past self.now.steps)) control) index }
+    {
+        let ctrl = self.range(control);
+        let index = i64::from(index);
+        ctrl.minimum() <= index && index <= ctrl.maximum()
     }
 
     // The word that a cluster was told last.

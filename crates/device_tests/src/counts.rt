@@ -56,6 +56,37 @@ set f cur gain=6 0x00980999=4 ->
 get f cur gain red blue brightness ->
 ";
 
+// Range changes: nobody is asked where no frame waits that names the cluster, and then once for each such frame, also where the value stays; a cluster is told
+// where the value moves, and the grab doesn't matter.
+const RANGED: &str = "\
+open f 1 ->
+range red 0 255 1 128 ->
+range red 0 100 1 50 -> 1:0/1
+range red 0 100 1 20 ->
+range brightness -64 -4 4 -8 -> 3:0/1
+range hue 5 10 1 5 ->
+grab blue on ->
+range blue 0 100 1 100 -> 1:0/1
+grab blue off ->
+alloc r ->
+set f req:r red=200 -> 1:1/0
+buffer r 1 ->
+queue r -> 1:1/0
+range red 0 255 1 128 -> 1:1/0
+range blue 0 90 1 90 -> 1:1/1
+alloc s ->
+set f req:s blue=7 gain=4 -> 0:1/0 1:1/0
+buffer s 2 ->
+queue s -> 0:1/0 1:1/0
+range blue 0 255 1 90 -> 1:2/0
+range gain 0 100 1 16 -> 0:1/0
+range gain 20 100 1 20 -> 0:1/1
+range gain 20 10 1 20 ->
+range brightness -64 64 4 0 ->
+row 1 ->
+begin -> 1:0/1
+";
+
 // Stores and tries through a request: of the clusters that it asks for, those of the list are asked about.
 const STORED: &str = "\
 open f 1 ->
@@ -214,7 +245,7 @@ row 1 ->
 
 // Scripts. Behind each command stand the clusters whose closures it calls: how often the validator is asked, and the notifier told.
 const SCRIPTS: &[&str] = &[
-    SETS, LISTS, REFUSED, STORED, BEGUN, PRESSED, GRABBED, OFF, ROWS, DIRECT,
+    SETS, LISTS, REFUSED, RANGED, STORED, BEGUN, PRESSED, GRABBED, OFF, ROWS, DIRECT,
 ];
 
 // How often the validator and the notifier of each cluster were called.

@@ -3,7 +3,7 @@
 use crate::closures::Counting;
 use crate::scene::{behind, counters, device};
 use bitflags::Flags as FlagSet;
-use ctrl_types::{CtrlId, ExtControl, FhId, RequestId, SubFlags};
+use ctrl_types::{CtrlId, Errno, ExtControl, FhId, RequestId, SubFlags};
 use device_state::{Ask, ControlList, Device, Reply};
 use std::alloc::{AllocError, Global};
 
@@ -99,6 +99,50 @@ fn grabs_nobody(device: &mut Device<Counting>) -> bool {
     let is_grabbed = device.handle(0, &Ask::Grab { control, on: true }).is_ok();
     let is_free = device.handle(0, &Ask::Grab { control, on: false }).is_ok();
     !is_grabbed && !is_free
+}
+
+// Red gets another range, whose step and default count from then on; the plan's stays.
+fn gets_a_range(device: &mut Device<Counting>) -> bool {
+    let ask = Ask::ModifyRange {
+        control: 8,
+        min: 0,
+        max: 100,
+        step: 10,
+        default_value: 50,
+    };
+    let is_done = matches!(&device.handle(7, &ask), Ok(Reply::Done));
+    if device.plan().control_count() <= 8 {
+        return false;
+    }
+    let range = device.range(8);
+    is_done
+        && range.maximum() == 100
+        && range.step() == 10
+        && range.default_value() == 50
+        && device.plan().control(8).maximum() == 255
+        && device.values().get(8) == Some(&100)
+        && matches!(device.steps().last(), Some(entry) if entry.seat == 7)
+}
+
+// A control that isn't there gets none.
+fn ranges_nobody(device: &mut Device<Counting>) -> bool {
+    let ask = Ask::ModifyRange {
+        control: 10,
+        min: 0,
+        max: 1,
+        step: 1,
+        default_value: 0,
+    };
+    matches!(&device.handle(0, &ask), Err(fault) if fault.errno == Errno::EINVAL && fault.index.is_none())
+}
+
+#[test]
+fn a_range_with_ample_memory(rt: HostRuntime) -> Result<(), AllocError> {
+    let mut device = device_behind(rt.alloc())?;
+    let is_nobodys = ranges_nobody(&mut device);
+    let is_given = gets_a_range(&mut device);
+    assert!(rt; is_nobodys && is_given);
+    Ok(())
 }
 
 #[test]

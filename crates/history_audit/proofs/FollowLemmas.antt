@@ -1,10 +1,17 @@
 -- Whether a step that gives no pairs may follow is read off the parts.
-use Rattle.std.proofs.Common.{◌≡◌, ℕ, ◌<◌, Bool, true, false, not, ◌&&◌, nat_le, nat_lt, if◌then◌else◌, cond, List, [], ◌∷◌, length, Option, None, Some, is_some, Ok, refl, ap, sym, ◌∙◌, subst, arith}
+use Rattle.std.proofs.Common.{◌≡◌, ℕ, ℤ, ◌<◌, Bool, true, false, not, ◌&&◌, nat_le, nat_lt, if◌then◌else◌, cond, List, [], ◌∷◌, length, Option, None, Some, is_some, Result, Ok, Err, IsOk, is_ok, refl, ap, sym, ◌∙◌, subst, arith}
 use Rattle.std.proofs.lemmas.Bool.Decides.{nat_tests}
 use Rattle.ctrl_types.specs.declared.errno.Errno.{Errno}
-use Rattle.ctrl_types.specs.declared.errno.Errno.TheVariants.{EBADF, EINVAL, ENOSPC}
+use Rattle.ctrl_types.specs.declared.errno.Errno.TheVariants.{EBADF, EINVAL, ENOSPC, ERANGE}
 use Rattle.ctrl_calls.specs.Meanings.{Verdicts}
-use Rattle.ctrl_handlers.specs.Plan.{IsPlan, PlanData, control}
+use Rattle.ctrl_types.specs.Values.{CtrlValue}
+use Rattle.ctrl_settle.specs.Control.{Control, with_range}
+use Rattle.ctrl_settle.specs.Faults.{IsWellFormed}
+use Rattle.ctrl_settle.specs.declared.fault.CtrlFault.{CtrlFault}
+use Rattle.ctrl_settle.proofs.WellFormed.{nothing_found, well_formed_where_none}
+use Rattle.ctrl_settle.specs.FirstFault.{first_fault}
+use Rattle.ctrl_handlers.specs.Plan.{IsPlan, PlanData, control, control_in}
+use Rattle.device_history.specs.Ranges.{ranges_now}
 use Rattle.req_book.specs.Requests.{find, is_number}
 use Rattle.frame_queue.specs.Frames.{begin_answer, buffer_number, complete_refusal}
 use Rattle.device_history.specs.declared.ask.Ask.TheVariants as asks
@@ -190,6 +197,15 @@ fits_may verdicts plan past (steps.Grab c on) plain room h = (asks.Grab c on, tw
   where
     below : (a b : ℕ) → nat_lt a b ≡ true → nat_le b a ≡ false
     below a b h = grind (arith, nat_tests, h)
+fits_may verdicts plan past (steps.ModifyRange c low high apart default_value) plain room h =
+    let parts = both (nat_lt c (length plan.controls)) (lacks (first_fault (with_range (control_in (ranges_now plan past) c) low high apart default_value))) h in (
+      asks.ModifyRange c low high apart default_value,
+      thrice (nat_le (length plan.controls) c) (is_some (first_fault (with_range (control_in (ranges_now plan past) c) low high apart default_value))) (is_full past) EINVAL ERANGE ENOSPC Done (below c (length plan.controls) parts.0) (is_not (is_some (first_fault (with_range (control_in (ranges_now plan past) c) low high apart default_value))) parts.1) room,
+      refl,
+    )
+  where
+    below : (a b : ℕ) → nat_lt a b ≡ true → nat_le b a ≡ false
+    below a b h = grind (arith, nat_tests, h)
 fits_may verdicts plan past steps.Alloc plain room h = (asks.Alloc, free _ past _ (none_is _ h) room, refl)
 fits_may verdicts plan past (steps.Store r pairs) plain room h = cc
 fits_may verdicts plan past (steps.Buffer r number) plain room h = (asks.AddBuffer r number, free _ past _ (none_is _ h) room, refl)
@@ -244,6 +260,9 @@ may_fits verdicts plan past step plain may = by step plain (may_decided verdicts
     by (steps.CloseFh fh) plain h adds fit = let parts = closes_back (is_some (handler_of past fh)) (is_full past) ENOSPC EBADF Done h in (parts.1, parts.0)
     by (steps.Set fh pairs) plain h adds fit = cc
     by (steps.Grab c on) plain h adds fit = let parts = twice_back (nat_le (length plan.controls) c) (is_full past) EINVAL ENOSPC Done h in (parts.1, above c (length plan.controls) parts.0)
+    by (steps.ModifyRange c low high apart default_value) plain h adds fit =
+        let parts = thrice_back (nat_le (length plan.controls) c) (is_some (first_fault (with_range (control_in (ranges_now plan past) c) low high apart default_value))) (is_full past) EINVAL ERANGE ENOSPC Done h in
+        (parts.2, joined (nat_lt c (length plan.controls)) (lacks (first_fault (with_range (control_in (ranges_now plan past) c) low high apart default_value))) (above c (length plan.controls) parts.0) (ap not parts.1))
     by steps.Alloc plain h adds fit = free_back _ past _ h
     by (steps.Store r pairs) plain h adds fit = cc
     by (steps.Buffer r number) plain h adds fit = free_back _ past _ h
@@ -263,6 +282,32 @@ may_fits verdicts plan past step plain may = by step plain (may_decided verdicts
         ((free_back _ past _ h).0, ap (λ (o : Option ℕ). is_number o c) is ∙ own_number c)
     by (steps.Unsubscribe fh None) plain h adds fit = ((free_back _ past _ h).0, is_open None fh (free_back _ past _ h).1)
     by (steps.Take fh c) plain h adds fit = (takes_back past fh (pending verdicts plan past fh) h, found {f = λ d. steps.Take fh d} (first_control (pending verdicts plan past fh)) c (λ d same. cc) adds)
+
+-- a range is taken exactly where nothing is wrong with the control that has it
+pub range_taken : {X E : Type 0} (answer : Result X E) (ctrl : Control) → (IsOk answer → IsWellFormed ctrl) → (IsWellFormed ctrl → IsOk answer) → is_ok answer ≡ lacks (first_fault ctrl)
+range_taken (Ok x) ctrl sound whole = rw (nothing_found ctrl (sound refl)) refl
+range_taken {X = X} {E = E} (Err e) ctrl sound whole = by (first_fault ctrl) refl
+  where
+    by : (o : Option CtrlFault) → first_fault ctrl ≡ o → false ≡ lacks o
+    by None none = absurd (differ (whole (well_formed_where_none ctrl none)))
+      where
+        differ : IsOk {T = X} {E = E} (Err e) → ⊥
+        differ h = cc
+    by (Some f) found = refl
+
+-- a control that is given another range is there, and takes it
+pub range_known : (verdicts : Verdicts) (plan : PlanData) (past : Past) (c : ℕ) (low high : ℤ) (apart : ℕ) (default_value : CtrlValue) → MayFollow verdicts plan past (steps.ModifyRange c low high apart default_value)
+    → (c < length plan.controls) × (first_fault (with_range (control_in (ranges_now plan past) c) low high apart default_value) ≡ None)
+range_known verdicts plan past c low high apart default_value may =
+    let parts = both (nat_lt c (length plan.controls)) (lacks (first_fault (with_range (control_in (ranges_now plan past) c) low high apart default_value))) (may_fits verdicts plan past (steps.ModifyRange c low high apart default_value) refl may).1 in
+    (below c (length plan.controls) parts.0, none (first_fault (with_range (control_in (ranges_now plan past) c) low high apart default_value)) parts.1)
+  where
+    none : (o : Option CtrlFault) → lacks o ≡ true → o ≡ None
+    none None h = refl
+    none (Some f) h = cc
+
+    below : (a b : ℕ) → nat_lt a b ≡ true → a < b
+    below a b h = grind (arith, nat_tests, h)
 
 -- a control that is grabbed is there
 pub grab_known : (verdicts : Verdicts) (plan : PlanData) (past : Past) (c : ℕ) (on : Bool) → MayFollow verdicts plan past (steps.Grab c on) → c < length plan.controls
@@ -306,6 +351,7 @@ names_known verdicts plan past (steps.OpenFh handler) plans may known = tt
 names_known verdicts plan past (steps.CloseFh fh) plans may known = tt
 names_known verdicts plan past (steps.Set fh pairs) plans may known = tt
 names_known verdicts plan past (steps.Grab c on) plans may known = tt
+names_known verdicts plan past (steps.ModifyRange c low high apart default_value) plans may known = tt
 names_known verdicts plan past (steps.Begin r) plans may known = tt
 names_known verdicts plan past (steps.Unsubscribe fh c) plans may known = tt
 names_known verdicts plan past (steps.Take fh c) plans may known = tt

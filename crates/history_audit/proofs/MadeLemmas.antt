@@ -9,7 +9,7 @@ use Rattle.ctrl_calls.specs.Meanings.{Verdicts}
 use Rattle.ctrl_types.specs.declared.ids.FhId.{FhId}
 use Rattle.ctrl_events.specs.Events.{FileEvents, events_of, no_events}
 use Rattle.ctrl_handlers.specs.Plan.{IsPlan, PlanData}
-use Rattle.device_history.specs.Ranges.{ranges_now}
+use Rattle.device_history.specs.Ranges.{ranges_after, ranges_now}
 use Rattle.device_history.specs.EventSteps.{AreEvents, events_after}
 use Rattle.device_history.proofs.EventLemmas.{events_add, events_start}
 use Rattle.device_history.proofs.RaiseLaw.{numbers_left}
@@ -21,7 +21,7 @@ use Rattle.device_history.specs.Handles.{opened, ever_opened, opened_after}
 use Rattle.device_history.specs.Grabs.{grabbed, grabbed_after}
 use Rattle.device_history.specs.Snapshots.{frames}
 use Rattle.device_history.specs.FrameSteps.{frames_after}
-use Rattle.device_history.specs.Values.{pairs_asked, now, defaults, now_after}
+use Rattle.device_history.specs.Values.{pairs_asked, now, defaults, values_after}
 use Rattle.device_history.specs.Refusals.{is_full}
 use Rattle.device_history.specs.Legal.{IsLegal, MayFollow}
 use Rattle.device_history.proofs.FrameLaw.{frames_start, frames_add}
@@ -76,8 +76,8 @@ replayed_next all count e within h =
 pub replay_add : (verdicts : Verdicts) (plan : PlanData) (all : History) (count : ℕ) (parts parts' : Parts) (e : Entry Step) → IsReplay verdicts plan all count parts
     → slice_get all (length (take count all)) ≡ Some e → is_full (past (take count all)) ≡ false → MayFollow verdicts plan (past (take count all)) e.step
     → parts'.file_handles ≡ opened_after count e.step (opened (past (take count all))) → parts'.grabs ≡ grabbed_after e.step (grabbed plan (past (take count all)))
-    → parts'.ranges ≡ ranges_now plan (past (take count all))
-    → parts'.values ≡ now_after verdicts plan (ranges_now plan (past (take count all))) (grabbed plan (past (take count all))) (pairs_asked plan (past (take count all)) e.step) (now verdicts plan (past (take count all)))
+    → parts'.ranges ≡ ranges_after e.step (ranges_now plan (past (take count all)))
+    → parts'.values ≡ values_after verdicts plan (past (take count all)) e.step (now verdicts plan (past (take count all)))
     → parts'.frames ≡ frames_after verdicts plan (past (take count all)) count e.step (frames verdicts plan (past (take count all)))
     → ((fh : FhId) → events_of parts'.events fh.0 ≡ events_after verdicts plan e (past (take count all)) fh (events_of parts.events fh.0)) → IsReplay verdicts plan all (count + 1) parts'
 replay_add verdicts plan all count parts parts' e replay is room may h g r v f ev =
@@ -116,6 +116,6 @@ numbered verdicts plan all count parts replay j =
     numbers_left verdicts plan (past (take count all)) (record { 0 = j }) (events_of parts.events j) replay.plans (omega (arith, many, same, replay.few)) (replay.made.events (record { 0 = j }))
 
 -- the present values after one more entry
-pub now_next : (verdicts : Verdicts) (plan : PlanData) (e : Entry Step) (older : Past) → now verdicts plan (e ∷ older) ≡ now_after verdicts plan (ranges_now plan older) (grabbed plan older) (pairs_asked plan older e.step) (now verdicts plan older)
+pub now_next : (verdicts : Verdicts) (plan : PlanData) (e : Entry Step) (older : Past) → now verdicts plan (e ∷ older) ≡ values_after verdicts plan older e.step (now verdicts plan older)
 unfolding now
 now_next verdicts plan e older = refl

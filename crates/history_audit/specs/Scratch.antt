@@ -4,6 +4,7 @@ use Rattle.std.specs.List.{find, range_with_len}
 use Rattle.ctrl_types.specs.declared.flags.Flags.{Flags}
 use Rattle.ctrl_types.specs.declared.ids.FhId.{FhId}
 use Rattle.ctrl_calls.specs.Meanings.{Verdicts}
+use Rattle.ctrl_settle.specs.Control.{Control}
 use Rattle.ctrl_handlers.specs.Plan.{PlanData}
 use Rattle.ctrl_events.specs.declared.event.Waiting.{Waiting}
 use Rattle.ctrl_events.specs.Events.{EventsData, FileEvents, events_of}
@@ -13,6 +14,7 @@ use Rattle.ctrl_forecast.specs.declared.board.Forecast.{Forecast}
 use Rattle.frame_queue.specs.Frames.{FramesData}
 use Rattle.frame_queue.specs.Like.{IsLike}
 use Rattle.device_history.specs.Steps.{Past}
+use Rattle.device_history.specs.Ranges.{ranges_now}
 use Rattle.device_history.specs.Handles.{opened}
 use Rattle.device_history.specs.Events.{next_sequence, pending}
 use Rattle.device_history.specs.Values.{now}
@@ -26,9 +28,10 @@ pub record OpenEvents : Type 0 where
   pub waiting : List Waiting
   pub next : ℕ
 
--- the present values and flags, by control; the requests and their queue; what the queued frames will have; and the events of the open file
+-- the present ranges, values and flags, by control; the requests and their queue; what the queued frames will have; and the events of the open file
 -- handles, in the order of their opening
 pub record ScratchData : Type 0 where
+  pub ranges : List Control
   pub values : Values
   pub flags : List Flags
   pub frames : FramesData
@@ -66,6 +69,7 @@ all_events verdicts plan past = map (λ h. its_events verdicts plan past (record
 -- each is its definition over the history
 abbrev pub scratch : Verdicts → PlanData → Past → ScratchData
 scratch verdicts plan past = record {
+  ranges = ranges_now plan past;
   values = now verdicts plan past;
   flags = all_flags verdicts plan past;
   frames = frames verdicts plan past;
@@ -73,9 +77,10 @@ scratch verdicts plan past = record {
   events = all_events verdicts plan past;
 }
 
--- Values, the flags that they have with grabs, requests with their queue, what the queued frames will have, and the events of some file handles,
+-- Controls with their ranges, values, the flags that these have with grabs, requests with their queue, what the queued frames will have, and the events of some file handles,
 -- each with its handler, are those of a scratch; what a begin applied doesn't count.
-pub record HasParts (s : ScratchData) (plan : PlanData) (present : Values) (grabs : Grabs) (requests : FramesData) (rows : List Forecast) (handles : List (ℕ × ℕ)) (kept : EventsData) : Type 0 where
+pub record HasParts (s : ScratchData) (plan : PlanData) (controls : List Control) (present : Values) (grabs : Grabs) (requests : FramesData) (rows : List Forecast) (handles : List (ℕ × ℕ)) (kept : EventsData) : Type 0 where
+  pub ranges : s.ranges ≡ controls
   pub values : s.values ≡ present
   pub flags : s.flags ≡ flags_of_all plan present grabs
   pub frames : IsLike s.frames requests
@@ -84,6 +89,7 @@ pub record HasParts (s : ScratchData) (plan : PlanData) (present : Values) (grab
 
 -- All that a scratch has is what a history makes of a device, but for what a begin applied, which doesn't count.
 pub record Agrees (verdicts : Verdicts) (plan : PlanData) (past : Past) (s : ScratchData) : Type 0 where
+  pub ranges : s.ranges ≡ ranges_now plan past
   pub values : s.values ≡ now verdicts plan past
   pub flags : s.flags ≡ all_flags verdicts plan past
   pub frames : IsLike s.frames (frames verdicts plan past)

@@ -171,6 +171,13 @@ impl<'a, D: Driver> Replay<'a, D> {
             Step::OpenFh { handler } => self.open(entry, *handler)?,
             Step::CloseFh { fh } => self.close(entry, *fh),
             Step::Grab { control, on } => self.grab(entry, *control, *on)?,
+            Step::ModifyRange {
+                control,
+                min,
+                max,
+                step,
+                default_value,
+            } => self.modify(entry, *control, *min, *max, *step, *default_value),
             Step::Begin { request } => self.begin(entry, *request)?,
             _ => self.change(entry)?,
         }
@@ -192,13 +199,21 @@ impl<'a, D: Driver> Replay<'a, D> {
             count: _,
             file_handles,
             grabs: _,
-            ranges: _,
+            ranges,
             values,
             frames,
             events,
             alloc: _,
         } = self;
-        Ok(Scratch::of(values, flags, frames, forecasts, file_handles, events))
+        Ok(Scratch::of(
+            ranges,
+            values,
+            flags,
+            frames,
+            forecasts,
+            file_handles,
+            events,
+        ))
     }
 
     // What the device is built of. The steps so far are legal.

@@ -4,7 +4,7 @@ ghost use Rattle.ctrl_events.specs.Events.{event_at};
 ghost use Rattle.history_audit.specs.Scratch.{HasParts, events_for, flags_of_all, open_events};
 
 use ctrl_calls::Driver;
-use ctrl_clusters::flags_under;
+use ctrl_clusters::{Ranges, flags_under};
 use ctrl_events::{Event, Events};
 use ctrl_forecast::Board;
 use ctrl_handlers::Plan;
@@ -13,11 +13,13 @@ use frame_queue::Frames;
 use indexmap::IndexMap;
 use std::marker::Model;
 
-/// What a history makes of a device, worked out of its steps alone. Contracts see it as its parts: the present values and flags, the
+/// What a history makes of a device, worked out of its steps alone. Contracts see it as its parts: the present ranges, values and flags, the
 /// requests with their queue, what the queued frames will have, and, for each open file handle in the order of opening, the events that wait
 /// for it and the number of its next event.
 #[derive(Drop)]
 pub struct Scratch {
+    // by control
+    ranges: Ranges,
     // by control
     values: Vec<CtrlValue>,
     // by control
@@ -35,12 +37,13 @@ impl Model for Scratch {
 
     ghost Value = { ScratchData };
 
-    ghost view = { λ s. record { values = s.values.items; flags = s.flags.items; frames = s.frames; forecasts = s.forecasts.forecasts; events = open_events s.events s.file_handles.entries } };
+    ghost view = { λ s. record { ranges = s.ranges; values = s.values.items; flags = s.flags.items; frames = s.frames; forecasts = s.forecasts.forecasts; events = open_events s.events s.file_handles.entries } };
 }
 
 impl Scratch {
     // These parts.
     pub(crate) fn of(
+        ranges: Ranges,
         values: Vec<CtrlValue>,
         flags: Vec<Flags>,
         frames: Frames,
@@ -48,9 +51,10 @@ impl Scratch {
         file_handles: IndexMap<u32, u32>,
         events: Events,
     ) -> Scratch
-        ensures { result ≡ record { values = values.items; flags = flags.items; frames = frames; forecasts = forecasts.forecasts; events = open_events events file_handles.entries } }
+        ensures { result ≡ record { ranges = ranges; values = values.items; flags = flags.items; frames = frames; forecasts = forecasts.forecasts; events = open_events events file_handles.entries } }
     {
         Scratch {
+            ranges,
             values,
             flags,
             frames,
@@ -58,6 +62,13 @@ impl Scratch {
             file_handles,
             events,
         }
+    }
+
+    /// The controls with their present ranges, in the order of the plan's numbers. It takes no memory.
+    pub fn ranges(&self) -> &Ranges
+        ensures { result.now ≡ self.now.ranges }
+    {
+        &self.ranges
     }
 
     /// The present values, one for each control, in the order of the plan's numbers. It takes no memory.
@@ -109,11 +120,12 @@ impl Scratch {
         }
     }
 
-    /// Whether it has these values, the flags that they make with these grabs, these requests with their queue, the same of each queued frame, and
+    /// Whether it has these ranges and values, the flags that they make with these grabs, these requests with their queue, the same of each queued frame, and
     /// these open file handles with the same events that wait, in the same order, and the same numbers of their next events. What a begin applied of a
     /// request, subscriptions, and the handlers of file handles are left out. It takes no memory and asks nobody.
     ///
     /// - `plan`: what the device is built of.
+    /// - `ranges`: the ranges of its controls.
     /// - `values`, `grabs`: a value, and whether it is grabbed, for each control in the order of their numbers; the caller owes exactly as
     ///   many.
     /// - `frames`: the requests, their queue, and the one whose frame is being made.
@@ -123,6 +135,7 @@ impl Scratch {
     pub fn has_parts<D: Driver>(
         &self,
         plan: &Plan<D>,
+        ranges: &Ranges,
         values: &[CtrlValue],
         grabs: &[bool],
         frames: &Frames,
@@ -132,8 +145,11 @@ impl Scratch {
     ) -> bool
         requires values { length values.now ≡ length plan.now.controls }
         requires grabs { length grabs.now ≡ length plan.now.controls }
-        ensures { IsTrue result ↔ HasParts self.now plan.now values.now grabs.now frames.now board.now.forecasts file_handles.now.entries events.now }
+        ensures { IsTrue result ↔ HasParts self.now plan.now ranges.now values.now grabs.now frames.now board.now.forecasts file_handles.now.entries events.now }
     {
+        if !self.ranges().is_like(ranges) {
+            return false;
+        }
         if !are_values(self.values(), values) {
             return false;
         }

@@ -2,7 +2,7 @@
 //! the shortest command with such a word.
 
 use crate::reason::{Complaint, Reason};
-use script_lines::{ControlWords, LineFault, MAX_NAME, read_line};
+use script_lines::{ControlWords, LineFault, MAX_NAME, decimal_u64, read_line};
 use std::alloc::{AllocError, Global};
 
 // What stands at a place behind the first word of a command.
@@ -15,6 +15,8 @@ enum Slot {
     Id,
     Which,
     OnOff,
+    Value,
+    Step,
     // a control with a value
     Entry,
 }
@@ -36,6 +38,17 @@ const FORMS: &[(&[u8], &[Slot], Tail)] = &[
     (b"set", &[Slot::Name, Slot::Which], Tail::All(Slot::Entry)),
     (b"try", &[Slot::Name, Slot::Which], Tail::All(Slot::Entry)),
     (b"grab", &[Slot::Word, Slot::OnOff], Tail::Nothing),
+    (
+        b"range",
+        &[
+            Slot::Word,
+            Slot::Value,
+            Slot::Value,
+            Slot::Step,
+            Slot::Value,
+        ],
+        Tail::Nothing,
+    ),
     (b"query", &[Slot::Name, Slot::Control], Tail::Nothing),
     (b"next", &[Slot::Name, Slot::Id], Tail::Nothing),
     (
@@ -186,6 +199,8 @@ fn in_slot(
         Slot::Id => is_read(alloc, known, b"next f ", word, b"")?,
         Slot::Which => is_read(alloc, known, b"get f ", word, b"")?,
         Slot::OnOff => is_on_or_off(word),
+        Slot::Value => is_read(alloc, known, b"set f cur 0x0=", word, b"")?,
+        Slot::Step => decimal_u64(word).is_some(),
         Slot::Entry => is_read(alloc, known, b"set f cur ", word, b"")?,
     };
     if is_right {
@@ -201,6 +216,9 @@ fn in_slot(
         Slot::Id => Reason::Id,
         Slot::Which => Reason::Which,
         Slot::OnOff => Reason::OnOff,
+        Slot::Value => Reason::Value,
+        Slot::Step if word.iter().all(|byte| byte.is_ascii_digit()) => Reason::LargeStep,
+        Slot::Step => Reason::Number,
         Slot::Entry => return in_entry(alloc, known, word),
     };
     Ok(Some(reason))

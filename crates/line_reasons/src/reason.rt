@@ -21,6 +21,8 @@ pub enum Reason {
     LargeNumber,
     /// It is to be a number without a sign.
     Number,
+    /// It is to be a step, and is too large.
+    LargeStep,
     /// It is to be a control.
     Control,
     /// It is to be a word of the device.
@@ -33,7 +35,7 @@ pub enum Reason {
     OnOff,
     /// It is to be a control with a value, and has no `=`.
     Equals,
-    /// It is to be a control with a value, and the value is no number of 64 bits.
+    /// It is to be a value, or a control with one, and the value is no number of 64 bits.
     Value,
     /// It is to say how is subscribed.
     Subscription,
@@ -79,6 +81,9 @@ impl fmt::Display for ReasonText<'_> {
             Reason::LongName => "a name has at most 16 characters",
             Reason::Name => "a name is of ASCII letters and digits",
             Reason::LargeNumber => "a number is at most 4294967295, and has at most 10 digits",
+            Reason::LargeStep => {
+                "a step is at most 18446744073709551615, and has at most 20 digits"
+            }
             Reason::Number => "a decimal number without a sign belongs here",
             Reason::Id => "an id belongs here: 0x and 1 to 8 hexadecimal digits",
             Reason::Which => {

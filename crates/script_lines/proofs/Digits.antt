@@ -1,8 +1,10 @@
 -- Digits one after another, and how large the number that they write is.
-use Rattle.std.proofs.Common.{◌≡◌, ℕ, ◌+◌, ◌*◌, ◌^◌, ◌<◌, ◌≤◌, List, [], ◌∷◌, length, take, Bool, true, false, if◌then◌else◌, arith, refl, suc, Some, None}
+use Rattle.std.proofs.Common.{◌≡◌, ℕ, ◌+◌, ◌*◌, ◌^◌, ◌<◌, ◌≤◌, List, [], ◌∷◌, length, take, get_or, Bool, true, false, if◌then◌else◌, arith, refl, suc, Some, None}
 use Rattle.std.proofs.Math.Nat.{mul-le-mul_right, pow-suc, pow-le-pow_right}
-use Rattle.std.proofs.lemmas.Int.Digits.{digits_value-lt}
+use Rattle.std.proofs.lemmas.Int.Digits.{digits_more, digits_value_more, digits_value-lt}
 use Rattle.std.proofs.lemmas.Grind.{common_steps}
+use Rattle.std.proofs.lemmas.List.{take_all}
+use Rattle.std.proofs.lemmas.List.Folds.{list_all_more}
 use Rattle.std.specs.Char.{is_digit, digit_value}
 use Rattle.std.specs.List.{list_all}
 use Rattle.std.specs.Str.Parse.{AllDigits, digits_value}
@@ -52,3 +54,31 @@ numeral_below radix most n word low e =
     let below : digits_value radix word < radix ^ length word = digits_value-lt radix word digits in
     let top : radix ^ length word ≤ radix ^ most = pow-le-pow_right (omega arith) short in
     omega (arith, parts.1)
+
+-- what digits write
+numeral_some : (radix most : ℕ) (word : List ℕ) → 0 < length word → length word ≤ most → list_all (λ c. is_digit c radix) word ≡ true
+    → numeral radix most word ≡ Some (digits_value radix word)
+numeral_some radix most word some few digits = grind (arith, common_steps)
+
+-- the whole of a word, by its front
+whole : (word : List ℕ) (i : ℕ) → length word ≡ i + 1 → take (i + 1) word ≡ word
+whole word i len = take_all (i + 1) word (omega arith)
+
+-- what is behind digits is one more
+pub numeral_push : (radix i n : ℕ) (word : List ℕ) → length word ≡ i + 1 → numeral radix i (take i word) ≡ Some n → digit_value (get_or word i 0) < radix
+    → numeral radix (i + 1) word ≡ Some (n * radix + digit_value (get_or word i 0))
+numeral_push radix i n word len e small =
+    let parts = kept _ _ _ e in
+    let front : list_all (λ c. is_digit c radix) (take i word) ≡ true = grind (arith, common_steps) in
+    let more = digits_more radix word i (omega arith) (all_digits radix (take i word) front) small in
+    let digits : AllDigits radix word = rw (whole word i len) at more in
+    let value : digits_value radix (take (i + 1) word) ≡ digits_value radix (take i word) * radix + digit_value (get_or word i 0) = digits_value_more radix word i (omega arith) in
+    let next : digits_value radix word ≡ n * radix + digit_value (get_or word i 0) = rw (whole word i len, parts.1) at value in
+    rw (numeral_some radix (i + 1) word (omega arith) (omega arith) (list_all-digits radix word digits), next) refl
+
+-- a word whose front isn't of digits
+pub numeral_none : (radix i : ℕ) (word : List ℕ) → 0 < i → length word ≡ i + 1 → numeral radix i (take i word) ≡ None → numeral radix (i + 1) word ≡ None
+numeral_none radix i word some len e =
+    let more = list_all_more (λ c. is_digit c radix) word i 0 (omega arith) in
+    let all = whole word i len in
+    grind (arith, common_steps)

@@ -8,10 +8,10 @@ use Rattle.ctrl_types.specs.declared.ids.ExtControl.{ExtControl}
 use Rattle.ctrl_types.specs.declared.sub_flags.SubFlags.{SubFlags}
 use Rattle.ctrl_types.specs.declared.sub_flags.TheConstants.SubFlags.{SEND_INITIAL, ALLOW_FEEDBACK}
 use Rattle.script_lines.specs.ControlWords.{ControlWord, known_number}
-use Rattle.script_lines.specs.Lexemes.{after, control_id, decimal_i64, decimal_u32, hexadecimal_u32}
+use Rattle.script_lines.specs.Lexemes.{after, control_id, decimal_i64, decimal_u32, decimal_u64, hexadecimal_u32}
 use Rattle.script_lines.specs.Names.{name_of}
 use Rattle.script_lines.specs.declared.command.Command.{Command}
-use Rattle.script_lines.specs.declared.command.Command.TheVariants.{Open, Close, Get, Set, Try, Grab, Query, Next, Menu, Told, Alloc, Buffer, Queue, Cancel, Reinit, Free, State, Row, Begin, Complete, Off, Subscribe, Unsubscribe, Take, Audit}
+use Rattle.script_lines.specs.declared.command.Command.TheVariants.{Open, Close, Get, Set, Try, Grab, Range, Query, Next, Menu, Told, Alloc, Buffer, Queue, Cancel, Reinit, Free, State, Row, Begin, Complete, Off, Subscribe, Unsubscribe, Take, Audit}
 use Rattle.script_lines.specs.declared.command.WhichWord.{WhichWord}
 use Rattle.script_lines.specs.declared.command.WhichWord.TheVariants.{Number, Request}
 use Rattle.script_lines.specs.declared.fault.LineFault.{LineFault}
@@ -117,6 +117,20 @@ grab_parts None on = None
 abbrev pub grab_of : List ControlWord → List (List ℕ) → Option Command
 grab_of known (control ∷ form ∷ []) = grab_parts (known_number known control) (on_or_off form)
 grab_of known _ = None
+
+abbrev pub range_parts : Option ℕ → Option ℤ → Option ℤ → Option ℕ → Option ℤ → Option Command
+range_parts (Some control) (Some min) (Some max) (Some step) (Some default_value) = Some (Range control min max step default_value)
+range_parts (Some control) (Some min) (Some max) (Some step) None = None
+range_parts (Some control) (Some min) (Some max) None default_value = None
+range_parts (Some control) (Some min) None step default_value = None
+range_parts (Some control) None max step default_value = None
+range_parts None min max step default_value = None
+
+-- the operands of `range`: a known word, which stands for its control's number, and the minimum, the maximum, the step and the default
+abbrev pub range_of : List ControlWord → List (List ℕ) → Option Command
+range_of known (control ∷ min ∷ max ∷ step ∷ default_value ∷ []) =
+    range_parts (known_number known control) (decimal_i64 min) (decimal_i64 max) (decimal_u64 step) (decimal_i64 default_value)
+range_of known _ = None
 
 abbrev pub both : Option Name → Option CtrlId → Option (Name × CtrlId)
 both (Some fh) (Some id) = Some (fh, id)
@@ -232,14 +246,14 @@ take_of _ = None
 -- the first words of commands
 abbrev pub verb_words : List (List ℕ)
 verb_words =
-    codes "open" ∷ codes "close" ∷ codes "get" ∷ codes "set" ∷ codes "try" ∷ codes "grab" ∷ codes "query" ∷ codes "next" ∷ codes "menu" ∷ codes "told"
+    codes "open" ∷ codes "close" ∷ codes "get" ∷ codes "set" ∷ codes "try" ∷ codes "grab" ∷ codes "range" ∷ codes "query" ∷ codes "next" ∷ codes "menu" ∷ codes "told"
     ∷ codes "alloc" ∷ codes "buffer" ∷ codes "queue" ∷ codes "cancel" ∷ codes "reinit" ∷ codes "free" ∷ codes "state" ∷ codes "row" ∷ codes "begin"
     ∷ codes "complete" ∷ codes "off" ∷ codes "sub" ∷ codes "unsub" ∷ codes "take" ∷ codes "audit" ∷ []
 
 -- what they stand for, in the same order
 abbrev pub verbs_meant : List Verb
 verbs_meant =
-    verbs.Open ∷ verbs.Close ∷ verbs.Get ∷ verbs.Set ∷ verbs.Try ∷ verbs.Grab ∷ verbs.Query ∷ verbs.Next ∷ verbs.Menu ∷ verbs.Told
+    verbs.Open ∷ verbs.Close ∷ verbs.Get ∷ verbs.Set ∷ verbs.Try ∷ verbs.Grab ∷ verbs.Range ∷ verbs.Query ∷ verbs.Next ∷ verbs.Menu ∷ verbs.Told
     ∷ verbs.OfRequest request_verbs.Alloc ∷ verbs.Buffer ∷ verbs.OfRequest request_verbs.Queue ∷ verbs.OfRequest request_verbs.Cancel
     ∷ verbs.OfRequest request_verbs.Reinit ∷ verbs.OfRequest request_verbs.Free ∷ verbs.OfRequest request_verbs.State ∷ verbs.Row ∷ verbs.Begin
     ∷ verbs.Complete ∷ verbs.Off ∷ verbs.Subscribe ∷ verbs.Unsubscribe ∷ verbs.Take ∷ verbs.Audit ∷ []
@@ -256,6 +270,7 @@ command_of known (Some verbs.Get) operands = list_command_of known (λ fh which 
 command_of known (Some verbs.Set) operands = list_command_of known (λ fh which list. Set fh which list) ControlWithValue operands
 command_of known (Some verbs.Try) operands = list_command_of known (λ fh which list. Try fh which list) ControlWithValue operands
 command_of known (Some verbs.Grab) operands = grab_of known operands
+command_of known (Some verbs.Range) operands = range_of known operands
 command_of known (Some verbs.Query) operands = query_of known operands
 command_of known (Some verbs.Next) operands = next_of operands
 command_of known (Some verbs.Menu) operands = menu_of known operands

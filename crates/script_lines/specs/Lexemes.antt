@@ -19,9 +19,12 @@ numeral radix most word =
 abbrev pub after : List ℕ → List ℕ → Option (List ℕ)
 after text word = if bytes_eq (take (length text) word) text then Some (drop (length text) word) else None
 
--- a number of 32 bits, of 64 bits with a sign
+-- a number of 32 bits, of 64 bits, of 64 bits with a sign
 abbrev pub as_u32 : ℕ → Option ℕ
 as_u32 n = if nat_lt n (2 ^ 32) then Some n else None
+
+abbrev pub as_u64 : ℕ → Option ℕ
+as_u64 n = if nat_lt n (2 ^ 64) then Some n else None
 
 abbrev pub as_positive : ℕ → Option ℤ
 as_positive n = if nat_lt n (2 ^ 63) then Some (pos n) else None
@@ -32,6 +35,10 @@ as_negative n = if nat_le n (2 ^ 63) then Some (neg_ℤ (pos n)) else None
 -- a decimal number of 32 bits: 1 to 10 digits
 abbrev pub decimal_u32 : List ℕ → Option ℕ
 decimal_u32 word = option_and_then as_u32 (numeral 10 10 word)
+
+-- a decimal number of 64 bits without a sign: 1 to 20 digits
+abbrev pub decimal_u64 : List ℕ → Option ℕ
+decimal_u64 word = option_and_then as_u64 (numeral 10 20 word)
 
 -- a decimal number of 64 bits: 1 to 19 digits, with a `-` before them or not
 abbrev pub signed_numeral : Option (List ℕ) → List ℕ → Option ℤ

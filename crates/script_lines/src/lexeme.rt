@@ -1,6 +1,6 @@
 ghost use Rattle.std.specs.Prelude.{◌≡◌, ◌^◌, ◌≤◌, position};
 ghost use Rattle.std.specs.Str.{bytes_eq};
-ghost use Rattle.script_lines.specs.Lexemes.{numeral as numeral_of, decimal_u32 as decimal_u32_of, decimal_i64 as decimal_i64_of, hexadecimal_u32 as hexadecimal_u32_of, control_id as control_id_of};
+ghost use Rattle.script_lines.specs.Lexemes.{numeral as numeral_of, decimal_u32 as decimal_u32_of, decimal_u64 as decimal_u64_of, decimal_i64 as decimal_i64_of, hexadecimal_u32 as hexadecimal_u32_of, control_id as control_id_of};
 
 use crate::control_words::ControlWords;
 use ctrl_types::CtrlId;
@@ -28,6 +28,22 @@ pub fn decimal_u32(word: &[u8]) -> Option<u32>
     ensures { result ≡ decimal_u32_of word.now }
 {
     u32::try_from(numeral(word, 10, 10)?).ok()
+}
+
+/// A decimal number of 64 bits without a sign, of at most 20 digits.
+pub fn decimal_u64(word: &[u8]) -> Option<u64>
+    ensures { result ≡ decimal_u64_of word.now }
+{
+    match word {
+        // 19 digits fit in any case
+        [front @ .., last] if front.len() == 19 => {
+            let digit = char::from(*last).to_digit(10)?;
+            numeral(front, 10, 19)?
+                .checked_mul(10)?
+                .checked_add(u64::from(digit))
+        }
+        _ => numeral(word, 10, 19),
+    }
 }
 
 /// A decimal number of 64 bits with a sign, of at most 19 digits; a `-` may stand before them.

@@ -1,5 +1,5 @@
 ghost use Rattle.std.specs.Prelude.{◌≡◌, ◌+◌, ◌<◌, ◌≤◌, ◌^◌, ◌∷◌, ◌==◌, length, map, position, vec_len, IfOk, IfSome};
-ghost use Rattle.script_lines.specs.Commands.{IsRead, words as words_in, line_of, command_of, verb_of, open_of, close_of, grab_of, on_or_off as on_or_off_of, handle_and_control as handle_and_control_of, query_of, next_of, menu_of, told_of, buffer_of, request_of, on_request, row_of, bare_of, subscribe_of, sub_flag as sub_flag_of, sub_flags as sub_flags_of, unsubscribe_of, take_of, list_command_of, which_of, fixed_which_of, entry_of, entry_at, list_of};
+ghost use Rattle.script_lines.specs.Commands.{IsRead, words as words_in, line_of, command_of, verb_of, open_of, close_of, grab_of, range_of, on_or_off as on_or_off_of, handle_and_control as handle_and_control_of, query_of, next_of, menu_of, told_of, buffer_of, request_of, on_request, row_of, bare_of, subscribe_of, sub_flag as sub_flag_of, sub_flags as sub_flags_of, unsubscribe_of, take_of, list_command_of, which_of, fixed_which_of, entry_of, entry_at, list_of};
 ghost use Rattle.script_lines.specs.Dividing.{divides as divides_of};
 ghost use Rattle.script_lines.specs.declared.command.Command.TheVariants as commands;
 
@@ -7,7 +7,9 @@ use crate::command::{Command, WhichWord};
 use crate::control_words::ControlWords;
 use crate::entry_list::EntryList;
 use crate::fault::LineFault;
-use crate::lexeme::{control_id, decimal_i64, decimal_u32, hexadecimal_u32, place_of_word};
+use crate::lexeme::{
+    control_id, decimal_i64, decimal_u32, decimal_u64, hexadecimal_u32, place_of_word,
+};
 use crate::name::Name;
 use bitflags::Flags as FlagSet;
 use ctrl_types::{CtrlId, ExtControl, SubFlags};
@@ -84,6 +86,7 @@ enum Verb {
     Set,
     Try,
     Grab,
+    Range,
     Query,
     Next,
     Menu,
@@ -112,13 +115,14 @@ enum RequestVerb {
 }
 
 // The words that stand for them, in the same order as `VERBS`.
-const VERB_WORDS: [&[u8]; 25] = [
+const VERB_WORDS: [&[u8]; 26] = [
     b"open",
     b"close",
     b"get",
     b"set",
     b"try",
     b"grab",
+    b"range",
     b"query",
     b"next",
     b"menu",
@@ -140,13 +144,14 @@ const VERB_WORDS: [&[u8]; 25] = [
     b"audit",
 ];
 
-const VERBS: [Verb; 25] = [
+const VERBS: [Verb; 26] = [
     Verb::Open,
     Verb::Close,
     Verb::Get,
     Verb::Set,
     Verb::Try,
     Verb::Grab,
+    Verb::Range,
     Verb::Query,
     Verb::Next,
     Verb::Menu,
@@ -191,6 +196,7 @@ fn read_command(
         Some(Verb::Set) => read_set(alloc, known, operands),
         Some(Verb::Try) => read_try(alloc, known, operands),
         Some(Verb::Grab) => read_grab(known, operands),
+        Some(Verb::Range) => read_range(known, operands),
         Some(Verb::Query) => read_query(known, operands),
         Some(Verb::Next) => read_next(operands),
         Some(Verb::Menu) => read_menu(known, operands),
@@ -252,6 +258,32 @@ fn on_or_off(word: &[u8]) -> Option<bool>
         b"on" => Some(true),
         b"off" => Some(false),
         _ => None,
+    }
+}
+
+fn read_range(known: &ControlWords, operands: &[&[u8]]) -> Result<Command, LineFault>
+    ensures { IsRead result (range_of known.now (map (λ w. w.now) operands.now)) }
+{
+    let [control, min, max, step, default_value] = operands else {
+        return Err(LineFault::NotACommand);
+    };
+    match (
+        known.number_of(*control),
+        decimal_i64(*min),
+        decimal_i64(*max),
+        decimal_u64(*step),
+        decimal_i64(*default_value),
+    ) {
+        (Some(control), Some(min), Some(max), Some(step), Some(default_value)) => {
+            Ok(Command::Range {
+                control,
+                min,
+                max,
+                step,
+                default_value,
+            })
+        }
+        _ => Err(LineFault::NotACommand),
     }
 }
 

@@ -31,6 +31,24 @@ const WRONG: &[(&str, usize, Reason)] = &[
     ("query f 0x123456789", 3, Reason::Control),
     ("grab 0x00980913 on", 2, Reason::Word),
     ("grab gain yes", 3, Reason::OnOff),
+    ("range", 2, Reason::Missing),
+    ("range gain 0 255 1", 6, Reason::Missing),
+    ("range gain 0 255 1 16 16", 7, Reason::Further),
+    ("range 0x00980913 0 255 1 16", 2, Reason::Word),
+    ("range gain 0x0 255 1 16", 3, Reason::Value),
+    ("range gain 0 9223372036854775808 1 16", 4, Reason::Value),
+    ("range gain 0 255 -1 16", 5, Reason::Number),
+    (
+        "range gain 0 255 18446744073709551616 16",
+        5,
+        Reason::LargeStep,
+    ),
+    (
+        "range gain 0 255 000000000000000000001 16",
+        5,
+        Reason::LargeStep,
+    ),
+    ("range gain 0 255 1 +16", 6, Reason::Value),
     ("next f gain", 3, Reason::Id),
     ("get f now gain", 3, Reason::Which),
     ("get f req: gain", 3, Reason::Which),
@@ -54,6 +72,8 @@ const RIGHT: &[&str] = &[
     "set f req:r gain=-9223372036854775808",
     "sub f gain initial feedback",
     "menu f power 1",
+    "range gain -9223372036854775808 -0 18446744073709551615 7",
+    "range gain 0 255 00000000000000000001 16",
     "audit",
 ];
 

@@ -28,6 +28,9 @@ set f cur red=300 gain=7 red=8 => ok 8 7 8
 grab red on => ok
 set f cur red=5 -> error 16 index 1
 grab red off => ok
+range red 0 7 7 7 => ok
+range red 0 7 7 6 -> error 34
+query f red -> ok 0x0098090e kind 1 min 0 max 7 step 7 default 7 flags 0x0
 query f gain -> ok 0x00980913 kind 1 min 0 max 255 step 1 default 16 flags 0x10
 next f 0x0 -> ok 0x00980900
 menu f power 1 -> ok 50 Hz

@@ -43,6 +43,7 @@ fits_in verdicts plan entries kept step own legal may leaves known = by step (fi
     by (steps.CloseFh fh) fit leaves known = cc
     by (steps.Set fh pairs) fit leaves known = cc
     by (steps.Grab c on) fit leaves known = cc
+    by (steps.ModifyRange c low high apart default_value) fit leaves known = cc
     by (steps.Begin r) fit leaves known = cc
     by (steps.Subscribe f c flags) fit leaves known = tt
     by (steps.Unsubscribe f c) fit leaves known = tt

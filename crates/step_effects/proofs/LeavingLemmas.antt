@@ -1,15 +1,17 @@
--- What a step that leaves the controls leaves: file handles, grabs and values.
+-- What a step that leaves the controls leaves: file handles, grabs, ranges and values.
 use Rattle.std.proofs.Common.{◌≡◌, ℕ, true, List, [], None, refl}
 use Rattle.ctrl_calls.specs.Meanings.{Verdicts}
 use Rattle.ctrl_handlers.specs.Plan.{PlanData}
-use Rattle.ctrl_clusters.specs.Rows.{Grabs}
+use Rattle.ctrl_settle.specs.Control.{Control}
+use Rattle.ctrl_clusters.specs.Rows.{Grabs, Values}
 use Rattle.device_history.specs.declared.ask.Step.{Step}
 use Rattle.device_history.specs.declared.ask.Step.TheVariants as steps
 use Rattle.device_history.specs.Steps.{Past}
 use Rattle.device_history.specs.Handles.{opened_after}
 use Rattle.device_history.specs.Grabs.{grabbed_after}
 use Rattle.device_history.specs.FrameSteps.{applied_by_step}
-use Rattle.device_history.specs.Values.{pairs_asked}
+use Rattle.device_history.specs.Ranges.{ranges_after}
+use Rattle.device_history.specs.Values.{values_after}
 use Rattle.device_history.specs.Words.{pairs_applied}
 use Rattle.step_effects.specs.Leaving.{leaves_controls}
 
@@ -27,6 +29,7 @@ opened_controls_left n (steps.OpenFh handler) handles leaves = cc
 opened_controls_left n (steps.CloseFh fh) handles leaves = cc
 opened_controls_left n (steps.Set fh pairs) handles leaves = cc
 opened_controls_left n (steps.Grab c on) handles leaves = cc
+opened_controls_left n (steps.ModifyRange c low high apart default_value) handles leaves = cc
 opened_controls_left n (steps.Begin r) handles leaves = cc
 opened_controls_left n (steps.Subscribe f c flags) handles leaves = refl
 opened_controls_left n (steps.Unsubscribe f c) handles leaves = refl
@@ -46,29 +49,51 @@ grabbed_controls_left (steps.OpenFh handler) grabs leaves = cc
 grabbed_controls_left (steps.CloseFh fh) grabs leaves = cc
 grabbed_controls_left (steps.Set fh pairs) grabs leaves = cc
 grabbed_controls_left (steps.Grab c on) grabs leaves = cc
+grabbed_controls_left (steps.ModifyRange c low high apart default_value) grabs leaves = cc
 grabbed_controls_left (steps.Begin r) grabs leaves = cc
 grabbed_controls_left (steps.Subscribe f c flags) grabs leaves = refl
 grabbed_controls_left (steps.Unsubscribe f c) grabs leaves = refl
 grabbed_controls_left (steps.Take f c) grabs leaves = refl
 
-pub laid_controls_left : (plan : PlanData) (older : Past) (step : Step) → leaves_controls step ≡ true → pairs_asked plan older step ≡ None
-laid_controls_left plan older steps.Alloc leaves = refl
-laid_controls_left plan older (steps.Store r pairs) leaves = refl
-laid_controls_left plan older (steps.Buffer r number) leaves = refl
-laid_controls_left plan older (steps.Queue r) leaves = refl
-laid_controls_left plan older (steps.Complete r) leaves = refl
-laid_controls_left plan older (steps.Cancel r) leaves = refl
-laid_controls_left plan older steps.StreamOff leaves = refl
-laid_controls_left plan older (steps.Reinit r) leaves = refl
-laid_controls_left plan older (steps.Free r) leaves = refl
-laid_controls_left plan older (steps.OpenFh handler) leaves = cc
-laid_controls_left plan older (steps.CloseFh fh) leaves = cc
-laid_controls_left plan older (steps.Set fh pairs) leaves = cc
-laid_controls_left plan older (steps.Grab c on) leaves = cc
-laid_controls_left plan older (steps.Begin r) leaves = cc
-laid_controls_left plan older (steps.Subscribe f c flags) leaves = refl
-laid_controls_left plan older (steps.Unsubscribe f c) leaves = refl
-laid_controls_left plan older (steps.Take f c) leaves = refl
+pub values_left : (verdicts : Verdicts) (plan : PlanData) (older : Past) (step : Step) (values : Values) → leaves_controls step ≡ true → values_after verdicts plan older step values ≡ values
+values_left verdicts plan older steps.Alloc values leaves = refl
+values_left verdicts plan older (steps.Store r pairs) values leaves = refl
+values_left verdicts plan older (steps.Buffer r number) values leaves = refl
+values_left verdicts plan older (steps.Queue r) values leaves = refl
+values_left verdicts plan older (steps.Complete r) values leaves = refl
+values_left verdicts plan older (steps.Cancel r) values leaves = refl
+values_left verdicts plan older steps.StreamOff values leaves = refl
+values_left verdicts plan older (steps.Reinit r) values leaves = refl
+values_left verdicts plan older (steps.Free r) values leaves = refl
+values_left verdicts plan older (steps.OpenFh handler) values leaves = cc
+values_left verdicts plan older (steps.CloseFh fh) values leaves = cc
+values_left verdicts plan older (steps.Set fh pairs) values leaves = cc
+values_left verdicts plan older (steps.Grab c on) values leaves = cc
+values_left verdicts plan older (steps.ModifyRange c low high apart default_value) values leaves = cc
+values_left verdicts plan older (steps.Begin r) values leaves = cc
+values_left verdicts plan older (steps.Subscribe f c flags) values leaves = refl
+values_left verdicts plan older (steps.Unsubscribe f c) values leaves = refl
+values_left verdicts plan older (steps.Take f c) values leaves = refl
+
+pub ranges_left : (step : Step) (controls : List Control) → leaves_controls step ≡ true → ranges_after step controls ≡ controls
+ranges_left steps.Alloc controls leaves = refl
+ranges_left (steps.Store r pairs) controls leaves = refl
+ranges_left (steps.Buffer r number) controls leaves = refl
+ranges_left (steps.Queue r) controls leaves = refl
+ranges_left (steps.Complete r) controls leaves = refl
+ranges_left (steps.Cancel r) controls leaves = refl
+ranges_left steps.StreamOff controls leaves = refl
+ranges_left (steps.Reinit r) controls leaves = refl
+ranges_left (steps.Free r) controls leaves = refl
+ranges_left (steps.OpenFh handler) controls leaves = cc
+ranges_left (steps.CloseFh fh) controls leaves = cc
+ranges_left (steps.Set fh pairs) controls leaves = cc
+ranges_left (steps.Grab c on) controls leaves = cc
+ranges_left (steps.ModifyRange c low high apart default_value) controls leaves = cc
+ranges_left (steps.Begin r) controls leaves = cc
+ranges_left (steps.Subscribe f c flags) controls leaves = refl
+ranges_left (steps.Unsubscribe f c) controls leaves = refl
+ranges_left (steps.Take f c) controls leaves = refl
 
 pub given_controls_left : (verdicts : Verdicts) (plan : PlanData) (older : Past) (step : Step) → leaves_controls step ≡ true → applied_by_step verdicts plan older step ≡ []
 given_controls_left verdicts plan older steps.Alloc leaves = refl
@@ -84,6 +109,7 @@ given_controls_left verdicts plan older (steps.OpenFh handler) leaves = cc
 given_controls_left verdicts plan older (steps.CloseFh fh) leaves = cc
 given_controls_left verdicts plan older (steps.Set fh pairs) leaves = cc
 given_controls_left verdicts plan older (steps.Grab c on) leaves = cc
+given_controls_left verdicts plan older (steps.ModifyRange c low high apart default_value) leaves = cc
 given_controls_left verdicts plan older (steps.Begin r) leaves = cc
 given_controls_left verdicts plan older (steps.Subscribe f c flags) leaves = refl
 given_controls_left verdicts plan older (steps.Unsubscribe f c) leaves = refl
@@ -103,6 +129,7 @@ acted_controls_left verdicts plan older (steps.OpenFh handler) leaves = cc
 acted_controls_left verdicts plan older (steps.CloseFh fh) leaves = cc
 acted_controls_left verdicts plan older (steps.Set fh pairs) leaves = cc
 acted_controls_left verdicts plan older (steps.Grab c on) leaves = cc
+acted_controls_left verdicts plan older (steps.ModifyRange c low high apart default_value) leaves = cc
 acted_controls_left verdicts plan older (steps.Begin r) leaves = cc
 acted_controls_left verdicts plan older (steps.Subscribe f c flags) leaves = refl
 acted_controls_left verdicts plan older (steps.Unsubscribe f c) leaves = refl

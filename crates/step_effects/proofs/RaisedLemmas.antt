@@ -14,10 +14,10 @@ use Rattle.ctrl_types.specs.declared.sub_flags.SubFlags.{SubFlags}
 use Rattle.device_history.specs.declared.ask.Step.{Step}
 use Rattle.device_history.specs.declared.ask.Step.TheVariants as steps
 use Rattle.device_history.specs.Steps.{Past}
-use Rattle.device_history.specs.Ranges.{ranges_now}
+use Rattle.device_history.specs.Ranges.{ranges_after, ranges_now}
 use Rattle.device_history.specs.Grabs.{grabbed, grabbed_after}
 use Rattle.device_history.specs.Snapshots.{begun_pairs}
-use Rattle.device_history.specs.Values.{pairs_asked, now}
+use Rattle.device_history.specs.Values.{now, values_after}
 use Rattle.device_history.specs.EventSteps.{AreAround, events_after, events_by}
 use Rattle.device_history.proofs.EventLemmas.{values_controls_left}
 use Rattle.device_history.proofs.GrabLemmas.{grabbed_more}
@@ -47,6 +47,7 @@ raised_step verdicts plan e older before after pairs from fh f around given = by
     by (steps.Grab c on) is given =
         ap (λ (ps : List Pair). raised_between plan before after ps from fh.0 f) given.0 ∙ ap (λ (o : Option FhId). raised_between plan before after [] o fh.0 f) given.1
         ∙ grab_raises verdicts plan e older before after c on fh (range_with_len 0 (length plan.controls)) f is around ∙ sym (ap (λ (s : Step). events_by verdicts plan e older fh s f) is)
+    by (steps.ModifyRange c low high apart default_value) is given = absurd given
     by steps.Alloc is given = absurd given
     by (steps.Store r own) is given = absurd given
     by (steps.Buffer r number) is given = absurd given
@@ -68,5 +69,5 @@ pub subscribed_step : (verdicts : Verdicts) (plan : PlanData) (e : Entry Step) (
     → only_at g.0 (after_subscribe c flags (initial_changes (control plan c).flags) (payload_at plan at c)) fh.0 f ≡ events_after verdicts plan e older fh f
 subscribed_step verdicts plan e older at g c flags fh f is r v gs =
     ap (λ (x : Payload). only_at g.0 (after_subscribe c flags (initial_changes (control plan c).flags) x) fh.0 f)
-    (subscribe_tells verdicts plan e older at c (r ∙ sym (ranges_more plan e older)) (v ∙ sym (values_controls_left verdicts plan e older (ap (pairs_asked plan older) is))) (gs ∙ sym (grabbed_more plan e older ∙ ap (λ (s : Step). grabbed_after s (grabbed plan older)) is)))
+    (subscribe_tells verdicts plan e older at c (r ∙ sym (ranges_more plan e older ∙ ap (λ (s : Step). ranges_after s (ranges_now plan older)) is)) (v ∙ sym (values_controls_left verdicts plan e older (ap (λ (s : Step). values_after verdicts plan older s (now verdicts plan older)) is))) (gs ∙ sym (grabbed_more plan e older ∙ ap (λ (s : Step). grabbed_after s (grabbed plan older)) is)))
     ∙ sym (ap (λ (s : Step). events_by verdicts plan e older fh s f) is)

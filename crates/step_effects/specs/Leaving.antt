@@ -1,4 +1,4 @@
--- Steps that leave file handles, grabs and values: those about requests but for the begin of a frame, and those about events; and what they need
+-- Steps that leave file handles, grabs, ranges and values: those about requests but for the begin of a frame, and those about events; and what they need
 -- of what they change (of this project).
 use Rattle.std.specs.Prelude.{◌≡◌, ◌<◌, ℕ, Bool, true, false, None, Some}
 use Rattle.std.specs.List.{All}
@@ -8,7 +8,7 @@ use Rattle.frame_queue.specs.Frames.{FramesData, cancel_refusal}
 use Rattle.device_history.specs.declared.ask.Step.{Step}
 use Rattle.device_history.specs.declared.ask.Step.TheVariants as steps
 
--- a step that leaves file handles, grabs and values
+-- a step that leaves file handles, grabs, ranges and values
 abbrev pub leaves_controls : Step → Bool
 leaves_controls steps.Alloc = true
 leaves_controls (steps.Store r pairs) = true
@@ -26,6 +26,7 @@ leaves_controls (steps.OpenFh handler) = false
 leaves_controls (steps.CloseFh fh) = false
 leaves_controls (steps.Set fh pairs) = false
 leaves_controls (steps.Grab c on) = false
+leaves_controls (steps.ModifyRange c low high apart default_value) = false
 leaves_controls (steps.Begin r) = false
 
 -- what a step stores, or subscribes to, are controls that are there

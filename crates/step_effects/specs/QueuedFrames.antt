@@ -1,4 +1,4 @@
--- What the steps that leave file handles, grabs and values make of the frames that are queued, and how many validators a kept forecast of them asks
+-- What the steps that leave file handles, grabs, ranges and values make of the frames that are queued, and how many validators a kept forecast of them asks
 -- then (of this project).
 use Rattle.std.specs.Prelude.{ℕ, nat_eq, not, cond, List, [], ◌∷◌, ◌++◌, filter, Option, None, Some}
 use Rattle.std.specs.List.{position, remove}

@@ -1,13 +1,15 @@
-//! What the steps of a history do to the parts that are kept of it: to the requests and the queue, to the forecasts
-//! that are kept of it, and to the events of file handles.
+//! What the steps of a history do to the parts that are kept of it: to ranges and the values that they settle, to the requests and the queue, to the
+//! forecasts that are kept of it, and to the events of file handles.
 #![tactic(auto)]
 
 mod copies;
 mod raising;
+mod ranging;
 mod requests_and_events;
 mod with_forecasts;
 
 pub use copies::{clusters_of, copied_grabs, copied_values};
 pub use raising::raise_step;
+pub use ranging::change_range;
 pub use requests_and_events::change_requests_and_events;
 pub use with_forecasts::change_with_forecasts;

@@ -1,4 +1,4 @@
-//! What the steps do that leave file handles, grabs and values: those about requests but for the begin of a frame, and those about events.
+//! What the steps do that leave file handles, grabs, ranges and values: those about requests but for the begin of a frame, and those about events.
 
 ghost use Rattle.std.specs.Prelude.{◌≡◌, ◌<◌, ◌≤◌, ◌+◌, ℕ, true, [], length, OnOk, OnErr};
 ghost use Rattle.history.specs.declared.entry.Entry.{Entry as EntryOf};
@@ -25,7 +25,7 @@ use device_history::Step;
 use frame_queue::Frames;
 use std::alloc::AllocError;
 
-/// Changes the requests, the queue and the events as a step does that leaves file handles, grabs and values (Linux userspace API, "Request API",
+/// Changes the requests, the queue and the events as a step does that leaves file handles, grabs, ranges and values (Linux userspace API, "Request API",
 /// "ioctl VIDIOC_SUBSCRIBE_EVENT, VIDIOC_UNSUBSCRIBE_EVENT", "ioctl VIDIOC_DQEVENT").
 ///
 /// - `plan`: what the device is built of.
@@ -125,6 +125,7 @@ fn ask_frames(
         | Step::CloseFh { .. }
         | Step::Set { .. }
         | Step::Grab { .. }
+        | Step::ModifyRange { .. }
         | Step::Begin { .. }
         | Step::Subscribe { .. }
         | Step::Unsubscribe { .. }

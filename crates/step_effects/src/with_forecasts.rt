@@ -1,4 +1,4 @@
-//! What the steps that leave file handles, grabs and values do where the forecasts of the queued frames are kept.
+//! What the steps that leave file handles, grabs, ranges and values do where the forecasts of the queued frames are kept.
 
 ghost use Rattle.std.specs.Prelude.{◌≡◌, ◌≤◌, ◌+◌, ◌++◌, ◌∷◌, ℕ, true, not, nat_eq, [], List, length, map, filter, OnOk, OnErr};
 ghost use Rattle.std.specs.List.{position};

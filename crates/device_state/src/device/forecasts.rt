@@ -29,8 +29,8 @@ impl<D: Driver> Device<D> {
     /// What the queued frame at a place will have, as `handle` on `Ask::Forecast` of it at any seat does (of this project): its request, its
     /// buffer, the values of all controls, and the clusters that will be refused: what the first queued request asks for is laid over the present
     /// values, under the present grabs, and what each other asks for over what the one before leaves. Running the queue gives just that, as long
-    /// as no set of present values, no grab or release, no cancellation and no end of the stream comes between (the law `frames_as_forecast`
-    /// of `device_history`).
+    /// as no set of present values, no grab or release, no range change, no cancellation and no end of the stream comes between (the law
+    /// `frames_as_forecast` of `device_history`).
     ///
     /// - `place`: any number; places in the queue count from 0.
     ///

@@ -12,6 +12,8 @@ pub enum Move {
     Close(u32),
     Set(u32, Pairs),
     Grab(u32, bool),
+    // the bounds, the step and the default
+    Range(u32, i64, i64, u64, CtrlValue),
     Alloc,
     Store(u32, Pairs),
     Buffer(u32, u32),
@@ -36,6 +38,75 @@ pub const MOST: [(u32, CtrlValue); 64] = [(0, 8); 64];
 
 // Steps, with the present values that they make, or the place of the first that may not follow those before it.
 pub type Case = (&'static [Move], Result<&'static [CtrlValue], usize>);
+
+// Range changes: a control that isn't there, each fault of a range, what isn't asked for one, and what follows.
+pub const RANGES: &[Case] = &[
+    (&[Move::Range(0, 0, 2, 1, 1)], Ok(&[2, 0, 4, 0, 0, 0])),
+    (&[Move::Range(6, 0, 9, 1, 0)], Err(0)),
+    (&[Move::Range(4_294_967_295, 0, 9, 1, 0)], Err(0)),
+    (&[Move::Range(0, 9, 0, 1, 0)], Err(0)),
+    (&[Move::Range(0, 0, 9, 0, 0)], Err(0)),
+    (&[Move::Range(0, 0, 9, 2, 3)], Err(0)),
+    (&[Move::Range(0, 0, 2_147_483_648, 1, 0)], Err(0)),
+    (&[Move::Range(0, -2_147_483_649, 9, 1, 0)], Err(0)),
+    (
+        &[Move::Range(0, -2_147_483_648, 2_147_483_647, 1, 0)],
+        Ok(DEFAULTS),
+    ),
+    // of a control whose validator takes no row, of one that is DISABLED, READ_ONLY, private, grabbed
+    (&[Move::Range(1, 5, 9, 1, 5)], Ok(&[3, 5, 4, 0, 0, 0])),
+    (&[Move::Range(4, 3, 9, 1, 3)], Ok(&[3, 0, 4, 0, 3, 0])),
+    (&[Move::Range(5, 1, 9, 4, 5)], Ok(&[3, 0, 4, 0, 0, 1])),
+    (&[Move::Range(3, 7, 7, 1, 7)], Ok(&[3, 0, 4, 7, 0, 0])),
+    (
+        &[Move::Grab(0, true), Move::Range(0, 5, 9, 1, 5)],
+        Ok(&[5, 0, 4, 0, 0, 0]),
+    ),
+    // a later one counts
+    (
+        &[Move::Range(0, 20, 30, 1, 20), Move::Range(0, 0, 9, 1, 3)],
+        Ok(&[9, 0, 4, 0, 0, 0]),
+    ),
+    (
+        &[Move::Range(0, 20, 30, 1, 20), Move::Range(0, 30, 20, 1, 20)],
+        Err(1),
+    ),
+    (
+        &[
+            Move::Open(0),
+            Move::Range(0, 0, 100, 10, 0),
+            Move::Set(0, &[(0, 77)]),
+        ],
+        Ok(&[80, 0, 4, 0, 0, 0]),
+    ),
+    // what a request stores settles when its frame begins
+    (
+        &[
+            Move::Open(0),
+            Move::Alloc,
+            Move::Store(1, &[(0, 50)]),
+            Move::Buffer(1, 9),
+            Move::Queue(1),
+            Move::Range(0, 0, 100, 1, 0),
+            Move::Begin(1),
+        ],
+        Ok(&[50, 0, 4, 0, 0, 0]),
+    ),
+    (
+        &[
+            Move::Open(0),
+            Move::Range(0, 0, 100, 1, 0),
+            Move::Alloc,
+            Move::Store(2, &[(0, 50)]),
+            Move::Buffer(2, 9),
+            Move::Queue(2),
+            Move::Range(0, 0, 9, 1, 3),
+            Move::Begin(2),
+            Move::Range(0, 0, 100, 1, 0),
+        ],
+        Ok(&[9, 0, 4, 0, 0, 0]),
+    ),
+];
 
 pub const CASES: &[Case] = &[
     (&[], Ok(DEFAULTS)),
@@ -685,6 +756,49 @@ pub const WAITING: &[(&[Move], u32, &[Told], u32)] = &[
         1,
         &[(2, 0x1, 5, 0)],
         1,
+    ),
+    // another range, with another value and without, and one that it has already
+    (
+        &[
+            Move::Open(0),
+            Move::Subscribe(0, 0, 0),
+            Move::Range(0, 0, 2, 1, 1),
+        ],
+        0,
+        &[(0, 0x5, 2, 0)],
+        1,
+    ),
+    (
+        &[
+            Move::Open(0),
+            Move::Subscribe(0, 0, 0),
+            Move::Range(0, 0, 9, 1, 4),
+        ],
+        0,
+        &[(0, 0x4, 3, 0)],
+        1,
+    ),
+    (
+        &[
+            Move::Open(0),
+            Move::Subscribe(0, 0, 0),
+            Move::Range(0, 0, 9, 1, 3),
+        ],
+        0,
+        &[],
+        0,
+    ),
+    // merged with a set that was heard of
+    (
+        &[
+            Move::Open(0),
+            Move::Subscribe(0, 0, 0x2),
+            Move::Set(0, &[(0, 7)]),
+            Move::Range(0, 0, 9, 1, 4),
+        ],
+        0,
+        &[(0, 0x5, 7, 1)],
+        2,
     ),
     // closed, and opened anew
     (

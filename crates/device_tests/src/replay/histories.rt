@@ -1,6 +1,8 @@
 //! Histories, and what an audit makes of them.
 
-use crate::replay::cases::{CASES, Case, EVENTS, Move, Pairs, REQUESTS, TAKES, Told, WAITING};
+use crate::replay::cases::{
+    CASES, Case, EVENTS, Move, Pairs, RANGES, REQUESTS, TAKES, Told, WAITING,
+};
 use crate::replay::driver::{Picky, plan};
 use bitflags::Flags as FlagSet;
 use ctrl_handlers::Plan;
@@ -28,6 +30,13 @@ fn step(alloc: Global, made: Move) -> Result<Step, AllocError> {
             pairs: list(alloc, pairs)?,
         },
         Move::Grab(control, on) => Step::Grab { control, on },
+        Move::Range(control, min, max, step, default_value) => Step::ModifyRange {
+            control,
+            min,
+            max,
+            step,
+            default_value,
+        },
         Move::Alloc => Step::Alloc,
         Move::Store(request, pairs) => Step::Store {
             request: RequestId(request),
@@ -206,6 +215,10 @@ fn wrong_step(alloc: Global) -> Result<Option<usize>, AllocError> {
     first_wrong_case(alloc, CASES)
 }
 
+fn wrong_range(alloc: Global) -> Result<Option<usize>, AllocError> {
+    first_wrong_case(alloc, RANGES)
+}
+
 fn wrong_request(alloc: Global) -> Result<Option<usize>, AllocError> {
     first_wrong_case(alloc, REQUESTS)
 }
@@ -228,6 +241,13 @@ fn histories(rt: HostRuntime) -> Result<(), Fail> {
         subscription.is_none() && take.is_none(),
         "{subscription:?} {take:?}"
     );
+    Ok(())
+}
+
+#[test]
+fn range_changes(rt: HostRuntime) -> Result<(), Fail> {
+    let range = wrong_range(rt.alloc())?;
+    assert!(rt; range.is_none(), "{range:?}");
     Ok(())
 }
 

@@ -1,10 +1,14 @@
 //! Whether a step that gives no pairs may follow.
 
-ghost use Rattle.std.specs.Prelude.{◌≡◌, ◌↔◌, false, IsTrue};
+ghost use Rattle.std.specs.Prelude.{◌≡◌, ◌<◌, ◌↔◌, false, length, IsTrue};
 ghost use Rattle.history.specs.Past.{past};
 ghost use Rattle.device_history.specs.Legal.{MayFollow};
 ghost use Rattle.device_history.specs.Refusals.{is_full};
-ghost use Rattle.history_audit.specs.Changing.{fits_parts};
+ghost use Rattle.ctrl_settle.specs.Control.{with_range};
+ghost use Rattle.ctrl_settle.specs.FirstFault.{first_fault};
+ghost use Rattle.ctrl_handlers.specs.Plan.{control_in};
+ghost use Rattle.device_history.specs.Ranges.{ranges_now};
+ghost use Rattle.history_audit.specs.Changing.{fits_parts, lacks, takes_range};
 ghost use Rattle.history_audit.specs.Replay.{gives_pairs};
 
 use super::Replay;
@@ -35,6 +39,13 @@ impl<'a, D: Driver> Replay<'a, D> {
             }
             Step::CloseFh { fh } => self.handler_of(*fh).is_some(),
             Step::Grab { control, .. } => *control < self.plan.control_count(),
+            Step::ModifyRange {
+                control,
+                min,
+                max,
+                step,
+                default_value,
+            } => self.takes_range(*control, *min, *max, *step, *default_value),
             Step::Alloc => self.frames.alloc_refusal().is_none(),
             Step::Buffer { request, buffer } => {
                 self.frames.buffer_refusal(*request, *buffer).is_none()
@@ -57,5 +68,24 @@ impl<'a, D: Driver> Replay<'a, D> {
             Step::Take { fh, control } => self.waits_first(*fh, *control),
             Step::Set { .. } | Step::Store { .. } => false,
         }
+    }
+
+    // Whether a control is there, and takes a range.
+    fn takes_range(&self, control: u32, min: i64, max: i64, apart: u64, default_value: i64) -> bool
+        ensures { result ≡ takes_range self.now.plan (past self.now.steps) control min max apart default_value }
+    {
+        if control >= self.plan.control_count() {
+            return false;
+        }
+        self.takes_known(control, min, max, apart, default_value)
+    }
+
+    // Whether a control, which the caller owes to be there, takes a range.
+    fn takes_known(&self, control: u32, min: i64, max: i64, apart: u64, default_value: i64) -> bool
+        requires { control < length self.now.plan.controls }
+        ensures { result ≡ lacks (first_fault (with_range (control_in (ranges_now self.now.plan (past self.now.steps)) control) min max apart default_value)) }
+    {
+        let ctrl = self.present_ranges().range(control);
+        ctrl.with_range(min, max, apart, default_value).is_ok()
     }
 }

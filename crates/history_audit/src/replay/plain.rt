@@ -1,4 +1,4 @@
-//! What steps make of file handles and grabs, and what they do that leave these and the values.
+//! What steps make of file handles, grabs and ranges, and what they do that leave these and the values.
 
 ghost use Rattle.std.specs.Prelude.{◌≡◌, true, false, length, OnOk, OnErr};
 ghost use Rattle.history.specs.Past.{past};
@@ -16,7 +16,7 @@ use ctrl_types::FhId;
 use device_history::Step;
 use history::Entry;
 use std::alloc::AllocError;
-use step_effects::{change_requests_and_events, copied_grabs, raise_step};
+use step_effects::{change_range, change_requests_and_events, copied_grabs, raise_step};
 
 impl<'a, D: Driver> Replay<'a, D> {
     // Opens a file handle.
@@ -75,7 +75,38 @@ impl<'a, D: Driver> Replay<'a, D> {
         Ok(())
     }
 
-    // Makes a step that leaves file handles, grabs and values.
+    // Gives a control another range.
+    pub(super) fn modify(
+        &mut self,
+        entry: &Entry<Step>,
+        control: u32,
+        min: i64,
+        max: i64,
+        apart: u64,
+        default_value: i64,
+    )
+        requires next { IsNextEntry self.old entry.now }
+        requires step { entry.now.step ≡ steps.ModifyRange control min max apart default_value }
+        requires room { is_full (past self.old.steps) ≡ false }
+        requires follows { MayFollow D.verdict self.old.plan (past self.old.steps) entry.now.step }
+        ensures { self.new ≡ with_next self.old entry.now }
+    {
+        let ctrl = *self.ranges.range(control);
+        if let Ok(changed) = ctrl.with_range(min, max, apart, default_value) {
+            change_range(
+                self.plan,
+                control,
+                changed,
+                &mut self.ranges,
+                &mut self.values,
+                self.grabs.as_slice(),
+                &mut self.events,
+            );
+            self.count += 1;
+        }
+    }
+
+    // Makes a step that leaves file handles, grabs, ranges and values.
     pub(super) fn change(&mut self, entry: &Entry<Step>) -> Result<(), AllocError>
         requires next { IsNextEntry self.old entry.now }
         requires leaves { leaves_controls entry.now.step ≡ true }

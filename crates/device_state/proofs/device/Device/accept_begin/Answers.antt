@@ -81,7 +81,7 @@ invariant_of-self-2 g c =
     (rw (c.as_slice.ensures.value, c.as_slice-2.ensures, c.as_slice-3.ensures.value) at c.notify_between.ensures.words)
     (c.raise_step.ensures g.D.Validates.verdict entry (past device.steps.items)
     (around g.D.Validates.verdict g.D.Notifies.told device.plan device.steps.items _ entry c.new.result c.new-2.result c.self.invariant (c.new.ensures ∙ moment c.as_slice-4.ensures.value c.as_slice-5.ensures.value)
-    (ap (λ (m : MomentData). m.ranges) c.new-2.ensures)
+    (ap (λ (m : MomentData). m.ranges) c.new-2.ensures ∙ c.self.invariant.ranges)
     (ap (λ (m : MomentData). m.values) c.new-2.ensures ∙ c.as_slice-6.ensures ∙ first.0)
     (ap (λ (m : MomentData). m.grabs) c.new-2.ensures ∙ c.as_slice-7.ensures.value ∙ c.self.invariant.grabs))
     (c.as_slice-8.ensures.value ∙ begun.are_applied, refl))

@@ -1,4 +1,4 @@
-use Rattle.std.proofs.Common.{ℕ, List, [], ◌∷◌, ◌++◌, ◌≡◌, ◌<◌, length, slice_set, IsOk, refl, sym, ap, subst, ◌∙◌, arith}
+use Rattle.std.proofs.Common.{ℕ, false, List, [], ◌∷◌, ◌++◌, ◌≡◌, ◌<◌, length, slice_set, IsOk, refl, sym, ap, subst, ◌∙◌, arith}
 use Rattle.history.specs.declared.entry.Entry.{Entry}
 use Rattle.history.specs.Past.{past}
 use Rattle.std.proofs.lemmas.List.Elements.{All-cons}
@@ -9,11 +9,11 @@ use Rattle.ctrl_raises.specs.Raises.{MomentData}
 use Rattle.device_history.specs.declared.ask.Step.{Step}
 use Rattle.device_history.specs.declared.ask.Step.TheVariants.{Grab}
 use Rattle.device_history.specs.Grabs.{grab_answer, grabbed}
-use Rattle.device_state.specs.Device.{DeviceData, grab_asks}
+use Rattle.device_state.specs.Device.{DeviceData, cluster_asks}
 use Rattle.device_state.proofs.KeptLemmas.{around, kept_grab, grab_known, moment, numbered}
 use Rattle.device_history.specs.Values.{now}
 use Rattle.device_history.specs.Forecasts.{queued_frames}
-use Rattle.device_state.proofs.RenewLemmas.{grab_apart}
+use Rattle.device_state.proofs.RenewLemmas.{set_apart}
 use Rattle.device_history.proofs.GrabLemmas.{grabbed_more}
 use Rattle.device_history.proofs.PresentLemmas.{length_grabbed, length_now}
 use Rattle.device_state.proofs.BoardLemmas.{board_own, board_same}
@@ -78,7 +78,7 @@ invariant_of-self-2 g c =
     (ap (λ (gs : Grabs). slice_set gs c.args.control c.args.on) (c.in_ok-grabs.ensures ∙ c.as_slice.ensures.value))
     (c.raise_step.ensures g.D.Validates.verdict entry (past device.steps.items)
     (around g.D.Validates.verdict g.D.Notifies.told device.plan device.steps.items _ entry c.new.result c.new-2.result c.self.invariant (c.new.ensures ∙ moment c.as_slice-4.ensures.value c.as_slice-5.ensures.value)
-    (ap (λ (m : MomentData). m.ranges) c.new-2.ensures)
+    (ap (λ (m : MomentData). m.ranges) c.new-2.ensures ∙ c.self.invariant.ranges)
     (ap (λ (m : MomentData). m.values) c.new-2.ensures ∙ c.as_slice-6.ensures.value ∙ c.self.invariant.values)
     (ap (λ (m : MomentData). m.grabs) c.new-2.ensures ∙ c.as_slice-7.ensures.value ∙ kept))
     (refl, refl))
@@ -109,7 +109,7 @@ renew-requires-clause-kept g c =
         many = refl;
         ranges_stay = λ d apart. refl;
         values_stay = λ d apart. refl;
-        grabs_stay = λ d apart. grab_apart device.plan grabs c.args.control c.cluster_of.result c.args.on d c.cluster_of.ensures.cluster apart ∙ ap (λ (gs : Grabs). is_grabbed gs d) (sym c.as_slice-3.ensures.value);
+        grabs_stay = λ d apart. set_apart device.plan grabs false c.args.control c.cluster_of.result c.args.on d c.cluster_of.ensures.cluster apart ∙ ap (λ (gs : Grabs). is_grabbed gs d) (sym c.as_slice-3.ensures.value);
       },
     )
 
@@ -127,5 +127,5 @@ returns-clause-asked g c =
       arith,
       c.renew.ensures.asked,
       ap (λ (b : BoardData). named_by_frames device.plan b.queued (k ∷ [])) c.self.invariant.board,
-      ap (grab_asks device.plan (past device.steps.items)) c.cluster_of.ensures.cluster,
+      ap (cluster_asks device.plan (past device.steps.items)) c.cluster_of.ensures.cluster,
     ))

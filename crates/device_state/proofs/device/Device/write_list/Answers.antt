@@ -104,7 +104,7 @@ invariant_of-self-2 g c =
     written (rw (c.as_slice.ensures.value, c.pairs.ensures, c.new_rows.ensures) at c.notify_changed.ensures.words)
     (c.raise_step.ensures g.D.Validates.verdict (with c.args.touch.pairs) (past device.steps.items)
     (around g.D.Validates.verdict g.D.Notifies.told device.plan device.steps.items _ (with c.args.touch.pairs) c.new.result c.new-2.result c.self.invariant (c.new.ensures ∙ moment c.as_slice-5.ensures.value c.as_slice-6.ensures.value)
-    (ap (λ (m : MomentData). m.ranges) c.new-2.ensures)
+    (ap (λ (m : MomentData). m.ranges) c.new-2.ensures ∙ c.self.invariant.ranges)
     (ap (λ (m : MomentData). m.values) c.new-2.ensures ∙ c.as_slice-7.ensures.value ∙ lays)
     (ap (λ (m : MomentData). m.grabs) c.new-2.ensures ∙ c.as_slice-8.ensures.value ∙ c.self.invariant.grabs))
     (c.pairs-2.ensures, refl))

@@ -10,11 +10,11 @@ use Rattle.req_book.proofs.SettingLemmas.{known_latest}
 use Rattle.frame_queue.specs.Frames.{FramesData, after_begin}
 use Rattle.device_history.specs.declared.ask.Step.{Step}
 use Rattle.device_history.specs.declared.ask.Step.TheVariants as steps
-use Rattle.device_history.specs.Ranges.{ranges_now}
+use Rattle.device_history.specs.Ranges.{ranges_after, ranges_now}
 use Rattle.device_history.specs.Grabs.{grabbed, grabbed_after}
 use Rattle.device_history.specs.Requests.{asked, since, stored}
 use Rattle.device_history.specs.Snapshots.{begun_pairs, begun_refused, begun_values}
-use Rattle.device_history.specs.Values.{pairs_asked, now, now_after}
+use Rattle.device_history.specs.Values.{pairs_asked, now, values_after}
 use Rattle.device_history.proofs.GrabLemmas.{grabbed_more}
 use Rattle.device_history.proofs.PresentLemmas.{length_grabbed, length_now}
 use Rattle.ctrl_raises.specs.Raises.{MomentData}
@@ -104,13 +104,13 @@ invariant_of-self g c =
       old_ranges = ap (λ (m : MomentData). m.ranges) c.new.ensures ∙ made.ranges;
       old_values = ap (λ (m : MomentData). m.values) c.new.ensures ∙ c.as_slice-3.ensures.value ∙ made.values;
       old_grabs = ap (λ (m : MomentData). m.grabs) c.new.ensures ∙ c.as_slice-4.ensures.value ∙ made.grabs;
-      ranges = ap (λ (m : MomentData). m.ranges) c.new-2.ensures ∙ made.ranges ∙ sym (ranges_more r.plan.now c.args.entry.now P);
+      ranges = ap (λ (m : MomentData). m.ranges) c.new-2.ensures ∙ made.ranges ∙ sym (ranges_more r.plan.now c.args.entry.now P ∙ ap (λ (s : Step). ranges_after s (ranges_now r.plan.now P)) step);
       values = ap (λ (m : MomentData). m.values) c.new-2.ensures ∙ c.as_slice-5.ensures.value ∙ c.into_vec-values.ensures ∙ values
-          ∙ sym (now_next g.D.Validates.verdict r.plan.now c.args.entry.now P ∙ ap (λ (s : Step). now_after g.D.Validates.verdict r.plan.now (ranges_now r.plan.now P) (grabbed r.plan.now P) (pairs_asked r.plan.now P s) (now g.D.Validates.verdict r.plan.now P)) step);
+          ∙ sym (now_next g.D.Validates.verdict r.plan.now c.args.entry.now P ∙ ap (λ (s : Step). values_after g.D.Validates.verdict r.plan.now P s (now g.D.Validates.verdict r.plan.now P)) step);
       grabs = ap (λ (m : MomentData). m.grabs) c.new-2.ensures ∙ c.as_slice-6.ensures.value ∙ made.grabs ∙ sym (grabbed_more r.plan.now c.args.entry.now P ∙ ap (λ (s : Step). grabbed_after s (grabbed r.plan.now P)) step);
     } in
     replay_add g.D.Validates.verdict r.plan.now r.steps.now r.count _ _ c.args.entry.now c.self.invariant (rw (← c.self.view_is) at c.requires.next) (rw (← c.self.view_is) at c.requires.room) (rw (← c.self.view_is) at c.requires.follows)
-    (rw step made.file_handles) (rw step made.grabs) made.ranges (rw step (c.into_vec-values.ensures ∙ values))
+    (rw step made.file_handles) (rw step made.grabs) (rw step made.ranges) (rw step (c.into_vec-values.ensures ∙ values))
     (rw step
     (c.begin.ensures.frames
     ∙ ap (after_begin r.frames) (c.as_slice-8.ensures.value ∙ sym c.as_slice-7.ensures.value ∙ given)

@@ -10,12 +10,12 @@ use Rattle.device_history.specs.FrameSteps.{frames_changed}
 use Rattle.device_history.specs.Grabs.{grabbed}
 use Rattle.device_history.specs.Handles.{opened}
 use Rattle.device_history.specs.Snapshots.{frames}
-use Rattle.device_history.specs.Values.{now, now_after}
+use Rattle.device_history.specs.Values.{now}
 use Rattle.device_history.proofs.PresentLemmas.{length_grabbed, length_now}
 use Rattle.step_effects.specs.Leaving.{FitsIn}
 use Rattle.step_effects.proofs.FitLemmas.{fits_in}
 use Rattle.history_audit.proofs.MadeLemmas.{taken_many}
-use Rattle.step_effects.proofs.LeavingLemmas.{opened_controls_left, grabbed_controls_left, laid_controls_left, given_controls_left}
+use Rattle.step_effects.proofs.LeavingLemmas.{opened_controls_left, grabbed_controls_left, values_left, ranges_left, given_controls_left}
 use Rattle.history_audit.proofs.FollowLemmas.{names_known}
 use Rattle.history_audit.specs.Replay.{ReplayData}
 use Rattle.history_audit.proofs.MadeLemmas.{numbered, replay_add, replayed_next}
@@ -66,8 +66,8 @@ invariant_of-self-2 g c =
     replay_add g.D.Validates.verdict r.plan.now r.steps.now r.count _ _ c.args.entry.now c.self.invariant (rw (← c.self.view_is) at c.requires.next) (rw (← c.self.view_is) at c.requires.room) (rw (← c.self.view_is) at c.requires.follows)
     (made.file_handles ∙ sym (opened_controls_left r.count step (opened P) c.requires.leaves))
     (made.grabs ∙ sym (grabbed_controls_left step (grabbed r.plan.now P) c.requires.leaves))
-    made.ranges
-    (made.values ∙ ap (λ (l : Option (List Pair)). now_after g.D.Validates.verdict r.plan.now (ranges_now r.plan.now P) (grabbed r.plan.now P) l (now g.D.Validates.verdict r.plan.now P)) (sym (laid_controls_left r.plan.now P step c.requires.leaves)))
+    (made.ranges ∙ sym (ranges_left step (ranges_now r.plan.now P) c.requires.leaves))
+    (made.values ∙ sym (values_left g.D.Validates.verdict r.plan.now P step (now g.D.Validates.verdict r.plan.now P) c.requires.leaves))
     (c.in_ok-change_requests_and_events.ensures.frames
     ∙ ap (λ (v : Values). frames_changed v [] r.count step r.frames) (c.as_slice.ensures.value ∙ made.values)
     ∙ ap (frames_changed (now g.D.Validates.verdict r.plan.now P) [] r.count step) made.frames

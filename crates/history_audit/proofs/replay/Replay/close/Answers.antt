@@ -19,7 +19,7 @@ invariant_of-self g c =
     let made = c.self.invariant.made in
     let step : c.args.entry.now.step ≡ steps.CloseFh c.args.fh = c.requires.step in
     replay_add g.D.Validates.verdict r.plan.now r.steps.now r.count _ _ c.args.entry.now c.self.invariant (rw (← c.self.view_is) at c.requires.next) (rw (← c.self.view_is) at c.requires.room) (rw (← c.self.view_is) at c.requires.follows)
-    (rw step (c.shift_remove.ensures.entries ∙ ap (remove_entry (nat_eq c.args.fh.0)) made.file_handles ∙ drops_one c.args.fh.0 (opened (past (take r.count r.steps.now))) (opened_rising (past (take r.count r.steps.now))))) (rw step made.grabs) made.ranges (rw step made.values) (rw step made.frames)
+    (rw step (c.shift_remove.ensures.entries ∙ ap (remove_entry (nat_eq c.args.fh.0)) made.file_handles ∙ drops_one c.args.fh.0 (opened (past (take r.count r.steps.now))) (opened_rising (past (take r.count r.steps.now))))) (rw step made.grabs) (rw step made.ranges) (rw step made.values) (rw step made.frames)
     (λ fh. c.drop_fh.ensures fh.0 ∙ sym (ap (λ (s : Step). events_by g.D.Validates.verdict r.plan.now c.args.entry.now (past (take r.count r.steps.now)) fh s (events_of r.events fh.0)) step))
 
 -- one more step was replayed

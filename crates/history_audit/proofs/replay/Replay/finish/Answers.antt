@@ -17,5 +17,5 @@ returns-clause-scratch g c =
     let forecasts : c.in_ok-forecasts.forecasts.forecasts ≡ forecast g.D.Validates.verdict r.plan.now P = rw (← c.self.view_is) at c.in_ok-forecasts.ensures in
     let events : open_events r.events r.file_handles.entries ≡ all_events g.D.Validates.verdict r.plan.now P = events_made g.D.Validates.verdict r.plan.now P r.events r.file_handles.entries made.file_handles made.events in
     let all : c.of.result ≡ scratch g.D.Validates.verdict r.plan.now P =
-    c.of.ensures ∙ (λ i. let s : ScratchData = record { values = made.values i; flags = flags i; frames = made.frames i; forecasts = forecasts i; events = events i } in s) in
+    c.of.ensures ∙ (λ i. let s : ScratchData = record { ranges = made.ranges i; values = made.values i; flags = flags i; frames = made.frames i; forecasts = forecasts i; events = events i } in s) in
     rw (← c.self.view_is) all

@@ -6,9 +6,10 @@ use Rattle.ctrl_raises.specs.Raises.{MomentData}
 use Rattle.device_history.specs.declared.ask.Step.{Step}
 use Rattle.device_history.specs.declared.ask.Step.TheVariants as steps
 use Rattle.device_history.specs.EventSteps.{AreAround}
+use Rattle.device_history.specs.Ranges.{ranges_after, ranges_now}
 use Rattle.device_history.specs.Grabs.{grabbed, grabbed_after}
 use Rattle.device_history.specs.Legal.{MayFollow}
-use Rattle.device_history.specs.Values.{pairs_asked}
+use Rattle.device_history.specs.Values.{now, values_after}
 use Rattle.device_history.proofs.EventLemmas.{values_controls_left}
 use Rattle.device_history.proofs.GrabLemmas.{grabbed_more}
 use Rattle.device_history.proofs.PresentLemmas.{length_grabbed, length_now}
@@ -75,12 +76,12 @@ invariant_of-self g c =
       old_ranges = ap (λ (m : MomentData). m.ranges) c.new.ensures ∙ made.ranges;
       old_values = ap (λ (m : MomentData). m.values) c.new.ensures ∙ c.as_slice-2.ensures.value ∙ made.values;
       old_grabs = ap (λ (m : MomentData). m.grabs) c.new.ensures ∙ c.as_slice-3.ensures.value ∙ made.grabs;
-      ranges = ap (λ (m : MomentData). m.ranges) c.new-2.ensures ∙ made.ranges ∙ sym (ranges_more r.plan.now c.args.entry.now P);
-      values = ap (λ (m : MomentData). m.values) c.new-2.ensures ∙ c.as_slice-4.ensures.value ∙ made.values ∙ sym (values_controls_left g.D.Validates.verdict r.plan.now c.args.entry.now P (ap (pairs_asked r.plan.now P) step));
+      ranges = ap (λ (m : MomentData). m.ranges) c.new-2.ensures ∙ made.ranges ∙ sym (ranges_more r.plan.now c.args.entry.now P ∙ ap (λ (s : Step). ranges_after s (ranges_now r.plan.now P)) step);
+      values = ap (λ (m : MomentData). m.values) c.new-2.ensures ∙ c.as_slice-4.ensures.value ∙ made.values ∙ sym (values_controls_left g.D.Validates.verdict r.plan.now c.args.entry.now P (ap (λ (s : Step). values_after g.D.Validates.verdict r.plan.now P s (now g.D.Validates.verdict r.plan.now P)) step));
       grabs = ap (λ (m : MomentData). m.grabs) c.new-2.ensures ∙ c.as_slice-5.ensures.value ∙ kept ∙ sym (grabbed_more r.plan.now c.args.entry.now P ∙ ap (λ (s : Step). grabbed_after s (grabbed r.plan.now P)) step);
     } in
     replay_add g.D.Validates.verdict r.plan.now r.steps.now r.count _ _ c.args.entry.now c.self.invariant (rw (← c.self.view_is) at c.requires.next) (rw (← c.self.view_is) at c.requires.room) (rw (← c.self.view_is) at c.requires.follows)
-    (rw step made.file_handles) (rw step kept) made.ranges (rw step made.values) (rw step made.frames)
+    (rw step made.file_handles) (rw step kept) (rw step made.ranges) (rw step made.values) (rw step made.frames)
     (c.raise_step.ensures g.D.Validates.verdict c.args.entry.now P around (rw step (refl, refl)))
 
 -- one more step was replayed

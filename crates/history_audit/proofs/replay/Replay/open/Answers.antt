@@ -18,7 +18,7 @@ invariant_of-self-2 g c =
     let made = c.self.invariant.made in
     let step : c.args.entry.now.step ≡ steps.OpenFh c.args.handler = c.requires.step in
     replay_add g.D.Validates.verdict r.plan.now r.steps.now r.count _ _ c.args.entry.now c.self.invariant (rw (← c.self.view_is) at c.requires.next) (rw (← c.self.view_is) at c.requires.room) (rw (← c.self.view_is) at c.requires.follows)
-    (rw step (c.in_ok-insert.ensures.entries ∙ insert_entry-new nat_eq r.file_handles r.count c.args.handler (replay_fresh _ _ _ _ _ c.self.invariant) ∙ ap (λ (hs : List (ℕ × ℕ)). hs ++ (r.count, c.args.handler) ∷ []) made.file_handles)) (rw step made.grabs) made.ranges (rw step made.values) (rw step made.frames)
+    (rw step (c.in_ok-insert.ensures.entries ∙ insert_entry-new nat_eq r.file_handles r.count c.args.handler (replay_fresh _ _ _ _ _ c.self.invariant) ∙ ap (λ (hs : List (ℕ × ℕ)). hs ++ (r.count, c.args.handler) ∷ []) made.file_handles)) (rw step made.grabs) (rw step made.ranges) (rw step made.values) (rw step made.frames)
     (λ fh. sym (ap (λ (s : Step). events_by g.D.Validates.verdict r.plan.now c.args.entry.now (past (take r.count r.steps.now)) fh s (events_of r.events fh.0)) step))
 
 -- one more step was replayed

@@ -5,10 +5,10 @@ use Rattle.ctrl_clusters.specs.Overlay.{overlay}
 use Rattle.ctrl_raises.specs.Raises.{MomentData}
 use Rattle.device_history.specs.declared.ask.Step.{Step}
 use Rattle.device_history.specs.declared.ask.Step.TheVariants as steps
-use Rattle.device_history.specs.Ranges.{ranges_now}
+use Rattle.device_history.specs.Ranges.{ranges_after, ranges_now}
 use Rattle.device_history.specs.EventSteps.{AreAround}
 use Rattle.device_history.specs.Grabs.{grabbed, grabbed_after}
-use Rattle.device_history.specs.Values.{pairs_asked, now, now_after}
+use Rattle.device_history.specs.Values.{pairs_asked, now, values_after}
 use Rattle.device_history.proofs.GrabLemmas.{grabbed_more}
 use Rattle.device_history.proofs.PresentLemmas.{length_grabbed, length_now}
 use Rattle.history_audit.specs.Replay.{ReplayData}
@@ -55,7 +55,7 @@ raise_step-requires-clause-values g c =
     set_makes g.D.Validates.verdict r.plan.now P c.args.fh c.args.touch.now.pairs c.args.touch.now c.rows.result.now c.in_ok-values.values.items c.write_rows.new.values.items c.self.invariant.plans
     (rw (← c.self.view_is) at c.requires.touched) c.rows.ensures (c.in_ok-values.ensures ∙ c.as_slice.ensures.value ∙ c.self.invariant.made.values) c.write_rows.ensures in
     ap (λ (m : MomentData). length m.values) c.new-2.ensures ∙ ap length (c.as_slice-4.ensures.value ∙ made)
-    ∙ ap length (sym (now_next g.D.Validates.verdict r.plan.now c.args.entry.now P ∙ ap (λ (s : Step). now_after g.D.Validates.verdict r.plan.now (ranges_now r.plan.now P) (grabbed r.plan.now P) (pairs_asked r.plan.now P s) (now g.D.Validates.verdict r.plan.now P)) step))
+    ∙ ap length (sym (now_next g.D.Validates.verdict r.plan.now c.args.entry.now P ∙ ap (λ (s : Step). values_after g.D.Validates.verdict r.plan.now P s (now g.D.Validates.verdict r.plan.now P)) step))
     ∙ length_now g.D.Validates.verdict r.plan.now (c.args.entry.now ∷ P)
 
 pub raise_step-requires-clause-grabs : goal.raise_step-requires-clause-grabs
@@ -80,13 +80,13 @@ invariant_of-self g c =
       old_ranges = ap (λ (m : MomentData). m.ranges) c.new.ensures ∙ made.ranges;
       old_values = ap (λ (m : MomentData). m.values) c.new.ensures ∙ c.as_slice-2.ensures.value ∙ made.values;
       old_grabs = ap (λ (m : MomentData). m.grabs) c.new.ensures ∙ c.as_slice-3.ensures.value ∙ made.grabs;
-      ranges = ap (λ (m : MomentData). m.ranges) c.new-2.ensures ∙ made.ranges ∙ sym (ranges_more r.plan.now c.args.entry.now P);
+      ranges = ap (λ (m : MomentData). m.ranges) c.new-2.ensures ∙ made.ranges ∙ sym (ranges_more r.plan.now c.args.entry.now P ∙ ap (λ (s : Step). ranges_after s (ranges_now r.plan.now P)) step);
       values = ap (λ (m : MomentData). m.values) c.new-2.ensures ∙ c.as_slice-4.ensures.value ∙ laid_over
-          ∙ sym (now_next g.D.Validates.verdict r.plan.now c.args.entry.now P ∙ ap (λ (s : Step). now_after g.D.Validates.verdict r.plan.now (ranges_now r.plan.now P) (grabbed r.plan.now P) (pairs_asked r.plan.now P s) (now g.D.Validates.verdict r.plan.now P)) step);
+          ∙ sym (now_next g.D.Validates.verdict r.plan.now c.args.entry.now P ∙ ap (λ (s : Step). values_after g.D.Validates.verdict r.plan.now P s (now g.D.Validates.verdict r.plan.now P)) step);
       grabs = ap (λ (m : MomentData). m.grabs) c.new-2.ensures ∙ c.as_slice-5.ensures.value ∙ made.grabs ∙ sym (grabbed_more r.plan.now c.args.entry.now P ∙ ap (λ (s : Step). grabbed_after s (grabbed r.plan.now P)) step);
     } in
     replay_add g.D.Validates.verdict r.plan.now r.steps.now r.count _ _ c.args.entry.now c.self.invariant (rw (← c.self.view_is) at c.requires.next) (rw (← c.self.view_is) at c.requires.room) (rw (← c.self.view_is) at c.requires.follows)
-    (rw step made.file_handles) (rw step made.grabs) made.ranges (rw step laid_over) (rw step made.frames)
+    (rw step made.file_handles) (rw step made.grabs) (rw step made.ranges) (rw step laid_over) (rw step made.frames)
     (c.raise_step.ensures g.D.Validates.verdict c.args.entry.now P around (rw step (c.pairs.ensures, refl)))
 
 -- one more step was replayed

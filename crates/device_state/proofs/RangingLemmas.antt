@@ -1,0 +1,283 @@
+-- Another range for a control: what it is answered, whom it is told, and what is kept after it.
+use Rattle.std.proofs.Common.{◌≡◌, ◌≢◌, ℕ, zero, suc, ◌<◌, ◌≤◌, ◌+◌, ◌⊎◌, ◌==◌, ◌&&◌, ◌||◌, not, cond, to_z, of_z, w64, ℤ, pos, Bool, true, false, nat_eq, nat_le, if◌then◌else◌, List, [], ◌∷◌, ◌++◌, length, Option, None, Some, is_some, Ok, slice_index, slice_set, count_by, inl, inr, refl, ap, sym, subst, ◌∙◌, arith}
+use Rattle.std.specs.List.{list_any, range_with_len}
+use Rattle.std.specs.Ordering.{int_eq}
+use Rattle.std.proofs.Math.Dec.{eqb, leb}
+use Rattle.std.proofs.lemmas.Bool.Decides.{Decides-eqb, Decides-int_eq, eqb_tells, leb_tells, nat_tests}
+use Rattle.std.proofs.lemmas.List.{get_or-set_other, get_or_past}
+use Rattle.std.proofs.lemmas.List.Sums.{sum_by-cons}
+use Rattle.history.specs.Past.{past}
+use Rattle.ctrl_types.specs.Flags.{contains}
+use Rattle.ctrl_types.specs.Values.{CtrlValue}
+use Rattle.ctrl_types.specs.declared.flags.TheConstants.Flags.{EXECUTE_ON_WRITE}
+use Rattle.ctrl_types.specs.declared.errno.Errno.TheVariants.{EINVAL, ENOSPC, ERANGE}
+use Rattle.ctrl_types.specs.declared.ids.FhId.{FhId}
+use Rattle.ctrl_calls.specs.Meanings.{Verdicts, Words}
+use Rattle.ctrl_calls.specs.declared.relation.Relation.{Relation}
+use Rattle.ctrl_calls.specs.declared.work.Work.{Work}
+use Rattle.ctrl_events.specs.Events.{EventsData, events_of}
+use Rattle.ctrl_settle.specs.Control.{Control, with_range}
+use Rattle.ctrl_settle.specs.Faults.{IsFirstFault, IsWellFormed}
+use Rattle.ctrl_settle.specs.FirstFault.{first_fault}
+use Rattle.ctrl_settle.specs.Settle.{settled_anew}
+use Rattle.ctrl_settle.specs.declared.fault.CtrlFault.{CtrlFault}
+use Rattle.ctrl_settle.proofs.WellFormed.{fault_found, nothing_found}
+use Rattle.ctrl_handlers.specs.ClusterData.{ClusterData}
+use Rattle.ctrl_handlers.specs.Plan.{IsPlan, PlanData, calls_of, cluster_of, control, control_in, members, no_cluster}
+use Rattle.ctrl_handlers.proofs.ClusterLemmas.{cluster_of_member, cluster_of_within, none_of}
+use Rattle.ctrl_clusters.specs.Ranges.{modified}
+use Rattle.ctrl_clusters.specs.Rows.{Values, row_of, value_at}
+use Rattle.ctrl_clusters.specs.Changes.{members_change}
+use Rattle.ctrl_clusters.specs.Notified.{AreNotified, IsNotified, MaySay, after_change, notified_count}
+use Rattle.ctrl_clusters.proofs.NotifyLemmas.{words_between}
+use Rattle.ctrl_clusters.proofs.OverlayLemmas.{none_any}
+use Rattle.ctrl_forecast.specs.Boards.{BoardData, board_of}
+use Rattle.device_history.specs.declared.ask.Ask.TheVariants as asks
+use Rattle.device_history.specs.declared.ask.Reply.TheVariants.{Done}
+use Rattle.device_history.specs.declared.limits.TheConstants.{MAX_STEPS}
+use Rattle.device_history.specs.Steps.{History, Past}
+use Rattle.device_history.specs.Ranges.{range_answer, ranges_after, ranges_now}
+use Rattle.device_history.specs.Refusals.{fault_of, is_full, refused}
+use Rattle.device_history.specs.Values.{now}
+use Rattle.device_history.specs.Words.{changes}
+use Rattle.device_history.specs.EventSteps.{events_after}
+use Rattle.device_history.proofs.WordLemmas.{changed_row}
+use Rattle.device_state.specs.Device.{DeviceData, Handles}
+use Rattle.device_state.specs.Kept.{Caches, IsKept}
+use Rattle.device_state.specs.Ranging.{GivesRange, IsRanged, range_step, values_then}
+use Rattle.device_state.proofs.BoardLemmas.{board_same}
+use Rattle.device_state.proofs.KeptLemmas.{kept_add, set_room}
+use Rattle.device_state.proofs.HandleLemmas.{at_rest}
+use Rattle.device_state.proofs.SetLemmas.{and_false, none_from, notified_same, unchanged}
+
+-- a control that is there is no unknown one
+there : (plan : PlanData) (c : ℕ) → c < length plan.controls → nat_le (length plan.controls) c ≡ false
+there plan c known = grind (arith, nat_tests)
+
+-- a range with which the control has a fault
+pub range_faulty : (plan : PlanData) (older : Past) (c : ℕ) (low high : ℤ) (apart : ℕ) (default_value : CtrlValue) (fault : CtrlFault) → c < length plan.controls → IsFirstFault (with_range (control_in (ranges_now plan older) c) low high apart default_value) fault
+    → range_answer plan older c low high apart default_value ≡ refused ERANGE
+range_faulty plan older c low high apart default_value fault known is =
+    rw (there plan c known, fault_found (with_range (control_in (ranges_now plan older) c) low high apart default_value) fault is) refl
+
+-- one with which nothing is wrong
+sound_range : (plan : PlanData) (older : Past) (c : ℕ) (low high : ℤ) (apart : ℕ) (default_value : CtrlValue) → c < length plan.controls → IsWellFormed (with_range (control_in (ranges_now plan older) c) low high apart default_value)
+    → range_answer plan older c low high apart default_value ≡ (if is_full older then refused ENOSPC else Ok Done)
+sound_range plan older c low high apart default_value known well =
+    rw (there plan c known, nothing_found (with_range (control_in (ranges_now plan older) c) low high apart default_value) well) refl
+
+pub range_full : (plan : PlanData) (older : Past) (c : ℕ) (low high : ℤ) (apart : ℕ) (default_value : CtrlValue) → c < length plan.controls → IsWellFormed (with_range (control_in (ranges_now plan older) c) low high apart default_value)
+    → is_full older ≡ true → range_answer plan older c low high apart default_value ≡ refused ENOSPC
+range_full plan older c low high apart default_value known well full = sound_range plan older c low high apart default_value known well ∙ rw full refl
+
+pub range_accepted : (plan : PlanData) (older : Past) (c : ℕ) (low high : ℤ) (apart : ℕ) (default_value : CtrlValue) → c < length plan.controls → IsWellFormed (with_range (control_in (ranges_now plan older) c) low high apart default_value)
+    → is_full older ≡ false → range_answer plan older c low high apart default_value ≡ Ok Done
+range_accepted plan older c low high apart default_value known well room = sound_range plan older c low high apart default_value known well ∙ rw room refl
+
+-- a control that was read with its new range can be given it
+pub ranged : (plan : PlanData) (older : Past) (c : ℕ) (low high : ℤ) (apart : ℕ) (default_value : CtrlValue) (changed : Control) → changed ≡ with_range (control_in (ranges_now plan older) c) low high apart default_value
+    → range_answer plan older c low high apart default_value ≡ Ok Done → IsRanged plan older c changed
+ranged plan older c low high apart default_value changed is accepted = rw is (record { accepted = accepted; its_own = refl })
+
+-- what isn't refused at three tests passes the first and the last
+accepted_parts : (x y z : Bool) → (if x then refused EINVAL else if y then refused ERANGE else if z then refused ENOSPC else Ok Done) ≡ Ok Done → (x ≡ false) × (z ≡ false)
+accepted_parts true y z h = cc
+accepted_parts false true z h = cc
+accepted_parts false false true h = cc
+accepted_parts false false false h = (refl, refl)
+
+range_parts : (plan : PlanData) (older : Past) (c : ℕ) (changed : Control) → IsRanged plan older c changed → (nat_le (length plan.controls) c ≡ false) × (is_full older ≡ false)
+range_parts plan older c changed is =
+    accepted_parts (nat_le (length plan.controls) c) (is_some (first_fault (with_range (control_in (ranges_now plan older) c) changed.minimum changed.maximum changed.step changed.default_value))) (is_full older) is.accepted
+
+-- where a range change is accepted, one more step is kept
+range_room : (plan : PlanData) (steps : History) (c : ℕ) (changed : Control) → IsRanged plan (past steps) c changed → length steps < MAX_STEPS
+range_room plan steps c changed is = set_room steps (range_parts plan (past steps) c changed is).1
+
+-- and the control is there
+pub range_known : (plan : PlanData) (older : Past) (c : ℕ) (changed : Control) → IsRanged plan older c changed → c < length plan.controls
+range_known plan older c changed is = grind (arith, nat_tests, (range_parts plan older c changed is).0)
+
+-- numbers that can be read back are equal exactly where their bits are
+pub same_bits : (x y : ℤ) → to_z w64 (of_z w64 x) ≡ x → to_z w64 (of_z w64 y) ≡ y → eqb (of_z w64 x) (of_z w64 y) ≡ int_eq x y
+same_bits x y of_x of_y = by (eqb (of_z w64 x) (of_z w64 y)) (int_eq x y) refl refl
+  where
+    by : (a b : Bool) → eqb (of_z w64 x) (of_z w64 y) ≡ a → int_eq x y ≡ b → a ≡ b
+    by true true bits numbers = refl
+    by false false bits numbers = refl
+    by true false bits numbers = sym ((Decides-int_eq x y).1 (sym of_x ∙ ap (to_z w64) ((Decides-eqb (of_z w64 x) (of_z w64 y)).0 bits) ∙ of_y)) ∙ numbers
+    by false true bits numbers = sym bits ∙ (Decides-eqb (of_z w64 x) (of_z w64 y)).1 (ap (of_z w64) ((Decides-int_eq x y).0 numbers))
+
+-- a control among others of which no other passes
+any_own : (f : ℕ → Bool) (c : ℕ) (cs : List ℕ) → list_any (nat_eq c) cs ≡ true → ((d : ℕ) → d ≢ c → f d ≡ false) → list_any f cs ≡ f c
+any_own f c cs among others = by (f c) (list_any f cs) refl refl
+  where
+    by : (a b : Bool) → f c ≡ a → list_any f cs ≡ b → b ≡ a
+    by true true own some = refl
+    by false false own some = refl
+    by true false own some = sym (none_of f c cs some among) ∙ own
+    by false true own some = sym some ∙ none_any f cs (λ d in_them. each d (eqb_tells d c))
+      where
+        each : (d : ℕ) → ((d == c) ≡ true × (d ≡ c)) ⊎ ((d == c) ≡ false × (d ≢ c)) → f d ≡ false
+        each d (inl same) = ap f same.1 ∙ own
+        each d (inr other) = others d other.1
+
+-- where one control alone gets another value, no other is changed
+others_stay : (plan : PlanData) (values : Values) (c : ℕ) (v : CtrlValue) (d : ℕ) → d ≢ c → changes plan values (slice_set values c v) (Some []) d ≡ false
+others_stay plan values c v d other =
+    rw (get_or-set_other values c d v (pos 0) other) (unchanged (value_at values d) (contains (control plan d).flags EXECUTE_ON_WRITE) false refl)
+
+-- so only its own cluster is
+own_changes : (plan : PlanData) (values : Values) (c k : ℕ) (v : CtrlValue) → cluster_of plan c ≡ Some k → members_change plan values (slice_set values c v) [] k ≡ not (int_eq (value_at values c) (value_at (slice_set values c v) c))
+own_changes plan values c k v is =
+    sym (changed_row plan values (slice_set values c v) [] (members plan k))
+    ∙ any_own (changes plan values (slice_set values c v) (Some [])) c (members plan k) (cluster_of_member plan c k is) (others_stay plan values c v)
+    ∙ by (int_eq (value_at values c) (value_at (slice_set values c v) c)) (contains (control plan c).flags EXECUTE_ON_WRITE)
+  where
+    by : (same acts : Bool) → (not same || (acts && false)) ≡ not same
+    by false acts = refl
+    by true acts = and_false acts
+
+other_clusters_stay : (plan : PlanData) (values : Values) (c k : ℕ) (v : CtrlValue) (j : ℕ) → IsPlan plan → cluster_of plan c ≡ Some k → j ≢ k → members_change plan values (slice_set values c v) [] j ≡ false
+other_clusters_stay plan values c k v j plans is other =
+    sym (changed_row plan values (slice_set values c v) [] (members plan j))
+    ∙ none_any (changes plan values (slice_set values c v) (Some [])) (members plan j) (λ d among. each d among (eqb_tells d c))
+  where
+    same_cluster : Some k ≡ Some j → j ≡ k
+    same_cluster h = cc
+
+    within : list_any (nat_eq c) (members plan j) ≡ true → ((leb (length plan.clusters) j ≡ true) × (length plan.clusters ≤ j)) ⊎ ((leb (length plan.clusters) j ≡ false) × (j < length plan.clusters)) → j < length plan.clusters
+    within among (inl outside) = absurd (nobody (subst (λ (k : ClusterData). list_any (nat_eq c) k.members ≡ true) (get_or_past plan.clusters j no_cluster outside.1) among))
+      where
+        nobody : false ≡ true → ⊥
+        nobody h = cc
+    within among (inr inside) = inside.1
+
+    each : (d : ℕ) → list_any (nat_eq d) (members plan j) ≡ true → ((d == c) ≡ true × (d ≡ c)) ⊎ ((d == c) ≡ false × (d ≢ c)) → changes plan values (slice_set values c v) (Some []) d ≡ false
+    each d among (inl same) =
+        let there : list_any (nat_eq c) (members plan j) ≡ true = subst (λ (x : ℕ). list_any (nat_eq x) (members plan j) ≡ true) same.1 among in
+        absurd (other (same_cluster (sym is ∙ plans.members_apart j c (within there (leb_tells (length plan.clusters) j)) there)))
+    each d among (inr apart) = others_stay plan values c v d apart.1
+
+-- one cluster that is notified alone
+one_notified : (says : Words) (plan : PlanData) (f : ℕ → Bool) (rows : ℕ → List CtrlValue) (k : ℕ) (words new : List ℕ) → ((j : ℕ) → j ≢ k → f j ≡ false) → k < length plan.clusters
+    → IsNotified says plan k (f k) (rows k) words new → AreNotified says plan f rows words new
+one_notified says plan f rows k words new others there is = record {
+  each = is.each;
+  own = λ j lt ch. own j ch (eqb_tells j k);
+  others = λ j same. is.others j (λ e. subst (λ (i : ℕ). f i ≡ false) e (same (subst (λ (i : ℕ). i < length plan.clusters) (sym e) there)));
+}
+  where
+    differ : false ≡ true → ⊥
+    differ h = cc
+
+    own : (j : ℕ) → f j ≡ true → ((j == k) ≡ true × (j ≡ k)) ⊎ ((j == k) ≡ false × (j ≢ k)) → MaySay says (calls_of plan j).notifier (rows j) (slice_index new j)
+    own j ch (inl same) = subst (λ (i : ℕ). MaySay says (calls_of plan i).notifier (rows i) (slice_index new i)) (sym same.1) (is.own (subst (λ (i : ℕ). f i ≡ true) same.1 ch))
+    own j ch (inr apart) = absurd (differ (sym (others j apart.1) ∙ ch))
+
+-- one cluster that counts alone
+one_from : (plan : PlanData) (f : ℕ → Bool) (k a n : ℕ) → ((j : ℕ) → j ≢ k → f j ≡ false) → a ≤ k → k < a + n
+    → count_by (λ j. is_some (calls_of plan j).notifier && f j) (range_with_len a n) ≡ cond (is_some (calls_of plan k).notifier && f k) 1 0
+one_from plan f k a zero others from within = absurd (omega (arith, from, within))
+one_from plan f k a (suc n) others from within = sum_by-cons one a (range_with_len (a + 1) n) ∙ by (eqb_tells a k) (one_from plan f k (a + 1) n others)
+  where
+    one : ℕ → ℕ
+    one j = cond (is_some (calls_of plan j).notifier && f j) 1 0
+
+    no_count : ℕ
+    no_count = 0
+
+    uncounted : (b : Bool) → cond (b && false) 1 no_count ≡ 0
+    uncounted b = rw (and_false b) refl
+
+    behind : ℕ
+    behind = count_by (λ j. is_some (calls_of plan j).notifier && f j) (range_with_len (a + 1) n)
+
+    by : ((a == k) ≡ true × (a ≡ k)) ⊎ ((a == k) ≡ false × (a ≢ k)) → (a + 1 ≤ k → k < a + 1 + n → behind ≡ one k) → one a + behind ≡ one k
+    by (inl same) rest_is =
+        let rest : behind ≡ 0 = none_from plan f (a + 1) n (λ j at. others j (λ e. omega (arith, at, e, same.1))) in
+        omega (arith, rest, ap one same.1)
+    by (inr other) rest_is =
+        let first : one a ≡ 0 = rw (others a other.1) (uncounted (is_some (calls_of plan a).notifier)) in
+        omega (arith, first, rest_is (omega (arith, from, other.1)) (omega (arith, within)))
+
+one_counted : (plan : PlanData) (f : ℕ → Bool) (k : ℕ) → ((j : ℕ) → j ≢ k → f j ≡ false) → k < length plan.clusters → after_change plan k (f k) 0 ≡ notified_count plan f
+one_counted plan f k others there = by (calls_of plan k).notifier (f k) refl ∙ sym (one_from plan f k 0 (length plan.clusters) others (omega arith) (omega (arith, there)))
+  where
+    by : (o : Option Relation) (b : Bool) → (calls_of plan k).notifier ≡ o → after_change plan k b 0 ≡ cond (is_some (calls_of plan k).notifier && b) 1 0
+    by None true is = rw is refl
+    by (Some r) true is = rw is refl
+    by o false is = sym (rw (and_false (is_some (calls_of plan k).notifier)) refl)
+
+-- where one control alone gets another value, its own cluster is told, if it differs, and no other
+pub told_alone : (says : Words) (plan : PlanData) (values after : Values) (c k : ℕ) (v : CtrlValue) (differs : Bool) (words new : List ℕ) → IsPlan plan → cluster_of plan c ≡ Some k → after ≡ slice_set values c v
+    → differs ≡ not (int_eq (value_at values c) (value_at after c)) → IsNotified says plan k differs (row_of after (members plan k)) words new
+    → AreNotified says plan (members_change plan values after []) (λ j. row_of after (members plan j)) words new
+told_alone says plan values after c k v differs words new plans is set d told =
+    rw set
+    (one_notified says plan (members_change plan values (slice_set values c v) []) (λ j. row_of (slice_set values c v) (members plan j)) k words new (λ j other. other_clusters_stay plan values c k v j plans is other) (cluster_of_within plan c k is)
+    (rw (own_changes plan values c k v is, ← set, ← d) told))
+
+pub counted_alone : (plan : PlanData) (values after : Values) (c k : ℕ) (v : CtrlValue) (differs : Bool) (count before : ℕ) → IsPlan plan → cluster_of plan c ≡ Some k → after ≡ slice_set values c v
+    → differs ≡ not (int_eq (value_at values c) (value_at after c)) → before ≡ 0 → count ≡ after_change plan k differs before → count ≡ notified_count plan (members_change plan values after [])
+counted_alone plan values after c k v differs count before plans is set d fresh told =
+    told
+    ∙ ap (after_change plan k differs) fresh
+    ∙ ap (λ (b : Bool). after_change plan k b 0) (d ∙ ap (λ (vs : Values). not (int_eq (value_at values c) (value_at vs c))) set ∙ sym (own_changes plan values c k v is))
+    ∙ one_counted plan (members_change plan values (slice_set values c v) []) k (λ j other. other_clusters_stay plan values c k v j plans is other) (cluster_of_within plan c k is)
+    ∙ ap (λ (vs : Values). notified_count plan (members_change plan values vs [])) (sym set)
+
+-- the values after a range change
+pub values_ranged : (verdicts : Verdicts) (plan : PlanData) (older : Past) (c : ℕ) (changed : Control) (values after : Values) → IsRanged plan older c changed → values ≡ now verdicts plan older
+    → after ≡ slice_set values c (settled_anew changed (value_at values c)) → after ≡ values_then verdicts plan older (range_step c changed)
+values_ranged verdicts plan older c changed values after is own set =
+    set ∙ ap (λ (vs : Values). slice_set vs c (settled_anew changed (value_at vs c))) own
+    ∙ ap (λ (x : Control). slice_set (now verdicts plan older) c (settled_anew x (value_at (now verdicts plan older) c))) is.its_own
+
+-- and the ranges
+pub ranges_ranged : (plan : PlanData) (older : Past) (c : ℕ) (changed : Control) (ranges after : List Control) → IsRanged plan older c changed → ranges ≡ ranges_now plan older → after ≡ modified ranges c changed
+    → after ≡ ranges_after (range_step c changed) (ranges_now plan older)
+ranges_ranged plan older c changed ranges after is own set =
+    set ∙ ap (λ (cs : List Control). modified cs c changed) own ∙ ap (modified (ranges_now plan older) c) is.its_own
+
+-- what is kept after a range change
+pub kept_range : (verdicts : Verdicts) (told : Words) (plan : PlanData) (steps steps' : History) (caches : Caches) (ranges : List Control) (values : Values) (b : BoardData) (events : EventsData) (words : List ℕ) (seat c : ℕ) (changed : Control)
+    → IsKept verdicts told plan steps caches → IsRanged plan (past steps) c changed → steps' ≡ steps ++ record { seat = seat; step = range_step c changed } ∷ []
+    → ranges ≡ modified caches.ranges c changed → values ≡ slice_set caches.values c (settled_anew changed (value_at caches.values c))
+    → AreNotified told plan (members_change plan caches.values values []) (λ k. row_of values (members plan k)) caches.words words
+    → ((fh : FhId) → events_of events fh.0 ≡ events_after verdicts plan (record { seat = seat; step = range_step c changed }) (past steps) fh (events_of caches.events fh.0))
+    → b ≡ board_of verdicts plan ranges caches.grabs values caches.board.queued
+    → IsKept verdicts told plan steps' (record caches { ranges = ranges; values = values; board = b; events = events; words = words })
+kept_range verdicts told plan steps steps' caches ranges values b events words seat c changed kept is s r v retold ev renewed =
+    kept_add verdicts told plan steps steps' caches (record caches { ranges = ranges; values = values; board = b; events = events; words = words }) (record { seat = seat; step = range_step c changed }) kept (range_room plan steps c changed is)
+    (asks.ModifyRange c changed.minimum changed.maximum changed.step changed.default_value, ap fault_of is.accepted, refl) s
+    kept.file_handles kept.grabs ranges_are values_are kept.frames (words_between told plan caches.values values [] caches.words words kept.words retold) ev
+    (renewed ∙ board_same verdicts plan ranges_are kept.grabs values_are (ap (λ (x : BoardData). x.queued) kept.board))
+  where
+    ranges_are : ranges ≡ ranges_after (range_step c changed) (ranges_now plan (past steps))
+    ranges_are = ranges_ranged plan (past steps) c changed caches.ranges ranges is kept.ranges r
+
+    values_are : values ≡ values_then verdicts plan (past steps) (range_step c changed)
+    values_are = values_ranged verdicts plan (past steps) c changed caches.values values is kept.values v
+
+-- a range change that is accepted
+pub handles_range : (verdicts : Verdicts) (told : Words) (old between new : DeviceData) (work : Work) (seat c : ℕ) (low high : ℤ) (apart : ℕ) (default_value : CtrlValue) (changed : Control) → between ≡ record old { work = work } → work ≡ at_rest
+    → range_answer old.plan (past old.steps) c low high apart default_value ≡ Ok Done → changed ≡ with_range (control_in (ranges_now old.plan (past old.steps)) c) low high apart default_value
+    → GivesRange verdicts told between new seat c changed → Handles verdicts old new seat (asks.ModifyRange c low high apart default_value) (Ok Done)
+handles_range verdicts told old between new work seat c low high apart default_value changed begin rest accepted its_own does =
+    let made : Control = with_range (control_in (ranges_now old.plan (past old.steps)) c) low high apart default_value in
+    let done : GivesRange verdicts told (record old { work = work }) new seat c made = rw (← begin, ← its_own) does in
+    let changing = λ (j : ℕ). changed_row old.plan (now verdicts old.plan (past old.steps)) (values_then verdicts old.plan (past old.steps) (range_step c made)) [] (members old.plan j) in
+    record {
+      plan = done.plan;
+      answers = inl (sym accepted);
+      refused = λ e. cc;
+      steps = done.steps;
+      words = λ j lt same. done.words.others j (λ _. sym (changing j) ∙ same);
+      notified =
+          done.notified
+          ∙ notified_same old.plan (members_change old.plan (now verdicts old.plan (past old.steps)) (values_then verdicts old.plan (past old.steps) (range_step c made)) [])
+          (λ k. list_any (changes old.plan (now verdicts old.plan (past old.steps)) (values_then verdicts old.plan (past old.steps) (range_step c made)) (Some [])) (members old.plan k)) (λ j lt. sym (changing j));
+      asked = omega (arith, done.asked, ap (λ (w : Work). w.asked) rest);
+      asked_all = λ _. omega arith;
+    }
