@@ -47,7 +47,7 @@ abbrev pub value_after : Verdicts → PlanData → List Control → Values → G
 value_after verdicts plan controls values grabs pairs c =
     unwrap_or (result_value_in plan (row_after verdicts plan controls values grabs pairs) (cluster_of plan c) c) (value_at values c)
 
--- Pairs laid over values, under these grabs: the values afterwards, control by control.
+-- Pairs laid over values, under these ranges and grabs: the values afterwards, control by control.
 unfoldable pub overlay : Verdicts → PlanData → List Control → Values → Grabs → List Pair → Values
 overlay verdicts plan controls values grabs pairs = map (value_after verdicts plan controls values grabs pairs) (range_with_len 0 (length values))
 

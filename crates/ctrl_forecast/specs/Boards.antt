@@ -24,7 +24,7 @@ pub record BoardData : Type 0 where
 abbrev pub no_board : BoardData
 no_board = record { queued = []; named = []; forecasts = [] }
 
--- What is kept of queued frames, where the first stands over these values, under these grabs: nothing of it depends on what was kept before.
+-- What is kept of queued frames, where the first stands over these values, under these ranges and grabs: nothing of it depends on what was kept before.
 abbrev pub board_of : Verdicts → PlanData → List Control → Grabs → Values → List QueuedData → BoardData
 board_of verdicts plan controls grabs values queued = record {
   queued = queued;

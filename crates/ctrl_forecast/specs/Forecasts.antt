@@ -17,7 +17,7 @@ pub record QueuedData : Type 0 where
   pub buffer : ℕ
   pub asked : List Pair
 
--- What a frame will have, over the values before it: what it asks for is laid over them under these grabs, and these clusters are refused.
+-- What a frame will have, over the values before it: what it asks for is laid over them under these ranges and grabs, and these clusters are refused.
 abbrev pub forecast_over : Verdicts → PlanData → List Control → Grabs → Values → QueuedData → Forecast
 forecast_over verdicts plan controls grabs values q = record {
   request = q.request;

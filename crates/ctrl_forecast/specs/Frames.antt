@@ -55,7 +55,7 @@ frame_over verdicts plan controls grabs values q = record {
   refused = refused_clusters verdicts plan controls values grabs q.asked;
 }
 
--- what frames stand under: the judges, the plan, its controls, the grabs, and the values before the first frame
+-- what frames stand under: the judges, the plan, its controls with their ranges, the grabs, and the values before the first frame
 pub record Setting : Type 0 where
   pub verdicts : Verdicts
   pub plan : PlanData

@@ -174,7 +174,7 @@ impl Board {
     /// - `plan`, `ranges`, `values`, `grabs`, `work`: as of `overlay`; `values` are those before the first frame.
     /// - `queued`: the frame; what it asks for is copied.
     ///
-    /// The caller owes that the board was kept with this plan and these ranges, over these values and under these grabs. The error is that a
+    /// The caller owes that the board was kept with this plan, over these values, under these ranges and grabs. The error is that a
     /// growth was refused; the frames stay as they were. Nobody is told.
     pub fn push<D: Driver>(
         &mut self,
@@ -228,7 +228,7 @@ impl Board {
     /// - `work`: its count `asked` grows by one for each cluster with a validator that the frame names, a member being among its pairs, and each frame
     ///   behind it that names the cluster too, unless a member that this asks for is grabbed or a member doesn't settle.
     ///
-    /// The caller owes that the board was kept with this plan and these ranges, over these values and under these grabs. It takes no memory and
+    /// The caller owes that the board was kept with this plan, over these values, under these ranges and grabs. It takes no memory and
     /// refuses nothing. Nobody is told.
     pub fn remove<D: Driver>(
         &mut self,

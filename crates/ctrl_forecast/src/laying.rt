@@ -24,7 +24,7 @@ pub struct Overlaid {
     pub refused: ClusterList,
 }
 
-/// Lays pairs over values, under grabs (of this project; what a cluster makes of a row is of the Linux driver API, "V4L2 Controls", "Control
+/// Lays pairs over values, under ranges and grabs (of this project; what a cluster makes of a row is of the Linux driver API, "V4L2 Controls", "Control
 /// Clusters"): each cluster with a member among the pairs is overwritten, settled and judged by itself; one that is refused keeps its row.
 ///
 /// - `alloc`: where the answer lies, and what is kept on the way.

@@ -126,7 +126,8 @@ impl<D: Driver> Plan<D> {
     /// - `control`: the number of a control, 0 to 255.
     /// - `index`: the place of an item.
     ///
-    /// Refused by check 17 of docs/RULES.md (EINVAL, 22), also where there is no such control.
+    /// Refused by check 17 of docs/RULES.md (EINVAL, 22), also where there is no such control. The range is the one that the control was built with; that
+    /// the index lies in the range of the moment is for the device to see.
     pub fn menu_item(&self, control: u32, index: u32) -> Result<&MenuItem, Errno>
         ensures { MatchResult result (λ item. menu_item self.now control index ≡ Some item.now) (λ e. (menu_item self.now control index ≡ None) × (e ≡ EINVAL)) }
     {

@@ -26,7 +26,7 @@ pub record MomentData : Type 0 where
   pub values : Values
   pub grabs : Grabs
 
--- the moment before one at which a control had got another range and another value: it has those that it had, and all else stays
+-- the moment before a range change: one control has the range and the value that it had, and all else is as afterwards
 abbrev pub before_range : MomentData → ℕ → Control → CtrlValue → MomentData
 before_range after c old value = record { ranges = modified after.ranges c old; values = slice_set after.values c value; grabs = after.grabs }
 

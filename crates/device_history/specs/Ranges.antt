@@ -51,15 +51,19 @@ control_now plan past c = ranged_if_given (control plan c) (lookup (nat_eq c) (r
 unfoldable pub ranges_now : PlanData → Past → List Control
 ranges_now plan past = map (control_now plan past) (range_with_len 0 (length plan.controls))
 
+-- one of these controls, with another range
+abbrev pub control_with_range : List Control → ℕ → ℤ → ℤ → ℕ → CtrlValue → Control
+control_with_range controls c low high apart default_value = with_range (control_in controls c) low high apart default_value
+
 -- what a step makes of them, as the law `present_ranges` says: a range change gives one control another range
 abbrev pub ranges_after : Step → List Control → List Control
-ranges_after (ModifyRange c low high apart default_value) controls = modified controls c (with_range (control_in controls c) low high apart default_value)
+ranges_after (ModifyRange c low high apart default_value) controls = modified controls c (control_with_range controls c low high apart default_value)
 ranges_after _ controls = controls
 
 -- What a step makes of the values, under the ranges before it, by giving a control another range: its value is settled anew by that range, and is the new
 -- default where it takes none. Its cluster isn't judged.
 abbrev pub settled_after : Step → List Control → Values → Values
-settled_after (ModifyRange c low high apart default_value) controls values = slice_set values c (settled_anew (with_range (control_in controls c) low high apart default_value) (value_at values c))
+settled_after (ModifyRange c low high apart default_value) controls values = slice_set values c (settled_anew (control_with_range controls c low high apart default_value) (value_at values c))
 settled_after _ controls values = values
 
 -- Giving a control another range: EINVAL where there is no such control; ERANGE where the control with this range, and else as its driver described it, has
@@ -67,6 +71,6 @@ settled_after _ controls values = values
 abbrev pub range_answer : PlanData → Past → ℕ → ℤ → ℤ → ℕ → CtrlValue → Answer
 range_answer plan past c low high apart default_value =
     if nat_le (length plan.controls) c then refused EINVAL
-    else if is_some (first_fault (with_range (control_in (ranges_now plan past) c) low high apart default_value)) then refused ERANGE
+    else if is_some (first_fault (control_with_range (ranges_now plan past) c low high apart default_value)) then refused ERANGE
     else if is_full past then refused ENOSPC
     else Ok Done

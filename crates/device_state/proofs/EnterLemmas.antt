@@ -1,4 +1,4 @@
--- Steps that leave file handles, grabs and values: when they may follow, and what a call that adds one does.
+-- Steps that leave file handles, grabs, ranges and values: when they may follow, and what a call that adds one does.
 use Rattle.std.proofs.Common.{◌≡◌, ℕ, ◌+◌, ◌≤◌, Bool, true, false, List, [], length, is_some, if◌then◌else◌, Option, None, Some, Ok, Err, IsOk, refl, ap, sym, subst, ◌∙◌, arith, inl, inr}
 use Rattle.history.specs.Past.{past}
 use Rattle.ctrl_types.specs.declared.errno.Errno.{Errno}

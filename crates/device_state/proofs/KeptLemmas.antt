@@ -50,7 +50,7 @@ use Rattle.device_state.specs.Kept.{Caches, IsKept}
 use Rattle.device_state.specs.Setting.{IsSettable}
 use Rattle.step_effects.specs.Leaving.{leaves_controls}
 use Rattle.step_effects.proofs.LeavingLemmas.{opened_controls_left, grabbed_controls_left, ranges_left, values_left}
-use Rattle.device_history.proofs.PastLemmas.{opened_add, opened_fresh, opened_rising, drops_one, now_add, legal_add}
+use Rattle.device_history.proofs.PastLemmas.{opened_add, opened_fresh, opened_rising, drops_one, now_add, now_more, legal_add}
 use Rattle.device_history.proofs.GrabLemmas.{grabbed_start, grabbed_add, grabbed_more}
 use Rattle.device_history.proofs.LegalLemmas.{unrefused}
 use Rattle.device_history.proofs.PresentLemmas.{length_now}
@@ -195,7 +195,7 @@ set_lays verdicts told plan steps caches values fh which request list touch kept
     v ∙ ap (λ (v : Values). written plan v touch.rows) kept.values
     ∙ sym (laid_written verdicts plan (ranges_now plan (past steps)) (now verdicts plan (past steps)) (grabbed plan (past steps)) touch.pairs touch.rows sets.plans (own_judged verdicts plan (past steps) fh which request list touch sets current) sets.free)
 
--- a step that leaves file handles, grabs and values
+-- a step that leaves file handles, grabs, ranges and values
 pub kept_controls_left : (verdicts : Verdicts) (told : Words) (plan : PlanData) (steps steps' : History) (caches : Caches) (f : FramesData) (b : BoardData) (events : EventsData) (seat : ℕ) (step : Step)
     → IsKept verdicts told plan steps caches → is_full (past steps) ≡ false → MayFollow verdicts plan (past steps) step → leaves_controls step ≡ true → steps' ≡ steps ++ record { seat = seat; step = step } ∷ []
     → f ≡ frames_after verdicts plan (past steps) (length steps) step caches.frames
@@ -225,11 +225,6 @@ kept_controls_left verdicts told plan steps steps' caches f b events seat step k
 pub numbered : (verdicts : Verdicts) (told : Words) (plan : PlanData) (steps : History) (caches : Caches) → IsKept verdicts told plan steps caches → (j : ℕ) → (events_of caches.events j).next + length plan.controls ≤ 4294967295
 numbered verdicts told plan steps caches kept j = numbers_left verdicts plan (past steps) (record { 0 = j }) (events_of caches.events j) kept.plans (omega (arith, length_past steps, kept.few)) (kept.events (record { 0 = j }))
 
--- the present values after one more step
-pub now_next : (verdicts : Verdicts) (plan : PlanData) (e : Entry Step) (older : Past) → now verdicts plan (e ∷ older) ≡ values_after verdicts plan older e.step (now verdicts plan older)
-unfolding now
-now_next verdicts plan e older = refl
-
 -- a moment of the same ranges, values and grabs
 pub moment : {ranges : List Control} {values values' : Values} {grabs grabs' : Grabs} → values ≡ values' → grabs ≡ grabs' → ◌≡◌ {A = MomentData} (record { ranges = ranges; values = values; grabs = grabs }) (record { ranges = ranges; values = values'; grabs = grabs' })
 moment v g = rw (v, g) refl
@@ -243,6 +238,6 @@ around verdicts told plan steps caches e before after kept b r v g = record {
   old_values = ap (λ (m : MomentData). m.values) b ∙ kept.values;
   old_grabs = ap (λ (m : MomentData). m.grabs) b ∙ kept.grabs;
   ranges = r ∙ sym (ranges_more plan e (past steps));
-  values = v ∙ sym (now_next verdicts plan e (past steps));
+  values = v ∙ sym (now_more verdicts plan e (past steps));
   grabs = g ∙ sym (grabbed_more plan e (past steps));
 }

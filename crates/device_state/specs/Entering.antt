@@ -1,4 +1,4 @@
--- The asks whose steps leave file handles, grabs and values (of this project).
+-- The asks whose steps leave file handles, grabs, ranges and values (of this project).
 use Rattle.std.specs.Prelude.{◌≡◌, ◌≤◌, ℕ, true, List, [], length, Option, None, Some, IsOk}
 use Rattle.ctrl_types.specs.declared.errno.Errno.{Errno}
 use Rattle.ctrl_types.specs.declared.errno.Errno.TheVariants.{ENOMEM}
@@ -17,7 +17,7 @@ use Rattle.device_history.specs.Answers.{answer_of, step_of, no_memory, MayLackM
 use Rattle.step_effects.specs.Leaving.{NamesKnown, leaves_controls}
 use Rattle.device_state.specs.Device.{may_ask, must_ask}
 
--- An ask that adds a step which leaves file handles, grabs and values: it is answered its own refusal, then that no further step is kept, and else
+-- An ask that adds a step which leaves file handles, grabs, ranges and values: it is answered its own refusal, then that no further step is kept, and else
 -- the reply; want of memory may take the place of the reply.
 pub record AddsStep (verdicts : Verdicts) (plan : PlanData) (past : Past) (words : List ℕ) (ask : Ask) (refusal : Option Errno) (step : Step) (reply : Reply) : Type 0 where
   pub leaves : leaves_controls step ≡ true

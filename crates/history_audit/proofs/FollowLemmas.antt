@@ -5,13 +5,13 @@ use Rattle.ctrl_types.specs.declared.errno.Errno.{Errno}
 use Rattle.ctrl_types.specs.declared.errno.Errno.TheVariants.{EBADF, EINVAL, ENOSPC, ERANGE}
 use Rattle.ctrl_calls.specs.Meanings.{Verdicts}
 use Rattle.ctrl_types.specs.Values.{CtrlValue}
-use Rattle.ctrl_settle.specs.Control.{Control, with_range}
+use Rattle.ctrl_settle.specs.Control.{Control}
 use Rattle.ctrl_settle.specs.Faults.{IsWellFormed}
 use Rattle.ctrl_settle.specs.declared.fault.CtrlFault.{CtrlFault}
 use Rattle.ctrl_settle.proofs.WellFormed.{nothing_found, well_formed_where_none}
 use Rattle.ctrl_settle.specs.FirstFault.{first_fault}
-use Rattle.ctrl_handlers.specs.Plan.{IsPlan, PlanData, control, control_in}
-use Rattle.device_history.specs.Ranges.{ranges_now}
+use Rattle.ctrl_handlers.specs.Plan.{IsPlan, PlanData, control}
+use Rattle.device_history.specs.Ranges.{control_with_range, ranges_now}
 use Rattle.req_book.specs.Requests.{find, is_number}
 use Rattle.frame_queue.specs.Frames.{begin_answer, buffer_number, complete_refusal}
 use Rattle.device_history.specs.declared.ask.Ask.TheVariants as asks
@@ -198,9 +198,9 @@ fits_may verdicts plan past (steps.Grab c on) plain room h = (asks.Grab c on, tw
     below : (a b : ℕ) → nat_lt a b ≡ true → nat_le b a ≡ false
     below a b h = grind (arith, nat_tests, h)
 fits_may verdicts plan past (steps.ModifyRange c low high apart default_value) plain room h =
-    let parts = both (nat_lt c (length plan.controls)) (lacks (first_fault (with_range (control_in (ranges_now plan past) c) low high apart default_value))) h in (
+    let parts = both (nat_lt c (length plan.controls)) (lacks (first_fault (control_with_range (ranges_now plan past) c low high apart default_value))) h in (
       asks.ModifyRange c low high apart default_value,
-      thrice (nat_le (length plan.controls) c) (is_some (first_fault (with_range (control_in (ranges_now plan past) c) low high apart default_value))) (is_full past) EINVAL ERANGE ENOSPC Done (below c (length plan.controls) parts.0) (is_not (is_some (first_fault (with_range (control_in (ranges_now plan past) c) low high apart default_value))) parts.1) room,
+      thrice (nat_le (length plan.controls) c) (is_some (first_fault (control_with_range (ranges_now plan past) c low high apart default_value))) (is_full past) EINVAL ERANGE ENOSPC Done (below c (length plan.controls) parts.0) (is_not (is_some (first_fault (control_with_range (ranges_now plan past) c low high apart default_value))) parts.1) room,
       refl,
     )
   where
@@ -261,8 +261,8 @@ may_fits verdicts plan past step plain may = by step plain (may_decided verdicts
     by (steps.Set fh pairs) plain h adds fit = cc
     by (steps.Grab c on) plain h adds fit = let parts = twice_back (nat_le (length plan.controls) c) (is_full past) EINVAL ENOSPC Done h in (parts.1, above c (length plan.controls) parts.0)
     by (steps.ModifyRange c low high apart default_value) plain h adds fit =
-        let parts = thrice_back (nat_le (length plan.controls) c) (is_some (first_fault (with_range (control_in (ranges_now plan past) c) low high apart default_value))) (is_full past) EINVAL ERANGE ENOSPC Done h in
-        (parts.2, joined (nat_lt c (length plan.controls)) (lacks (first_fault (with_range (control_in (ranges_now plan past) c) low high apart default_value))) (above c (length plan.controls) parts.0) (ap not parts.1))
+        let parts = thrice_back (nat_le (length plan.controls) c) (is_some (first_fault (control_with_range (ranges_now plan past) c low high apart default_value))) (is_full past) EINVAL ERANGE ENOSPC Done h in
+        (parts.2, joined (nat_lt c (length plan.controls)) (lacks (first_fault (control_with_range (ranges_now plan past) c low high apart default_value))) (above c (length plan.controls) parts.0) (ap not parts.1))
     by steps.Alloc plain h adds fit = free_back _ past _ h
     by (steps.Store r pairs) plain h adds fit = cc
     by (steps.Buffer r number) plain h adds fit = free_back _ past _ h
@@ -297,10 +297,10 @@ range_taken {X = X} {E = E} (Err e) ctrl sound whole = by (first_fault ctrl) ref
 
 -- a control that is given another range is there, and takes it
 pub range_known : (verdicts : Verdicts) (plan : PlanData) (past : Past) (c : ℕ) (low high : ℤ) (apart : ℕ) (default_value : CtrlValue) → MayFollow verdicts plan past (steps.ModifyRange c low high apart default_value)
-    → (c < length plan.controls) × (first_fault (with_range (control_in (ranges_now plan past) c) low high apart default_value) ≡ None)
+    → (c < length plan.controls) × (first_fault (control_with_range (ranges_now plan past) c low high apart default_value) ≡ None)
 range_known verdicts plan past c low high apart default_value may =
-    let parts = both (nat_lt c (length plan.controls)) (lacks (first_fault (with_range (control_in (ranges_now plan past) c) low high apart default_value))) (may_fits verdicts plan past (steps.ModifyRange c low high apart default_value) refl may).1 in
-    (below c (length plan.controls) parts.0, none (first_fault (with_range (control_in (ranges_now plan past) c) low high apart default_value)) parts.1)
+    let parts = both (nat_lt c (length plan.controls)) (lacks (first_fault (control_with_range (ranges_now plan past) c low high apart default_value))) (may_fits verdicts plan past (steps.ModifyRange c low high apart default_value) refl may).1 in
+    (below c (length plan.controls) parts.0, none (first_fault (control_with_range (ranges_now plan past) c low high apart default_value)) parts.1)
   where
     none : (o : Option CtrlFault) → lacks o ≡ true → o ≡ None
     none None h = refl

@@ -114,8 +114,3 @@ numbered verdicts plan all count parts replay j =
     let many = taken_many all count replay.within in
     let same = length_past (take count all) in
     numbers_left verdicts plan (past (take count all)) (record { 0 = j }) (events_of parts.events j) replay.plans (omega (arith, many, same, replay.few)) (replay.made.events (record { 0 = j }))
-
--- the present values after one more entry
-pub now_next : (verdicts : Verdicts) (plan : PlanData) (e : Entry Step) (older : Past) → now verdicts plan (e ∷ older) ≡ values_after verdicts plan older e.step (now verdicts plan older)
-unfolding now
-now_next verdicts plan e older = refl

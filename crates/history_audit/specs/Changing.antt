@@ -7,13 +7,12 @@ use Rattle.frame_queue.specs.Frames.{cancel_refusal}
 use Rattle.ctrl_calls.specs.Meanings.{Verdicts}
 use Rattle.ctrl_types.specs.declared.ids.FhId.{FhId}
 use Rattle.ctrl_types.specs.Values.{CtrlValue}
-use Rattle.ctrl_settle.specs.Control.{with_range}
 use Rattle.ctrl_settle.specs.FirstFault.{first_fault}
-use Rattle.ctrl_handlers.specs.Plan.{PlanData, control, control_in}
+use Rattle.ctrl_handlers.specs.Plan.{PlanData, control}
 use Rattle.device_history.specs.declared.ask.Step.{Step}
 use Rattle.device_history.specs.declared.ask.Step.TheVariants as steps
 use Rattle.device_history.specs.Steps.{Past}
-use Rattle.device_history.specs.Ranges.{ranges_now}
+use Rattle.device_history.specs.Ranges.{control_with_range, ranges_now}
 use Rattle.device_history.specs.Handles.{are_all_open, handler_of, shown}
 use Rattle.device_history.specs.Events.{pending}
 use Rattle.device_history.specs.EventAnswers.{first_control}
@@ -30,7 +29,7 @@ shows_it plan past fh c = is_number (shown plan past fh (control plan c).id) c
 
 -- a control is there, and has no fault with a range
 abbrev pub takes_range : PlanData → Past → ℕ → ℤ → ℤ → ℕ → CtrlValue → Bool
-takes_range plan past c low high apart default_value = nat_lt c (length plan.controls) && lacks (first_fault (with_range (control_in (ranges_now plan past) c) low high apart default_value))
+takes_range plan past c low high apart default_value = nat_lt c (length plan.controls) && lacks (first_fault (control_with_range (ranges_now plan past) c low high apart default_value))
 
 -- Of the code: what a replay tests of a step that gives no pairs, where a further step is kept; that this is whether the step may follow is said at
 -- `Replay::fits`.

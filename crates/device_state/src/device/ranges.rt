@@ -2,11 +2,9 @@
 
 ghost use Rattle.std.specs.Prelude.{◌≡◌, Ok, Err, IfOk, IfErr, OnOk, OnErr};
 ghost use Rattle.history.specs.Past.{past};
-ghost use Rattle.ctrl_settle.specs.Control.{with_range};
-ghost use Rattle.ctrl_handlers.specs.Plan.{control_in};
 ghost use Rattle.device_history.specs.declared.ask.Ask.TheVariants as asks;
 ghost use Rattle.device_history.specs.declared.ask.Reply.TheVariants as replies;
-ghost use Rattle.device_history.specs.Ranges.{range_answer, ranges_now};
+ghost use Rattle.device_history.specs.Ranges.{control_with_range, range_answer, ranges_now};
 ghost use Rattle.device_state.specs.Device.{Handles};
 ghost use Rattle.device_state.specs.Ranging.{GivesRange, IsRanged};
 
@@ -54,7 +52,7 @@ impl<D: Driver> Device<D> {
         default_value: CtrlValue,
     ) -> Result<Ctrl, Fault>
         ensures ok { OnOk result (range_answer self.now.plan (past self.now.steps) control min max step default_value ≡ Ok replies.Done) }
-        ensures changed { IfOk result (λ changed. changed ≡ with_range (control_in (ranges_now self.now.plan (past self.now.steps)) control) min max step default_value) }
+        ensures changed { IfOk result (λ changed. changed ≡ control_with_range (ranges_now self.now.plan (past self.now.steps)) control min max step default_value) }
         ensures err { IfErr result (λ fault. range_answer self.now.plan (past self.now.steps) control min max step default_value ≡ Err fault) }
     {
         if control >= self.plan.control_count() {

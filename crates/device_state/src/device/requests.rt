@@ -160,7 +160,7 @@ impl<D: Driver> Device<D> {
         }
     }
 
-    // Answers an ask whose step leaves file handles, grabs and values: its own refusal, that no further step is kept, or the reply.
+    // Answers an ask whose step leaves file handles, grabs, ranges and values: its own refusal, that no further step is kept, or the reply.
     pub(super) fn enter(
         &mut self,
         seat: u32,

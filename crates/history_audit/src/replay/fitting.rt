@@ -4,10 +4,8 @@ ghost use Rattle.std.specs.Prelude.{◌≡◌, ◌<◌, ◌↔◌, false, length
 ghost use Rattle.history.specs.Past.{past};
 ghost use Rattle.device_history.specs.Legal.{MayFollow};
 ghost use Rattle.device_history.specs.Refusals.{is_full};
-ghost use Rattle.ctrl_settle.specs.Control.{with_range};
 ghost use Rattle.ctrl_settle.specs.FirstFault.{first_fault};
-ghost use Rattle.ctrl_handlers.specs.Plan.{control_in};
-ghost use Rattle.device_history.specs.Ranges.{ranges_now};
+ghost use Rattle.device_history.specs.Ranges.{control_with_range, ranges_now};
 ghost use Rattle.history_audit.specs.Changing.{fits_parts, lacks, takes_range};
 ghost use Rattle.history_audit.specs.Replay.{gives_pairs};
 
@@ -83,7 +81,7 @@ impl<'a, D: Driver> Replay<'a, D> {
     // Whether a control, which the caller owes to be there, takes a range.
     fn takes_known(&self, control: u32, min: i64, max: i64, apart: u64, default_value: i64) -> bool
         requires { control < length self.now.plan.controls }
-        ensures { result ≡ lacks (first_fault (with_range (control_in (ranges_now self.now.plan (past self.now.steps)) control) min max apart default_value)) }
+        ensures { result ≡ lacks (first_fault (control_with_range (ranges_now self.now.plan (past self.now.steps)) control min max apart default_value)) }
     {
         let ctrl = self.present_ranges().range(control);
         ctrl.with_range(min, max, apart, default_value).is_ok()

@@ -5,7 +5,8 @@ use Rattle.ctrl_types.specs.declared.ids.Pair.{Pair}
 use Rattle.device_history.specs.declared.ask.Step.{Step}
 use Rattle.device_history.specs.declared.ask.Step.TheVariants.{Set}
 use Rattle.ctrl_raises.specs.Raises.{MomentData}
-use Rattle.device_state.proofs.KeptLemmas.{around, kept_set, moment, now_next, numbered, set_lays}
+use Rattle.device_history.proofs.PastLemmas.{now_more}
+use Rattle.device_state.proofs.KeptLemmas.{around, kept_set, moment, numbered, set_lays}
 use Rattle.device_history.specs.Grabs.{grabbed}
 use Rattle.device_history.specs.Values.{now}
 use Rattle.device_history.specs.Forecasts.{queued_frames}
@@ -77,7 +78,7 @@ raise_step-requires-clause-values g c =
     set_lays g.D.Validates.verdict g.D.Notifies.told device.plan device.steps.items _ c.write_rows.new.values.items c.args.fh c.args.which c.args.request c.args.list.now c.args.touch c.self.invariant (rw (← c.self.view_is) at c.requires.settable) c.requires.present
     (rw (copied, c.rows.ensures) at c.write_rows.ensures) in
     ap (λ (m : MomentData). length m.values) c.new-2.ensures ∙ ap length (c.as_slice-7.ensures.value ∙ lays)
-    ∙ ap length (sym (now_next g.D.Validates.verdict device.plan entry (past device.steps.items))) ∙ length_now g.D.Validates.verdict device.plan (entry ∷ past device.steps.items)
+    ∙ ap length (sym (now_more g.D.Validates.verdict device.plan entry (past device.steps.items))) ∙ length_now g.D.Validates.verdict device.plan (entry ∷ past device.steps.items)
 
 pub raise_step-requires-clause-grabs : goal.raise_step-requires-clause-grabs
 raise_step-requires-clause-grabs g c =
@@ -123,7 +124,7 @@ renew-requires-clause-values g c =
     let lays =
     set_lays g.D.Validates.verdict g.D.Notifies.told device.plan device.steps.items _ c.write_rows.new.values.items c.args.fh c.args.which c.args.request c.args.list.now c.args.touch c.self.invariant (rw (← c.self.view_is) at c.requires.settable) c.requires.present
     (rw (copied, c.rows.ensures) at c.write_rows.ensures) in
-    ap length (c.as_slice-2.ensures.value ∙ lays) ∙ ap length (sym (now_next g.D.Validates.verdict device.plan entry (past device.steps.items))) ∙ length_now g.D.Validates.verdict device.plan (entry ∷ past device.steps.items)
+    ap length (c.as_slice-2.ensures.value ∙ lays) ∙ ap length (sym (now_more g.D.Validates.verdict device.plan entry (past device.steps.items))) ∙ length_now g.D.Validates.verdict device.plan (entry ∷ past device.steps.items)
 
 -- the clusters of the rows are there
 pub renew-requires-clause-clusters : goal.renew-requires-clause-clusters

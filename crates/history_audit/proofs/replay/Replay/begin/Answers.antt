@@ -19,9 +19,10 @@ use Rattle.device_history.proofs.GrabLemmas.{grabbed_more}
 use Rattle.device_history.proofs.PresentLemmas.{length_grabbed, length_now}
 use Rattle.ctrl_raises.specs.Raises.{MomentData}
 use Rattle.device_history.specs.EventSteps.{AreAround}
+use Rattle.device_history.proofs.PastLemmas.{now_more}
 use Rattle.history_audit.specs.Replay.{ReplayData}
 use Rattle.history_audit.proofs.FollowLemmas.{begin_there}
-use Rattle.history_audit.proofs.MadeLemmas.{now_next, numbered, replay_add, replayed_next}
+use Rattle.history_audit.proofs.MadeLemmas.{numbered, replay_add, replayed_next}
 use Rattle.device_history.proofs.RangeLemmas.{ranges_more, ranges_own}
 use Rattle.history_audit.proofs.replay.Replay.begin.Goals as goal
 
@@ -106,7 +107,7 @@ invariant_of-self g c =
       old_grabs = ap (λ (m : MomentData). m.grabs) c.new.ensures ∙ c.as_slice-4.ensures.value ∙ made.grabs;
       ranges = ap (λ (m : MomentData). m.ranges) c.new-2.ensures ∙ made.ranges ∙ sym (ranges_more r.plan.now c.args.entry.now P ∙ ap (λ (s : Step). ranges_after s (ranges_now r.plan.now P)) step);
       values = ap (λ (m : MomentData). m.values) c.new-2.ensures ∙ c.as_slice-5.ensures.value ∙ c.into_vec-values.ensures ∙ values
-          ∙ sym (now_next g.D.Validates.verdict r.plan.now c.args.entry.now P ∙ ap (λ (s : Step). values_after g.D.Validates.verdict r.plan.now P s (now g.D.Validates.verdict r.plan.now P)) step);
+          ∙ sym (now_more g.D.Validates.verdict r.plan.now c.args.entry.now P ∙ ap (λ (s : Step). values_after g.D.Validates.verdict r.plan.now P s (now g.D.Validates.verdict r.plan.now P)) step);
       grabs = ap (λ (m : MomentData). m.grabs) c.new-2.ensures ∙ c.as_slice-6.ensures.value ∙ made.grabs ∙ sym (grabbed_more r.plan.now c.args.entry.now P ∙ ap (λ (s : Step). grabbed_after s (grabbed r.plan.now P)) step);
     } in
     replay_add g.D.Validates.verdict r.plan.now r.steps.now r.count _ _ c.args.entry.now c.self.invariant (rw (← c.self.view_is) at c.requires.next) (rw (← c.self.view_is) at c.requires.room) (rw (← c.self.view_is) at c.requires.follows)

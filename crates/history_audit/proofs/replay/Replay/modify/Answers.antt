@@ -14,7 +14,7 @@ use Rattle.ctrl_clusters.specs.Rows.{Values, value_at}
 use Rattle.device_history.specs.declared.ask.Step.{Step}
 use Rattle.device_history.specs.declared.ask.Step.TheVariants as steps
 use Rattle.device_history.specs.Legal.{MayFollow}
-use Rattle.device_history.specs.Ranges.{ranges_now}
+use Rattle.device_history.specs.Ranges.{control_with_range, ranges_now}
 use Rattle.device_history.proofs.PresentLemmas.{length_grabbed, length_now}
 use Rattle.device_history.proofs.RangeLemmas.{ranges_own}
 use Rattle.history_audit.specs.Replay.{ReplayData}
@@ -59,15 +59,15 @@ invariant_of-self g c =
     let low : to_z w64 (of_z w64 c.args.min) ≡ c.args.min = to_z-of_z {w = w64} {z = c.args.min} c.ranges.min in
     let high : to_z w64 (of_z w64 c.args.max) ≡ c.args.max = to_z-of_z {w = w64} {z = c.args.max} c.ranges.max in
     let usual : to_z w64 (of_z w64 c.args.default_value) ≡ c.args.default_value = to_z-of_z {w = w64} {z = c.args.default_value} c.ranges.default_value in
-    let own : c.in-Ok.changed ≡ with_range (control_in r.ranges c.args.control) c.args.min c.args.max c.args.apart c.args.default_value =
+    let own : c.in-Ok.changed ≡ control_with_range r.ranges c.args.control c.args.min c.args.max c.args.apart c.args.default_value =
     c.in-Ok.ensures.value ∙ (λ i. with_range c.range.result.now (low i) (high i) c.args.apart (usual i)) ∙ ap (λ (x : Control). with_range x c.args.min c.args.max c.args.apart c.args.default_value) c.range.ensures in
-    let ranged : c.change_range.new.ranges ≡ modified (ranges_now r.plan.now P) c.args.control (with_range (control_in (ranges_now r.plan.now P) c.args.control) c.args.min c.args.max c.args.apart c.args.default_value) =
+    let ranged : c.change_range.new.ranges ≡ modified (ranges_now r.plan.now P) c.args.control (control_with_range (ranges_now r.plan.now P) c.args.control c.args.min c.args.max c.args.apart c.args.default_value) =
     c.change_range.ensures.ranges ∙ ap (modified r.ranges c.args.control) own
-    ∙ ap (λ (l : List Control). modified l c.args.control (with_range (control_in l c.args.control) c.args.min c.args.max c.args.apart c.args.default_value)) made.ranges in
+    ∙ ap (λ (l : List Control). modified l c.args.control (control_with_range l c.args.control c.args.min c.args.max c.args.apart c.args.default_value)) made.ranges in
     let settled =
     c.change_range.ensures.values ∙ ap (λ (x : Control). slice_set r.values.items c.args.control (settled_anew x (value_at r.values.items c.args.control))) own
-    ∙ ap (λ (l : List Control). slice_set r.values.items c.args.control (settled_anew (with_range (control_in l c.args.control) c.args.min c.args.max c.args.apart c.args.default_value) (value_at r.values.items c.args.control))) made.ranges
-    ∙ ap (λ (vs : Values). slice_set vs c.args.control (settled_anew (with_range (control_in (ranges_now r.plan.now P) c.args.control) c.args.min c.args.max c.args.apart c.args.default_value) (value_at vs c.args.control))) made.values in
+    ∙ ap (λ (l : List Control). slice_set r.values.items c.args.control (settled_anew (control_with_range l c.args.control c.args.min c.args.max c.args.apart c.args.default_value) (value_at r.values.items c.args.control))) made.ranges
+    ∙ ap (λ (vs : Values). slice_set vs c.args.control (settled_anew (control_with_range (ranges_now r.plan.now P) c.args.control c.args.min c.args.max c.args.apart c.args.default_value) (value_at vs c.args.control))) made.values in
     replay_add g.D.Validates.verdict r.plan.now r.steps.now r.count _ _ c.args.entry.now c.self.invariant (rw (← c.self.view_is) at c.requires.next) (rw (← c.self.view_is) at c.requires.room) (rw (← c.self.view_is) at c.requires.follows)
     (rw step made.file_handles) (rw step made.grabs) (rw step ranged) (rw step settled) (rw step made.frames)
     (c.change_range.ensures.events g.D.Validates.verdict c.args.entry.now P c.args.min c.args.max c.args.apart c.args.default_value step own made.ranges made.values (c.as_slice.ensures.value ∙ made.grabs))
@@ -84,7 +84,7 @@ pub returns-in_default : goal.returns-in_default
 returns-in_default g c =
     let r = c.self.inside in
     let P : List (Entry Step) = past (take r.count r.steps.now) in
-    let fits : first_fault (with_range (control_in (ranges_now r.plan.now P) c.args.control) c.args.min c.args.max c.args.apart c.args.default_value) ≡ None =
+    let fits : first_fault (control_with_range (ranges_now r.plan.now P) c.args.control c.args.min c.args.max c.args.apart c.args.default_value) ≡ None =
     (range_known g.D.Validates.verdict r.plan.now P c.args.control c.args.min c.args.max c.args.apart c.args.default_value (subst (λ (s : Step). MayFollow g.D.Validates.verdict r.plan.now P s) c.requires.step (rw (← c.self.view_is) at c.requires.follows))).1 in
     let low : to_z w64 (of_z w64 c.args.min) ≡ c.args.min = to_z-of_z {w = w64} {z = c.args.min} c.ranges.min in
     let high : to_z w64 (of_z w64 c.args.max) ≡ c.args.max = to_z-of_z {w = w64} {z = c.args.max} c.ranges.max in

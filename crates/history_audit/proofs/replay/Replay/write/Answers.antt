@@ -11,8 +11,9 @@ use Rattle.device_history.specs.Grabs.{grabbed, grabbed_after}
 use Rattle.device_history.specs.Values.{pairs_asked, now, values_after}
 use Rattle.device_history.proofs.GrabLemmas.{grabbed_more}
 use Rattle.device_history.proofs.PresentLemmas.{length_grabbed, length_now}
+use Rattle.device_history.proofs.PastLemmas.{now_more}
 use Rattle.history_audit.specs.Replay.{ReplayData}
-use Rattle.history_audit.proofs.MadeLemmas.{now_next, numbered, replay_add, replayed_next}
+use Rattle.history_audit.proofs.MadeLemmas.{numbered, replay_add, replayed_next}
 use Rattle.history_audit.proofs.WriteLemmas.{set_rows, set_makes}
 use Rattle.device_history.proofs.RangeLemmas.{ranges_more, ranges_own}
 use Rattle.history_audit.proofs.replay.Replay.write.Goals as goal
@@ -55,7 +56,7 @@ raise_step-requires-clause-values g c =
     set_makes g.D.Validates.verdict r.plan.now P c.args.fh c.args.touch.now.pairs c.args.touch.now c.rows.result.now c.in_ok-values.values.items c.write_rows.new.values.items c.self.invariant.plans
     (rw (← c.self.view_is) at c.requires.touched) c.rows.ensures (c.in_ok-values.ensures ∙ c.as_slice.ensures.value ∙ c.self.invariant.made.values) c.write_rows.ensures in
     ap (λ (m : MomentData). length m.values) c.new-2.ensures ∙ ap length (c.as_slice-4.ensures.value ∙ made)
-    ∙ ap length (sym (now_next g.D.Validates.verdict r.plan.now c.args.entry.now P ∙ ap (λ (s : Step). values_after g.D.Validates.verdict r.plan.now P s (now g.D.Validates.verdict r.plan.now P)) step))
+    ∙ ap length (sym (now_more g.D.Validates.verdict r.plan.now c.args.entry.now P ∙ ap (λ (s : Step). values_after g.D.Validates.verdict r.plan.now P s (now g.D.Validates.verdict r.plan.now P)) step))
     ∙ length_now g.D.Validates.verdict r.plan.now (c.args.entry.now ∷ P)
 
 pub raise_step-requires-clause-grabs : goal.raise_step-requires-clause-grabs
@@ -82,7 +83,7 @@ invariant_of-self g c =
       old_grabs = ap (λ (m : MomentData). m.grabs) c.new.ensures ∙ c.as_slice-3.ensures.value ∙ made.grabs;
       ranges = ap (λ (m : MomentData). m.ranges) c.new-2.ensures ∙ made.ranges ∙ sym (ranges_more r.plan.now c.args.entry.now P ∙ ap (λ (s : Step). ranges_after s (ranges_now r.plan.now P)) step);
       values = ap (λ (m : MomentData). m.values) c.new-2.ensures ∙ c.as_slice-4.ensures.value ∙ laid_over
-          ∙ sym (now_next g.D.Validates.verdict r.plan.now c.args.entry.now P ∙ ap (λ (s : Step). values_after g.D.Validates.verdict r.plan.now P s (now g.D.Validates.verdict r.plan.now P)) step);
+          ∙ sym (now_more g.D.Validates.verdict r.plan.now c.args.entry.now P ∙ ap (λ (s : Step). values_after g.D.Validates.verdict r.plan.now P s (now g.D.Validates.verdict r.plan.now P)) step);
       grabs = ap (λ (m : MomentData). m.grabs) c.new-2.ensures ∙ c.as_slice-5.ensures.value ∙ made.grabs ∙ sym (grabbed_more r.plan.now c.args.entry.now P ∙ ap (λ (s : Step). grabbed_after s (grabbed r.plan.now P)) step);
     } in
     replay_add g.D.Validates.verdict r.plan.now r.steps.now r.count _ _ c.args.entry.now c.self.invariant (rw (← c.self.view_is) at c.requires.next) (rw (← c.self.view_is) at c.requires.room) (rw (← c.self.view_is) at c.requires.follows)
