@@ -1,12 +1,13 @@
 -- Each check of a list refuses with the errno of its name.
-use Rattle.std.proofs.Common.{◌≡◌, ℕ, Bool, true, false, ◌+◌, ◌&&◌, ◌||◌, ◌==◌, not, int_lt, unsigned_abs, List, [], ◌∷◌, ◌++◌, map, Option, None, Some, IfSome, Result, Ok, Err, if◌then◌else◌, is_some, refl, sym, subst}
+use Rattle.std.proofs.Common.{◌≡◌, ℕ, ℤ, Bool, true, false, ◌+◌, ◌&&◌, ◌||◌, ◌==◌, not, int_lt, unsigned_abs, List, [], ◌∷◌, ◌++◌, map, Option, None, Some, IfSome, Result, Ok, Err, if◌then◌else◌, is_some, refl, sym, subst}
 use Rattle.std.specs.Int.{bit_at}
 use Rattle.std.specs.Option.{is_none, option_and_then}
 use Rattle.std.specs.Result.{is_ok}
+use Rattle.ctrl_types.specs.declared.value.CtrlValue.TheVariants.{Number}
 use Rattle.ctrl_types.specs.Classes.{which_of}
 use Rattle.ctrl_types.specs.Flags.{contains}
 use Rattle.ctrl_types.specs.declared.flags.TheConstants.Flags.{READ_ONLY, WRITE_ONLY}
-use Rattle.ctrl_types.specs.Values.{CtrlValue}
+use Rattle.ctrl_types.specs.declared.value.CtrlValue.{CtrlValue}
 use Rattle.ctrl_types.specs.declared.errno.Errno.{Errno}
 use Rattle.ctrl_types.specs.declared.errno.Errno.TheVariants.{EACCES, EBADF, EBUSY, EINVAL, ENOSPC, ERANGE}
 use Rattle.ctrl_types.specs.declared.errno.Fault.{Fault}
@@ -20,7 +21,7 @@ use Rattle.ctrl_types.specs.declared.which.Which.{Which}
 use Rattle.ctrl_types.specs.declared.which.Which.TheVariants.{Current, Defaults, Class, Request}
 use Rattle.ctrl_calls.specs.Meanings.{Verdicts}
 use Rattle.ctrl_settle.specs.Control.{Control}
-use Rattle.ctrl_settle.specs.Settle.{item, settle, settle_as}
+use Rattle.ctrl_settle.specs.Settle.{as_number, item, settle, settle_as}
 use Rattle.ctrl_handlers.specs.Plan.{PlanData, control, control_in}
 use Rattle.ctrl_clusters.specs.Rows.{is_grabbed}
 use Rattle.ctrl_lists.specs.declared.refusal.Refusal.{Refusal}
@@ -128,11 +129,11 @@ naming_own plan view entry = choice (is_some (named plan view.handler view.which
 reading_own : (plan : PlanData) (p : Pair) → AreOwn (only checks.EntryReadable) (reading_refusal plan p)
 reading_own plan p = choice (contains (control plan p.control).flags WRITE_ONLY) (only checks.EntryReadable) (Some EACCES) None refl tt
 
-item_own : (c : Control) (v : CtrlValue) → AreOwn writing_part (list_checks.errno_if_refused (item c v))
+item_own : (c : Control) (v : ℤ) → AreOwn writing_part (list_checks.errno_if_refused (item c v))
 item_own c v =
     choice_of (int_lt v c.minimum || int_lt c.maximum v) writing_part (Err ERANGE) _ refl (choice_of (bit_at c.skip (unsigned_abs v) == 1) writing_part (Err EINVAL) (Ok v) refl tt)
 
-kind_own : (kind : Kind) (c : Control) (v : CtrlValue) → AreOwn writing_part (list_checks.errno_if_refused (settle_as kind c v))
+kind_own : (kind : Kind) (c : Control) (v : ℤ) → AreOwn writing_part (list_checks.errno_if_refused (settle_as kind c v))
 kind_own Integer c v = tt
 kind_own Integer64 c v = tt
 kind_own Boolean c v = tt
@@ -143,7 +144,11 @@ kind_own IntegerMenu c v = item_own c v
 
 settling_own : (c : Control) (v : CtrlValue) → AreOwn writing_part (list_checks.errno_if_refused (settle c v))
 unfolding settle
-settling_own c v = kind_own c.kind c v
+settling_own c (Number v) = by (settle_as c.kind c v) (kind_own c.kind c v)
+  where
+    by : (r : Result ℤ Errno) → AreOwn writing_part (list_checks.errno_if_refused r) → AreOwn writing_part (list_checks.errno_if_refused (as_number r))
+    by (Ok w) own = own
+    by (Err errno) own = own
 
 writing_own : (plan : PlanData) (view : ViewData) (is_set : Bool) (p : Pair) → AreOwn writing_part (writing_refusal plan view is_set p)
 writing_own plan view is_set p =

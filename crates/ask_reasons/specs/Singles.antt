@@ -9,10 +9,8 @@ use Rattle.req_book.specs.declared.limits.TheConstants.{MAX_REQUESTS}
 use Rattle.req_book.specs.Requests.{RequestData, is_idle, is_number_held, is_pending}
 use Rattle.frame_queue.specs.Frames.{is_queued, is_running}
 use Rattle.ctrl_calls.specs.Meanings.{Verdicts}
-use Rattle.ctrl_types.specs.Values.{CtrlValue}
-use Rattle.ctrl_settle.specs.Control.{with_range}
 use Rattle.ctrl_settle.specs.FirstFault.{first_fault}
-use Rattle.ctrl_handlers.specs.Plan.{PlanData, control_in}
+use Rattle.ctrl_handlers.specs.Plan.{PlanData}
 use Rattle.ctrl_handlers.specs.Visible.{next_id}
 use Rattle.device_history.specs.declared.ask.Ask.{Ask}
 use Rattle.device_history.specs.declared.ask.Ask.TheVariants as asks
@@ -20,7 +18,7 @@ use Rattle.device_history.specs.Steps.{Past}
 use Rattle.device_history.specs.Refusals.{is_full}
 use Rattle.device_history.specs.Handles.{handler_of, shown, are_all_open}
 use Rattle.device_history.specs.Queries.{item_now}
-use Rattle.device_history.specs.Ranges.{ranges_now}
+use Rattle.device_history.specs.Ranges.{control_with_range, ranges_now}
 use Rattle.device_history.specs.Forecasts.{forecast}
 use Rattle.device_history.specs.Frames.{queue, running}
 use Rattle.device_history.specs.Snapshots.{request, requests}
@@ -50,10 +48,10 @@ open_check plan past handler =
 abbrev pub grab_check : PlanData → ℕ → Option Check
 grab_check plan c = if nat_le (length plan.controls) c then Some checks.ControlThere else None
 
-abbrev pub range_check : PlanData → Past → ℕ → ℤ → ℤ → ℕ → CtrlValue → Option Check
+abbrev pub range_check : PlanData → Past → ℕ → ℤ → ℤ → ℕ → ℤ → Option Check
 range_check plan past c low high apart default_value =
     if nat_le (length plan.controls) c then Some checks.ControlThere
-    else if is_some (first_fault (with_range (control_in (ranges_now plan past) c) low high apart default_value)) then Some checks.RangeFits
+    else if is_some (first_fault (control_with_range (ranges_now plan past) c low high apart default_value)) then Some checks.RangeFits
     else None
 
 abbrev pub alloc_check : List RequestData → Option Check

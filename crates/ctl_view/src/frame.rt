@@ -4,7 +4,7 @@ ghost use Rattle.std.specs.Prelude.{◌<◌, length};
 
 use ctrl_calls::Driver;
 use ctrl_clusters::inactive;
-use ctrl_types::{Pair, last_value};
+use ctrl_types::{CtrlValue, Pair, last_value};
 use device_state::{Device, Plan};
 use std::alloc::Global;
 use view_layout::{Cell, Look, Page, put_cell};
@@ -17,8 +17,8 @@ pub struct Frame<'a> {
     // the number of its buffer
     buffer: u32,
     // the values before it, and those that it will have
-    before: &'a [i64],
-    behind: &'a [i64],
+    before: &'a [CtrlValue],
+    behind: &'a [CtrlValue],
     // what its request asks for
     asked: &'a [Pair],
 }
@@ -55,12 +55,15 @@ pub fn frame_at<D: Driver>(device: &Device<D>, place: usize) -> Frame<'_> {
 }
 
 /// What a control is under values.
-pub fn look_at<D: Driver>(plan: &Plan<D>, values: &[i64], control: u32) -> Look
+pub fn look_at<D: Driver>(plan: &Plan<D>, values: &[CtrlValue], control: u32) -> Look
     requires { control < length plan.now.controls }
 {
     let is_whole = values.len() == plan.control_count() as usize;
     Look {
-        value: values.get(control as usize).copied().unwrap_or(0),
+        value: values
+            .get(control as usize)
+            .copied()
+            .unwrap_or(CtrlValue::Number(0)),
         is_inactive: is_whole && inactive(plan, values, control),
     }
 }

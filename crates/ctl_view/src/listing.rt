@@ -7,7 +7,7 @@ use crate::words::{put_words, word_of};
 use bitflags::Flags as FlagSet;
 use ctl_script::ControlWords;
 use ctrl_settle::Ctrl;
-use ctrl_types::{CtrlId, Flags, Kind};
+use ctrl_types::{CtrlId, CtrlValue, Flags, Kind};
 use data_driver::Data;
 use device_state::{Device, MenuItem, Plan};
 use std::alloc::{AllocError, Global};
@@ -119,13 +119,17 @@ fn put_control(page: &mut Page, known: &ControlWords, device: &Device<Data>, con
 }
 
 // The present value, 0 where it can't be read.
-fn value_of(device: &Device<Data>, control: u32) -> i64
+fn value_of(device: &Device<Data>, control: u32) -> CtrlValue
     requires { control < length device.now.plan.controls }
 {
     if device.flags(control).contains(Flags::WRITE_ONLY) {
-        return 0;
+        return CtrlValue::Number(0);
     }
-    device.values().get(control as usize).copied().unwrap_or(0)
+    device
+        .values()
+        .get(control as usize)
+        .copied()
+        .unwrap_or(CtrlValue::Number(0))
 }
 
 fn put_head(page: &mut Page, word: &str, id: CtrlId, kind: Kind) {
@@ -175,7 +179,13 @@ fn put_bounds(page: &mut Page, ctrl: &Ctrl) {
 }
 
 // A value, and of a menu the item.
-fn put_value(page: &mut Page, plan: &Plan<Data>, control: u32, ctrl: &Ctrl, value: i64) {
+fn put_value(page: &mut Page, plan: &Plan<Data>, control: u32, ctrl: &Ctrl, value: CtrlValue) {
+    match value {
+        CtrlValue::Number(number) => put_number(page, plan, control, ctrl, number),
+    }
+}
+
+fn put_number(page: &mut Page, plan: &Plan<Data>, control: u32, ctrl: &Ctrl, value: i64) {
     if ctrl.kind() == Kind::Bitmask {
         let _ = write!(page, " value=0x{value:08x}");
         return;

@@ -68,7 +68,7 @@ fn put_controls<D: Driver>(
         page.put(" ");
         put_name(page, known, plan, entry.id);
         page.put("=");
-        page.put_number(entry.value);
+        page.put_value(entry.value);
         if let Some(asked) = wanted.get(place) {
             put_wanted(page, entry.value, asked.value);
         }

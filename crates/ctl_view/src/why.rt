@@ -5,7 +5,7 @@ use crate::words::{control_of, members_beside, put_name, word_of};
 use ask_reasons::{Check, Reason};
 use ctl_script::ControlWords;
 use ctrl_calls::Driver;
-use ctrl_types::{CtrlId, Fault, Pair, last_value};
+use ctrl_types::{CtrlId, CtrlValue, Fault, Pair, last_value};
 use device_state::{Ask, Device, Plan};
 use script_replies::{ReplyLine, write_answer};
 use std::io::Write;
@@ -102,14 +102,18 @@ fn put_row<D: Driver>(
         page.put(" ");
         page.put(word_of(known, *member));
         page.put("=");
-        page.put_number(wanted_of(device, ask, *member));
+        page.put_value(wanted_of(device, ask, *member));
     }
 }
 
 // The value that is asked of a control: the last one that the list gives it, or else the one that the request stores which the list is about; the present
 // one where there is neither.
-fn wanted_of<D: Driver>(device: &Device<D>, ask: &Ask, control: u32) -> i64 {
-    let mut value = device.values().get(control as usize).copied().unwrap_or(0);
+fn wanted_of<D: Driver>(device: &Device<D>, ask: &Ask, control: u32) -> CtrlValue {
+    let mut value = device
+        .values()
+        .get(control as usize)
+        .copied()
+        .unwrap_or(CtrlValue::Number(0));
     if let Some(stored) = last_value(stored_for(device, ask), control) {
         value = stored;
     }

@@ -1,7 +1,7 @@
 -- What a driver means by its relations (of this project; Linux driver API, "V4L2 Controls", has the callbacks:
 -- "Control Clusters" for try_ctrl and s_ctrl, "Adding Notify Callbacks" for notifications).
 use Rattle.std.specs.Prelude.{◌≡◌, ℕ, List}
-use Rattle.ctrl_types.specs.Values.{CtrlValue}
+use Rattle.ctrl_types.specs.declared.value.CtrlValue.{CtrlValue}
 use Rattle.ctrl_calls.specs.declared.relation.Relation.{Relation}
 use Rattle.ctrl_calls.specs.declared.verdict.Verdict.{Verdict}
 

@@ -1,8 +1,9 @@
 -- The row of a cluster: its members' values, in member order.
-use Rattle.std.specs.Prelude.{pos, ◌-◌, ◌≤◌, ◌≡◌, List, ◌++◌, length, take, drop, replicate}
+use Rattle.std.specs.Prelude.{◌-◌, ◌≤◌, ◌≡◌, List, ◌++◌, length, take, drop, replicate}
 use Rattle.std.proofs.Common.{arith}
 use Rattle.std.proofs.lemmas.List.{take-append-drop, length-take-le}
-use Rattle.ctrl_types.specs.Values.{CtrlValue}
+use Rattle.ctrl_types.specs.Values.{zero_value}
+use Rattle.ctrl_types.specs.declared.value.CtrlValue.{CtrlValue}
 use Rattle.ctrl_calls.specs.declared.row.ClusterRow.TheInside.{Inside}
 
 -- the values in use
@@ -13,11 +14,11 @@ row_of a = take a.len a.cells
 pub record IsCleared (a : Inside) : Type 0 where
   pub eight : length a.cells ≡ 8
   pub within : a.len ≤ 8
-  pub zeros : drop a.len a.cells ≡ replicate (8 - a.len) (pos 0)
+  pub zeros : drop a.len a.cells ≡ replicate (8 - a.len) zero_value
 
 -- the cells that hold a row
 abbrev pub cells_of : List CtrlValue → Inside
-cells_of row = record { cells = row ++ replicate (8 - length row) (pos 0); len = length row }
+cells_of row = record { cells = row ++ replicate (8 - length row) zero_value; len = length row }
 
 -- the row is as long as its count says
 pub length-row_of : (a : Inside) → IsCleared a → length (row_of a) ≡ a.len

@@ -1,5 +1,5 @@
 ghost use Rattle.std.specs.Prelude.{List};
-ghost use Rattle.ctrl_types.specs.Values.{CtrlValue};
+ghost use Rattle.ctrl_types.specs.declared.value.CtrlValue.{CtrlValue};
 ghost use Rattle.ctrl_calls.specs.declared.verdict.Verdict.{Verdict as VerdictOf};
 
 use crate::row::ClusterRow;

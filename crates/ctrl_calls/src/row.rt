@@ -16,7 +16,7 @@ pub struct ClusterRow {
 
 impl Model for ClusterRow {
     ghost use Rattle.std.specs.Prelude.{List};
-    ghost use Rattle.ctrl_types.specs.Values.{CtrlValue};
+    ghost use Rattle.ctrl_types.specs.declared.value.CtrlValue.{CtrlValue};
 
     ghost Value = { List CtrlValue };
 
@@ -41,7 +41,7 @@ impl ClusterRow {
         if len > MAX_MEMBERS {
             return None;
         }
-        let mut cells = [0; MAX_MEMBERS];
+        let mut cells = [CtrlValue::Number(0); MAX_MEMBERS];
         cells[..len].copy_from_slice(values);
         Some(ClusterRow { cells, len })
     }
@@ -54,8 +54,8 @@ impl ClusterRow {
         self.len
     }
 
-    // The values in use.
-    fn values(&self) -> &[CtrlValue]
+    /// The values, in member order: 0 to 8.
+    pub fn values(&self) -> &[CtrlValue]
         ensures { result.now ≡ self.now }
     {
         &self.cells[..self.len]

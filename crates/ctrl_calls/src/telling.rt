@@ -1,5 +1,5 @@
 ghost use Rattle.std.specs.Prelude.{ℕ, List};
-ghost use Rattle.ctrl_types.specs.Values.{CtrlValue};
+ghost use Rattle.ctrl_types.specs.declared.value.CtrlValue.{CtrlValue};
 
 use crate::row::ClusterRow;
 

@@ -1,12 +1,13 @@
 -- Rows that some clusters get, and the values once they are written.
-use Rattle.std.proofs.Common.{◌≡◌, ◌≢◌, ℕ, zero, suc, eq-eqb, ◌<◌, ◌+◌, ◌==◌, Bool, true, false, cond, nat_eq, List, [], ◌∷◌, ◌++◌, length, take, drop, get_or, slice_set, pos, Option, None, Some, is_some, unwrap_or, inl, inr, ◌⊎◌, subst, refl, ap, sym, ◌∙◌, arith}
+use Rattle.std.proofs.Common.{◌≡◌, ◌≢◌, ℕ, zero, suc, eq-eqb, ◌<◌, ◌+◌, ◌==◌, Bool, true, false, cond, nat_eq, List, [], ◌∷◌, ◌++◌, length, take, drop, get_or, slice_set, Option, None, Some, is_some, unwrap_or, inl, inr, ◌⊎◌, subst, refl, ap, sym, ◌∙◌, arith}
 use Rattle.std.specs.List.{All, list_any}
 use Rattle.std.specs.Option.{option_or}
 use Rattle.std.proofs.lemmas.Bool.Decides.{eqb_tells}
 use Rattle.std.proofs.lemmas.List.{length-set, get_or-set_same, get_or-set_other, drop_more, take_more}
 use Rattle.std.proofs.lemmas.List.Elements.{All-head, All-tail, All-weaker, All-get_or}
 use Rattle.std.proofs.lemmas.List.FromFn.{length-map-range_with_len, get_or-map-range_with_len}
-use Rattle.ctrl_types.specs.Values.{CtrlValue}
+use Rattle.ctrl_types.specs.Values.{zero_value}
+use Rattle.ctrl_types.specs.declared.value.CtrlValue.{CtrlValue}
 use Rattle.ctrl_handlers.specs.Plan.{PlanData, IsPlan, cluster_of, members, names_twice}
 use Rattle.ctrl_handlers.proofs.ClusterLemmas.{or_false, or_false_right}
 use Rattle.ctrl_clusters.specs.Rows.{Values, value_at, member_value}
@@ -59,10 +60,10 @@ with_row_at values (c ∷ cs) (v ∷ vs) d differ known long =
         → unwrap_or (member_value cs vs d) (value_at (slice_set values c v) d) ≡ unwrap_or (member_value (c ∷ cs) (v ∷ vs) d) (value_at values d)
     by (inl h) =
         let own : list_any (nat_eq d) cs ≡ false = subst (λ (x : ℕ). list_any (nat_eq x) cs ≡ false) h.1 (or_false (list_any (nat_eq c) cs) (names_twice cs) differ) in
-        let has : value_at (slice_set values c v) d ≡ v = subst (λ (x : ℕ). value_at (slice_set values c v) x ≡ v) h.1 (get_or-set_same values c v (pos 0) (All-head (λ d. d < length values) c cs known)) in
+        let has : value_at (slice_set values c v) d ≡ v = subst (λ (x : ℕ). value_at (slice_set values c v) x ≡ v) h.1 (get_or-set_same values c v zero_value (All-head (λ d. d < length values) c cs known)) in
         rw (h.0, value_in_none cs vs d own, has) refl
     by (inr h) =
-        let stays : value_at (slice_set values c v) d ≡ value_at values d = get_or-set_other values c d v (pos 0) (λ e. h.1 (sym e)) in
+        let stays : value_at (slice_set values c v) d ≡ value_at values d = get_or-set_other values c d v zero_value (λ e. h.1 (sym e)) in
         rw (h.0, stays) refl
 
 pub length_with_row : (values : Values) (cs : List ℕ) (row : List CtrlValue) → length (with_row values cs row) ≡ length values
@@ -73,7 +74,7 @@ length_with_row values (c ∷ cs) (v ∷ vs) = length_with_row (slice_set values
 -- the next member gets its value, and then the others
 pub write_next : (values : Values) (members : List ℕ) (row : List CtrlValue) (i : ℕ) → i < length members → i < length row
     → with_row values (drop i members) (drop i row) ≡ with_row (slice_set values (get_or members i 0) (value_at row i)) (drop (i + 1) members) (drop (i + 1) row)
-write_next values members row i within there = rw (drop_more members i 0 within, drop_more row i (pos 0) there) refl
+write_next values members row i within there = rw (drop_more members i 0 within, drop_more row i zero_value there) refl
 
 -- what holds of each row holds of the one that a cluster gets
 pub row_met : (P : ℕ → List CtrlValue → Type 0) (rows : List NewRow) (k : ℕ) (row : List CtrlValue) → All (λ r. P r.cluster r.row) rows → row_among rows k ≡ Some row → P k row
@@ -128,7 +129,7 @@ member_apart plan c j o is within found other = by (list_any (nat_eq c) (members
 
 pub written_at : (plan : PlanData) (values : Values) (rows : List NewRow) (c : ℕ) → c < length values → value_at (written plan values rows) c ≡ value_written plan values rows c
 unfolding written
-written_at plan values rows c lt = get_or-map-range_with_len (value_written plan values rows) 0 (length values) c c (pos 0) lt (omega arith)
+written_at plan values rows c lt = get_or-map-range_with_len (value_written plan values rows) 0 (length values) c c zero_value lt (omega arith)
 
 pub length_written : (plan : PlanData) (values : Values) (rows : List NewRow) → length (written plan values rows) ≡ length values
 unfolding written

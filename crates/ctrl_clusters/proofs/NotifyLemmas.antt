@@ -1,17 +1,18 @@
 -- Which clusters are notified, and the words afterwards.
 use Rattle.std.proofs.Common.{◌≡◌, ◌≢◌, ℕ, zero, suc, cond, add-one, add-zero, zero-add, ◌<◌, ◌≤◌, ◌==◌, ◌+◌, ◌-◌, ◌^◌, ◌&&◌, ◌||◌, not, Bool, true, false, List, [], ◌∷◌, length, None, Some, is_some, Option, refl, sym, ap, subst, ◌∙◌, arith, slice_index, ◌++◌, below_more, ◌⊎◌, inl, inr, count_by}
 use Rattle.std.specs.List.{range_with_len, sum_by}
-use Rattle.std.specs.Ordering.{int_eq}
 use Rattle.std.proofs.lemmas.List.Sums.{sum_by-cons, count_by-le-length}
 use Rattle.std.proofs.lemmas.List.{length-map}
 use Rattle.std.proofs.lemmas.List.FromFn.{length-range_with_len}
-use Rattle.std.proofs.lemmas.Bool.Decides.{eqb_tells, Decides-int_eq}
+use Rattle.std.proofs.lemmas.Bool.Decides.{eqb_tells}
 use Rattle.std.proofs.lemmas.Grind.{common_steps}
+use Rattle.ctrl_types.proofs.ValueLemmas.{Decides-same}
+use Rattle.ctrl_types.specs.Values.{is_same}
 use Rattle.ctrl_calls.specs.Meanings.{Words}
 use Rattle.ctrl_calls.specs.declared.relation.Relation.{Relation}
 use Rattle.ctrl_calls.specs.declared.work.Work.{Work}
 use Rattle.ctrl_types.specs.Flags.{contains}
-use Rattle.ctrl_types.specs.Values.{CtrlValue}
+use Rattle.ctrl_types.specs.declared.value.CtrlValue.{CtrlValue}
 use Rattle.ctrl_types.specs.declared.flags.TheConstants.Flags.{EXECUTE_ON_WRITE}
 use Rattle.ctrl_types.specs.declared.ids.Pair.{Pair}
 use Rattle.ctrl_handlers.specs.Plan.{PlanData, control, calls_of, members}
@@ -25,7 +26,7 @@ use Rattle.ctrl_clusters.specs.declared.new_row.NewRow.{NewRow}
 
 -- what isn't changed has its value already
 same_value : (plan : PlanData) (values : Values) (pairs : List Pair) (c : ℕ) (value : CtrlValue) → is_changed plan values pairs c value ≡ false → value_at values c ≡ value
-same_value plan values pairs c value h = (Decides-int_eq (value_at values c) value).0 (by (int_eq (value_at values c) value) h)
+same_value plan values pairs c value h = (Decides-same (value_at values c) value).0 (by (is_same (value_at values c) value) h)
   where
     by : (b : Bool) → (not b || (contains (control plan c).flags EXECUTE_ON_WRITE && is_among pairs c)) ≡ false → b ≡ true
     by true h = refl

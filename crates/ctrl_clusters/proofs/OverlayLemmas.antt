@@ -1,5 +1,5 @@
 -- What pairs make of the values: each cluster's row by itself, and the values control by control.
-use Rattle.std.proofs.Common.{◌≡◌, ◌≢◌, ℕ, zero, suc, eq-eqb, ◌<◌, ◌≤◌, ◌+◌, ◌==◌, ◌&&◌, ◌||◌, not, Bool, true, false, cond, nat_eq, List, [], ◌∷◌, length, map, pos, Option, None, Some, is_some, unwrap_or, Ok, Err, Result, is_err, inl, inr, ◌⊎◌, subst, refl, ap, sym, ◌∙◌, arith}
+use Rattle.std.proofs.Common.{◌≡◌, ◌≢◌, ℕ, zero, suc, eq-eqb, ◌<◌, ◌≤◌, ◌+◌, ◌==◌, ◌&&◌, ◌||◌, not, Bool, true, false, cond, nat_eq, List, [], ◌∷◌, length, map, Option, None, Some, is_some, unwrap_or, Ok, Err, Result, is_err, inl, inr, ◌⊎◌, subst, refl, ap, sym, ◌∙◌, arith}
 use Rattle.std.specs.List.{All, list_any, range_with_len}
 use Rattle.std.specs.Option.{option_and_then, option_or}
 use Rattle.std.specs.Result.{is_ok}
@@ -8,7 +8,8 @@ use Rattle.std.proofs.lemmas.List.Elements.{All-head, All-tail, All-weaker}
 use Rattle.std.proofs.lemmas.List.{length-map}
 use Rattle.std.proofs.lemmas.Map.Views.{any-filter_same}
 use Rattle.std.proofs.lemmas.List.FromFn.{length-map-range_with_len, get_or-map-range_with_len}
-use Rattle.ctrl_types.specs.Values.{CtrlValue}
+use Rattle.ctrl_types.specs.Values.{zero_value}
+use Rattle.ctrl_types.specs.declared.value.CtrlValue.{CtrlValue}
 use Rattle.ctrl_types.specs.Pairs.{last_value}
 use Rattle.ctrl_types.specs.declared.errno.Errno.{Errno}
 use Rattle.ctrl_types.specs.declared.errno.Errno.TheVariants.{EBUSY, EINVAL}
@@ -145,7 +146,7 @@ length_overlay verdicts plan controls values grabs pairs = length-map-range_with
 pub overlay_at : (verdicts : Verdicts) (plan : PlanData) (controls : List Control) (values : Values) (grabs : Grabs) (pairs : List Pair) (c : ℕ) → c < length values
     → value_at (overlay verdicts plan controls values grabs pairs) c ≡ value_after verdicts plan controls values grabs pairs c
 unfolding overlay
-overlay_at verdicts plan controls values grabs pairs c lt = get_or-map-range_with_len (value_after verdicts plan controls values grabs pairs) 0 (length values) c c (pos 0) lt (omega arith)
+overlay_at verdicts plan controls values grabs pairs c lt = get_or-map-range_with_len (value_after verdicts plan controls values grabs pairs) 0 (length values) c c zero_value lt (omega arith)
 
 -- what holds of each of some numbers holds of one of them
 each_of : (n c : ℕ) (cs : List ℕ) → All (λ d. d < n) cs → list_any (nat_eq c) cs ≡ true → c < n

@@ -1,8 +1,10 @@
 -- The loops over a row.
-use Rattle.std.proofs.Common.{◌≡◌, ◌≢◌, ℕ, ℤ, suc, eq-eqb, slice_get, ◌∙◌, ◌<◌, ◌+◌, ◌==◌, ◌&&◌, ◌||◌, Bool, true, false, pos, List, [], ◌∷◌, ◌++◌, length, take, drop, get_or, set, if◌then◌else◌, Option, None, Some, is_some, Result, Ok, Err, refl, sym, ap}
+use Rattle.std.proofs.Common.{◌≡◌, ◌≢◌, ℕ, suc, eq-eqb, slice_get, ◌∙◌, ◌<◌, ◌+◌, ◌==◌, ◌&&◌, ◌||◌, Bool, true, false, List, [], ◌∷◌, ◌++◌, length, take, drop, get_or, set, if◌then◌else◌, Option, None, Some, is_some, Result, Ok, Err, refl, sym, ap}
 use Rattle.std.proofs.lemmas.Option.{get_or_from_slice_get}
 use Rattle.std.proofs.lemmas.List.{append-nil, append_assoc, take_more_set, drop_more}
 use Rattle.std.specs.Result.{is_ok}
+use Rattle.ctrl_types.specs.declared.value.CtrlValue.{CtrlValue}
+use Rattle.ctrl_types.specs.Values.{zero_value}
 use Rattle.ctrl_types.specs.declared.errno.Errno.{Errno}
 use Rattle.ctrl_types.specs.declared.ids.Pair.{Pair}
 use Rattle.ctrl_calls.specs.declared.relation.Relation.{Relation}
@@ -14,21 +16,21 @@ use Rattle.ctrl_clusters.specs.Rows.{Values, value_at, settle_row, settled_befor
 use Rattle.ctrl_clusters.specs.Judging.{after_judging, is_value, takes_row, with_call}
 
 -- values that are settled, before what the others settle to
-abbrev pub before : List ℤ → Result (List ℤ) Errno → Result (List ℤ) Errno
+abbrev pub before : List CtrlValue → Result (List CtrlValue) Errno → Result (List CtrlValue) Errno
 before vs (Ok rest) = Ok (vs ++ rest)
 before vs (Err errno) = Err errno
 
 -- one more value settles
-pub before_more : (vs : List ℤ) (v : ℤ) (rest : Result (List ℤ) Errno) → before vs (settled_before (Ok v) rest) ≡ before (vs ++ v ∷ []) rest
+pub before_more : (vs : List CtrlValue) (v : CtrlValue) (rest : Result (List CtrlValue) Errno) → before vs (settled_before (Ok v) rest) ≡ before (vs ++ v ∷ []) rest
 before_more vs v (Ok rest) = ap Ok (sym (append_assoc vs (v ∷ []) rest))
 before_more vs v (Err errno) = refl
 
 -- none is left
-pub before_end : (vs : List ℤ) → before vs (Ok []) ≡ Ok vs
+pub before_end : (vs : List CtrlValue) → before vs (Ok []) ≡ Ok vs
 before_end vs = ap Ok (append-nil vs)
 
 -- a row of another length isn't taken
-pub takes_length : (controls : List Control) (members : List ℕ) (row : List ℤ) → length row ≢ length members → takes_row controls members row ≡ false
+pub takes_length : (controls : List Control) (members : List ℕ) (row : List CtrlValue) → length row ≢ length members → takes_row controls members row ≡ false
 takes_length controls [] [] other = absurd (other refl)
 takes_length controls [] (v ∷ vs) other = refl
 takes_length controls (c ∷ cs) [] other = refl
@@ -39,12 +41,12 @@ takes_length controls (c ∷ cs) (v ∷ vs) other = rw (takes_length controls cs
     and_false false = refl
 
 -- the next member settles, and then the others
-pub settle_next : (controls : List Control) (members : List ℕ) (row : List ℤ) (i : ℕ) → i < length members → i < length row
+pub settle_next : (controls : List Control) (members : List ℕ) (row : List CtrlValue) (i : ℕ) → i < length members → i < length row
     → settle_row controls (drop i members) (drop i row) ≡ settled_before (settle (control_in controls (get_or members i 0)) (value_at row i)) (settle_row controls (drop (i + 1) members) (drop (i + 1) row))
-settle_next controls members row i within there = rw (drop_more members i 0 within, drop_more row i (pos 0) there) refl
+settle_next controls members row i within there = rw (drop_more members i 0 within, drop_more row i zero_value there) refl
 
 -- the settled values so far, with one more
-pub settle_step : (controls : List Control) (members : List ℕ) (row settled : List ℤ) (i : ℕ) (v : ℤ) → i < length members → i < length row → i < length settled
+pub settle_step : (controls : List Control) (members : List ℕ) (row settled : List CtrlValue) (i : ℕ) (v : CtrlValue) → i < length members → i < length row → i < length settled
     → settle (control_in controls (get_or members i 0)) (value_at row i) ≡ Ok v
     → before (take i settled) (settle_row controls (drop i members) (drop i row)) ≡ before (take (i + 1) (set settled i v)) (settle_row controls (drop (i + 1) members) (drop (i + 1) row))
 settle_step controls members row settled i v within there place settles =
@@ -52,42 +54,42 @@ settle_step controls members row settled i v within there place settles =
     (before_more (take i settled) v (settle_row controls (drop (i + 1) members) (drop (i + 1) row)))
 
 -- the first that doesn't settle
-pub settle_stop : (controls : List Control) (members : List ℕ) (row settled : List ℤ) (i : ℕ) (errno : Errno) → i < length members → i < length row
+pub settle_stop : (controls : List Control) (members : List ℕ) (row settled : List CtrlValue) (i : ℕ) (errno : Errno) → i < length members → i < length row
     → settle (control_in controls (get_or members i 0)) (value_at row i) ≡ Err errno
     → before (take i settled) (settle_row controls (drop i members) (drop i row)) ≡ Err errno
 settle_stop controls members row settled i errno within there settles = rw (settle_next controls members row i within there, settles) refl
 
 -- the next member takes its value, and then the others
-pub takes_next : (controls : List Control) (members : List ℕ) (row : List ℤ) (i : ℕ) → i < length members → i < length row
+pub takes_next : (controls : List Control) (members : List ℕ) (row : List CtrlValue) (i : ℕ) → i < length members → i < length row
     → takes_row controls (drop i members) (drop i row)
     ≡ (is_value (settle (control_in controls (get_or members i 0)) (value_at row i)) (value_at row i) && takes_row controls (drop (i + 1) members) (drop (i + 1) row))
-takes_next controls members row i within there = rw (drop_more members i 0 within, drop_more row i (pos 0) there) refl
+takes_next controls members row i within there = rw (drop_more members i 0 within, drop_more row i zero_value there) refl
 
 -- the next member is the control, or another is
-pub given_next : (members : List ℕ) (row : List ℤ) (c i : ℕ) → i < length members → i < length row
+pub given_next : (members : List ℕ) (row : List CtrlValue) (c i : ℕ) → i < length members → i < length row
     → member_value (drop i members) (drop i row) c ≡ (if get_or members i 0 == c then Some (value_at row i) else member_value (drop (i + 1) members) (drop (i + 1) row) c)
-given_next members row c i within there = rw (drop_more members i 0 within, drop_more row i (pos 0) there) refl
+given_next members row c i within there = rw (drop_more members i 0 within, drop_more row i zero_value there) refl
 
 -- the control is the next member
-pub given_here : (members : List ℕ) (row : List ℤ) (c i : ℕ) (v : ℤ) → i < length members → i < length row → get_or members i 0 ≡ c → slice_get row i ≡ Some v
+pub given_here : (members : List ℕ) (row : List CtrlValue) (c i : ℕ) (v : CtrlValue) → i < length members → i < length row → get_or members i 0 ≡ c → slice_get row i ≡ Some v
     → member_value (drop i members) (drop i row) c ≡ member_value members row c → Some v ≡ member_value members row c
 given_here members row c i v within there is has left =
     let found : member_value (drop i members) (drop i row) c ≡ Some v =
-    given_next members row c i within there ∙ rw (eq-eqb (get_or members i 0) c is) (ap Some (get_or_from_slice_get row i v (pos 0) has)) in
+    given_next members row c i within there ∙ rw (eq-eqb (get_or members i 0) c is) (ap Some (get_or_from_slice_get row i v zero_value has)) in
     sym found ∙ left
 
 -- the row changes the next member, or one of the others
-pub changes_next : (plan : PlanData) (values : Values) (pairs : List Pair) (members : List ℕ) (row : List ℤ) (i : ℕ) → i < length members → i < length row
+pub changes_next : (plan : PlanData) (values : Values) (pairs : List Pair) (members : List ℕ) (row : List CtrlValue) (i : ℕ) → i < length members → i < length row
     → row_changes plan values pairs (drop i members) (drop i row)
     ≡ (is_changed plan values pairs (get_or members i 0) (value_at row i) || row_changes plan values pairs (drop (i + 1) members) (drop (i + 1) row))
-changes_next plan values pairs members row i within there = rw (drop_more members i 0 within, drop_more row i (pos 0) there) refl
+changes_next plan values pairs members row i within there = rw (drop_more members i 0 within, drop_more row i zero_value there) refl
 
 -- members that settle are judged, where there is a validator by asking it
-pub asked_settled : (o : Option Relation) (settled : Result (List ℤ) Errno) (row : List ℤ) (count : ℕ) → settled ≡ Ok row → after_judging o count ≡ with_call (is_some o && is_ok settled) count
+pub asked_settled : (o : Option Relation) (settled : Result (List CtrlValue) Errno) (row : List CtrlValue) (count : ℕ) → settled ≡ Ok row → after_judging o count ≡ with_call (is_some o && is_ok settled) count
 asked_settled None settled row count is = refl
 asked_settled (Some relation) settled row count is = rw is refl
 
 -- and where one doesn't, nobody is asked
-pub asked_unsettled : (o : Option Relation) (settled : Result (List ℤ) Errno) (errno : Errno) (count : ℕ) → settled ≡ Err errno → count ≡ with_call (is_some o && is_ok settled) count
+pub asked_unsettled : (o : Option Relation) (settled : Result (List CtrlValue) Errno) (errno : Errno) (count : ℕ) → settled ≡ Err errno → count ≡ with_call (is_some o && is_ok settled) count
 asked_unsettled None settled errno count is = refl
 asked_unsettled (Some relation) settled errno count is = rw is refl

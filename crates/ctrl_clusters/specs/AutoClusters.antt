@@ -1,16 +1,17 @@
 -- Which controls of an auto cluster are inactive (Linux driver API, "V4L2 Controls", "Handling autogain/gain-type Controls with Auto
 -- Clusters").
-use Rattle.std.specs.Prelude.{ℕ, Bool, false, not, ◌&&◌, ◌==◌, Option, None, Some}
-use Rattle.std.specs.Ordering.{int_eq}
-use Rattle.ctrl_types.specs.Values.{CtrlValue}
+use Rattle.std.specs.Prelude.{ℕ, ℤ, Bool, false, not, ◌&&◌, ◌==◌, Option, None, Some}
+use Rattle.ctrl_types.specs.declared.value.CtrlValue.TheVariants.{Number}
+use Rattle.ctrl_types.specs.Values.{is_same}
+use Rattle.ctrl_types.specs.declared.value.CtrlValue.{CtrlValue}
 use Rattle.ctrl_handlers.specs.ClusterData.{ClusterData}
 use Rattle.ctrl_handlers.specs.Plan.{PlanData, cluster_of, cluster_at, master_of}
 use Rattle.ctrl_clusters.specs.Rows.{Values, value_at}
 
 -- there is a manual value, and this one is another
-abbrev pub is_automatic : Option CtrlValue → CtrlValue → Bool
+abbrev pub is_automatic : Option ℤ → CtrlValue → Bool
 is_automatic None v = false
-is_automatic (Some manual) v = not (int_eq v manual)
+is_automatic (Some manual) v = not (is_same v (Number manual))
 
 -- A member of a cluster is inactive exactly while it isn't the master and the value of the master isn't the manual value. In a
 -- cluster that is no auto cluster none is.

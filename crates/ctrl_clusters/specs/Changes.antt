@@ -1,9 +1,9 @@
 -- What a row that a cluster gets changes (Linux driver API, "V4L2 Controls", "Control Clusters", and Linux userspace API, "Control Flags",
 -- V4L2_CTRL_FLAG_EXECUTE_ON_WRITE).
 use Rattle.std.specs.Prelude.{ℕ, Bool, false, not, ◌&&◌, ◌||◌, List, [], ◌∷◌}
-use Rattle.std.specs.Ordering.{int_eq}
+use Rattle.ctrl_types.specs.Values.{is_same}
 use Rattle.ctrl_types.specs.Flags.{contains}
-use Rattle.ctrl_types.specs.Values.{CtrlValue}
+use Rattle.ctrl_types.specs.declared.value.CtrlValue.{CtrlValue}
 use Rattle.ctrl_types.specs.declared.flags.TheConstants.Flags.{EXECUTE_ON_WRITE}
 use Rattle.ctrl_types.specs.declared.ids.Pair.{Pair}
 use Rattle.ctrl_handlers.specs.Plan.{PlanData, control, members}
@@ -16,7 +16,7 @@ use Rattle.ctrl_clusters.specs.declared.new_row.NewRow.{NewRow}
 -- and is among the pairs.
 abbrev pub is_changed : PlanData → Values → List Pair → ℕ → CtrlValue → Bool
 is_changed plan values pairs c value =
-    not (int_eq (value_at values c) value) || (contains (control plan c).flags EXECUTE_ON_WRITE && is_among pairs c)
+    not (is_same (value_at values c) value) || (contains (control plan c).flags EXECUTE_ON_WRITE && is_among pairs c)
 
 -- a row that members get changes one of them
 abbrev pub row_changes : PlanData → Values → List Pair → List ℕ → List CtrlValue → Bool

@@ -1,9 +1,9 @@
 -- What a cluster makes of a row: its validator judges it (Linux driver API, "V4L2 Controls", "Control Clusters": `try_ctrl`;
 -- which refusals pass, and that an accepted row is settled, is of this project).
 use Rattle.std.specs.Prelude.{ℕ, Bool, true, false, ◌&&◌, ◌+◌, ◌-◌, ◌^◌, min, if◌then◌else◌, List, [], ◌∷◌, Option, None, Some, is_some, Result, Ok, Err}
-use Rattle.std.specs.Ordering.{int_eq}
 use Rattle.std.specs.Result.{is_ok}
-use Rattle.ctrl_types.specs.Values.{CtrlValue}
+use Rattle.ctrl_types.specs.Values.{is_same}
+use Rattle.ctrl_types.specs.declared.value.CtrlValue.{CtrlValue}
 use Rattle.ctrl_types.specs.declared.errno.Errno.{Errno}
 use Rattle.ctrl_types.specs.declared.errno.Errno.TheVariants.{EACCES, EBUSY, EINVAL, ERANGE}
 use Rattle.ctrl_types.specs.declared.ids.Pair.{Pair}
@@ -26,7 +26,7 @@ refusal_of _ = EINVAL
 
 -- whether this is the value itself
 abbrev pub is_value : Result CtrlValue Errno → CtrlValue → Bool
-is_value (Ok settled) v = int_eq settled v
+is_value (Ok settled) v = is_same settled v
 is_value (Err errno) v = false
 
 -- whether the members take the values of a row as they are; a row of another length they don't take

@@ -2,7 +2,7 @@
 -- word is answered and kept is of this project).
 use Rattle.std.specs.Prelude.{◌≡◌, ℕ, Bool, true, false, ◌&&◌, ◌<◌, List, length, Option, None, Some, is_some, slice_index, count_by}
 use Rattle.std.specs.List.{range_with_len}
-use Rattle.ctrl_types.specs.Values.{CtrlValue}
+use Rattle.ctrl_types.specs.declared.value.CtrlValue.{CtrlValue}
 use Rattle.ctrl_calls.specs.Counts.{one_more}
 use Rattle.ctrl_calls.specs.Meanings.{Words}
 use Rattle.ctrl_calls.specs.declared.relation.Relation.{Relation}

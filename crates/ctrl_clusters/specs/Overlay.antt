@@ -2,7 +2,7 @@
 -- "Control Clusters"). Whatever lays pairs over values does so in this one way: sets, tries, begins and forecasts do.
 use Rattle.std.specs.Prelude.{ℕ, Bool, not, ◌==◌, ◌&&◌, if◌then◌else◌, List, [], length, map, filter, Option, None, Some, unwrap_or, Result, Ok, Err, is_err}
 use Rattle.std.specs.List.{list_any, range_with_len}
-use Rattle.ctrl_types.specs.Values.{CtrlValue}
+use Rattle.ctrl_types.specs.declared.value.CtrlValue.{CtrlValue}
 use Rattle.ctrl_types.specs.declared.errno.Errno.{Errno}
 use Rattle.ctrl_types.specs.declared.errno.Errno.TheVariants.{EBUSY}
 use Rattle.ctrl_types.specs.declared.ids.Pair.{Pair}

@@ -1,6 +1,7 @@
 -- The row of a cluster under values that are asked for (Linux driver API, "V4L2 Controls", "Control Clusters").
-use Rattle.std.specs.Prelude.{◌≡◌, ℕ, Bool, false, pos, length, ◌==◌, if◌then◌else◌, List, [], ◌∷◌, map, Option, None, Some, Result, Ok, Err, slice_index_or, unwrap_or}
-use Rattle.ctrl_types.specs.Values.{CtrlValue}
+use Rattle.std.specs.Prelude.{◌≡◌, ℕ, Bool, false, length, ◌==◌, if◌then◌else◌, List, [], ◌∷◌, map, Option, None, Some, Result, Ok, Err, slice_index_or, unwrap_or}
+use Rattle.ctrl_types.specs.Values.{zero_value}
+use Rattle.ctrl_types.specs.declared.value.CtrlValue.{CtrlValue}
 use Rattle.ctrl_types.specs.Pairs.{last_value}
 use Rattle.ctrl_types.specs.declared.errno.Errno.{Errno}
 use Rattle.ctrl_types.specs.declared.errno.Errno.TheVariants.{EINVAL}
@@ -24,7 +25,7 @@ Values = List CtrlValue
 
 -- the value of one control
 abbrev pub value_at : Values → ℕ → CtrlValue
-value_at values c = slice_index_or values c (pos 0)
+value_at values c = slice_index_or values c zero_value
 
 -- for each control, in the order of their numbers, whether it is grabbed
 abbrev pub Grabs : Type 0

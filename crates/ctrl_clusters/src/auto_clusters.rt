@@ -71,11 +71,11 @@ fn value_with(values: &[CtrlValue], other: u32, value: CtrlValue, control: u32) 
 }
 
 // Whether there is a manual value, and a value is another.
-fn is_automatic(manual: Option<CtrlValue>, value: CtrlValue) -> bool
+fn is_automatic(manual: Option<i64>, value: CtrlValue) -> bool
     ensures { result ≡ is_automatic manual value }
 {
     match manual {
-        Some(manual) => value != manual,
+        Some(manual) => value != CtrlValue::Number(manual),
         None => false,
     }
 }

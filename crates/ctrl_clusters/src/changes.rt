@@ -2,7 +2,7 @@
 
 ghost use Rattle.std.specs.Prelude.{◌≡◌, ◌<◌, not, length};
 ghost use Rattle.std.specs.List.{All};
-ghost use Rattle.std.specs.Ordering.{int_eq};
+ghost use Rattle.ctrl_types.specs.Values.{is_same};
 ghost use Rattle.ctrl_types.specs.Flags.{contains};
 ghost use Rattle.ctrl_types.specs.declared.flags.TheConstants.Flags.{EXECUTE_ON_WRITE};
 ghost use Rattle.ctrl_handlers.specs.Plan.{control};
@@ -84,7 +84,7 @@ fn changes_at<D: Driver>(
 fn has_another(values: &[CtrlValue], member: u32, row: &ClusterRow, place: usize) -> bool
     requires known { member < length values.now }
     requires within { place < length row.now }
-    ensures { result ≡ not (int_eq (value_at values.now member) (value_at row.now place)) }
+    ensures { result ≡ not (is_same (value_at values.now member) (value_at row.now place)) }
 {
     values[member as usize] != row.value(place)
 }

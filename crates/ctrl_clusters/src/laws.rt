@@ -2,7 +2,7 @@
 
 ghost use Rattle.std.specs.Prelude.{◌≡◌, ◌<◌, ℕ, false, List, Some, Ok, Err, is_err, length, nat_eq};
 ghost use Rattle.std.specs.List.{All, list_any};
-ghost use Rattle.ctrl_types.specs.Values.{CtrlValue};
+ghost use Rattle.ctrl_types.specs.declared.value.CtrlValue.{CtrlValue};
 ghost use Rattle.ctrl_types.specs.Pairs.{last_value};
 ghost use Rattle.ctrl_types.specs.declared.errno.Errno.{Errno};
 ghost use Rattle.ctrl_types.specs.declared.ids.Pair.{Pair};

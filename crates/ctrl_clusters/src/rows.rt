@@ -20,7 +20,7 @@ pub(crate) fn overwritten(values: &[CtrlValue], pairs: &[Pair], members: &[u32])
     requires known { All (λ c. c < length values.now) members.now }
     ensures { result ≡ overwritten values.now pairs.now members.now }
 {
-    let mut cells = [0; MAX_MEMBERS];
+    let mut cells = [CtrlValue::Number(0); MAX_MEMBERS];
     for (place, &member) in members.iter().enumerate() {
         cells[place] = asked_of(values, pairs, member);
     }

@@ -1,6 +1,7 @@
 //! What a device has before its first step.
 
 ghost use Rattle.std.specs.Prelude.{◌≡◌, false, map, IfOk};
+ghost use Rattle.ctrl_settle.specs.Control.{default_of};
 
 use ctrl_settle::Ctrl;
 use ctrl_types::CtrlValue;
@@ -13,11 +14,11 @@ use std::alloc::{AllocError, Global};
 ///
 /// The error is that a growth was refused.
 pub fn default_values(alloc: Global, controls: &[Ctrl]) -> Result<Vec<CtrlValue>, AllocError>
-    ensures { IfOk result (λ values. values.items ≡ map (λ c. c.default_value) controls.now) }
+    ensures { IfOk result (λ values. values.items ≡ map default_of controls.now) }
 {
     controls
         .iter()
-        .map(|ctrl| ctrl.default_value())
+        .map(|ctrl| ctrl.default_as_value())
         .collect(alloc)
 }
 

@@ -22,7 +22,7 @@ pub fn present_row(values: &[CtrlValue], members: &[u32]) -> ClusterRow
     requires known { All (λ c. c < length values.now) members.now }
     ensures { result ≡ row_of values.now members.now }
 {
-    let mut cells = [0; MAX_MEMBERS];
+    let mut cells = [CtrlValue::Number(0); MAX_MEMBERS];
     for (place, &member) in members.iter().enumerate() {
         cells[place] = values[member as usize];
     }

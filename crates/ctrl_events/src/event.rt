@@ -1,4 +1,4 @@
-use ctrl_types::{Changes, CtrlId, CtrlValue, Flags, Kind, SubFlags};
+use ctrl_types::{Changes, CtrlId, Flags, Kind, SubFlags};
 
 /// What an event shows of a control, read after the step that raised it (Linux userspace API, "struct v4l2_event_ctrl").
 #[derive(Clone, Copy, Debug, PartialEq, Eq)]
@@ -8,7 +8,7 @@ pub struct Payload {
     /// Its kind.
     pub kind: Kind,
     /// Its present value; 0 where it can't be read (of this project).
-    pub value: CtrlValue,
+    pub value: i64,
     /// Its present flags.
     pub flags: Flags,
     /// Its least value.
@@ -18,7 +18,7 @@ pub struct Payload {
     /// The distance of its values.
     pub step: u64,
     /// Its default.
-    pub default_value: CtrlValue,
+    pub default_value: i64,
 }
 
 /// An event that was taken (Linux userspace API, "struct v4l2_event", "struct v4l2_event_ctrl").
@@ -31,7 +31,7 @@ pub struct Event {
     /// What the raises for the file handle said that changed, since an event of the control was taken or the subscription was ended.
     pub changes: Changes,
     /// Its value when the event was raised last; 0 where it can't be read (of this project).
-    pub value: CtrlValue,
+    pub value: i64,
     /// Its flags then.
     pub flags: Flags,
     /// Its least value.
@@ -41,7 +41,7 @@ pub struct Event {
     /// The distance of its values.
     pub step: u64,
     /// Its default.
-    pub default_value: CtrlValue,
+    pub default_value: i64,
     /// The number of the raise among those for the file handle, from 0.
     pub sequence: u32,
     /// How many events still wait.

@@ -5,7 +5,7 @@ use Rattle.std.proofs.lemmas.List.{map-id, take_more, take_all, get_or-map, get_
 use Rattle.std.proofs.lemmas.List.FromFn.{map-range_with_len_more}
 use Rattle.std.proofs.lemmas.List.Sums.{sum_by-cons, sum_by-le-sum_by, sum_by_more, sum_by_push}
 use Rattle.ctrl_types.specs.declared.ids.Pair.{Pair}
-use Rattle.ctrl_types.specs.Values.{CtrlValue}
+use Rattle.ctrl_types.specs.declared.value.CtrlValue.{CtrlValue}
 use Rattle.ctrl_calls.specs.Meanings.{Verdicts}
 use Rattle.ctrl_settle.specs.Control.{Control}
 use Rattle.ctrl_handlers.specs.Plan.{PlanData, IsPlan, members}

@@ -1,12 +1,13 @@
 -- Pairs laid over values, cluster after cluster.
-use Rattle.std.proofs.Common.{◌≡◌, ◌≢◌, ℕ, zero, suc, add-one, ◌<◌, ◌≤◌, ◌+◌, ◌==◌, ◌⊎◌, Bool, true, false, cond, nat_eq, List, [], ◌∷◌, ◌++◌, length, map, filter, pos, Option, None, Some, unwrap_or, Result, Ok, Err, inl, inr, refl, ap, sym, ◌∙◌, arith, if◌then◌else◌, count_by}
+use Rattle.std.proofs.Common.{◌≡◌, ◌≢◌, ℕ, zero, suc, add-one, ◌<◌, ◌≤◌, ◌+◌, ◌==◌, ◌⊎◌, Bool, true, false, cond, nat_eq, List, [], ◌∷◌, ◌++◌, length, map, filter, Option, None, Some, unwrap_or, Result, Ok, Err, inl, inr, refl, ap, sym, ◌∙◌, arith, if◌then◌else◌, count_by}
 use Rattle.std.specs.List.{range_with_len}
 use Rattle.std.proofs.lemmas.Bool.Decides.{eqb_tells}
 use Rattle.std.proofs.lemmas.List.{map-id}
 use Rattle.std.proofs.lemmas.List.Elements.{filter-append}
 use Rattle.std.proofs.lemmas.List.Sums.{sum_by-append, sum_by-cons}
 use Rattle.std.proofs.lemmas.List.FromFn.{length-map-range_with_len, get_or-map-range_with_len, map-range_with_len_more}
-use Rattle.ctrl_types.specs.Values.{CtrlValue}
+use Rattle.ctrl_types.specs.Values.{zero_value}
+use Rattle.ctrl_types.specs.declared.value.CtrlValue.{CtrlValue}
 use Rattle.ctrl_types.specs.declared.errno.Errno.{Errno}
 use Rattle.ctrl_handlers.specs.Plan.{PlanData, cluster_of, members}
 use Rattle.ctrl_types.specs.declared.ids.Pair.{Pair}
@@ -43,7 +44,7 @@ length_below plan outcome values n = length-map-range_with_len (value_below plan
 
 below_at : (plan : PlanData) (outcome : ℕ → Result (List CtrlValue) Errno) (values : Values) (n c : ℕ) → c < length values → value_at (values_below plan outcome values n) c ≡ value_below plan outcome values n c
 unfolding values_below
-below_at plan outcome values n c lt = get_or-map-range_with_len (value_below plan outcome values n) 0 (length values) c c (pos 0) lt (omega arith)
+below_at plan outcome values n c lt = get_or-map-range_with_len (value_below plan outcome values n) 0 (length values) c c zero_value lt (omega arith)
 
 -- at first none has
 pub below_start : (plan : PlanData) (outcome : ℕ → Result (List CtrlValue) Errno) (values : Values) → values ≡ values_below plan outcome values 0

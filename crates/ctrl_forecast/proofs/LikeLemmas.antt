@@ -1,14 +1,20 @@
 -- When rows of boards are seen as the same.
-use Rattle.std.proofs.Common.{arith, ◌≡◌, ◌<◌, ℕ, suc, length, Bool, true, List, [], ◌∷◌, Some, slice_get, int_eq, nat_eq, ◌&&◌, refl, ap}
+use Rattle.std.proofs.Common.{rules, arith, ◌≡◌, ◌<◌, ℕ, suc, length, Bool, true, List, [], ◌∷◌, Some, slice_get, nat_eq, ◌&&◌, refl, ap}
 use Rattle.std.specs.Bool.{Decides}
 use Rattle.std.specs.Cmp.Lexicographic.{pointwise}
-use Rattle.std.proofs.lemmas.Bool.Decides.{Decides-eqb, Decides-int_eq, Decides-and}
+use Rattle.std.proofs.lemmas.Bool.Decides.{Decides-eqb, Decides-and}
 use Rattle.std.proofs.lemmas.Slice.Eq.{slice_eq-Decides}
+use Rattle.ctrl_types.specs.declared.value.CtrlValue.{CtrlValue}
+use Rattle.ctrl_types.specs.contracts.value.CtrlValuePartialEq.TheImpl.{eq-value}
 use Rattle.ctrl_forecast.specs.declared.board.Forecast.{Forecast}
+
+-- `==` of two values
+same_values : (v w : CtrlValue) (r : Bool) → r ≡ eq-value.it v w → Decides r (v ≡ w)
+same_values v w r is = search rules
 
 -- whether two rows are the same, part by part
 abbrev pub same_parts : Forecast → Forecast → Bool
-same_parts a b = ((nat_eq a.request.0 b.request.0 && nat_eq a.buffer b.buffer) && pointwise int_eq a.values b.values) && pointwise nat_eq a.refused b.refused
+same_parts a b = ((nat_eq a.request.0 b.request.0 && nat_eq a.buffer b.buffer) && pointwise eq-value.it a.values b.values) && pointwise nat_eq a.refused b.refused
 
 abbrev Same : Forecast → Forecast → Type 0
 Same a b = (((a.request.0 ≡ b.request.0) × (a.buffer ≡ b.buffer)) × (a.values ≡ b.values)) × (a.refused ≡ b.refused)
@@ -16,7 +22,7 @@ Same a b = (((a.request.0 ≡ b.request.0) × (a.buffer ≡ b.buffer)) × (a.val
 decides : (a b : Forecast) → Decides (same_parts a b) (Same a b)
 decides a b =
     Decides-and _ _
-    (Decides-and _ _ (Decides-and _ _ (Decides-eqb a.request.0 b.request.0) (Decides-eqb a.buffer b.buffer)) (slice_eq-Decides Decides-int_eq a.values b.values _ refl))
+    (Decides-and _ _ (Decides-and _ _ (Decides-eqb a.request.0 b.request.0) (Decides-eqb a.buffer b.buffer)) (slice_eq-Decides (λ v w. same_values v w _ refl) a.values b.values _ refl))
     (slice_eq-Decides Decides-eqb a.refused b.refused _ refl)
 
 pub same_row : (a b : Forecast) → same_parts a b ≡ true → a ≡ b

@@ -1,11 +1,12 @@
 -- When a cluster of a frame is as its pairs make it over the values before it, and what leaves it so.
-use Rattle.std.proofs.Common.{◌≡◌, ◌≢◌, ◌∙◌, ◌<◌, ◌==◌, ◌⊎◌, ℕ, eq-eqb, nat_eq, Bool, true, false, not, cond, pos, List, [], ◌∷◌, length, get_or, Option, None, Some, is_some, unwrap_or, Result, Ok, Err, is_err, inl, inr, refl, sym, ap, subst, arith}
+use Rattle.std.proofs.Common.{◌≡◌, ◌≢◌, ◌∙◌, ◌<◌, ◌==◌, ◌⊎◌, ℕ, eq-eqb, nat_eq, Bool, true, false, not, cond, List, [], ◌∷◌, length, get_or, Option, None, Some, is_some, unwrap_or, Result, Ok, Err, is_err, inl, inr, refl, sym, ap, subst, arith}
 use Rattle.std.specs.List.{All, list_any}
 use Rattle.std.specs.Option.{option_and_then}
 use Rattle.std.proofs.lemmas.Bool.Decides.{eqb_tells}
 use Rattle.std.proofs.lemmas.List.{length-map, get_or-map}
 use Rattle.std.proofs.lemmas.List.Elements.{All-head, All-tail, All-get_or, All-from_get_or}
-use Rattle.ctrl_types.specs.Values.{CtrlValue}
+use Rattle.ctrl_types.specs.Values.{zero_value}
+use Rattle.ctrl_types.specs.declared.value.CtrlValue.{CtrlValue}
 use Rattle.ctrl_types.specs.Pairs.{last_value}
 use Rattle.ctrl_types.specs.declared.errno.Errno.{Errno}
 use Rattle.ctrl_types.specs.declared.errno.Errno.TheVariants.{EBUSY}
@@ -36,7 +37,7 @@ each_in P (d ∷ cs) c all among = by (λ h. each_in P cs c (All-tail P d cs all
 pub rows_alike : (xs ys : Values) (cs : List ℕ) → row_of xs cs ≡ row_of ys cs → All (λ c. value_at xs c ≡ value_at ys c) cs
 rows_alike xs ys cs same =
     All-from_get_or (λ c. value_at xs c ≡ value_at ys c) cs 0
-    (λ i lt. sym (get_or-map (value_at xs) cs i 0 (pos 0) lt) ∙ ap (λ (r : List CtrlValue). get_or r i (pos 0)) same ∙ get_or-map (value_at ys) cs i 0 (pos 0) lt)
+    (λ i lt. sym (get_or-map (value_at xs) cs i 0 zero_value lt) ∙ ap (λ (r : List CtrlValue). get_or r i zero_value) same ∙ get_or-map (value_at ys) cs i 0 zero_value lt)
 
 -- what pairs make of a cluster hangs on the ranges, values and grabs of its members alone
 pub outcome_alike : (verdicts : Verdicts) (plan : PlanData) (controls others : List Control) (values elsewhere : Values) (grabs held : Grabs) (pairs : List Pair) (k : ℕ)

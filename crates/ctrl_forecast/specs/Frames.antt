@@ -1,7 +1,7 @@
 -- Queued frames that are kept, each with what it will have, and how one cluster is renewed in them (of this project).
 use Rattle.std.specs.Prelude.{◌≡◌, ◌≢◌, ℕ, zero, suc, Bool, true, false, not, ◌<◌, if◌then◌else◌, List, [], ◌∷◌, length, map, filter, count_by, Result, Ok, Err, is_err, nat_eq, nat_lt, slice_index_or, slice_set}
 use Rattle.std.specs.List.{list_any, range_with_len, insert}
-use Rattle.ctrl_types.specs.Values.{CtrlValue}
+use Rattle.ctrl_types.specs.declared.value.CtrlValue.{CtrlValue}
 use Rattle.ctrl_types.specs.declared.errno.Errno.{Errno}
 use Rattle.ctrl_types.specs.declared.ids.Pair.{Pair}
 use Rattle.ctrl_types.specs.declared.ids.RequestId.{RequestId}

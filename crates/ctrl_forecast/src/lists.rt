@@ -9,7 +9,7 @@ pub struct ValueRow {
 
 impl Model for ValueRow {
     ghost use Rattle.std.specs.Prelude.{List};
-    ghost use Rattle.ctrl_types.specs.Values.{CtrlValue};
+    ghost use Rattle.ctrl_types.specs.declared.value.CtrlValue.{CtrlValue};
 
     ghost Value = { List CtrlValue };
 

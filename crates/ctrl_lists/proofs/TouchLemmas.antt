@@ -1,12 +1,13 @@
 -- The rows that clusters get, and how many validators were asked for them.
-use Rattle.std.proofs.Common.{◌≡◌, ℕ, ◌<◌, ◌≤◌, ◌+◌, ◌==◌, Bool, true, false, cond, nat_eq, eq-eqb, pos, get_or, List, [], ◌∷◌, ◌++◌, length, Option, None, Some, is_some, unwrap_or, Ok, Err, Result, IsTrue, refl, ap, sym, ◌∙◌, arith}
+use Rattle.std.proofs.Common.{◌≡◌, ℕ, ◌<◌, ◌≤◌, ◌+◌, ◌==◌, Bool, true, false, cond, nat_eq, eq-eqb, get_or, List, [], ◌∷◌, ◌++◌, length, Option, None, Some, is_some, unwrap_or, Ok, Err, Result, IsTrue, refl, ap, sym, ◌∙◌, arith}
 use Rattle.std.specs.List.{All, list_any}
 use Rattle.std.specs.Option.{option_and_then}
 use Rattle.std.proofs.lemmas.List.{length_push, map-append}
 use Rattle.std.proofs.lemmas.List.Folds.{list_any-append, list_any_at}
 use Rattle.std.proofs.lemmas.List.Elements.{All-weaker, All-from_get_or}
 use Rattle.std.proofs.lemmas.List.Sums.{sum_by-append, sum_by-cons}
-use Rattle.ctrl_types.specs.Values.{CtrlValue}
+use Rattle.ctrl_types.specs.Values.{zero_value}
+use Rattle.ctrl_types.specs.declared.value.CtrlValue.{CtrlValue}
 use Rattle.ctrl_types.specs.declared.errno.Errno.{Errno}
 use Rattle.ctrl_types.specs.declared.ids.ExtControl.{ExtControl}
 use Rattle.ctrl_types.specs.declared.ids.Pair.{Pair}
@@ -98,9 +99,9 @@ counted_next plan rows new r n before after is asked old =
 -- each control of some pairs is among them, and among more of them
 each_among : (pairs ps : List Pair) → ((c : ℕ) → is_among ps c ≡ true → is_among pairs c ≡ true) → All (λ p. IsTrue (is_among pairs p.control)) ps
 each_among pairs ps there =
-    All-from_get_or (λ p. IsTrue (is_among pairs p.control)) ps (record { control = 0; value = pos 0 })
-    (λ i lt. there (get_or ps i (record { control = 0; value = pos 0 })).control
-    (list_any_at (λ q. q.control == (get_or ps i (record { control = 0; value = pos 0 })).control) ps i (record { control = 0; value = pos 0 }) lt (eq-eqb _ _ refl)))
+    All-from_get_or (λ p. IsTrue (is_among pairs p.control)) ps (record { control = 0; value = zero_value })
+    (λ i lt. there (get_or ps i (record { control = 0; value = zero_value })).control
+    (list_any_at (λ q. q.control == (get_or ps i (record { control = 0; value = zero_value })).control) ps i (record { control = 0; value = zero_value }) lt (eq-eqb _ _ refl)))
 
 pub own_among : (pairs : List Pair) → All (λ p. IsTrue (is_among pairs p.control)) pairs
 own_among pairs = each_among pairs pairs (λ c h. h)

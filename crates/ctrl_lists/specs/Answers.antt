@@ -1,7 +1,7 @@
 -- What a list of controls is answered (Linux userspace API, "ioctl VIDIOC_G_EXT_CTRLS, VIDIOC_S_EXT_CTRLS, VIDIOC_TRY_EXT_CTRLS";
 -- which index a refusal has is of this project).
 use Rattle.std.specs.Prelude.{ℕ, Bool, true, false, not, List, [], ◌∷◌, map, length, Option, None, Some, unwrap_or, Result, Ok, Err}
-use Rattle.ctrl_types.specs.Values.{CtrlValue}
+use Rattle.ctrl_types.specs.declared.value.CtrlValue.{CtrlValue}
 use Rattle.ctrl_types.specs.declared.errno.Errno.TheVariants.{ENOMEM}
 use Rattle.ctrl_types.specs.declared.errno.Fault.{Fault}
 use Rattle.ctrl_types.specs.declared.ids.ExtControl.{ExtControl}
@@ -9,7 +9,7 @@ use Rattle.ctrl_types.specs.declared.ids.Pair.{Pair}
 use Rattle.ctrl_types.specs.declared.which.Which.{Which}
 use Rattle.ctrl_types.specs.declared.which.Which.TheVariants.{Defaults}
 use Rattle.ctrl_calls.specs.Meanings.{Verdicts}
-use Rattle.ctrl_settle.specs.Control.{Control}
+use Rattle.ctrl_settle.specs.Control.{Control, default_of}
 use Rattle.ctrl_handlers.specs.Plan.{PlanData, control, control_in}
 use Rattle.ctrl_clusters.specs.Rows.{Values, value_at}
 use Rattle.ctrl_clusters.specs.Overlay.{value_after, no_grabs}
@@ -36,7 +36,7 @@ answered fault None entries = Ok entries
 
 -- the value that a control is read with: its default where the list speaks of the defaults, else the one that it has
 abbrev pub value_read : List Control → Values → Which → ℕ → CtrlValue
-value_read controls values Defaults c = (control_in controls c).default_value
+value_read controls values Defaults c = default_of (control_in controls c)
 value_read controls values _ c = value_at values c
 
 -- a control, as it is read

@@ -4,7 +4,7 @@
 -- read).
 use Rattle.std.specs.Prelude.{ℕ, Bool, true, false, not, ◌&&◌, ◌+◌, if◌then◌else◌, nat_lt, List, [], ◌∷◌, ◌++◌, length, Option, None, Some, is_some, Result, Ok, Err}
 use Rattle.ctrl_types.specs.Flags.{contains}
-use Rattle.ctrl_types.specs.Values.{CtrlValue}
+use Rattle.ctrl_types.specs.declared.value.CtrlValue.{CtrlValue}
 use Rattle.ctrl_types.specs.declared.errno.Errno.{Errno}
 use Rattle.ctrl_types.specs.declared.errno.Errno.TheVariants.{EACCES, EBUSY, EINVAL, ENOMEM}
 use Rattle.ctrl_types.specs.declared.flags.TheConstants.Flags.{READ_ONLY, WRITE_ONLY}

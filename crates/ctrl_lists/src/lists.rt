@@ -194,7 +194,7 @@ fn value_read(ranges: &Ranges, values: &[CtrlValue], which: Which, control: u32)
     ensures { result ≡ value_read ranges.now values.now which control }
 {
     match which {
-        Which::Defaults => ranges.range(control).default_value(),
+        Which::Defaults => ranges.range(control).default_as_value(),
         Which::Current | Which::Class(_) | Which::Request => values[control as usize],
     }
 }

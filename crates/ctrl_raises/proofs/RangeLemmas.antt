@@ -1,13 +1,16 @@
 -- What another range and another value of one control change: members of its cluster alone.
-use Rattle.std.proofs.Common.{arith, ◌≡◌, ◌≢◌, ◌∙◌, ◌<◌, ◌≤◌, ◌+◌, ◌-◌, ◌||◌, ◌&&◌, ℕ, ℤ, zero, suc, Bool, true, false, not, pos, nat_eq, eq-eqb, [], Option, None, Some, slice_set, refl, sym, ap, subst}
+use Rattle.std.proofs.Common.{arith, ◌≡◌, ◌≢◌, ◌∙◌, ◌<◌, ◌≤◌, ◌+◌, ◌-◌, ◌||◌, ◌&&◌, ℕ, ℤ, zero, suc, Bool, true, false, not, nat_eq, eq-eqb, [], Option, None, Some, slice_set, refl, sym, ap, subst}
 use Rattle.std.specs.List.{list_any, range_with_len}
 use Rattle.std.specs.Ordering.{int_eq}
 use Rattle.std.proofs.lemmas.Bool.{false≢true}
 use Rattle.std.proofs.lemmas.Bool.Decides.{Decides-int_eq}
 use Rattle.std.proofs.lemmas.List.{get_or-set_other}
+use Rattle.ctrl_types.proofs.ValueLemmas.{Decides-same}
+use Rattle.ctrl_types.specs.Values.{zero_value}
+use Rattle.ctrl_types.specs.Values.{is_same}
 use Rattle.ctrl_types.specs.Events.{is_nothing}
 use Rattle.ctrl_types.specs.Flags.{contains}
-use Rattle.ctrl_types.specs.Values.{CtrlValue}
+use Rattle.ctrl_types.specs.declared.value.CtrlValue.{CtrlValue}
 use Rattle.ctrl_types.specs.declared.changes.Changes.{Changes}
 use Rattle.ctrl_types.specs.declared.flags.Flags.{Flags}
 use Rattle.ctrl_types.specs.declared.flags.TheConstants.Flags.{EXECUTE_ON_WRITE}
@@ -24,14 +27,17 @@ use Rattle.ctrl_raises.specs.Raises.{MomentData, before_range, changed_between, 
 use Rattle.ctrl_raises.proofs.RaiseLemmas.{raised_next}
 
 -- nothing differs from itself
-same_value : (z : ℤ) → int_eq z z ≡ true
-same_value z = (Decides-int_eq z z).1 refl
+same_number : (z : ℤ) → int_eq z z ≡ true
+same_number z = (Decides-int_eq z z).1 refl
+
+same_value : (v : CtrlValue) → is_same v v ≡ true
+same_value v = (Decides-same v v).1 refl
 
 same_flags : (f : Flags) → differ f f ≡ false
 same_flags f = rw (eq-eqb f.0 f.0 refl) refl
 
 same_range : (c : Control) → range_differs c c ≡ false
-same_range c = rw (same_value c.minimum, same_value c.maximum, eq-eqb c.step c.step refl, same_value c.default_value) refl
+same_range c = rw (same_number c.minimum, same_number c.maximum, eq-eqb c.step c.step refl, same_number c.default_value) refl
 
 -- where no pairs were applied, none acts on each write
 none_acts : (value acts : Bool) → (value || (acts && false)) ≡ value
@@ -41,7 +47,7 @@ none_acts false false = refl
 
 -- what changes of a control, by its value, its flags and its range
 pub changed_so : (plan : PlanData) (after : MomentData) (c : ℕ) (old : Control) (old_value : CtrlValue) (m : ℕ) (value flags range : Bool)
-    → value ≡ not (int_eq (value_at (slice_set after.values c old_value) m) (value_at after.values m))
+    → value ≡ not (is_same (value_at (slice_set after.values c old_value) m) (value_at after.values m))
     → flags ≡ differ (flags_under plan (slice_set after.values c old_value) after.grabs m) (flags_under plan after.values after.grabs m)
     → range ≡ range_differs (control_in (modified after.ranges c old) m) (control_in after.ranges m)
     → changes_of value flags range ≡ changed_between plan (before_range after c old old_value) after [] m
@@ -51,7 +57,7 @@ changed_so plan after c old old_value m value flags range by_value by_flags by_r
     (λ (b : Bool).
     changes_of b (differ (flags_under plan (slice_set after.values c old_value) after.grabs m) (flags_under plan after.values after.grabs m))
     (range_differs (control_in (modified after.ranges c old) m) (control_in after.ranges m)))
-    (sym (none_acts (not (int_eq (value_at (slice_set after.values c old_value) m) (value_at after.values m))) (contains (control plan m).flags EXECUTE_ON_WRITE))))
+    (sym (none_acts (not (is_same (value_at (slice_set after.values c old_value) m) (value_at after.values m))) (contains (control plan m).flags EXECUTE_ON_WRITE))))
 
 -- The master of a control's cluster is another than one that is in another cluster.
 master_apart : (plan : PlanData) (c d k j : ℕ) → IsPlan plan → cluster_of plan c ≡ Some k → list_any (nat_eq d) (members plan k) ≡ false → cluster_of plan d ≡ Some j → master_of (cluster_at plan j) ≢ c
@@ -70,15 +76,15 @@ inactive_stays plan values c d k value is own outside = by (cluster_of plan d) r
   where
     by : (o : Option ℕ) → cluster_of plan d ≡ o → inactive_at plan (slice_set values c value) d o ≡ inactive_at plan values d o
     by None of = refl
-    by (Some j) of = rw (get_or-set_other values c (master_of (cluster_at plan j)) value (pos 0) (master_apart plan c d k j is own outside of)) refl
+    by (Some j) of = rw (get_or-set_other values c (master_of (cluster_at plan j)) value zero_value (master_apart plan c d k j is own outside of)) refl
 
 -- and nothing changes of it
 pub nothing_outside : (plan : PlanData) (after : MomentData) (c d k : ℕ) (old : Control) (value : CtrlValue) → IsPlan plan → cluster_of plan c ≡ Some k → list_any (nat_eq d) (members plan k) ≡ false
     → is_nothing (changed_between plan (before_range after c old value) after [] d) ≡ true
 nothing_outside plan after c d k old value is own outside =
     let other : d ≢ c = λ same. false≢true (sym outside ∙ subst (λ (i : ℕ). list_any (nat_eq i) (members plan k) ≡ true) (sym same) (cluster_of_member plan c k own)) in
-    let by_value : false ≡ not (int_eq (value_at (slice_set after.values c value) d) (value_at after.values d)) =
-    rw (get_or-set_other after.values c d value (pos 0) other, same_value (value_at after.values d)) refl in
+    let by_value : false ≡ not (is_same (value_at (slice_set after.values c value) d) (value_at after.values d)) =
+    rw (get_or-set_other after.values c d value zero_value other, same_value (value_at after.values d)) refl in
     let by_flags : false ≡ differ (flags_under plan (slice_set after.values c value) after.grabs d) (flags_under plan after.values after.grabs d) =
     rw (inactive_stays plan after.values c d k value is own outside) (sym (same_flags (flags_under plan after.values after.grabs d))) in
     let by_range : false ≡ range_differs (control_in (modified after.ranges c old) d) (control_in after.ranges d) =

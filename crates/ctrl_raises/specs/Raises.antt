@@ -1,8 +1,9 @@
 -- What a change of ranges, values and grabs raises for the file handles that are subscribed (Linux userspace API, "ioctl VIDIOC_DQEVENT"; the order of the raises, that
 -- a member which isn't in the list is heard of, and that what can't be read is shown as 0, are of this project).
-use Rattle.std.specs.Prelude.{ℕ, Bool, true, false, not, ◌||◌, pos, nat_eq, cond, List, [], ◌∷◌, Option, None, Some, slice_set}
+use Rattle.std.specs.Prelude.{ℕ, ℤ, Bool, true, false, not, ◌||◌, pos, nat_eq, cond, List, [], ◌∷◌, Option, None, Some, slice_set}
 use Rattle.std.specs.Ordering.{int_eq}
-use Rattle.ctrl_types.specs.Values.{CtrlValue}
+use Rattle.ctrl_types.specs.Values.{number_of}
+use Rattle.ctrl_types.specs.declared.value.CtrlValue.{CtrlValue}
 use Rattle.ctrl_types.specs.Flags.{contains}
 use Rattle.ctrl_types.specs.Events.{joined, no_changes, value_change, flags_change, is_nothing, has_flags}
 use Rattle.ctrl_types.specs.declared.changes.Changes.{Changes}
@@ -31,8 +32,8 @@ abbrev pub before_range : MomentData → ℕ → Control → CtrlValue → Momen
 before_range after c old value = record { ranges = modified after.ranges c old; values = slice_set after.values c value; grabs = after.grabs }
 
 -- the value of a control that an event shows: 0 where it can't be read
-abbrev pub value_shown : Control → CtrlValue → CtrlValue
-value_shown ctrl value = cond (contains ctrl.flags WRITE_ONLY) (pos 0) value
+abbrev pub value_shown : Control → CtrlValue → ℤ
+value_shown ctrl value = cond (contains ctrl.flags WRITE_ONLY) (pos 0) (number_of value)
 
 -- the payload of a control's event
 abbrev pub payload_of : Control → CtrlValue → Flags → Payload

@@ -34,7 +34,7 @@ pub fn payload_at<D: Driver>(plan: &Plan<D>, at: &Moment, control: u32) -> Paylo
     let value = if is_unreadable(ctrl) {
         0
     } else {
-        at.values[control as usize]
+        at.values[control as usize].number()
     };
     Payload {
         id: ctrl.id(),

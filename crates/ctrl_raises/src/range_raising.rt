@@ -2,7 +2,7 @@
 
 ghost use Rattle.std.specs.Prelude.{◌≡◌, ◌<◌, ◌≤◌, ◌+◌, ℕ, not, None, [], length, slice_set};
 ghost use Rattle.std.specs.List.{range_with_len};
-ghost use Rattle.std.specs.Ordering.{int_eq};
+ghost use Rattle.ctrl_types.specs.Values.{is_same};
 ghost use Rattle.ctrl_events.specs.Events.{events_of};
 ghost use Rattle.ctrl_handlers.specs.Plan.{control_in};
 ghost use Rattle.ctrl_clusters.specs.PresentFlags.{flags_under};
@@ -135,7 +135,7 @@ fn changes_with<D: Driver>(
 // Whether the value of a member differs, where one control had another.
 fn value_moves(values: &[CtrlValue], control: u32, old_value: CtrlValue, member: u32) -> bool
     requires { control < length values.now }
-    ensures { result ≡ not (int_eq (value_at (slice_set values.now control old_value) member) (value_at values.now member)) }
+    ensures { result ≡ not (is_same (value_at (slice_set values.now control old_value) member) (value_at values.now member)) }
 {
     member == control && old_value != values[control as usize]
 }

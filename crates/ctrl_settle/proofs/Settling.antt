@@ -7,28 +7,25 @@ use Rattle.std.proofs.Math.Nat.{mod-eq_of_lt}
 use Rattle.std.specs.Int.{bit_at}
 use Rattle.std.specs.Int.Bits.{and_self}
 use Rattle.std.specs.Ordering.{int_eq}
-use Rattle.ctrl_types.specs.Values.{CtrlValue}
+use Rattle.ctrl_types.specs.declared.value.CtrlValue.{CtrlValue}
+use Rattle.ctrl_types.specs.Values.{number_of}
+use Rattle.ctrl_types.specs.declared.value.CtrlValue.TheVariants.{Number}
 use Rattle.ctrl_types.specs.declared.errno.Errno.{Errno}
 use Rattle.ctrl_types.specs.declared.errno.Errno.TheVariants.{ERANGE, EINVAL}
 use Rattle.ctrl_types.specs.declared.kind.Kind.{Kind}
 use Rattle.ctrl_types.specs.declared.kind.Kind.TheVariants.{Integer, Boolean, Menu, Button, Integer64, Bitmask, IntegerMenu}
-use Rattle.ctrl_settle.specs.Control.{Control}
+use Rattle.ctrl_settle.specs.Control.{Control, default_of}
 use Rattle.ctrl_settle.specs.Grid.{IsOnGrid, nearest}
-use Rattle.ctrl_settle.specs.Settle.{settle, settle_as, item, masked, low_bits, IsSettled, settled_anew, taken_or}
+use Rattle.ctrl_settle.specs.Settle.{settle, settle_as, as_number, item, masked, low_bits, IsSettled, settled_anew, taken_or}
 use Rattle.ctrl_settle.specs.Faults.{HasBounds, HasMask, IsWellFormed}
 use Rattle.ctrl_settle.proofs.Grid.{IsNearest-nearest, nearest-unique}
 use Rattle.ctrl_settle.proofs.Masks.{bit_and-low_bits}
 
--- `settle` by kind
-pub settle-as : (c : Control) (v : ℤ) (kind : Kind) → c.kind ≡ kind → settle c v ≡ settle_as kind c v
-unfolding settle
-settle-as c v kind e = ap (λ k. settle_as k c v) e
-
 -- what the code's `v & maximum` gives
 pub settle-word : (c : Control) (v maximum : ℤ) → c.kind ≡ Bitmask → HasMask c → maximum ≡ c.maximum → FitsSigned w64 v
-    → Ok (to_z w64 (bit_and (of_z w64 v) (of_z w64 maximum))) ≡ settle c v
+    → Ok (to_z w64 (bit_and (of_z w64 v) (of_z w64 maximum))) ≡ settle_as c.kind c v
 settle-word c v maximum kind bounds e fits =
-    rw (e, settle-as c v Bitmask kind) (ap Ok (bit_and-low_bits v c.maximum fits (omega (arith, ints, bounds.not_empty)) bounds.maximum))
+    rw (e, ap (λ k. settle_as k c v) kind) (ap Ok (bit_and-low_bits v c.maximum fits (omega (arith, ints, bounds.not_empty)) bounds.maximum))
 
 -- a value of the grid is nearest to itself
 pub nearest-on_grid : (c : Control) (g : ℤ) → IsOnGrid c g → nearest c g ≡ g
@@ -81,9 +78,14 @@ within_as Bitmask c v w in_order bounds e =
 within_as Menu c v w in_order bounds e = let i = item-ok c v w e in rw i.2 (i.0, i.1)
 within_as IntegerMenu c v w in_order bounds e = let i = item-ok c v w e in rw i.2 (i.0, i.1)
 
-pub settle-within : (c : Control) (v w : ℤ) → IsWellFormed c → settle c v ≡ Ok w → (c.minimum ≤ℤ w) × (w ≤ℤ c.maximum)
+-- a number is taken for a number
+number_taken : (r : Result ℤ Errno) (w : ℤ) → as_number r ≡ Ok (Number w) → r ≡ Ok w
+number_taken (Ok v) w e = cc
+number_taken (Err errno) w e = absurd (cc)
+
+pub settle-within : (c : Control) (v w : CtrlValue) → IsWellFormed c → settle c v ≡ Ok w → (c.minimum ≤ℤ number_of w) × (number_of w ≤ℤ c.maximum)
 unfolding settle
-settle-within c v w sound e = within_as c.kind c v w sound.in_order sound.fits_kind.bounds e
+settle-within c (Number v) (Number w) sound e = within_as c.kind c v w sound.in_order sound.fits_kind.bounds (number_taken (settle_as c.kind c v) w e)
 
 -- the bounds of a well-formed control fit 64 bits
 fits_as : (kind : Kind) (c : Control) → c.minimum ≤ℤ c.maximum → HasBounds kind c → FitsSigned w64 c.minimum × FitsSigned w64 c.maximum
@@ -99,7 +101,7 @@ pub bounds_fit : (c : Control) → IsWellFormed c → FitsSigned w64 c.minimum �
 bounds_fit c sound = fits_as c.kind c sound.in_order sound.fits_kind.bounds
 
 -- and so does what the control takes
-pub settle-fits : (c : Control) (v w : ℤ) → IsWellFormed c → settle c v ≡ Ok w → FitsSigned w64 w
+pub settle-fits : (c : Control) (v w : CtrlValue) → IsWellFormed c → settle c v ≡ Ok w → FitsSigned w64 (number_of w)
 settle-fits c v w sound e =
     let bounds = bounds_fit c sound in
     let within = settle-within c v w sound e in
@@ -117,14 +119,14 @@ again_as Bitmask c v w in_order bounds e = let is : w ≡ masked c v = cc in rw 
 again_as Menu c v w in_order bounds e = let i = item-ok c v w e in rw i.2 (rw i.2 at e)
 again_as IntegerMenu c v w in_order bounds e = let i = item-ok c v w e in rw i.2 (rw i.2 at e)
 
-pub settle-settled : (c : Control) (v w : ℤ) → IsWellFormed c → settle c v ≡ Ok w → IsSettled c w
+pub settle-settled : (c : Control) (v w : CtrlValue) → IsWellFormed c → settle c v ≡ Ok w → IsSettled c w
 unfolding settle
-settle-settled c v w sound e = again_as c.kind c v w sound.in_order sound.fits_kind.bounds e
+settle-settled c (Number v) (Number w) sound e = ap as_number (again_as c.kind c v w sound.in_order sound.fits_kind.bounds (number_taken (settle_as c.kind c v) w e))
 
 -- so does it what it has once its range was changed
-pub settled_anew-settled : (c : Control) (v : ℤ) → IsWellFormed c → IsSettled c (settled_anew c v)
+pub settled_anew-settled : (c : Control) (v : CtrlValue) → IsWellFormed c → IsSettled c (settled_anew c v)
 settled_anew-settled c v sound = by (settle c v) refl
   where
-    by : (r : Result CtrlValue Errno) → settle c v ≡ r → IsSettled c (taken_or c.default_value r)
+    by : (r : Result CtrlValue Errno) → settle c v ≡ r → IsSettled c (taken_or (default_of c) r)
     by (Ok w) e = settle-settled c v w sound e
     by (Err errno) e = sound.default_settled

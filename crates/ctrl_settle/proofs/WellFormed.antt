@@ -7,14 +7,16 @@ use Rattle.std.proofs.lemmas.Nat.{div-add-mod'}
 use Rattle.std.proofs.lemmas.Bool.Decides.{Decides-and, Decides-like, Decides-eqb, Decides-int_eq, not_from_Decides}
 use Rattle.std.proofs.lemmas.Int.{ints, by_lt_z}
 use Rattle.ctrl_types.specs.Flags.{union, intersects}
+use Rattle.ctrl_types.proofs.ValueLemmas.{Decides-same}
+use Rattle.ctrl_types.specs.declared.value.CtrlValue.{CtrlValue}
 use Rattle.ctrl_types.specs.declared.errno.Errno.{Errno}
 use Rattle.ctrl_types.specs.declared.flags.Flags.{Flags}
 use Rattle.ctrl_types.specs.declared.flags.TheConstants.Flags.{GRABBED, INACTIVE}
 use Rattle.ctrl_types.specs.declared.kind.Kind.{Kind}
 use Rattle.ctrl_types.specs.declared.kind.Kind.TheVariants.{Integer, Boolean, Menu, Button, Integer64, Bitmask, IntegerMenu}
-use Rattle.ctrl_settle.specs.Control.{Control}
+use Rattle.ctrl_settle.specs.Control.{Control, default_of}
 use Rattle.ctrl_settle.specs.Grid.{distance, IsOnGrid}
-use Rattle.ctrl_settle.specs.Settle.{settle, settle_as, IsSettled}
+use Rattle.ctrl_settle.specs.Settle.{settle, settle_as, as_number, IsSettled}
 use Rattle.ctrl_settle.specs.Faults.{has_grid, HasRange, HasItems, HasMask, HasBounds, CanSkip, CanDeclare, FitsKind, IsWellFormed, HasFault, IsFirstFault, turn_of}
 use Rattle.ctrl_settle.specs.FirstFault.{lies_between, has_range, has_items, has_mask, has_bounds, can_skip, can_declare, fits_kind, is_value, takes_default, first_fault}
 use Rattle.ctrl_settle.proofs.Settling.{nearest-on_grid}
@@ -106,12 +108,12 @@ Decides-fits_kind c =
 yes_or_no : {P : Type 0} (b : Bool) → Decides b P → P ⊎ (¬ P)
 yes_or_no b d = ⊎_elim (λ (e : b ≡ true). inl (d.0 e)) (λ (e : b ≡ false). inr (not_from_Decides b d e)) (cases_Bool b)
 
-Decides-value : (v : ℤ) (r : Result ℤ Errno) → Decides (is_value v r) (r ≡ Ok v)
-Decides-value v (Ok w) = (λ e. ap Ok ((Decides-int_eq w v).0 e), λ h. (Decides-int_eq w v).1 (cc))
+Decides-value : (v : CtrlValue) (r : Result CtrlValue Errno) → Decides (is_value v r) (r ≡ Ok v)
+Decides-value v (Ok w) = (λ e. ap Ok ((Decides-same w v).0 e), λ h. (Decides-same w v).1 (cc))
 Decides-value v (Err e) = (λ h. absurd (cc), λ h. absurd (cc))
 
 -- whether an answer is this value
-answers : (r : Result ℤ Errno) (v : ℤ) → (r ≡ Ok v) ⊎ (¬ (r ≡ Ok v))
+answers : (r : Result CtrlValue Errno) (v : CtrlValue) → (r ≡ Ok v) ⊎ (¬ (r ≡ Ok v))
 answers r v = yes_or_no (is_value v r) (Decides-value v r)
 
 -- each fault is the first where it holds and those before it don't
@@ -152,9 +154,9 @@ well_formed_or_first_fault c =
     ⊎_elim
     (λ (fits : FitsKind c).
     ⊎_elim
-    (λ (settled : IsSettled c c.default_value). inl (record { in_order = in_order; stepped = λ on. ⊎_elim (λ (none : c.step < 1). absurd (no_zero (on, omega arith))) (λ (some : 1 ≤ c.step). some) (cases_lt c.step 1); fits_kind = fits; default_settled = settled }))
-    (λ (unsettled : ¬ IsSettled c c.default_value). inr (BadDefault, first-bad_default c unsettled no_range no_zero (λ no. no fits)))
-    (answers (settle c c.default_value) c.default_value))
+    (λ (settled : IsSettled c (default_of c)). inl (record { in_order = in_order; stepped = λ on. ⊎_elim (λ (none : c.step < 1). absurd (no_zero (on, omega arith))) (λ (some : 1 ≤ c.step). some) (cases_lt c.step 1); fits_kind = fits; default_settled = settled }))
+    (λ (unsettled : ¬ IsSettled c (default_of c)). inr (BadDefault, first-bad_default c unsettled no_range no_zero (λ no. no fits)))
+    (answers (settle c (default_of c)) (default_of c)))
     (λ (unfit : ¬ FitsKind c). inr (KindBounds, first-kind_bounds c unfit no_range no_zero))
     (yes_or_no (fits_kind c) (Decides-fits_kind c)))
     (yes_or_no (has_grid c.kind && (c.step == 0)) (Decides-and (has_grid c.kind) (c.step == 0) (λ e. e, λ e. e) (Decides-eqb c.step 0))))
@@ -185,7 +187,7 @@ nothing_found c well =
       no_range c (λ bad. omega (arith, ints, well.in_order, bad)),
       no_zero c (λ bad. omega (arith, well.stepped bad.0, bad.1)),
       (Decides-fits_kind c).1 well.fits_kind,
-      (Decides-value c.default_value (settle c c.default_value)).1 well.default_settled,
+      (Decides-value (default_of c) (settle c (default_of c))).1 well.default_settled,
     )
     refl
 
@@ -201,7 +203,7 @@ fault_found c BadDefault first =
       no_range c (first.first BadRange (omega arith)),
       no_zero c (first.first ZeroStep (omega arith)),
       no_bounds c (first.first KindBounds (omega arith)),
-      no (takes_default c) (Decides-value c.default_value (settle c c.default_value)) first.holds,
+      no (takes_default c) (Decides-value (default_of c) (settle c (default_of c))) first.holds,
     )
     refl
 
@@ -238,23 +240,29 @@ IsOnGrid-test c v e =
     let parts : distance v c.minimum / c.step * c.step + distance v c.minimum % c.step ≡ distance v c.minimum = div-add-mod' (distance v c.minimum) c.step in
     record { steps = (distance v c.minimum / c.step, omega (arith, ints)); within = (Decides-int_le v c.maximum).0 q.0 }
 
-is_value-true : (r : Result ℤ Errno) (v : ℤ) → is_value v r ≡ true → r ≡ Ok v
-is_value-true r v e = (Decides-value v r).0 e
+-- whether an answer is this number
+abbrev is_number : ℤ → Result ℤ Errno → Bool
+is_number v (Ok w) = int_eq w v
+is_number v (Err _) = false
+
+is_number-true : (r : Result ℤ Errno) (v : ℤ) → is_number v r ≡ true → r ≡ Ok v
+is_number-true (Ok w) v e = ap Ok ((Decides-int_eq w v).0 e)
+is_number-true (Err errno) v e = absurd (cc)
 
 -- a control of this kind takes the value as it is
 abbrev takes : Kind → Control → ℤ → Bool
 takes Integer c v = is_on_grid c v
 takes Integer64 c v = is_on_grid c v
-takes kind c v = is_value v (settle_as kind c v)
+takes kind c v = is_number v (settle_as kind c v)
 
 settled-test : (kind : Kind) (c : Control) (v : ℤ) → takes kind c v ≡ true → settle_as kind c v ≡ Ok v
 settled-test Integer c v e = ap Ok (nearest-on_grid c v (IsOnGrid-test c v e))
 settled-test Integer64 c v e = ap Ok (nearest-on_grid c v (IsOnGrid-test c v e))
-settled-test Boolean c v e = is_value-true (settle_as Boolean c v) v e
-settled-test Button c v e = is_value-true (settle_as Button c v) v e
-settled-test Bitmask c v e = is_value-true (settle_as Bitmask c v) v e
-settled-test Menu c v e = is_value-true (settle_as Menu c v) v e
-settled-test IntegerMenu c v e = is_value-true (settle_as IntegerMenu c v) v e
+settled-test Boolean c v e = is_number-true (settle_as Boolean c v) v e
+settled-test Button c v e = is_number-true (settle_as Button c v) v e
+settled-test Bitmask c v e = is_number-true (settle_as Bitmask c v) v e
+settled-test Menu c v e = is_number-true (settle_as Menu c v) v e
+settled-test IntegerMenu c v e = is_number-true (settle_as IntegerMenu c v) v e
 
 -- whether a control is well formed: for one that is written out, this computes
 abbrev pub is_well_formed : Control → Bool
@@ -275,5 +283,5 @@ IsWellFormed-test c e =
           (λ (some : nat_lt 0 c.step ≡ true). ltb-true 0 c.step some)
           (or_cases (not (has_grid c.kind)) (nat_lt 0 c.step) q.0);
       fits_kind = (Decides-fits_kind c).0 r.0;
-      default_settled = settled-test c.kind c c.default_value r.1;
+      default_settled = ap as_number (settled-test c.kind c c.default_value r.1);
     }

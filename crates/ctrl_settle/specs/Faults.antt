@@ -7,7 +7,7 @@ use Rattle.ctrl_types.specs.declared.flags.Flags.{Flags}
 use Rattle.ctrl_types.specs.declared.flags.TheConstants.Flags.{GRABBED, INACTIVE}
 use Rattle.ctrl_types.specs.declared.kind.Kind.{Kind}
 use Rattle.ctrl_types.specs.declared.kind.Kind.TheVariants.{Integer, Boolean, Menu, Button, Integer64, Bitmask, IntegerMenu}
-use Rattle.ctrl_settle.specs.Control.{Control}
+use Rattle.ctrl_settle.specs.Control.{Control, default_of}
 use Rattle.ctrl_settle.specs.Settle.{IsSettled}
 use Rattle.ctrl_settle.specs.declared.fault.CtrlFault.{CtrlFault}
 use Rattle.ctrl_settle.specs.declared.fault.CtrlFault.TheVariants.{BadRange, ZeroStep, BadDefault, KindBounds}
@@ -68,14 +68,14 @@ pub record IsWellFormed (c : Control) : Type 0 where
   pub in_order : c.minimum ≤ℤ c.maximum
   pub stepped : IsTrue (has_grid c.kind) → 0 < c.step
   pub fits_kind : FitsKind c
-  pub default_settled : IsSettled c c.default_value
+  pub default_settled : IsSettled c (default_of c)
 
 -- this is wrong with the control
 abbrev pub HasFault : Control → CtrlFault → Type 0
 HasFault c BadRange = c.maximum <ℤ c.minimum
 HasFault c ZeroStep = IsTrue (has_grid c.kind) × (c.step ≡ 0)
 HasFault c KindBounds = ¬ FitsKind c
-HasFault c BadDefault = ¬ IsSettled c c.default_value
+HasFault c BadDefault = ¬ IsSettled c (default_of c)
 
 -- how many other faults are looked for before this one
 abbrev pub turn_of : CtrlFault → ℕ

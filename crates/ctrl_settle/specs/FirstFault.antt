@@ -2,13 +2,14 @@
 use Rattle.std.specs.Prelude.{ℕ, ◌-◌, ◌^◌, ◌==◌, ◌&&◌, ℤ, pos, negsuc, int_le, int_lt, Bool, true, false, not, if◌then◌else◌, Option, None, Some, Result, Ok, Err}
 use Rattle.std.specs.Ordering.{int_eq}
 use Rattle.ctrl_types.specs.Flags.{union, intersects}
-use Rattle.ctrl_types.specs.Values.{CtrlValue}
+use Rattle.ctrl_types.specs.Values.{is_same}
+use Rattle.ctrl_types.specs.declared.value.CtrlValue.{CtrlValue}
 use Rattle.ctrl_types.specs.declared.errno.Errno.{Errno}
 use Rattle.ctrl_types.specs.declared.flags.Flags.{Flags}
 use Rattle.ctrl_types.specs.declared.flags.TheConstants.Flags.{GRABBED, INACTIVE}
 use Rattle.ctrl_types.specs.declared.kind.Kind.{Kind}
 use Rattle.ctrl_types.specs.declared.kind.Kind.TheVariants.{Integer, Boolean, Menu, Button, Integer64, Bitmask, IntegerMenu}
-use Rattle.ctrl_settle.specs.Control.{Control}
+use Rattle.ctrl_settle.specs.Control.{Control, default_of}
 use Rattle.ctrl_settle.specs.Faults.{has_grid}
 use Rattle.ctrl_settle.specs.Settle.{settle}
 use Rattle.ctrl_settle.specs.declared.fault.CtrlFault.{CtrlFault}
@@ -60,12 +61,12 @@ fits_kind c = has_bounds c.kind c && (can_skip c.kind c.skip && can_declare c.fl
 
 -- whether an answer is this value
 abbrev pub is_value : CtrlValue → Result CtrlValue Errno → Bool
-is_value v (Ok w) = int_eq w v
+is_value v (Ok w) = is_same w v
 is_value v (Err _) = false
 
 -- whether the control takes its default as it is
 abbrev pub takes_default : Control → Bool
-takes_default c = is_value c.default_value (settle c c.default_value)
+takes_default c = is_value (default_of c) (settle c (default_of c))
 
 -- the first fault of a control, in the order in which they are looked for; none where nothing is wrong with it
 abbrev pub first_fault : Control → Option CtrlFault

@@ -4,7 +4,7 @@ ghost use Rattle.ctrl_settle.specs.Faults.{IsFirstFault, IsWellFormed};
 
 use crate::control::Ctrl;
 use crate::fault::CtrlFault;
-use ctrl_types::{CtrlId, CtrlValue, Flags, Kind};
+use ctrl_types::{CtrlId, Flags, Kind};
 
 /// What a driver says of a control, not checked yet (Linux driver API, "V4L2 Controls", `struct v4l2_ctrl_config`). What each field may
 /// be stands at `Ctrl::new`, whose arguments they are.
@@ -21,7 +21,7 @@ pub struct CtrlConfig {
     /// How far the values of a number lie apart, 1 or more; 1 for a `Boolean` and the menus, 0 for a `Button` and a `Bitmask`.
     pub step: u64,
     /// The value at the start, one that the control takes as it is.
-    pub default_value: CtrlValue,
+    pub default_value: i64,
     /// Bit i leaves out item i of a menu; 0 for other kinds.
     pub skip: u64,
     /// What holds of it from the start.

@@ -1,5 +1,5 @@
 ghost use Rattle.std.specs.Prelude.{◌≡◌, ◌↔◌, IsOk, IfOk, IfErr};
-ghost use Rattle.ctrl_settle.specs.Control.{described, with_range};
+ghost use Rattle.ctrl_settle.specs.Control.{default_of, described, with_range};
 ghost use Rattle.ctrl_settle.specs.Faults.{IsFirstFault, IsWellFormed};
 ghost use Rattle.ctrl_settle.specs.Settle.{settle, settled_anew};
 
@@ -49,7 +49,7 @@ impl Ctrl {
         minimum: i64,
         maximum: i64,
         step: u64,
-        default_value: CtrlValue,
+        default_value: i64,
         skip: u64,
         flags: Flags,
         is_private: bool,
@@ -93,7 +93,7 @@ impl Ctrl {
         minimum: i64,
         maximum: i64,
         step: u64,
-        default_value: CtrlValue,
+        default_value: i64,
     ) -> Result<Ctrl, CtrlFault>
         ensures ok { IsOk result ↔ IsWellFormed (with_range self.now minimum maximum step default_value) }
         ensures value { IfOk result (λ c. c ≡ with_range self.now minimum maximum step default_value) }
@@ -146,11 +146,18 @@ impl Ctrl {
         self.description.step
     }
 
-    /// The value at the start.
-    pub fn default_value(&self) -> CtrlValue
+    /// The default, as a number.
+    pub fn default_value(&self) -> i64
         ensures { result ≡ self.now.default_value }
     {
         self.description.default_value
+    }
+
+    /// The default, as a value: what the control has at the start.
+    pub fn default_as_value(&self) -> CtrlValue
+        ensures { result ≡ default_of self.now }
+    {
+        self.description.default_as_value()
     }
 
     /// The items that a menu leaves out: bit i stands for item i (Linux driver API, "V4L2 Controls", "Menu Controls").
@@ -176,7 +183,7 @@ impl Ctrl {
     }
 }
 
-/// The value that `control` takes when `value` is asked for, which may be any number (Linux driver API, "V4L2
+/// The value that `control` takes when `value` is asked for, which may be any value (Linux driver API, "V4L2
 /// Controls"; the rounding is this project's).
 ///
 /// An `Integer` and an `Integer64` take the nearest of minimum, minimum + step, .. that isn't above the maximum, of two
@@ -194,7 +201,7 @@ pub fn settle(control: &Ctrl, value: CtrlValue) -> Result<CtrlValue, Errno>
 /// The value that `control` has from `value`, once its range was changed (Linux driver API, `v4l2_ctrl_modify_range`): what it takes for it, and its default
 /// where it takes none (the latter of this project).
 ///
-/// - `value`: any number; the value that the control had within its earlier range.
+/// - `value`: any value; the one that the control had within its earlier range.
 ///
 /// The control takes the answer as it is (the law `settled_anew_stays`). It takes no memory and refuses nothing.
 pub fn settle_anew(control: &Ctrl, value: CtrlValue) -> CtrlValue
@@ -203,6 +210,6 @@ pub fn settle_anew(control: &Ctrl, value: CtrlValue) -> CtrlValue
 {
     match settle(control, value) {
         Ok(taken) => taken,
-        Err(_) => control.default_value(),
+        Err(_) => control.default_as_value(),
     }
 }

@@ -1,7 +1,8 @@
 ghost use Rattle.std.specs.Prelude.{◌≡◌, ◌<◌, ◌≤ℤ◌, ◌↔◌, IsTrue, MatchResult};
+ghost use Rattle.ctrl_settle.specs.Control.{default_of};
 ghost use Rattle.ctrl_settle.specs.Faults.{FitsKind, HasBounds, HasItems, IsFirstFault, IsWellFormed, has_grid};
 ghost use Rattle.ctrl_settle.specs.Grid.{IsNearest, grid_value, nearest};
-ghost use Rattle.ctrl_settle.specs.Settle.{item, settle};
+ghost use Rattle.ctrl_settle.specs.Settle.{item, settle, settle_as};
 
 use crate::fault::CtrlFault;
 use bitflags::Flags as FlagSet;
@@ -16,7 +17,7 @@ pub struct Description {
     pub minimum: i64,
     pub maximum: i64,
     pub step: u64,
-    pub default_value: CtrlValue,
+    pub default_value: i64,
     pub skip: u64,
     pub flags: Flags,
     pub is_private: bool,
@@ -46,7 +47,8 @@ impl Description {
         if !self.fits_kind() {
             return Err(CtrlFault::KindBounds);
         }
-        if self.settle(self.default_value) != Ok(self.default_value) {
+        let usual = self.default_as_value();
+        if self.settle(usual) != Ok(usual) {
             return Err(CtrlFault::BadDefault);
         }
         Ok(())
@@ -83,6 +85,13 @@ impl Description {
         }
     }
 
+    /// The default, as a value.
+    pub fn default_as_value(&self) -> CtrlValue
+        ensures { result ≡ default_of self.now }
+    {
+        CtrlValue::Number(self.default_value)
+    }
+
     /// The value that the control takes for `value`, or why it takes none.
     #[tactic(auto, unfolding(crate::specs::Settle::settle))]
     pub fn settle(&self, value: CtrlValue) -> Result<CtrlValue, Errno>
@@ -91,16 +100,31 @@ impl Description {
         requires bounds { HasBounds self.now.kind self.now }
         ensures { result ≡ settle self.now value }
     {
-        match self.kind {
-            Kind::Integer | Kind::Integer64 => Ok(self.nearest(value)),
-            Kind::Boolean => Ok(i64::from(value != 0)),
-            Kind::Bitmask => Ok(value & self.maximum),
-            Kind::Button => Ok(0),
-            Kind::Menu | Kind::IntegerMenu => self.item(value),
+        match value {
+            CtrlValue::Number(number) => match self.settle_number(number) {
+                Ok(taken) => Ok(CtrlValue::Number(taken)),
+                Err(errno) => Err(errno),
+            },
         }
     }
 
-    fn item(&self, value: CtrlValue) -> Result<CtrlValue, Errno>
+    /// The number that the control takes for `number`, or why it takes none.
+    fn settle_number(&self, number: i64) -> Result<i64, Errno>
+        requires in_order { self.now.minimum ≤ℤ self.now.maximum }
+        requires stepped { IsTrue (has_grid self.now.kind) → 0 < self.now.step }
+        requires bounds { HasBounds self.now.kind self.now }
+        ensures { result ≡ settle_as self.now.kind self.now number }
+    {
+        match self.kind {
+            Kind::Integer | Kind::Integer64 => Ok(self.nearest(number)),
+            Kind::Boolean => Ok(i64::from(number != 0)),
+            Kind::Bitmask => Ok(number & self.maximum),
+            Kind::Button => Ok(0),
+            Kind::Menu | Kind::IntegerMenu => self.item(number),
+        }
+    }
+
+    fn item(&self, value: i64) -> Result<i64, Errno>
         requires { HasItems self.now }
         ensures { result ≡ item self.now value }
     {

@@ -2,7 +2,8 @@
 
 ghost use Rattle.std.specs.Prelude.{◌≡◌, ◌⊎◌, ◌↔◌, ℤ, ◌≤ℤ◌, FitsSigned, None, Some};
 ghost use Rattle.std.specs.Int.{w64};
-ghost use Rattle.ctrl_types.specs.Values.{CtrlValue};
+ghost use Rattle.ctrl_types.specs.Values.{number_of};
+ghost use Rattle.ctrl_types.specs.declared.value.CtrlValue.{CtrlValue};
 ghost use Rattle.ctrl_settle.specs.Control.{Control};
 ghost use Rattle.ctrl_settle.specs.Faults.{IsFirstFault, IsWellFormed};
 ghost use Rattle.ctrl_settle.specs.FirstFault.{first_fault};
@@ -33,8 +34,8 @@ pub fn settled_anew_stays()
 /// What a control takes lies within its bounds, and so fits 64 bits.
 pub fn settled_values_fit()
     ensures within { (c : Control) (v w : CtrlValue) → IsWellFormed c → settle c v ≡ Ok w
-        → (c.minimum ≤ℤ w) × (w ≤ℤ c.maximum) }
-    ensures fits { (c : Control) (v w : CtrlValue) → IsWellFormed c → settle c v ≡ Ok w → FitsSigned w64 w }
+        → (c.minimum ≤ℤ number_of w) × (number_of w ≤ℤ c.maximum) }
+    ensures fits { (c : Control) (v w : CtrlValue) → IsWellFormed c → settle c v ≡ Ok w → FitsSigned w64 (number_of w) }
 {}
 
 /// A control is well formed, or has a first fault: one of these alone, and one fault alone.

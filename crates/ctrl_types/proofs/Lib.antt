@@ -1,1 +1,2 @@
 pub mod PairLemmas
+pub mod ValueLemmas

@@ -1,6 +1,8 @@
 ghost use Rattle.std.specs.Prelude.{◌≡◌};
 ghost use Rattle.ctrl_types.specs.Classes.{class_of};
 
+use crate::value::CtrlValue;
+
 /// The id by which userspace names a control (`V4L2_CID_..`).
 #[derive(Clone, Copy, Debug, PartialEq, Eq, PartialOrd, Ord, Hash)]
 pub struct CtrlId(pub u32);
@@ -23,9 +25,6 @@ pub struct FhId(pub u32);
 /// and 4294967295 never is one.
 #[derive(Clone, Copy, Debug, PartialEq, Eq, PartialOrd, Ord, Hash)]
 pub struct RequestId(pub u32);
-
-/// What a control has as its value (Linux userspace API, "struct v4l2_ext_control", field `value64`).
-pub type CtrlValue = i64;
 
 /// An entry of a control list (Linux userspace API, "struct v4l2_ext_control").
 #[derive(Clone, Copy, Debug, PartialEq, Eq)]

@@ -8,13 +8,15 @@ mod ids;
 mod kind;
 mod pairs;
 mod sub_flags;
+mod value;
 mod which;
 
 pub use changes::{Changes, EVENT_CTRL};
 pub use errno::{Errno, Fault};
 pub use flags::Flags;
-pub use ids::{CtrlId, CtrlValue, ExtControl, FhId, Pair, RequestId};
+pub use ids::{CtrlId, ExtControl, FhId, Pair, RequestId};
 pub use kind::Kind;
 pub use pairs::last_value;
 pub use sub_flags::SubFlags;
+pub use value::CtrlValue;
 pub use which::Which;

@@ -1,7 +1,8 @@
 ghost use Rattle.std.specs.Prelude.{◌≡◌};
 ghost use Rattle.ctrl_types.specs.Pairs.{last_value};
 
-use crate::ids::{CtrlValue, Pair};
+use crate::ids::Pair;
+use crate::value::CtrlValue;
 
 /// The last value that pairs give the control with this number, where they give it one (of this project).
 pub fn last_value(pairs: &[Pair], control: u32) -> Option<CtrlValue>

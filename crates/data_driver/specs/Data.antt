@@ -1,6 +1,7 @@
 -- What the driver means by its relations: each is a limit, or a word (Linux driver API, "V4L2 Controls", has the callbacks: "Control
 -- Clusters" for `try_ctrl`, "Adding Notify Callbacks" for notifications; the relations are of this project).
-use Rattle.std.specs.Prelude.{◌≡◌, ℕ, ℤ, ◌++◌, [], List, Option, None, Some}
+use Rattle.std.specs.Prelude.{◌≡◌, ℕ, ◌++◌, [], List, Option, None, Some}
+use Rattle.ctrl_types.specs.declared.value.CtrlValue.{CtrlValue}
 use Rattle.ctrl_calls.specs.Meanings.{Verdicts, Words}
 use Rattle.ctrl_calls.specs.declared.verdict.Verdict.{Verdict}
 use Rattle.ctrl_calls.specs.declared.verdict.Verdict.TheVariants.{Accept}
@@ -11,7 +12,7 @@ use Rattle.data_driver.specs.declared.limit.Limit.{Limit}
 use Rattle.data_driver.specs.declared.word.Word.{Word}
 
 -- a limit, where there is one, judges the row; else it is accepted as it is
-abbrev pub verdict_by : Option Limit → List ℤ → Verdict
+abbrev pub verdict_by : Option Limit → List CtrlValue → Verdict
 verdict_by (Some limit) row = verdict_of limit row
 verdict_by None row = Accept row
 
@@ -20,7 +21,7 @@ abbrev pub data_verdict : Verdicts
 data_verdict relation row = verdict_by (limit_of relation) row
 
 -- a word, where there is one, says what is told of a row; else it is 0
-abbrev pub said : Option Word → List ℤ → ℕ
+abbrev pub said : Option Word → List CtrlValue → ℕ
 said (Some word) row = word_of word row
 said None row = 0
 

@@ -1,7 +1,9 @@
 -- What is told of a row, the values of a cluster's members (Linux driver API, "V4L2 Controls", "Adding Notify Callbacks"; that a word is
 -- answered, and which, is of this project).
-use Rattle.std.specs.Prelude.{ℕ, ◌+◌, ◌*◌, ◌^◌, ℤ, pos, negsuc, ◌+ℤ◌, unsigned_abs, [], ◌∷◌, List, Option, None, Some, slice_get}
+use Rattle.std.specs.Prelude.{ℕ, ◌+◌, ◌*◌, ◌^◌, ℤ, pos, negsuc, ◌+ℤ◌, unsigned_abs, [], ◌∷◌, List, Option, None, Some}
 use Rattle.std.specs.Int.{int_rem_euclid}
+use Rattle.ctrl_types.specs.declared.value.CtrlValue.{CtrlValue}
+use Rattle.data_driver.specs.Limits.{number_at}
 use Rattle.data_driver.specs.declared.word.Word.{Word}
 use Rattle.data_driver.specs.declared.word.Word.TheVariants.{Joined, Plus, Constant}
 
@@ -25,9 +27,9 @@ plus (Some value) more = or_zero (value +ℤ more)
 plus None more = 0
 
 -- the word that is told of a row
-abbrev pub word_of : Word → List ℤ → ℕ
-word_of (Joined first second) row = joined_word (slice_get row first) (slice_get row second)
-word_of (Plus member more) row = plus (slice_get row member) more
+abbrev pub word_of : Word → List CtrlValue → ℕ
+word_of (Joined first second) row = joined_word (number_at row first) (number_at row second)
+word_of (Plus member more) row = plus (number_at row member) more
 word_of (Constant word) row = word
 
 -- the places that a word names

@@ -1,12 +1,12 @@
 //! What limits make of a row, and the numbers that they compare.
 
-ghost use Rattle.std.specs.Prelude.{◌≡◌, ◌<◌, pos, negsuc, ◌≤ℤ◌, length, slice_get};
-ghost use Rattle.data_driver.specs.Limits.{limited_to as limited_to_of, least, lesser as lesser_of, lowered_to as lowered_to_of, product as product_of, refused_above as refused_above_of, refused_while as refused_while_of, sum_of_values as total_of, with_margin as with_margin_of};
+ghost use Rattle.std.specs.Prelude.{◌≡◌, ◌<◌, pos, negsuc, ◌≤ℤ◌, length};
+ghost use Rattle.data_driver.specs.Limits.{number_at, limited_to as limited_to_of, least, lesser as lesser_of, lowered_to as lowered_to_of, product as product_of, refused_above as refused_above_of, refused_while as refused_while_of, sum_of_values as total_of, with_margin as with_margin_of};
 
 use crate::limit::Excess;
 use crate::members::member;
 use ctrl_calls::{ClusterRow, Verdict};
-use ctrl_types::Errno;
+use ctrl_types::{CtrlValue, Errno};
 
 // All values together: eight values of 64 bits fit.
 pub(crate) fn sum_of_values(row: &ClusterRow) -> i128
@@ -14,7 +14,7 @@ pub(crate) fn sum_of_values(row: &ClusterRow) -> i128
 {
     let mut sum = 0i128;
     for place in 0..row.len() {
-        sum += i128::from(row.value(place));
+        sum += i128::from(row.value(place).number());
     }
     sum
 }
@@ -49,7 +49,7 @@ pub(crate) fn refused_above(number: Option<i128>, most: Option<i128>, row: &Clus
 
 // The value at the place is at most this: the row is refused, or the value lowered.
 pub(crate) fn limited_to(excess: Excess, place: u8, most: Option<i128>, row: &ClusterRow) -> Verdict
-    ensures { result ≡ limited_to_of excess place (slice_get row.now place) most row.now }
+    ensures { result ≡ limited_to_of excess place (number_at row.now place) most row.now }
 {
     let value = member(row, place);
     match excess {
@@ -59,12 +59,12 @@ pub(crate) fn limited_to(excess: Excess, place: u8, most: Option<i128>, row: &Cl
 }
 
 fn lowered_to(place: u8, value: Option<i64>, most: Option<i128>, row: &ClusterRow) -> Verdict
-    requires { value ≡ slice_get row.now place }
+    requires { value ≡ number_at row.now place }
     ensures { result ≡ lowered_to_of place value most row.now }
 {
     match (value, most) {
         (Some(value), Some(most)) if most >= i128::from(i64::MIN) => {
-            Verdict::Accept(row.with(usize::from(place), lesser(value, most)))
+            Verdict::Accept(row.with(usize::from(place), CtrlValue::Number(lesser(value, most))))
         }
         _ => Verdict::Refuse(Errno::EINVAL),
     }

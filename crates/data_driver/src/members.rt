@@ -1,4 +1,5 @@
-ghost use Rattle.std.specs.Prelude.{◌≡◌, ◌<◌, [], ◌∷◌, length, slice_get, IfSome};
+ghost use Rattle.std.specs.Prelude.{◌≡◌, ◌<◌, [], ◌∷◌, length, IfSome};
+ghost use Rattle.data_driver.specs.Limits.{number_at};
 ghost use Rattle.data_driver.specs.Members.{missing, place_of};
 
 use ctrl_calls::ClusterRow;
@@ -16,12 +17,12 @@ pub struct NoMember {
 
 // The value of the member at a place, where the row has it.
 pub(crate) fn member(row: &ClusterRow, place: u8) -> Option<i64>
-    ensures value { result ≡ slice_get row.now place }
+    ensures value { result ≡ number_at row.now place }
     ensures within { IfSome result (λ _. place < length row.now) }
 {
     let place = usize::from(place);
     if place < row.len() {
-        Some(row.value(place))
+        Some(row.value(place).number())
     } else {
         None
     }

@@ -7,7 +7,7 @@ use Rattle.std.proofs.lemmas.Bool.Decides.{nat_tests}
 use Rattle.std.proofs.lemmas.List.Elements.{filter_map-append}
 use Rattle.std.proofs.lemmas.List.Folds.{list_any-append}
 use Rattle.history.specs.declared.entry.Entry.{Entry}
-use Rattle.ctrl_types.specs.Values.{CtrlValue}
+use Rattle.ctrl_types.specs.declared.value.CtrlValue.{CtrlValue}
 use Rattle.ctrl_types.specs.declared.errno.Errno.TheVariants.{EBUSY}
 use Rattle.ctrl_types.specs.declared.ids.Pair.{Pair}
 use Rattle.ctrl_calls.specs.Meanings.{Verdicts}

@@ -1,12 +1,11 @@
 -- What the raises between two moments make of the events of a file handle is what the history says.
 use Rattle.std.proofs.Common.{arith, suc, ◌++◌, append-nil, append_assoc, length-append, ◌≡◌, ◌∙◌, ◌≤◌, ◌+◌, ◌*◌, mul-le-mul, ℕ, ℤ, Bool, true, false, not, ◌&&◌, ◌||◌, List, [], ◌∷◌, length, Option, None, Some, refl, ap, sym}
-use Rattle.std.proofs.lemmas.Bool.Decides.{Decides-int_eq}
-use Rattle.std.specs.Ordering.{int_eq}
+use Rattle.ctrl_types.proofs.ValueLemmas.{Decides-same}
+use Rattle.ctrl_types.specs.Values.{is_same}
 use Rattle.history.specs.declared.entry.Entry.{Entry}
 use Rattle.ctrl_types.specs.Flags.{contains}
 use Rattle.ctrl_types.specs.declared.changes.Changes.{Changes}
 use Rattle.ctrl_types.specs.declared.flags.TheConstants.Flags.{EXECUTE_ON_WRITE}
-use Rattle.ctrl_types.specs.Values.{CtrlValue}
 use Rattle.ctrl_types.specs.declared.ids.FhId.{FhId}
 use Rattle.ctrl_types.specs.declared.ids.Pair.{Pair}
 use Rattle.ctrl_types.specs.declared.ids.RequestId.{RequestId}
@@ -100,7 +99,7 @@ begin_raises verdicts plan e older before after r fh cs f is around =
 
 -- what stays doesn't change where nothing was applied
 unchanged : (plan : PlanData) (values : Values) (c : ℕ) → is_changed plan values [] c (value_at values c) ≡ false
-unchanged plan values c = by (int_eq (value_at values c) (value_at values c)) ((Decides-int_eq (value_at values c) (value_at values c)).1 refl) (contains (control plan c).flags EXECUTE_ON_WRITE)
+unchanged plan values c = by (is_same (value_at values c) (value_at values c)) ((Decides-same (value_at values c) (value_at values c)).1 refl) (contains (control plan c).flags EXECUTE_ON_WRITE)
   where
     by : (b : Bool) → b ≡ true → (w : Bool) → (not b || (w && false)) ≡ false
     by true is true = refl
@@ -118,7 +117,7 @@ grab_raises verdicts plan e older before after d on fh cs f is around =
     (λ change c. sym (ap (λ (s : Step). from_of s change c) is))
 
 -- The raises of a range change.
-pub range_raises : (verdicts : Verdicts) (plan : PlanData) (e : Entry Step) (older : Past) (before after : MomentData) (d : ℕ) (low high : ℤ) (apart : ℕ) (default_value : CtrlValue) (fh : FhId) (cs : List ℕ) (f : FileEvents)
+pub range_raises : (verdicts : Verdicts) (plan : PlanData) (e : Entry Step) (older : Past) (before after : MomentData) (d : ℕ) (low high : ℤ) (apart : ℕ) (default_value : ℤ) (fh : FhId) (cs : List ℕ) (f : FileEvents)
     → e.step ≡ steps.ModifyRange d low high apart default_value → AreAround verdicts plan e older before after
     → raised_all (changed_between plan before after []) (payload_at plan after) (λ c. needing_feedback None [] (changed_between plan before after [] c) c) fh.0 cs f ≡ raised_by verdicts plan e older fh cs f
 range_raises verdicts plan e older before after d low high apart default_value fh cs f is around =

@@ -4,7 +4,6 @@
 use Rattle.std.specs.Prelude.{ℕ, ℤ, nat_eq, nat_le, if◌then◌else◌, List, length, map, filter_map, slice_set, Option, None, Some, is_some, Ok}
 use Rattle.std.specs.List.{range_with_len}
 use Rattle.std.specs.Map.{lookup}
-use Rattle.ctrl_types.specs.Values.{CtrlValue}
 use Rattle.ctrl_types.specs.declared.errno.Errno.TheVariants.{EINVAL, ENOSPC, ERANGE}
 use Rattle.ctrl_settle.specs.Control.{Control, with_range}
 use Rattle.ctrl_settle.specs.FirstFault.{first_fault}
@@ -23,7 +22,7 @@ pub record RangeData : Type 0 where
   pub minimum : ℤ
   pub maximum : ℤ
   pub step : ℕ
-  pub default_value : CtrlValue
+  pub default_value : ℤ
 
 -- a control with this range
 abbrev pub ranged : Control → RangeData → Control
@@ -52,7 +51,7 @@ unfoldable pub ranges_now : PlanData → Past → List Control
 ranges_now plan past = map (control_now plan past) (range_with_len 0 (length plan.controls))
 
 -- one of these controls, with another range
-abbrev pub control_with_range : List Control → ℕ → ℤ → ℤ → ℕ → CtrlValue → Control
+abbrev pub control_with_range : List Control → ℕ → ℤ → ℤ → ℕ → ℤ → Control
 control_with_range controls c low high apart default_value = with_range (control_in controls c) low high apart default_value
 
 -- what a step makes of them, as the law `present_ranges` says: a range change gives one control another range
@@ -68,7 +67,7 @@ settled_after _ controls values = values
 
 -- Giving a control another range: EINVAL where there is no such control; ERANGE where the control with this range, and else as its driver described it, has
 -- a fault; ENOSPC where no further step is kept. Neither a grab nor a flag of the control refuses it.
-abbrev pub range_answer : PlanData → Past → ℕ → ℤ → ℤ → ℕ → CtrlValue → Answer
+abbrev pub range_answer : PlanData → Past → ℕ → ℤ → ℤ → ℕ → ℤ → Answer
 range_answer plan past c low high apart default_value =
     if nat_le (length plan.controls) c then refused EINVAL
     else if is_some (first_fault (control_with_range (ranges_now plan past) c low high apart default_value)) then refused ERANGE

@@ -3,7 +3,7 @@
 use Rattle.std.specs.Prelude.{ℕ, Bool, false, nat_eq, cond, List, [], ◌∷◌, map, length, filter_map, Option, None, Some}
 use Rattle.std.specs.List.{range_with_len}
 use Rattle.std.specs.Option.{option_map}
-use Rattle.ctrl_types.specs.Values.{CtrlValue}
+use Rattle.ctrl_types.specs.declared.value.CtrlValue.{CtrlValue}
 use Rattle.ctrl_types.specs.Pairs.{last_value}
 use Rattle.ctrl_types.specs.declared.ids.Pair.{Pair}
 use Rattle.req_book.specs.declared.state.RequestState.{RequestState}

@@ -4,7 +4,7 @@ use Rattle.ctrl_types.specs.declared.ids.Pair.{Pair}
 use Rattle.ctrl_clusters.specs.Rows.{Values, Grabs}
 use Rattle.ctrl_clusters.specs.Overlay.{overlay}
 use Rattle.ctrl_calls.specs.Meanings.{Verdicts}
-use Rattle.ctrl_settle.specs.Control.{Control}
+use Rattle.ctrl_settle.specs.Control.{Control, default_of}
 use Rattle.ctrl_handlers.specs.Plan.{PlanData}
 use Rattle.device_history.specs.declared.ask.Step.{Step}
 use Rattle.device_history.specs.declared.ask.Step.TheVariants as steps
@@ -15,7 +15,7 @@ use Rattle.device_history.specs.Requests.{asked}
 
 -- the values before the first step
 abbrev pub defaults : PlanData → Values
-defaults plan = map (λ c. c.default_value) plan.controls
+defaults plan = map default_of plan.controls
 
 -- The pairs that a step asks to have laid over the present values: those of a set; those that a request asks for, where its frame is begun.
 abbrev pub pairs_asked : PlanData → Past → Step → Option (List Pair)

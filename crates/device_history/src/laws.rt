@@ -9,7 +9,7 @@ ghost use Rattle.ctrl_calls.specs.Meanings.{Verdicts};
 ghost use Rattle.ctrl_types.specs.declared.errno.Fault.{Fault};
 ghost use Rattle.ctrl_types.specs.declared.ids.ExtControl.{ExtControl};
 ghost use Rattle.ctrl_types.specs.Classes.{which_of};
-ghost use Rattle.ctrl_types.specs.Values.{CtrlValue};
+ghost use Rattle.ctrl_types.specs.declared.value.CtrlValue.{CtrlValue};
 ghost use Rattle.ctrl_types.specs.declared.ids.FhId.{FhId};
 ghost use Rattle.ctrl_types.specs.declared.ids.RequestId.{RequestId};
 ghost use Rattle.ctrl_types.specs.declared.ids.Pair.{Pair};
@@ -239,7 +239,7 @@ pub fn raised_events()
         ≡ raised_by verdicts plan e older fh cs f }
     ensures grab { (verdicts : Verdicts) (plan : PlanData) (e : Entry Step) (older : Past) (before after : MomentData) (d : ℕ) (on : Bool) (fh : FhId) (cs : List ℕ) (f : FileEvents) → e.step ≡ Grab d on → AreAround verdicts plan e older before after
         → raised_all (changed_between plan before after []) (payload_at plan after) (λ c. needing_feedback None [] (changed_between plan before after [] c) c) fh.0 cs f ≡ raised_by verdicts plan e older fh cs f }
-    ensures range { (verdicts : Verdicts) (plan : PlanData) (e : Entry Step) (older : Past) (before after : MomentData) (d : ℕ) (low high : ℤ) (apart : ℕ) (default_value : CtrlValue) (fh : FhId) (cs : List ℕ) (f : FileEvents) → e.step ≡ ModifyRange d low high apart default_value → AreAround verdicts plan e older before after
+    ensures range { (verdicts : Verdicts) (plan : PlanData) (e : Entry Step) (older : Past) (before after : MomentData) (d : ℕ) (low high : ℤ) (apart : ℕ) (default_value : ℤ) (fh : FhId) (cs : List ℕ) (f : FileEvents) → e.step ≡ ModifyRange d low high apart default_value → AreAround verdicts plan e older before after
         → raised_all (changed_between plan before after []) (payload_at plan after) (λ c. needing_feedback None [] (changed_between plan before after [] c) c) fh.0 cs f ≡ raised_by verdicts plan e older fh cs f }
     ensures subscription { (verdicts : Verdicts) (plan : PlanData) (e : Entry Step) (older : Past) (at : MomentData) (c : ℕ) → at.ranges ≡ ranges_now plan (e ∷ older) → at.values ≡ now verdicts plan (e ∷ older) → at.grabs ≡ grabbed plan (e ∷ older) → payload_at plan at c ≡ payload verdicts plan (e ∷ older) c }
 {}

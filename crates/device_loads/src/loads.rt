@@ -4,7 +4,7 @@ ghost use Rattle.std.specs.Prelude.{◌<◌, ◌^◌, length};
 
 use crate::asked::Asked;
 use bitflags::Flags as FlagSet;
-use ctrl_types::{CtrlId, ExtControl, FhId, RequestId, SubFlags};
+use ctrl_types::{CtrlId, CtrlValue, ExtControl, FhId, RequestId, SubFlags};
 use device_state::{Ask, ControlList};
 use std::alloc::{AllocError, Global};
 
@@ -104,7 +104,7 @@ fn subscription(fh: FhId, id: CtrlId) -> Ask {
 }
 
 fn entry(id: CtrlId, value: u32) -> ExtControl {
-    let value = i64::from(value);
+    let value = CtrlValue::Number(i64::from(value));
     ExtControl { id, value }
 }
 

@@ -47,7 +47,7 @@ use Rattle.ctrl_types.specs.declared.ids.RequestId.{RequestId}
 use Rattle.device_history.specs.declared.ask.Ask.TheVariants as asks
 use Rattle.device_state.proofs.SetLemmas.{notified_none}
 use Rattle.req_book.specs.declared.state.RequestState.TheVariants.{Idle, Queued, Running, Complete}
-use Rattle.ctrl_types.specs.Values.{CtrlValue}
+use Rattle.ctrl_types.specs.declared.value.CtrlValue.{CtrlValue}
 use Rattle.req_book.proofs.SettingLemmas.{snapshot_long}
 use Rattle.device_history.proofs.PresentLemmas.{length_now}
 use Rattle.ctrl_lists.specs.Checks.{errno_if_refused}

@@ -1,14 +1,15 @@
 -- Another range for a control: what it is answered, whom it is told, and what is kept after it.
-use Rattle.std.proofs.Common.{◌≡◌, ◌≢◌, ℕ, zero, suc, ◌<◌, ◌≤◌, ◌+◌, ◌⊎◌, ◌==◌, ◌&&◌, ◌||◌, not, cond, to_z, of_z, w64, ℤ, pos, Bool, true, false, nat_eq, nat_le, if◌then◌else◌, List, [], ◌∷◌, ◌++◌, length, Option, None, Some, is_some, Ok, slice_index, slice_set, count_by, inl, inr, refl, ap, sym, subst, ◌∙◌, arith}
+use Rattle.std.proofs.Common.{◌≡◌, ◌≢◌, ℕ, zero, suc, ◌<◌, ◌≤◌, ◌+◌, ◌⊎◌, ◌==◌, ◌&&◌, ◌||◌, not, cond, ℤ, Bool, true, false, nat_eq, nat_le, if◌then◌else◌, List, [], ◌∷◌, ◌++◌, length, Option, None, Some, is_some, Ok, slice_index, slice_set, count_by, inl, inr, refl, ap, sym, subst, ◌∙◌, arith}
 use Rattle.std.specs.List.{list_any, range_with_len}
-use Rattle.std.specs.Ordering.{int_eq}
-use Rattle.std.proofs.Math.Dec.{eqb, leb}
-use Rattle.std.proofs.lemmas.Bool.Decides.{Decides-eqb, Decides-int_eq, eqb_tells, leb_tells, nat_tests}
+use Rattle.std.proofs.Math.Dec.{leb}
+use Rattle.std.proofs.lemmas.Bool.Decides.{eqb_tells, leb_tells, nat_tests}
 use Rattle.std.proofs.lemmas.List.{get_or-set_other, get_or_past}
 use Rattle.std.proofs.lemmas.List.Sums.{sum_by-cons}
+use Rattle.ctrl_types.specs.Values.{zero_value}
+use Rattle.ctrl_types.specs.Values.{is_same}
 use Rattle.history.specs.Past.{past}
 use Rattle.ctrl_types.specs.Flags.{contains}
-use Rattle.ctrl_types.specs.Values.{CtrlValue}
+use Rattle.ctrl_types.specs.declared.value.CtrlValue.{CtrlValue}
 use Rattle.ctrl_types.specs.declared.flags.TheConstants.Flags.{EXECUTE_ON_WRITE}
 use Rattle.ctrl_types.specs.declared.errno.Errno.TheVariants.{EINVAL, ENOSPC, ERANGE}
 use Rattle.ctrl_types.specs.declared.ids.FhId.{FhId}
@@ -55,27 +56,27 @@ there : (plan : PlanData) (c : ℕ) → c < length plan.controls → nat_le (len
 there plan c known = grind (arith, nat_tests)
 
 -- a range with which the control has a fault
-pub range_faulty : (plan : PlanData) (older : Past) (c : ℕ) (low high : ℤ) (apart : ℕ) (default_value : CtrlValue) (fault : CtrlFault) → c < length plan.controls → IsFirstFault (with_range (control_in (ranges_now plan older) c) low high apart default_value) fault
+pub range_faulty : (plan : PlanData) (older : Past) (c : ℕ) (low high : ℤ) (apart : ℕ) (default_value : ℤ) (fault : CtrlFault) → c < length plan.controls → IsFirstFault (with_range (control_in (ranges_now plan older) c) low high apart default_value) fault
     → range_answer plan older c low high apart default_value ≡ refused ERANGE
 range_faulty plan older c low high apart default_value fault known is =
     rw (there plan c known, fault_found (with_range (control_in (ranges_now plan older) c) low high apart default_value) fault is) refl
 
 -- one with which nothing is wrong
-sound_range : (plan : PlanData) (older : Past) (c : ℕ) (low high : ℤ) (apart : ℕ) (default_value : CtrlValue) → c < length plan.controls → IsWellFormed (with_range (control_in (ranges_now plan older) c) low high apart default_value)
+sound_range : (plan : PlanData) (older : Past) (c : ℕ) (low high : ℤ) (apart : ℕ) (default_value : ℤ) → c < length plan.controls → IsWellFormed (with_range (control_in (ranges_now plan older) c) low high apart default_value)
     → range_answer plan older c low high apart default_value ≡ (if is_full older then refused ENOSPC else Ok Done)
 sound_range plan older c low high apart default_value known well =
     rw (there plan c known, nothing_found (with_range (control_in (ranges_now plan older) c) low high apart default_value) well) refl
 
-pub range_full : (plan : PlanData) (older : Past) (c : ℕ) (low high : ℤ) (apart : ℕ) (default_value : CtrlValue) → c < length plan.controls → IsWellFormed (with_range (control_in (ranges_now plan older) c) low high apart default_value)
+pub range_full : (plan : PlanData) (older : Past) (c : ℕ) (low high : ℤ) (apart : ℕ) (default_value : ℤ) → c < length plan.controls → IsWellFormed (with_range (control_in (ranges_now plan older) c) low high apart default_value)
     → is_full older ≡ true → range_answer plan older c low high apart default_value ≡ refused ENOSPC
 range_full plan older c low high apart default_value known well full = sound_range plan older c low high apart default_value known well ∙ rw full refl
 
-pub range_accepted : (plan : PlanData) (older : Past) (c : ℕ) (low high : ℤ) (apart : ℕ) (default_value : CtrlValue) → c < length plan.controls → IsWellFormed (with_range (control_in (ranges_now plan older) c) low high apart default_value)
+pub range_accepted : (plan : PlanData) (older : Past) (c : ℕ) (low high : ℤ) (apart : ℕ) (default_value : ℤ) → c < length plan.controls → IsWellFormed (with_range (control_in (ranges_now plan older) c) low high apart default_value)
     → is_full older ≡ false → range_answer plan older c low high apart default_value ≡ Ok Done
 range_accepted plan older c low high apart default_value known well room = sound_range plan older c low high apart default_value known well ∙ rw room refl
 
 -- a control that was read with its new range can be given it
-pub ranged : (plan : PlanData) (older : Past) (c : ℕ) (low high : ℤ) (apart : ℕ) (default_value : CtrlValue) (changed : Control) → changed ≡ with_range (control_in (ranges_now plan older) c) low high apart default_value
+pub ranged : (plan : PlanData) (older : Past) (c : ℕ) (low high : ℤ) (apart : ℕ) (default_value : ℤ) (changed : Control) → changed ≡ with_range (control_in (ranges_now plan older) c) low high apart default_value
     → range_answer plan older c low high apart default_value ≡ Ok Done → IsRanged plan older c changed
 ranged plan older c low high apart default_value changed is accepted = rw is (record { accepted = accepted; its_own = refl })
 
@@ -98,16 +99,6 @@ range_room plan steps c changed is = set_room steps (range_parts plan (past step
 pub range_known : (plan : PlanData) (older : Past) (c : ℕ) (changed : Control) → IsRanged plan older c changed → c < length plan.controls
 range_known plan older c changed is = grind (arith, nat_tests, (range_parts plan older c changed is).0)
 
--- numbers that can be read back are equal exactly where their bits are
-pub same_bits : (x y : ℤ) → to_z w64 (of_z w64 x) ≡ x → to_z w64 (of_z w64 y) ≡ y → eqb (of_z w64 x) (of_z w64 y) ≡ int_eq x y
-same_bits x y of_x of_y = by (eqb (of_z w64 x) (of_z w64 y)) (int_eq x y) refl refl
-  where
-    by : (a b : Bool) → eqb (of_z w64 x) (of_z w64 y) ≡ a → int_eq x y ≡ b → a ≡ b
-    by true true bits numbers = refl
-    by false false bits numbers = refl
-    by true false bits numbers = sym ((Decides-int_eq x y).1 (sym of_x ∙ ap (to_z w64) ((Decides-eqb (of_z w64 x) (of_z w64 y)).0 bits) ∙ of_y)) ∙ numbers
-    by false true bits numbers = sym bits ∙ (Decides-eqb (of_z w64 x) (of_z w64 y)).1 (ap (of_z w64) ((Decides-int_eq x y).0 numbers))
-
 -- a control among others of which no other passes
 any_own : (f : ℕ → Bool) (c : ℕ) (cs : List ℕ) → list_any (nat_eq c) cs ≡ true → ((d : ℕ) → d ≢ c → f d ≡ false) → list_any f cs ≡ f c
 any_own f c cs among others = by (f c) (list_any f cs) refl refl
@@ -125,14 +116,14 @@ any_own f c cs among others = by (f c) (list_any f cs) refl refl
 -- where one control alone gets another value, no other is changed
 others_stay : (plan : PlanData) (values : Values) (c : ℕ) (v : CtrlValue) (d : ℕ) → d ≢ c → changes plan values (slice_set values c v) (Some []) d ≡ false
 others_stay plan values c v d other =
-    rw (get_or-set_other values c d v (pos 0) other) (unchanged (value_at values d) (contains (control plan d).flags EXECUTE_ON_WRITE) false refl)
+    rw (get_or-set_other values c d v zero_value other) (unchanged (value_at values d) (contains (control plan d).flags EXECUTE_ON_WRITE) false refl)
 
 -- so only its own cluster is
-own_changes : (plan : PlanData) (values : Values) (c k : ℕ) (v : CtrlValue) → cluster_of plan c ≡ Some k → members_change plan values (slice_set values c v) [] k ≡ not (int_eq (value_at values c) (value_at (slice_set values c v) c))
+own_changes : (plan : PlanData) (values : Values) (c k : ℕ) (v : CtrlValue) → cluster_of plan c ≡ Some k → members_change plan values (slice_set values c v) [] k ≡ not (is_same (value_at values c) (value_at (slice_set values c v) c))
 own_changes plan values c k v is =
     sym (changed_row plan values (slice_set values c v) [] (members plan k))
     ∙ any_own (changes plan values (slice_set values c v) (Some [])) c (members plan k) (cluster_of_member plan c k is) (others_stay plan values c v)
-    ∙ by (int_eq (value_at values c) (value_at (slice_set values c v) c)) (contains (control plan c).flags EXECUTE_ON_WRITE)
+    ∙ by (is_same (value_at values c) (value_at (slice_set values c v) c)) (contains (control plan c).flags EXECUTE_ON_WRITE)
   where
     by : (same acts : Bool) → (not same || (acts && false)) ≡ not same
     by false acts = refl
@@ -211,7 +202,7 @@ one_counted plan f k others there = by (calls_of plan k).notifier (f k) refl ∙
 
 -- where one control alone gets another value, its own cluster is told, if it differs, and no other
 pub told_alone : (says : Words) (plan : PlanData) (values after : Values) (c k : ℕ) (v : CtrlValue) (differs : Bool) (words new : List ℕ) → IsPlan plan → cluster_of plan c ≡ Some k → after ≡ slice_set values c v
-    → differs ≡ not (int_eq (value_at values c) (value_at after c)) → IsNotified says plan k differs (row_of after (members plan k)) words new
+    → differs ≡ not (is_same (value_at values c) (value_at after c)) → IsNotified says plan k differs (row_of after (members plan k)) words new
     → AreNotified says plan (members_change plan values after []) (λ j. row_of after (members plan j)) words new
 told_alone says plan values after c k v differs words new plans is set d told =
     rw set
@@ -219,11 +210,11 @@ told_alone says plan values after c k v differs words new plans is set d told =
     (rw (own_changes plan values c k v is, ← set, ← d) told))
 
 pub counted_alone : (plan : PlanData) (values after : Values) (c k : ℕ) (v : CtrlValue) (differs : Bool) (count before : ℕ) → IsPlan plan → cluster_of plan c ≡ Some k → after ≡ slice_set values c v
-    → differs ≡ not (int_eq (value_at values c) (value_at after c)) → before ≡ 0 → count ≡ after_change plan k differs before → count ≡ notified_count plan (members_change plan values after [])
+    → differs ≡ not (is_same (value_at values c) (value_at after c)) → before ≡ 0 → count ≡ after_change plan k differs before → count ≡ notified_count plan (members_change plan values after [])
 counted_alone plan values after c k v differs count before plans is set d fresh told =
     told
     ∙ ap (after_change plan k differs) fresh
-    ∙ ap (λ (b : Bool). after_change plan k b 0) (d ∙ ap (λ (vs : Values). not (int_eq (value_at values c) (value_at vs c))) set ∙ sym (own_changes plan values c k v is))
+    ∙ ap (λ (b : Bool). after_change plan k b 0) (d ∙ ap (λ (vs : Values). not (is_same (value_at values c) (value_at vs c))) set ∙ sym (own_changes plan values c k v is))
     ∙ one_counted plan (members_change plan values (slice_set values c v) []) k (λ j other. other_clusters_stay plan values c k v j plans is other) (cluster_of_within plan c k is)
     ∙ ap (λ (vs : Values). notified_count plan (members_change plan values vs [])) (sym set)
 
@@ -261,7 +252,7 @@ kept_range verdicts told plan steps steps' caches ranges values b events words s
     values_are = values_ranged verdicts plan (past steps) c changed caches.values values is kept.values v
 
 -- a range change that is accepted
-pub handles_range : (verdicts : Verdicts) (told : Words) (old between new : DeviceData) (work : Work) (seat c : ℕ) (low high : ℤ) (apart : ℕ) (default_value : CtrlValue) (changed : Control) → between ≡ record old { work = work } → work ≡ at_rest
+pub handles_range : (verdicts : Verdicts) (told : Words) (old between new : DeviceData) (work : Work) (seat c : ℕ) (low high : ℤ) (apart : ℕ) (default_value : ℤ) (changed : Control) → between ≡ record old { work = work } → work ≡ at_rest
     → range_answer old.plan (past old.steps) c low high apart default_value ≡ Ok Done → changed ≡ with_range (control_in (ranges_now old.plan (past old.steps)) c) low high apart default_value
     → GivesRange verdicts told between new seat c changed → Handles verdicts old new seat (asks.ModifyRange c low high apart default_value) (Ok Done)
 handles_range verdicts told old between new work seat c low high apart default_value changed begin rest accepted its_own does =

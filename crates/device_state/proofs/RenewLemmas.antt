@@ -1,10 +1,11 @@
 -- What a set, a grab and a range change change, for the forecasts that are renewed.
-use Rattle.std.proofs.Common.{◌≡◌, ◌≢◌, ℕ, ◌<◌, ◌≤◌, ◌⊎◌, true, false, nat_eq, List, [], ◌∷◌, length, get_or, pos, slice_set, Option, None, Some, is_some, unwrap_or, inl, inr, refl, ap, sym, subst, ◌∙◌, arith}
+use Rattle.std.proofs.Common.{◌≡◌, ◌≢◌, ℕ, ◌<◌, ◌≤◌, ◌⊎◌, true, false, nat_eq, List, [], ◌∷◌, length, get_or, slice_set, Option, None, Some, is_some, unwrap_or, inl, inr, refl, ap, sym, subst, ◌∙◌, arith}
 use Rattle.std.specs.Option.{option_and_then}
 use Rattle.std.proofs.lemmas.Bool.Decides.{leb_tells, nat_tests}
 use Rattle.std.proofs.lemmas.List.{get_or-set_other, get_or_past}
 use Rattle.std.proofs.Math.Dec.{leb}
-use Rattle.ctrl_types.specs.Values.{CtrlValue}
+use Rattle.ctrl_types.specs.Values.{zero_value}
+use Rattle.ctrl_types.specs.declared.value.CtrlValue.{CtrlValue}
 use Rattle.ctrl_handlers.specs.Plan.{PlanData, cluster_of, members}
 use Rattle.ctrl_clusters.specs.Rows.{Values, value_at, member_value}
 use Rattle.ctrl_clusters.specs.NewRows.{clusters_of, row_among, value_among, written}
@@ -27,7 +28,7 @@ pub written_apart : (plan : PlanData) (values : Values) (rows : List NewRow) (c 
 written_apart plan values rows c apart = by (leb_tells (length values) c)
   where
     by : ((leb (length values) c ≡ true) × (length values ≤ c)) ⊎ ((leb (length values) c ≡ false) × (c < length values)) → value_at values c ≡ value_at (written plan values rows) c
-    by (inl past) = get_or_past values c (pos 0) past.1 ∙ sym (get_or_past (written plan values rows) c (pos 0) (omega (arith, past.1, length_written plan values rows)))
+    by (inl past) = get_or_past values c zero_value past.1 ∙ sym (get_or_past (written plan values rows) c zero_value (omega (arith, past.1, length_written plan values rows)))
     by (inr within) = sym (written_at plan values rows c within.1 ∙ ap (λ (o : Option CtrlValue). unwrap_or o (value_at values c)) (nothing_among plan rows (cluster_of plan c) c apart))
 
 -- a control of another cluster is another control

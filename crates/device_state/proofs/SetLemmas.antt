@@ -1,11 +1,11 @@
 -- What rows that a list's clusters get make of values and words.
 use Rattle.std.proofs.Common.{◌≡◌, ℕ, zero, suc, cond, ◌<◌, ◌≤◌, ◌+◌, ◌&&◌, ◌||◌, not, Bool, true, false, List, [], ◌∷◌, length, nat_eq, Option, None, Some, is_some, Result, Ok, count_by, slice_index, refl, sym, ap, subst, ◌∙◌, arith}
 use Rattle.std.specs.List.{list_any, range_with_len}
-use Rattle.std.specs.Ordering.{int_eq}
-use Rattle.std.proofs.lemmas.Bool.Decides.{Decides-int_eq}
 use Rattle.std.proofs.lemmas.List.Sums.{sum_by-cons}
+use Rattle.ctrl_types.proofs.ValueLemmas.{Decides-same}
+use Rattle.ctrl_types.specs.Values.{is_same}
 use Rattle.ctrl_types.specs.Flags.{contains}
-use Rattle.ctrl_types.specs.Values.{CtrlValue}
+use Rattle.ctrl_types.specs.declared.value.CtrlValue.{CtrlValue}
 use Rattle.ctrl_types.specs.declared.errno.Errno.{Errno}
 use Rattle.ctrl_types.specs.declared.flags.TheConstants.Flags.{EXECUTE_ON_WRITE}
 use Rattle.ctrl_types.specs.declared.ids.Pair.{Pair}
@@ -80,8 +80,8 @@ pub and_false : (y : Bool) → (y && false) ≡ false
 and_false true = refl
 and_false false = refl
 
-pub unchanged : (v : CtrlValue) (y a : Bool) → a ≡ false → (not (int_eq v v) || (y && a)) ≡ false
-unchanged v y a h = rw ((Decides-int_eq v v).1 refl, h) (and_false y)
+pub unchanged : (v : CtrlValue) (y a : Bool) → a ≡ false → (not (is_same v v) || (y && a)) ≡ false
+unchanged v y a h = rw ((Decides-same v v).1 refl, h) (and_false y)
 
 -- the present row changes nothing, where no pair is one of a member
 changes_same : (plan : PlanData) (values : Values) (pairs : List Pair) (cs : List ℕ) → is_touched pairs cs ≡ false → row_changes plan values pairs cs (row_of values cs) ≡ false

@@ -34,7 +34,7 @@ use ctrl_forecast::Board;
 use ctrl_handlers::Plan;
 use ctrl_raises::Moment;
 use ctrl_settle::Ctrl;
-use ctrl_types::{CtrlId, Errno, Fault, FhId, Flags, RequestId};
+use ctrl_types::{CtrlId, CtrlValue, Errno, Fault, FhId, Flags, RequestId};
 use device_history::{Ask, CtrlInfo, MAX_FILE_HANDLES, MAX_STEPS, Reply, Step};
 use frame_queue::Frames;
 use history::Entry;
@@ -57,7 +57,7 @@ pub struct Device<D: Driver> {
     // the present ranges, by control
     ranges: Ranges,
     // the present values, by control
-    values: Vec<i64>,
+    values: Vec<CtrlValue>,
     // the media requests, and the queue of frames
     frames: Frames,
     // the queued frames, with what they will have
@@ -168,7 +168,7 @@ impl<D: Driver> Device<D> {
     /// for each control, in the order of the plan's numbers. They are what the accepted steps make of the defaults. It takes no
     /// memory.
     #[tactic(auto, using(device_history::proofs::PresentLemmas::length_now))]
-    pub fn values(&self) -> &[i64]
+    pub fn values(&self) -> &[CtrlValue]
         ensures values { result.now ≡ now D.verdict self.now.plan (past self.now.steps) }
         ensures long { length result.now ≡ length self.now.plan.controls }
     {

@@ -1,9 +1,9 @@
 //! What a driver's readers tell, and asks that no script can make.
 
 use crate::closures::Counting;
-use crate::scene::{behind, counters, device};
+use crate::scene::{are, behind, counters, device};
 use bitflags::Flags as FlagSet;
-use ctrl_types::{CtrlId, Errno, ExtControl, FhId, RequestId, SubFlags};
+use ctrl_types::{CtrlId, CtrlValue, Errno, ExtControl, FhId, RequestId, SubFlags};
 use device_state::{Ask, ControlList, Device, Reply};
 use std::alloc::{AllocError, Global};
 
@@ -39,12 +39,12 @@ fn device_behind(alloc: Global) -> Result<Device<Counting>, AllocError> {
 
 // Whether the readers of controls and requests tell what the script made.
 fn has_values(device: &Device<Counting>) -> bool {
-    device.values() == [0, 16, 0, 0, 0, 0, 1, 0, 200, 128].as_slice()
+    are(device.values(), &[0, 16, 0, 0, 0, 0, 1, 0, 200, 128])
         && device.plan().control_count() == 10
         && device.flags(1).bits() == 0
         && device.flags(9).bits() == 0x2
         && device.is_grabbed(9)
-        && device.snapshot(DONE, 8) == Ok(200)
+        && device.snapshot(DONE, 8) == Ok(CtrlValue::Number(200))
         && matches!(device.asked(WAITS), Ok(pairs) if pairs.len() == 2)
         && device.queued(0) == Some(WAITS)
         && device.running().is_none()
@@ -84,11 +84,12 @@ fn ignores_request(alloc: Global, device: &mut Device<Counting>) -> Result<bool,
     let mut list = Vec::new(alloc);
     list.push(ExtControl {
         id: CtrlId(0x0098_090e),
-        value: 0,
+        value: CtrlValue::Number(0),
     })?;
     let list = ControlList::from_vec(list);
     Ok(match &device.get(FH, 0, Some(RequestId(99)), &list) {
-        Ok(Reply::Controls(list)) => matches!(list.as_slice(), [red] if red.value == 200),
+        Ok(Reply::Controls(list)) =>
+            matches!(list.as_slice(), [red] if red.value == CtrlValue::Number(200)),
         _ => false,
     })
 }
@@ -120,7 +121,7 @@ fn gets_a_range(device: &mut Device<Counting>) -> bool {
         && range.step() == 10
         && range.default_value() == 50
         && device.plan().control(8).maximum() == 255
-        && device.values().get(8) == Some(&100)
+        && device.values().get(8) == Some(&CtrlValue::Number(100))
         && matches!(device.steps().last(), Some(entry) if entry.seat == 7)
 }
 

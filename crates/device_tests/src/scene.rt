@@ -2,7 +2,7 @@
 
 use crate::closures::{Counter, Counting};
 use ctl_script::{Outcome, run_script, sample_builder, sample_words};
-use ctrl_types::CtrlId;
+use ctrl_types::{CtrlId, CtrlValue};
 use data_driver::{Excess, Limit, Word};
 use device_state::{Device, Plan};
 use std::alloc::{AllocError, Global};
@@ -91,4 +91,17 @@ pub fn told(counters: &Counters) -> u64 {
         sum = sum.saturating_add(counter.calls().1);
     }
     sum
+}
+
+/// Whether values are these numbers.
+pub fn are(values: &[CtrlValue], numbers: &[i64]) -> bool {
+    if values.len() != numbers.len() {
+        return false;
+    }
+    for (place, number) in numbers.iter().enumerate() {
+        if values[place] != CtrlValue::Number(*number) {
+            return false;
+        }
+    }
+    true
 }

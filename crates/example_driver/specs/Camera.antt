@@ -1,5 +1,7 @@
 -- What the camera's driver means by its relations: what its validators make of a row, and what its notifiers may say of one.
 use Rattle.std.specs.Prelude.{◌≡◌, ◌≢◌, ℕ, ℤ, pos, ◌+ℤ◌, ◌*ℤ◌, ◌≤ℤ◌, ◌<ℤ◌, int_le, if◌then◌else◌, ⊤, [], ◌∷◌, List, ◌==◌, MatchBool}
+use Rattle.ctrl_types.specs.declared.value.CtrlValue.{CtrlValue}
+use Rattle.ctrl_types.specs.declared.value.CtrlValue.TheVariants.{Number}
 use Rattle.ctrl_calls.specs.Meanings.{Verdicts, Words}
 use Rattle.ctrl_calls.specs.declared.verdict.Verdict.{Verdict}
 use Rattle.ctrl_calls.specs.declared.verdict.Verdict.TheVariants.{Accept, Refuse}
@@ -10,8 +12,8 @@ abbrev pub lesser : ℤ → ℤ → ℤ
 lesser a b = if int_le a b then a else b
 
 -- relation 1: of red and blue, blue is at most red and the first bound; no other row is theirs
-abbrev pub limited : List ℤ → List ℤ → Verdict
-limited (margin ∷ rest) (red ∷ blue ∷ []) = Accept (red ∷ lesser blue (red +ℤ margin) ∷ [])
+abbrev pub limited : List ℤ → List CtrlValue → Verdict
+limited (margin ∷ rest) (Number red ∷ Number blue ∷ []) = Accept (Number red ∷ Number (lesser blue (red +ℤ margin)) ∷ [])
 limited _ row = Refuse EINVAL
 
 -- what the camera's validators make of a row; under another relation it is accepted as it is
@@ -27,8 +29,8 @@ abbrev pub AreJoined : ℤ → ℤ → ℕ → Type 0
 AreJoined time gain word = Fits (pos 65536) time → Fits (pos 256) gain → pos word ≡ pos 256 *ℤ time +ℤ gain
 
 -- relation 2: of mode, time and gain, 0 where the mode isn't the first bound; else the time and the gain
-abbrev pub IsExposure : List ℤ → List ℤ → ℕ → Type 0
-IsExposure (manual ∷ rest) (mode ∷ time ∷ gain ∷ []) word =
+abbrev pub IsExposure : List ℤ → List CtrlValue → ℕ → Type 0
+IsExposure (manual ∷ rest) (Number mode ∷ Number time ∷ Number gain ∷ []) word =
     (mode ≢ manual → word ≡ 0)
     × (mode ≡ manual → AreJoined time gain word)
 IsExposure _ _ word = ⊤

@@ -4,7 +4,7 @@ ghost use Rattle.std.specs.Prelude.{◌≡◌};
 ghost use Rattle.example_driver.specs.Camera.{AreJoined, camera_told, camera_verdict};
 
 use ctrl_calls::{ClusterRow, Notifies, Relation, Validates, Verdict};
-use ctrl_types::Errno;
+use ctrl_types::{CtrlValue, Errno};
 
 /// The driver of the camera. It has no value: it only ties the meanings to the types of the closures.
 pub enum Camera {}
@@ -38,15 +38,15 @@ pub const EXPOSURE_WORDS: Relation = Relation {
 pub fn blue_verdict(row: &ClusterRow) -> Verdict
     ensures { result ≡ camera_verdict BLUE_LIMIT row.now }
 {
-    if row.len() != 2 {
+    let [CtrlValue::Number(red), CtrlValue::Number(blue)] = row.values() else {
         return Verdict::Refuse(Errno::EINVAL);
-    }
+    };
     // where the sum doesn't fit, any blue is less
-    let most = row.value(0).saturating_add(BLUE_LIMIT.bounds[0]);
-    if row.value(1) <= most {
+    let most = red.saturating_add(BLUE_LIMIT.bounds[0]);
+    if *blue <= most {
         return Verdict::Accept(*row);
     }
-    Verdict::Accept(row.with(1, most))
+    Verdict::Accept(row.with(1, CtrlValue::Number(most)))
 }
 
 /// What the notifier of mode, time and gain says of a row, the values of the three: 0 where the mode isn't manual; else the word for
@@ -54,10 +54,14 @@ pub fn blue_verdict(row: &ClusterRow) -> Verdict
 pub fn exposure_word(row: &ClusterRow) -> u64
     ensures { camera_told EXPOSURE_WORDS row.now result }
 {
-    if row.len() != 3 || row.value(0) != EXPOSURE_WORDS.bounds[0] {
-        return 0;
+    match row.values() {
+        [
+            CtrlValue::Number(mode),
+            CtrlValue::Number(time),
+            CtrlValue::Number(gain),
+        ] if *mode == EXPOSURE_WORDS.bounds[0] => { joined(*time, *gain) }
+        _ => 0,
     }
-    joined(row.value(1), row.value(2))
 }
 
 fn joined(time: i64, gain: i64) -> u64

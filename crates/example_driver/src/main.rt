@@ -11,7 +11,7 @@ use crate::device::{BLUE, GAIN, HFLIP, MODE, RED, TIME, camera_plan};
 use crate::driver::{BLUE_LIMIT, Camera, EXPOSURE_WORDS, blue_verdict, exposure_word};
 use anyhow::{Result, bail};
 use ctrl_calls::{Calls, ClusterRow, Driver, Notifier, Validator, Verdict};
-use ctrl_types::{CtrlId, ExtControl, Fault, FhId, RequestId};
+use ctrl_types::{CtrlId, CtrlValue, ExtControl, Fault, FhId, RequestId};
 use device_state::{Ask, ControlList, Device, MenuItem, Reply};
 use std::io;
 
@@ -65,7 +65,9 @@ fn play<D: Driver>(rt: &(impl AllocGlobal + Print), device: &mut Device<D>) -> R
     }
     for _ in 0..2 {
         ask(rt, device, "begin", &Ask::Begin)?;
-        println!(rt; "has: {:?}", device.values())?;
+        print!(rt; "has: ")?;
+        print_values(rt, device.values())?;
+        println!(rt; "")?;
         ask(rt, device, "complete", &Ask::Complete)?;
     }
     Ok(())
@@ -104,7 +106,8 @@ fn queue_frame<D: Driver>(
     ask(rt, device, "queue", &Ask::Queue { request })
 }
 
-fn entry(id: CtrlId, value: i64) -> ExtControl {
+fn entry(id: CtrlId, number: i64) -> ExtControl {
+    let value = CtrlValue::Number(number);
     ExtControl { id, value }
 }
 
@@ -149,11 +152,11 @@ fn show(rt: &impl Print, what: &str, answer: &Result<Reply, Fault>) -> io::Resul
         }
         Ok(Reply::Word(word)) => println!(rt; "{what}: {word:#x}"),
         Ok(Reply::Item(MenuItem::Name(name))) => println!(rt; "{what}: {}", name.as_str()),
-        Ok(Reply::Forecast(frame)) => println!(rt;
-            "{what}: {:?}, refused {:?}",
-            frame.values.as_slice(),
-            frame.refused.as_slice()
-        ),
+        Ok(Reply::Forecast(frame)) => {
+            print!(rt; "{what}: ")?;
+            print_values(rt, frame.values.as_slice())?;
+            println!(rt; ", refused {:?}", frame.refused.as_slice())
+        }
         Ok(Reply::Frame { buffer, .. }) => println!(rt; "{what}: buffer {buffer}"),
         Ok(_) => println!(rt; "{what}: ok"),
         Err(Fault { errno, index }) => match index {
@@ -161,4 +164,13 @@ fn show(rt: &impl Print, what: &str, answer: &Result<Reply, Fault>) -> io::Resul
             None => println!(rt; "{what}: error {}", errno.number()),
         },
     }
+}
+
+fn print_values(rt: &impl Print, values: &[CtrlValue]) -> io::Result<()> {
+    print!(rt; "[")?;
+    for (place, value) in values.iter().enumerate() {
+        let before = if place == 0 { "" } else { ", " };
+        print!(rt; "{before}{value}")?;
+    }
+    print!(rt; "]")
 }

@@ -4,7 +4,6 @@ use Rattle.std.proofs.lemmas.Bool.Decides.{nat_tests}
 use Rattle.ctrl_types.specs.declared.errno.Errno.{Errno}
 use Rattle.ctrl_types.specs.declared.errno.Errno.TheVariants.{EBADF, EINVAL, ENOSPC, ERANGE}
 use Rattle.ctrl_calls.specs.Meanings.{Verdicts}
-use Rattle.ctrl_types.specs.Values.{CtrlValue}
 use Rattle.ctrl_settle.specs.Control.{Control}
 use Rattle.ctrl_settle.specs.Faults.{IsWellFormed}
 use Rattle.ctrl_settle.specs.declared.fault.CtrlFault.{CtrlFault}
@@ -296,7 +295,7 @@ range_taken {X = X} {E = E} (Err e) ctrl sound whole = by (first_fault ctrl) ref
     by (Some f) found = refl
 
 -- a control that is given another range is there, and takes it
-pub range_known : (verdicts : Verdicts) (plan : PlanData) (past : Past) (c : ℕ) (low high : ℤ) (apart : ℕ) (default_value : CtrlValue) → MayFollow verdicts plan past (steps.ModifyRange c low high apart default_value)
+pub range_known : (verdicts : Verdicts) (plan : PlanData) (past : Past) (c : ℕ) (low high : ℤ) (apart : ℕ) (default_value : ℤ) → MayFollow verdicts plan past (steps.ModifyRange c low high apart default_value)
     → (c < length plan.controls) × (first_fault (control_with_range (ranges_now plan past) c low high apart default_value) ≡ None)
 range_known verdicts plan past c low high apart default_value may =
     let parts = both (nat_lt c (length plan.controls)) (lacks (first_fault (control_with_range (ranges_now plan past) c low high apart default_value))) (may_fits verdicts plan past (steps.ModifyRange c low high apart default_value) refl may).1 in

@@ -6,7 +6,6 @@ use Rattle.req_book.specs.Refusals.{alloc_refusal, buffer_refusal, queue_refusal
 use Rattle.frame_queue.specs.Frames.{cancel_refusal}
 use Rattle.ctrl_calls.specs.Meanings.{Verdicts}
 use Rattle.ctrl_types.specs.declared.ids.FhId.{FhId}
-use Rattle.ctrl_types.specs.Values.{CtrlValue}
 use Rattle.ctrl_settle.specs.FirstFault.{first_fault}
 use Rattle.ctrl_handlers.specs.Plan.{PlanData, control}
 use Rattle.device_history.specs.declared.ask.Step.{Step}
@@ -28,7 +27,7 @@ abbrev pub shows_it : PlanData → Past → FhId → ℕ → Bool
 shows_it plan past fh c = is_number (shown plan past fh (control plan c).id) c
 
 -- a control is there, and has no fault with a range
-abbrev pub takes_range : PlanData → Past → ℕ → ℤ → ℤ → ℕ → CtrlValue → Bool
+abbrev pub takes_range : PlanData → Past → ℕ → ℤ → ℤ → ℕ → ℤ → Bool
 takes_range plan past c low high apart default_value = nat_lt c (length plan.controls) && lacks (first_fault (control_with_range (ranges_now plan past) c low high apart default_value))
 
 -- Of the code: what a replay tests of a step that gives no pairs, where a further step is kept; that this is whether the step may follow is said at

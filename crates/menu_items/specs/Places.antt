@@ -2,6 +2,7 @@
 use Rattle.std.specs.Prelude.{ℕ, pos, Bool, false, is_ok}
 use Rattle.ctrl_types.specs.declared.kind.Kind.{Kind}
 use Rattle.ctrl_types.specs.declared.kind.Kind.TheVariants.{Menu, IntegerMenu}
+use Rattle.ctrl_types.specs.declared.value.CtrlValue.TheVariants.{Number}
 use Rattle.ctrl_settle.specs.Control.{Control}
 use Rattle.ctrl_settle.specs.Settle.{settle}
 use Rattle.menu_items.specs.declared.item.MenuItem.{MenuItem}
@@ -9,7 +10,7 @@ use Rattle.menu_items.specs.declared.item.MenuItem.TheVariants.{Name, Number}
 
 -- an index that a menu takes: within its range, and not skipped
 abbrev pub is_taken : Control → ℕ → Bool
-is_taken ctrl index = is_ok (settle ctrl (pos index))
+is_taken ctrl index = is_ok (settle ctrl (Number (pos index)))
 
 -- a control takes a name at an index: its items have names, and it takes the index
 abbrev pub names_in : Kind → Control → ℕ → Bool

@@ -2,7 +2,7 @@ ghost use Rattle.std.specs.Prelude.{◌≡◌};
 ghost use Rattle.menu_items.specs.Places.{takes_name, takes_number, is_taken};
 
 use ctrl_settle::{Ctrl, settle};
-use ctrl_types::Kind;
+use ctrl_types::{CtrlValue, Kind};
 
 /// Whether a control takes the name of an item at an index: it is a `Menu`, the index lies within its range, and it isn't
 /// skipped (Linux driver API, "V4L2 Controls", "Menu Controls").
@@ -30,5 +30,5 @@ pub fn takes_number(ctrl: &Ctrl, index: u32) -> bool
 fn is_taken(ctrl: &Ctrl, index: u32) -> bool
     ensures { result ≡ is_taken ctrl.now index }
 {
-    settle(ctrl, i64::from(index)).is_ok()
+    settle(ctrl, CtrlValue::Number(i64::from(index))).is_ok()
 }

@@ -14,3 +14,5 @@ mod frame;
 mod plan;
 #[cfg(test)]
 mod raise;
+#[cfg(test)]
+mod values;

@@ -1,14 +1,15 @@
 -- When requests, and stores of them, are alike.
-use Rattle.std.proofs.Common.{rules, arith, ◌≡◌, ◌∙◌, ◌<◌, ℕ, zero, suc, length, Bool, List, [], ◌∷◌, Option, Some, slice_get, map, int_eq, nat_eq, ◌&&◌, refl, sym, ap}
+use Rattle.std.proofs.Common.{rules, arith, ◌≡◌, ◌∙◌, ◌<◌, ℕ, zero, suc, length, Bool, List, [], ◌∷◌, Option, Some, slice_get, map, nat_eq, ◌&&◌, refl, sym, ap}
 use Rattle.std.specs.Bool.{Decides}
 use Rattle.std.specs.Option.{option_eq, option_map, option_and_then}
 use Rattle.std.specs.Cmp.Lexicographic.{pointwise}
-use Rattle.std.proofs.lemmas.Bool.Decides.{Decides-int_eq, Decides-and}
+use Rattle.std.proofs.lemmas.Bool.Decides.{Decides-and}
 use Rattle.std.proofs.lemmas.Slice.Eq.{slice_eq-Decides}
 use denote.Enum.Bare.{sameb}
-use Rattle.ctrl_types.specs.Values.{CtrlValue}
+use Rattle.ctrl_types.specs.declared.value.CtrlValue.{CtrlValue}
 use Rattle.ctrl_types.specs.declared.ids.Pair.{Pair}
-use Rattle.ctrl_types.specs.contracts.ids.PairPartialEq.TheImpl.{eq-value}
+use Rattle.ctrl_types.specs.contracts.ids.PairPartialEq.TheImpl.{eq-value as eq-pair}
+use Rattle.ctrl_types.specs.contracts.value.CtrlValuePartialEq.TheImpl.{eq-value}
 use Rattle.req_book.specs.contracts.state.RequestState.{the_type}
 use Rattle.req_book.specs.declared.state.RequestState.{RequestState}
 use Rattle.req_book.specs.declared.object.Object.{Object}
@@ -29,12 +30,12 @@ pub numbers : (a b : Option ℕ) (r : Bool) → r ≡ option_eq nat_eq a b → D
 numbers a b r is = search rules
 
 -- of pairs
-pub pairs : (a b : List Pair) (r : Bool) → r ≡ pointwise eq-value.it a b → Decides r (a ≡ b)
+pub pairs : (a b : List Pair) (r : Bool) → r ≡ pointwise eq-pair.it a b → Decides r (a ≡ b)
 pairs = slice_eq-Decides (λ a b. search rules)
 
 -- of values
-pub values : (a b : List CtrlValue) (r : Bool) → r ≡ pointwise int_eq a b → Decides r (a ≡ b)
-values = slice_eq-Decides Decides-int_eq
+pub values : (a b : List CtrlValue) (r : Bool) → r ≡ pointwise eq-value.it a b → Decides r (a ≡ b)
+values = slice_eq-Decides (λ a b. search rules)
 
 -- requests that are alike have the same parts
 abbrev pub Same : Object → Object → Type 0
@@ -48,7 +49,7 @@ alike_same id a b is = (((ap (λ (r : RequestData). r.state) is, ap (λ (r : Req
 
 -- whether two objects are alike, part by part
 abbrev pub same_parts : Object → Object → Bool
-same_parts a b = ((sameb the_type a.state b.state && option_eq nat_eq a.buffer b.buffer) && pointwise eq-value.it a.pairs.items b.pairs.items) && pointwise int_eq (snapshot_seen a.state a.values.items) (snapshot_seen b.state b.values.items)
+same_parts a b = ((sameb the_type a.state b.state && option_eq nat_eq a.buffer b.buffer) && pointwise eq-pair.it a.pairs.items b.pairs.items) && pointwise eq-value.it (snapshot_seen a.state a.values.items) (snapshot_seen b.state b.values.items)
 
 pub same_decides : (a b : Object) → Decides (same_parts a b) (Same a b)
 same_decides a b =

@@ -12,7 +12,7 @@ use Rattle.slab.proofs.SlabLemmas.{ContainsKey-within, Updates-with_value}
 use Rattle.std.proofs.lemmas.List.Sums.{sum_by-set}
 use Rattle.indexmap.specs.IndexMap.{insert_entry}
 use Rattle.req_book.specs.declared.object.Object.{Object}
-use Rattle.ctrl_types.specs.Values.{CtrlValue}
+use Rattle.ctrl_types.specs.declared.value.CtrlValue.{CtrlValue}
 use Rattle.req_book.specs.declared.state.RequestState.{RequestState}
 use Rattle.req_book.specs.declared.state.RequestState.TheVariants.{Idle, Queued, Running, Complete}
 use Rattle.req_book.specs.Requests.{RequestData, RequestsData, HaveOwnIds, find, with_request, with_changed, without, new_request, is_pending, is_number_held}

@@ -1,12 +1,13 @@
 -- What a request asks for, control by control.
-use Rattle.std.proofs.Common.{◌≡◌, ℕ, ◌+◌, ◌∙◌, ◌==◌, true, false, ◌<◌, List, [], ◌∷◌, ◌++◌, length, map, take, slice_set, filter_map, Option, None, Some, refl, sym, ap, zero, suc, inl, inr, ◌⊎◌, ◌≢◌, ◌≤◌, unwrap_or, slice_index_or, pos, if◌then◌else◌, arith}
+use Rattle.std.proofs.Common.{◌≡◌, ℕ, ◌+◌, ◌∙◌, ◌==◌, true, false, ◌<◌, List, [], ◌∷◌, ◌++◌, length, map, take, slice_set, filter_map, Option, None, Some, refl, sym, ap, zero, suc, inl, inr, ◌⊎◌, ◌≢◌, ◌≤◌, unwrap_or, slice_index_or, if◌then◌else◌, arith}
 use Rattle.std.specs.List.{All, cons_option, range_with_len}
 use Rattle.std.specs.Option.{option_or}
 use Rattle.std.proofs.lemmas.Bool.Decides.{eqb_tells}
 use Rattle.std.proofs.lemmas.List.{map-id, take_more_set, take_all}
 use Rattle.std.proofs.lemmas.List.Elements.{All-nil, All-cons, filter_map-append}
 use Rattle.std.proofs.lemmas.List.FromFn.{map-range_with_len_more, length-map-range_with_len}
-use Rattle.ctrl_types.specs.Values.{CtrlValue}
+use Rattle.ctrl_types.specs.Values.{zero_value}
+use Rattle.ctrl_types.specs.declared.value.CtrlValue.{CtrlValue}
 use Rattle.ctrl_types.specs.Pairs.{last_value}
 use Rattle.ctrl_types.specs.declared.ids.Pair.{Pair}
 use Rattle.req_book.specs.Requests.{pair_of, latest, snapshot_of}
@@ -48,7 +49,7 @@ pairs_more f k so_far all next same is more = more ∙ ap (λ ps. ps ++ cons_opt
 -- a frame has a value for each control
 pub snapshot_long : (applied : List (Option CtrlValue)) (values : List CtrlValue) → length (snapshot_of applied values) ≡ length values
 unfolding snapshot_of
-snapshot_long applied values = length-map-range_with_len (λ c. unwrap_or (slice_index_or applied c None) (slice_index_or values c (pos 0))) 0 (length values)
+snapshot_long applied values = length-map-range_with_len (λ c. unwrap_or (slice_index_or applied c None) (slice_index_or values c zero_value)) 0 (length values)
 
 -- the pairs of controls from one on say nothing of those before it
 pairs_before : (f : ℕ → Option CtrlValue) (c a n : ℕ) → c < a → last_value (filter_map (λ i. pair_of i (f i)) (range_with_len a n)) c ≡ None

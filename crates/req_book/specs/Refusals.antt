@@ -2,7 +2,7 @@
 -- number, is of this project).
 use Rattle.std.specs.Prelude.{◌≡◌, ℕ, not, List, length, nat_le, Option, None, Some, is_some, Result, Ok, Err, if◌then◌else◌}
 use Rattle.std.specs.Option.{is_none}
-use Rattle.ctrl_types.specs.Values.{CtrlValue}
+use Rattle.ctrl_types.specs.declared.value.CtrlValue.{CtrlValue}
 use Rattle.ctrl_types.specs.declared.errno.Errno.{Errno}
 use Rattle.ctrl_types.specs.declared.errno.Errno.TheVariants.{EACCES, EBUSY, EINVAL, ENOENT, ENOMEM, ENOSPC}
 use Rattle.ctrl_types.specs.declared.ids.Pair.{Pair}

@@ -1,8 +1,9 @@
 -- Media requests, as their store is seen, and what its calls make of them (Linux userspace API, "Request API").
-use Rattle.std.specs.Prelude.{◌≡◌, ℕ, Bool, true, false, not, ◌&&◌, pos, List, [], ◌∷◌, ◌++◌, length, map, filter, filter_map, replicate, Option, None, Some, nat_eq, if◌then◌else◌, slice_index_or, unwrap_or}
+use Rattle.std.specs.Prelude.{◌≡◌, ℕ, Bool, true, false, not, ◌&&◌, List, [], ◌∷◌, ◌++◌, length, map, filter, filter_map, replicate, Option, None, Some, nat_eq, if◌then◌else◌, slice_index_or, unwrap_or}
 use Rattle.std.specs.List.{list_any, range_with_len}
 use Rattle.std.specs.Option.{option_map}
-use Rattle.ctrl_types.specs.Values.{CtrlValue}
+use Rattle.ctrl_types.specs.Values.{zero_value}
+use Rattle.ctrl_types.specs.declared.value.CtrlValue.{CtrlValue}
 use Rattle.ctrl_types.specs.Pairs.{last_value}
 use Rattle.ctrl_types.specs.declared.ids.Pair.{Pair}
 use Rattle.req_book.specs.declared.state.RequestState.{RequestState}
@@ -100,7 +101,7 @@ begun controls pairs r = record r { state = Running; applied = map (last_value p
 
 -- the value of a control among a value for each
 abbrev pub value_of_control : List CtrlValue → ℕ → CtrlValue
-value_of_control values c = slice_index_or values c (pos 0)
+value_of_control values c = slice_index_or values c zero_value
 
 -- The values of a frame: of a control that got one at the begin that value, of any other the value at completion.
 unfoldable pub snapshot_of : List (Option CtrlValue) → List CtrlValue → List CtrlValue

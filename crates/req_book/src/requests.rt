@@ -323,7 +323,7 @@ impl Requests {
                 let controls = self.objects.controls() as usize;
                 let (Ok(applied), Ok(values)) = (
                     vec![in self.alloc; None; controls],
-                    vec![in self.alloc; 0; controls],
+                    vec![in self.alloc; CtrlValue::Number(0); controls],
                 ) else {
                     return Err(Errno::ENOMEM);
                 };

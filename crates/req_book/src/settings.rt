@@ -1,10 +1,10 @@
 //! What a request asks for, what it got at its begin, and what its frame had.
 
-ghost use Rattle.std.specs.Prelude.{◌≡◌, ◌++◌, ◌<◌, ◌^◌, length, map, unwrap_or, slice_index, slice_index_or, IfOk, pos, None};
+ghost use Rattle.std.specs.Prelude.{◌≡◌, ◌++◌, ◌<◌, ◌^◌, length, map, unwrap_or, slice_index, slice_index_or, IfOk, None};
 ghost use Rattle.std.specs.List.{range_with_len};
 ghost use Rattle.std.specs.Option.{option_or};
 ghost use Rattle.ctrl_types.specs.Pairs.{last_value};
-ghost use Rattle.req_book.specs.Requests.{latest, pair_of, snapshot_of};
+ghost use Rattle.req_book.specs.Requests.{latest, pair_of, snapshot_of, value_of_control};
 
 use ctrl_types::{CtrlValue, Pair, last_value};
 use std::alloc::{AllocError, Global};
@@ -64,7 +64,7 @@ pub(crate) fn keep(
 fn value_kept(applied: &[Option<CtrlValue>], present: &[CtrlValue], control: usize) -> CtrlValue
     requires applied { control < length applied.now }
     requires present { control < length present.now }
-    ensures { result ≡ unwrap_or (slice_index_or applied.now control None) (slice_index_or present.now control (pos 0)) }
+    ensures { result ≡ unwrap_or (slice_index_or applied.now control None) (value_of_control present.now control) }
 {
     applied[control].unwrap_or(present[control])
 }

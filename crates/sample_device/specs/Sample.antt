@@ -1,5 +1,7 @@
 -- The sample device (of this project), and what its driver means by its relations.
 use Rattle.std.specs.Prelude.{◌≡◌, ℕ, ℤ, pos, negsuc, ◌+ℤ◌, ◌*ℤ◌, ◌≤ℤ◌, int_lt, int_le, if◌then◌else◌, ⊤, true, false, [], ◌∷◌, ◌++◌, List, None, Some, ◌==◌, codes, MatchBool}
+use Rattle.ctrl_types.specs.declared.value.CtrlValue.{CtrlValue}
+use Rattle.ctrl_types.specs.declared.value.CtrlValue.TheVariants.{Number}
 use Rattle.ctrl_calls.specs.Meanings.{Verdicts, Words}
 use Rattle.ctrl_calls.specs.declared.relation.Relations.{Relations}
 use Rattle.ctrl_calls.specs.declared.verdict.Verdict.{Verdict}
@@ -99,13 +101,13 @@ abbrev pub lesser : ℤ → ℤ → ℤ
 lesser a b = if int_le a b then a else b
 
 -- relation 1: of two values the second is at most the first bound
-abbrev pub limited : List ℤ → List ℤ → Verdict
-limited (limit ∷ rest) (first ∷ second ∷ []) = Accept (first ∷ lesser second limit ∷ [])
+abbrev pub limited : List ℤ → List CtrlValue → Verdict
+limited (limit ∷ rest) (Number first ∷ Number second ∷ []) = Accept (Number first ∷ Number (lesser second limit) ∷ [])
 limited _ row = Accept row
 
 -- relation 2: two values whose sum is above the first bound are refused
-abbrev pub bounded_sum : List ℤ → List ℤ → Verdict
-bounded_sum (limit ∷ rest) (first ∷ second ∷ []) = if int_lt limit (first +ℤ second) then Refuse EINVAL else Accept (first ∷ second ∷ [])
+abbrev pub bounded_sum : List ℤ → List CtrlValue → Verdict
+bounded_sum (limit ∷ rest) (Number first ∷ Number second ∷ []) = if int_lt limit (first +ℤ second) then Refuse EINVAL else Accept (Number first ∷ Number second ∷ [])
 bounded_sum _ row = Accept row
 
 -- what the sample driver's validators make of a row; under another relation it is accepted as it is
@@ -120,8 +122,8 @@ abbrev pub IsSmall : ℤ → Type 0
 IsSmall value = (pos 0 ≤ℤ value) × (value ≤ℤ pos 2147483647)
 
 -- relation 11: 256 times the first value and the second, of two values that are neither below 0 nor above 2147483647
-abbrev pub IsJoined : List ℤ → ℕ → Type 0
-IsJoined (first ∷ second ∷ []) word = IsSmall first → IsSmall second → pos word ≡ pos 256 *ℤ first +ℤ second
+abbrev pub IsJoined : List CtrlValue → ℕ → Type 0
+IsJoined (Number first ∷ Number second ∷ []) word = IsSmall first → IsSmall second → pos word ≡ pos 256 *ℤ first +ℤ second
 IsJoined _ word = ⊤
 
 -- a word between the first two bounds, both included
@@ -130,13 +132,13 @@ IsBetween (low ∷ high ∷ rest) word = (low ≤ℤ pos word) × (pos word ≤�
 IsBetween _ word = ⊤
 
 -- relation 12: of one value a word between the bounds
-abbrev pub IsAllowed : List ℤ → List ℤ → ℕ → Type 0
-IsAllowed bounds (value ∷ []) word = IsBetween bounds word
+abbrev pub IsAllowed : List ℤ → List CtrlValue → ℕ → Type 0
+IsAllowed bounds (Number value ∷ []) word = IsBetween bounds word
 IsAllowed bounds _ word = ⊤
 
 -- relation 13: the value and 64, of a value that isn't below -64
-abbrev pub IsShifted : List ℤ → ℕ → Type 0
-IsShifted (value ∷ []) word = negsuc 63 ≤ℤ value → pos word ≡ value +ℤ pos 64
+abbrev pub IsShifted : List CtrlValue → ℕ → Type 0
+IsShifted (Number value ∷ []) word = negsuc 63 ≤ℤ value → pos word ≡ value +ℤ pos 64
 IsShifted _ word = ⊤
 
 -- what the sample driver's notifiers may say; under another relation they may say anything

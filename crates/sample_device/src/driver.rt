@@ -2,7 +2,7 @@ ghost use Rattle.std.specs.Prelude.{◌≡◌, ◌↔◌, IsTrue, pos, negsuc, �
 ghost use Rattle.sample_device.specs.Sample.{sample_verdict, sample_told, IsSmall};
 
 use ctrl_calls::{ClusterRow, Notifies, Relation, Validates, Verdict};
-use ctrl_types::Errno;
+use ctrl_types::{CtrlValue, Errno};
 
 /// The driver of the sample device. Its closures are boxed; who runs a script makes the boxes.
 pub enum Sample {}
@@ -54,13 +54,12 @@ pub const BRIGHTNESS_WORDS: Relation = Relation {
 pub fn gain_verdict(row: &ClusterRow) -> Verdict
     ensures { result ≡ sample_verdict GAIN_LIMIT row.now }
 {
-    if row.len() != 2 {
-        return Verdict::Accept(*row);
+    match row.values() {
+        [CtrlValue::Number(_), CtrlValue::Number(gain)] if *gain > GAIN_LIMIT.bounds[0] => {
+            Verdict::Accept(row.with(1, CtrlValue::Number(GAIN_LIMIT.bounds[0])))
+        }
+        _ => Verdict::Accept(*row),
     }
-    if row.value(1) <= GAIN_LIMIT.bounds[0] {
-        return Verdict::Accept(*row);
-    }
-    Verdict::Accept(row.with(1, GAIN_LIMIT.bounds[0]))
 }
 
 /// What the validator of red and blue makes of any row, the values of the two: a row of two values is refused with EINVAL (22) where
@@ -68,11 +67,11 @@ pub fn gain_verdict(row: &ClusterRow) -> Verdict
 pub fn balance_verdict(row: &ClusterRow) -> Verdict
     ensures { result ≡ sample_verdict BALANCE_LIMIT row.now }
 {
-    if row.len() != 2 {
+    let [CtrlValue::Number(red), CtrlValue::Number(blue)] = row.values() else {
         return Verdict::Accept(*row);
-    }
+    };
     // the sum of any two values fits
-    let sum = i128::from(row.value(0)) + i128::from(row.value(1));
+    let sum = i128::from(*red) + i128::from(*blue);
     if sum > i128::from(BALANCE_LIMIT.bounds[0]) {
         return Verdict::Refuse(Errno::EINVAL);
     }
@@ -84,10 +83,10 @@ pub fn balance_verdict(row: &ClusterRow) -> Verdict
 pub fn pair_word(row: &ClusterRow) -> u64
     ensures { sample_told PAIR_WORDS row.now result }
 {
-    if row.len() != 2 {
-        return 0;
+    match row.values() {
+        [CtrlValue::Number(first), CtrlValue::Number(second)] => joined(*first, *second),
+        _ => 0,
     }
-    joined(row.value(0), row.value(1))
 }
 
 fn joined(first: i64, second: i64) -> u64
@@ -121,10 +120,10 @@ pub fn button_word(row: &ClusterRow) -> u64
 pub fn brightness_word(row: &ClusterRow) -> u64
     ensures { sample_told BRIGHTNESS_WORDS row.now result }
 {
-    if row.len() != 1 {
-        return 0;
+    match row.values() {
+        [CtrlValue::Number(value)] => shifted(*value),
+        _ => 0,
     }
-    shifted(row.value(0))
 }
 
 fn shifted(value: i64) -> u64

@@ -1,8 +1,10 @@
 -- The commands of a script (of this project), over the words of a line.
-use Rattle.std.specs.Prelude.{◌≡◌, ℕ, ◌+◌, ◌==◌, ◌&&◌, bit_or, Bool, true, false, not, ℤ, pos, if◌then◌else◌, List, [], ◌∷◌, length, take, drop, filter, position, Option, None, Some, Result, Ok, Err, codes, slice_get, slice_index, ⊤}
+use Rattle.std.specs.Prelude.{◌≡◌, ℕ, ◌+◌, ◌==◌, ◌&&◌, bit_or, Bool, true, false, not, ℤ, if◌then◌else◌, List, [], ◌∷◌, length, take, drop, filter, position, Option, None, Some, Result, Ok, Err, codes, slice_get, slice_index, ⊤}
 use Rattle.std.specs.List.{slice_split}
 use Rattle.std.specs.Option.{option_and_then, option_map, option_or}
 use Rattle.std.specs.Str.{bytes_eq}
+use Rattle.ctrl_types.specs.declared.value.CtrlValue.TheVariants as values
+use Rattle.ctrl_types.specs.Values.{zero_value}
 use Rattle.ctrl_types.specs.declared.ids.CtrlId.{CtrlId}
 use Rattle.ctrl_types.specs.declared.ids.ExtControl.{ExtControl}
 use Rattle.ctrl_types.specs.declared.sub_flags.SubFlags.{SubFlags}
@@ -50,7 +52,7 @@ abbrev pub which_of : List ℕ → Option WhichWord
 which_of word = option_or (option_map (λ n. Number n) (fixed_which_of word)) (which_at (after (codes "req:") word) word)
 
 abbrev pub with_value : Option CtrlId → Option ℤ → Option ExtControl
-with_value (Some id) (Some value) = Some (record { id = id; value = value })
+with_value (Some id) (Some value) = Some (record { id = id; value = values.Number value })
 with_value (Some id) None = None
 with_value None value = None
 
@@ -61,7 +63,7 @@ entry_at known word (Some at) = with_value (control_id known (take at word)) (de
 
 -- an entry of a list: a control, with a value or not
 abbrev pub entry_of : List ControlWord → EntryForm → List ℕ → Option ExtControl
-entry_of known Control word = option_map (λ id. record { id = id; value = pos 0 }) (control_id known word)
+entry_of known Control word = option_map (λ id. record { id = id; value = zero_value }) (control_id known word)
 entry_of known ControlWithValue word = entry_at known word (position (λ b. b == 61) word)
 
 abbrev pub onto : Option ExtControl → Option (List ExtControl) → Option (List ExtControl)

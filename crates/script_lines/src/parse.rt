@@ -12,7 +12,7 @@ use crate::lexeme::{
 };
 use crate::name::Name;
 use bitflags::Flags as FlagSet;
-use ctrl_types::{CtrlId, ExtControl, SubFlags};
+use ctrl_types::{CtrlId, CtrlValue, ExtControl, SubFlags};
 use std::alloc::{AllocError, Global};
 
 /// Reads a line (of this project): the command, or nothing where the line is to be skipped, since it has no word or its first word begins with
@@ -581,7 +581,7 @@ fn read_entry(known: &ControlWords, form: EntryForm, word: &[u8]) -> Option<ExtC
     match form {
         EntryForm::Control => Some(ExtControl {
             id: control_id(known, word)?,
-            value: 0,
+            value: CtrlValue::Number(0),
         }),
         EntryForm::ControlWithValue => read_valued_entry(known, word),
     }
@@ -593,7 +593,10 @@ fn read_valued_entry(known: &ControlWords, word: &[u8]) -> Option<ExtControl>
 {
     let at = equals_sign(word)?;
     match (control_id(known, &word[..at]), decimal_i64(&word[at + 1..])) {
-        (Some(id), Some(value)) => Some(ExtControl { id, value }),
+        (Some(id), Some(number)) => Some(ExtControl {
+            id,
+            value: CtrlValue::Number(number),
+        }),
         _ => None,
     }
 }

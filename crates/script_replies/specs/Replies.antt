@@ -1,7 +1,9 @@
 -- The lines that the tool prints (of this project), as bytes.
-use Rattle.std.specs.Prelude.{ℕ, ℤ, ◌-◌, List, [], ◌∷◌, ◌++◌, length, replicate, Option, None, Some, Result, Ok, Err, false, codes}
+use Rattle.std.specs.Prelude.{ℕ, ◌-◌, List, [], ◌∷◌, ◌++◌, length, replicate, Option, None, Some, Result, Ok, Err, false, codes}
 use Rattle.std.specs.Fmt.{decimal, signed_decimal, digits}
 use Rattle.std.specs.List.{flat_map}
+use Rattle.ctrl_types.specs.declared.value.CtrlValue.{CtrlValue}
+use Rattle.ctrl_types.specs.declared.value.CtrlValue.TheVariants.{Number}
 use Rattle.ctrl_types.specs.Numbers.{errno_number, kind_number}
 use Rattle.ctrl_types.specs.declared.errno.Errno.TheVariants.{ENOMEM}
 use Rattle.ctrl_types.specs.declared.errno.Fault.{Fault}
@@ -26,8 +28,12 @@ use Rattle.script_replies.specs.declared.outcome.Outcome.{Outcome}
 use Rattle.script_replies.specs.declared.outcome.Outcome.TheVariants.{Finished, BadLine, TooLong, ReadFault, WriteFault, NoSecond, Memory}
 
 -- a value behind a space
-abbrev pub value_text : ExtControl → List ℕ
-value_text entry = 32 ∷ signed_decimal entry.value
+abbrev pub value_text : CtrlValue → List ℕ
+value_text (Number value) = 32 ∷ signed_decimal value
+
+-- the value of an entry of a list
+abbrev pub entry_text : ExtControl → List ℕ
+entry_text entry = value_text entry.value
 
 -- a refusal: its number, and its index where it has one
 abbrev pub refusal_line : ℕ → Option ℕ → List ℕ
@@ -87,14 +93,10 @@ clusters_text (first ∷ more) = decimal first ++ flat_map further_text more
 abbrev pub frame_line : ℕ → List ℕ → List ℕ
 frame_line buffer refused = codes "ok buffer " ++ (decimal buffer ++ (codes " refused " ++ (clusters_text refused ++ codes "\n")))
 
--- a number behind a space
-abbrev pub number_text : ℤ → List ℕ
-number_text value = 32 ∷ signed_decimal value
-
 -- what a queued frame will have: its place in the queue, its buffer, the clusters that will be refused, and the values of all controls
-abbrev pub forecast_line : ℕ → ℕ → List ℕ → List ℤ → List ℕ
+abbrev pub forecast_line : ℕ → ℕ → List ℕ → List CtrlValue → List ℕ
 forecast_line place buffer refused values = codes "frame " ++ (decimal place ++ (codes " buffer " ++ (decimal buffer
-    ++ (codes " refused " ++ (clusters_text refused ++ (codes " values" ++ (flat_map number_text values ++ codes "\n")))))))
+    ++ (codes " refused " ++ (clusters_text refused ++ (codes " values" ++ (flat_map value_text values ++ codes "\n")))))))
 
 -- no frame is queued
 abbrev pub no_frames_line : List ℕ
@@ -109,7 +111,7 @@ place_of _ = 0
 abbrev pub line_of : Ask → Reply → List ℕ
 line_of ask (Fh fh) = codes "ok\n"
 line_of ask Done = codes "ok\n"
-line_of ask (Controls list) = codes "ok" ++ (flat_map value_text list ++ codes "\n")
+line_of ask (Controls list) = codes "ok" ++ (flat_map entry_text list ++ codes "\n")
 line_of ask (Request request) = codes "ok\n"
 line_of ask (State state) = state_line state
 line_of ask (Frame request buffer refused) = frame_line buffer refused

@@ -2,7 +2,7 @@ ghost use Rattle.std.specs.Prelude.{◌≡◌, OnOk, ◌++◌, ◌∷◌, codes}
 ghost use Rattle.std.specs.Io.KnownBytes.{Appends};
 ghost use Rattle.std.specs.List.{flat_map};
 ghost use Rattle.ctrl_types.specs.Numbers.{errno_number};
-ghost use Rattle.script_replies.specs.Replies.{accepted_line, answer_line, audit_line, clusters_text, event_line, flags_text, forecast_line, frame_line, further_text, id_text, info_line, item_text, line_of, number_text, outcome_line, place_of as asked_place, range_text, refusal_line, state_line, value_text};
+ghost use Rattle.script_replies.specs.Replies.{accepted_line, answer_line, audit_line, clusters_text, entry_text, event_line, flags_text, forecast_line, frame_line, further_text, id_text, info_line, item_text, line_of, outcome_line, place_of as asked_place, range_text, refusal_line, state_line, value_text};
 
 use crate::audited::Audited;
 use crate::outcome::Outcome;
@@ -55,14 +55,22 @@ fn print_reply<W: Write>(out: &mut W, ask: &Ask, reply: &Reply) -> io::Result<()
 }
 
 fn print_values<W: Write>(out: &mut W, list: &[ExtControl]) -> io::Result<()>
-    ensures { OnOk result (Appends (W.contents out.old) (W.contents out.new) (codes "ok" ++ (flat_map value_text list.now ++ codes "\n"))) }
+    ensures { OnOk result (Appends (W.contents out.old) (W.contents out.new) (codes "ok" ++ (flat_map entry_text list.now ++ codes "\n"))) }
 {
     write!(out, "ok")?;
     for entry in list {
-        let value = entry.value;
-        write!(out, " {value}")?;
+        print_value(out, entry.value)?;
     }
     writeln!(out)
+}
+
+// A value behind a space.
+fn print_value<W: Write>(out: &mut W, value: CtrlValue) -> io::Result<()>
+    ensures { OnOk result (Appends (W.contents out.old) (W.contents out.new) (value_text value)) }
+{
+    match value {
+        CtrlValue::Number(number) => write!(out, " {number}"),
+    }
 }
 
 // The state of a request.
@@ -108,12 +116,11 @@ fn print_forecast<W: Write>(out: &mut W, place: u32, row: &Forecast) -> io::Resu
 
 // The values of a frame, and the end of its line.
 fn print_row<W: Write>(out: &mut W, values: &[CtrlValue]) -> io::Result<()>
-    ensures { OnOk result (Appends (W.contents out.old) (W.contents out.new) (codes " values" ++ (flat_map number_text values.now ++ codes "\n"))) }
+    ensures { OnOk result (Appends (W.contents out.old) (W.contents out.new) (codes " values" ++ (flat_map value_text values.now ++ codes "\n"))) }
 {
     write!(out, " values")?;
     for value in values {
-        let value = *value;
-        write!(out, " {value}")?;
+        print_value(out, *value)?;
     }
     writeln!(out)
 }

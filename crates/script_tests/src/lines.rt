@@ -4,7 +4,7 @@ use crate::streams::Sink;
 use bitflags::Flags as FlagSet;
 use ctrl_events::Event;
 use ctrl_lists::ControlList;
-use ctrl_types::{Changes, CtrlId, Errno, ExtControl, Fault, Flags, Kind};
+use ctrl_types::{Changes, CtrlId, CtrlValue, Errno, ExtControl, Fault, Flags, Kind};
 use device_history::{Ask, Reply};
 use req_book::RequestState;
 use script_replies::{
@@ -134,7 +134,7 @@ fn write_line(
 fn entry(value: i64) -> ExtControl {
     ExtControl {
         id: CtrlId(0),
-        value,
+        value: CtrlValue::Number(value),
     }
 }
 

@@ -2,6 +2,7 @@
 
 use ctl_script::{brightness_word, pair_word};
 use ctrl_calls::ClusterRow;
+use ctrl_types::CtrlValue;
 
 // Values of brightness, each with its word.
 const BRIGHTNESS: [(i64, u64); 8] = [
@@ -26,11 +27,12 @@ const BALANCE: [([i64; 2], u64); 6] = [
 ];
 
 fn is_told_of_brightness(value: i64, word: u64) -> bool {
-    matches!(ClusterRow::from_slice(&[value]), Some(row) if brightness_word(&row) == word)
+    matches!(ClusterRow::from_slice(&[CtrlValue::Number(value)]), Some(row) if brightness_word(&row) == word)
 }
 
-fn is_told_of_balance(values: &[i64], word: u64) -> bool {
-    matches!(ClusterRow::from_slice(values), Some(row) if pair_word(&row) == word)
+fn is_told_of_balance(values: [i64; 2], word: u64) -> bool {
+    let values = values.map(CtrlValue::Number);
+    matches!(ClusterRow::from_slice(&values), Some(row) if pair_word(&row) == word)
 }
 
 #[test]
@@ -39,6 +41,6 @@ fn words_of_values_out_of_range(rt: HostRuntime) {
         assert!(rt; is_told_of_brightness(value, word), "{value}");
     }
     for (values, word) in BALANCE {
-        assert!(rt; is_told_of_balance(&values, word), "{values:?}");
+        assert!(rt; is_told_of_balance(values, word), "{values:?}");
     }
 }

@@ -1,8 +1,8 @@
 -- What a range change makes of ranges, values and events is what its step makes of them.
-use Rattle.std.proofs.Common.{◌≡◌, ◌∙◌, ℕ, zero, suc, ℤ, pos, List, [], ◌∷◌, length, None, slice_set, get_or, refl, ap, sym}
+use Rattle.std.proofs.Common.{◌≡◌, ◌∙◌, ℕ, zero, suc, ℤ, List, [], ◌∷◌, length, None, slice_set, get_or, refl, ap, sym}
 use Rattle.std.specs.List.{range_with_len}
+use Rattle.ctrl_types.specs.Values.{zero_value}
 use Rattle.history.specs.declared.entry.Entry.{Entry}
-use Rattle.ctrl_types.specs.Values.{CtrlValue}
 use Rattle.ctrl_types.specs.declared.ids.FhId.{FhId}
 use Rattle.ctrl_calls.specs.Meanings.{Verdicts}
 use Rattle.ctrl_settle.specs.Control.{Control, with_range}
@@ -35,13 +35,13 @@ abbrev pub moved : List Control → Values → Grabs → ℕ → Control → Mom
 moved controls values grabs c changed = record { ranges = modified controls c changed; values = slice_set values c (settled_anew changed (value_at values c)); grabs = grabs }
 
 -- the moments before and after one
-around_range : (verdicts : Verdicts) (plan : PlanData) (e : Entry Step) (older : Past) (controls : List Control) (values : Values) (grabs : Grabs) (c : ℕ) (low high : ℤ) (apart : ℕ) (default_value : CtrlValue) (changed : Control)
+around_range : (verdicts : Verdicts) (plan : PlanData) (e : Entry Step) (older : Past) (controls : List Control) (values : Values) (grabs : Grabs) (c : ℕ) (low high : ℤ) (apart : ℕ) (default_value : ℤ) (changed : Control)
     → e.step ≡ steps.ModifyRange c low high apart default_value → changed ≡ with_range (control_in controls c) low high apart default_value
     → controls ≡ ranges_now plan older → values ≡ now verdicts plan older → grabs ≡ grabbed plan older
     → AreAround verdicts plan e older (before_range (moved controls values grabs c changed) c (control_in controls c) (value_at values c)) (moved controls values grabs c changed)
 around_range verdicts plan e older controls values grabs c low high apart default_value changed is own r v g = record {
   old_ranges = set_back controls c changed no_control ∙ r;
-  old_values = set_back values c (settled_anew changed (value_at values c)) (pos 0) ∙ v;
+  old_values = set_back values c (settled_anew changed (value_at values c)) zero_value ∙ v;
   old_grabs = g;
   ranges = ap (modified controls c) own ∙ ap (λ (l : List Control). modified l c (with_range (control_in l c) low high apart default_value)) r
       ∙ sym (ranges_more plan e older ∙ ap (λ (s : Step). ranges_after s (ranges_now plan older)) is);
@@ -53,7 +53,7 @@ around_range verdicts plan e older controls values grabs c low high apart defaul
 }
 
 -- what is raised between them
-pub ranged_step : (verdicts : Verdicts) (plan : PlanData) (e : Entry Step) (older : Past) (controls : List Control) (values : Values) (grabs : Grabs) (c : ℕ) (low high : ℤ) (apart : ℕ) (default_value : CtrlValue) (changed : Control) (fh : FhId) (f : FileEvents)
+pub ranged_step : (verdicts : Verdicts) (plan : PlanData) (e : Entry Step) (older : Past) (controls : List Control) (values : Values) (grabs : Grabs) (c : ℕ) (low high : ℤ) (apart : ℕ) (default_value : ℤ) (changed : Control) (fh : FhId) (f : FileEvents)
     → e.step ≡ steps.ModifyRange c low high apart default_value → changed ≡ with_range (control_in controls c) low high apart default_value
     → controls ≡ ranges_now plan older → values ≡ now verdicts plan older → grabs ≡ grabbed plan older
     → raised_all (changed_between plan (before_range (moved controls values grabs c changed) c (control_in controls c) (value_at values c)) (moved controls values grabs c changed) []) (payload_at plan (moved controls values grabs c changed))

@@ -4,7 +4,6 @@ ghost use Rattle.std.specs.Prelude.{◌≡◌, ◌<◌, ◌≤◌, ◌+◌, ℕ,
 ghost use Rattle.history.specs.declared.entry.Entry.{Entry as EntryOf};
 ghost use Rattle.ctrl_calls.specs.Meanings.{Verdicts};
 ghost use Rattle.ctrl_types.specs.declared.ids.FhId.{FhId as FhIdOf};
-ghost use Rattle.ctrl_types.specs.Values.{CtrlValue as CtrlValueOf};
 ghost use Rattle.ctrl_settle.specs.Control.{with_range};
 ghost use Rattle.ctrl_settle.specs.Settle.{settled_anew};
 ghost use Rattle.ctrl_handlers.specs.Plan.{control_in};
@@ -54,7 +53,7 @@ pub fn change_range<D: Driver>(
     requires numbers { (j : ℕ) → (events_of events.old j).next + length plan.now.controls ≤ 4294967295 }
     ensures ranges { ranges.new ≡ modified ranges.old control changed }
     ensures values { values.new.items ≡ slice_set values.old.items control (settled_anew changed (value_at values.old.items control)) }
-    ensures events { (verdicts : Verdicts) (e : EntryOf StepOf) (older : Past) (low high : ℤ) (apart : ℕ) (default_value : CtrlValueOf) → e.step ≡ steps.ModifyRange control low high apart default_value
+    ensures events { (verdicts : Verdicts) (e : EntryOf StepOf) (older : Past) (low high : ℤ) (apart : ℕ) (default_value : ℤ) → e.step ≡ steps.ModifyRange control low high apart default_value
         → changed ≡ with_range (control_in ranges.old control) low high apart default_value → ranges.old ≡ ranges_now plan.now older → values.old.items ≡ now verdicts plan.now older → grabs.now ≡ grabbed plan.now older
         → (fh : FhIdOf) → events_of events.new fh.0 ≡ events_after verdicts plan.now e older fh (events_of events.old fh.0) }
 {

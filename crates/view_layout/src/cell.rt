@@ -4,12 +4,13 @@ ghost use Rattle.std.specs.Prelude.{◌≡◌};
 ghost use Rattle.view_layout.specs.Marks.{mark as mark_of};
 
 use crate::page::Page;
+use ctrl_types::CtrlValue;
 
 /// A control's value, and whether its auto cluster makes it INACTIVE.
 #[derive(Clone, Copy, PartialEq, Eq)]
 pub struct Look {
     /// The value.
-    pub value: i64,
+    pub value: CtrlValue,
     /// Whether it is INACTIVE.
     pub is_inactive: bool,
 }
@@ -33,7 +34,7 @@ pub struct Cell {
     /// What it is in the frame.
     pub behind: Look,
     /// The value that the frame's request asks of it.
-    pub asked: Option<i64>,
+    pub asked: Option<CtrlValue>,
     /// Whether its cluster is refused.
     pub is_refused: bool,
 }
@@ -68,7 +69,7 @@ pub fn put_cell(page: &mut Page, cell: Cell) {
         }
         Mark::Refused => {
             page.put("!");
-            page.put_number(cell.asked.unwrap_or(cell.behind.value));
+            page.put_value(cell.asked.unwrap_or(cell.behind.value));
             put_inactive(page, cell.behind);
         }
         Mark::Changes => {
@@ -86,17 +87,17 @@ pub fn put_missed(page: &mut Page, cell: Cell) {
 }
 
 /// Puts on a page what was asked for, where another value came of it.
-pub fn put_wanted(page: &mut Page, value: i64, asked: i64) {
+pub fn put_wanted(page: &mut Page, value: CtrlValue, asked: CtrlValue) {
     if asked != value {
         page.put(" (for ");
-        page.put_number(asked);
+        page.put_value(asked);
         page.put(")");
     }
 }
 
 /// Puts on a page what a control is now.
 pub fn put_look(page: &mut Page, look: Look) {
-    page.put_number(look.value);
+    page.put_value(look.value);
     put_inactive(page, look);
 }
 

@@ -1,3 +1,4 @@
+use ctrl_types::CtrlValue;
 use std::alloc::Global;
 use std::io;
 use std::io::Write;
@@ -47,6 +48,11 @@ impl Page {
     /// Puts a decimal number behind the others.
     pub fn put_number(&mut self, number: i64) {
         let _ = write!(self, "{number}");
+    }
+
+    /// Puts a value behind the others.
+    pub fn put_value(&mut self, value: CtrlValue) {
+        let _ = write!(self, "{value}");
     }
 
     /// Puts bytes behind the others.

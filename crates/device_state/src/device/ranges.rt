@@ -12,7 +12,7 @@ use super::{Device, plain, refused};
 use ctrl_calls::{Driver, Work};
 use ctrl_clusters::notify_cluster;
 use ctrl_settle::Ctrl;
-use ctrl_types::{CtrlValue, Errno, Fault};
+use ctrl_types::{Errno, Fault};
 use device_history::{Reply, Step};
 use history::Entry;
 use std::alloc::AllocError;
@@ -27,7 +27,7 @@ impl<D: Driver> Device<D> {
         min: i64,
         max: i64,
         step: u64,
-        default_value: CtrlValue,
+        default_value: i64,
     ) -> Result<Reply, Fault>
         ensures { Handles D.verdict self.old self.new seat (asks.ModifyRange control min max step default_value) result }
     {
@@ -49,7 +49,7 @@ impl<D: Driver> Device<D> {
         min: i64,
         max: i64,
         step: u64,
-        default_value: CtrlValue,
+        default_value: i64,
     ) -> Result<Ctrl, Fault>
         ensures ok { OnOk result (range_answer self.now.plan (past self.now.steps) control min max step default_value ≡ Ok replies.Done) }
         ensures changed { IfOk result (λ changed. changed ≡ control_with_range (ranges_now self.now.plan (past self.now.steps)) control min max step default_value) }

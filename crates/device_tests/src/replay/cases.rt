@@ -1,9 +1,7 @@
 //! Histories as data, each with what an audit makes of it.
 
-use ctrl_types::CtrlValue;
-
 // Controls, each with a value.
-pub type Pairs = &'static [(u32, CtrlValue)];
+pub type Pairs = &'static [(u32, i64)];
 
 // A step. File handles and requests stand by their numbers.
 #[derive(Clone, Copy)]
@@ -13,7 +11,7 @@ pub enum Move {
     Set(u32, Pairs),
     Grab(u32, bool),
     // the bounds, the step and the default
-    Range(u32, i64, i64, u64, CtrlValue),
+    Range(u32, i64, i64, u64, i64),
     Alloc,
     Store(u32, Pairs),
     Buffer(u32, u32),
@@ -30,14 +28,14 @@ pub enum Move {
     Take(u32, u32),
 }
 
-pub const DEFAULTS: &[CtrlValue] = &[3, 0, 4, 0, 0, 0];
+pub const DEFAULTS: &[i64] = &[3, 0, 4, 0, 0, 0];
 
-pub const MANY: [(u32, CtrlValue); 65] = [(0, 8); 65];
+pub const MANY: [(u32, i64); 65] = [(0, 8); 65];
 
-pub const MOST: [(u32, CtrlValue); 64] = [(0, 8); 64];
+pub const MOST: [(u32, i64); 64] = [(0, 8); 64];
 
 // Steps, with the present values that they make, or the place of the first that may not follow those before it.
-pub type Case = (&'static [Move], Result<&'static [CtrlValue], usize>);
+pub type Case = (&'static [Move], Result<&'static [i64], usize>);
 
 // Range changes: a control that isn't there, each fault of a range, what isn't asked for one, and what follows.
 pub const RANGES: &[Case] = &[
@@ -696,7 +694,7 @@ pub const TAKES: &[Case] = &[
 ];
 
 // What an event tells that waits: its control, the bits of what changed, its value, and its number.
-pub type Told = (u32, u32, CtrlValue, u32);
+pub type Told = (u32, u32, i64, u32);
 
 // Steps, with what waits for a file handle behind them, and the number of its next event.
 pub const WAITING: &[(&[Move], u32, &[Told], u32)] = &[

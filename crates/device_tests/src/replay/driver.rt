@@ -9,7 +9,7 @@ use ctrl_calls::{
 };
 use ctrl_handlers::{Plan, PlanBuilder};
 use ctrl_settle::Ctrl;
-use ctrl_types::{CtrlId, CtrlValue, Errno, Flags, Kind};
+use ctrl_types::{CtrlId, Errno, Flags, Kind};
 use std::alloc::Global;
 
 /// Relation 0 takes each row, every other none.
@@ -74,7 +74,7 @@ const FIRST: u32 = 0x0098_0900;
 
 // The controls, each of 0 to 9: its handler, its id, its default, its flags, and whether it is private. Handler 1 adds handler 0, and has a
 // control with the id of control 0, which is hidden from it so. Control 4 is DISABLED, and 5 READ_ONLY.
-const CONTROLS: [(u32, u32, CtrlValue, u32, bool); 6] = [
+const CONTROLS: [(u32, u32, i64, u32, bool); 6] = [
     (0, FIRST, 3, 0, false),
     (0, FIRST + 1, 0, 0, false),
     (1, FIRST, 4, 0, false),
@@ -106,7 +106,7 @@ fn add_controls(builder: &mut PlanBuilder<Picky>) -> Option<()> {
     builder.add_handler(1, 0).ok()
 }
 
-fn ctrl(id: u32, default: CtrlValue, bits: u32, is_private: bool) -> Option<Ctrl> {
+fn ctrl(id: u32, default: i64, bits: u32, is_private: bool) -> Option<Ctrl> {
     let flags = Flags::from_bits_retain(bits);
     let ctrl = Ctrl::new(
         CtrlId(id),

@@ -4,6 +4,7 @@ use crate::replay::cases::{
     CASES, Case, EVENTS, Move, Pairs, RANGES, REQUESTS, TAKES, Told, WAITING,
 };
 use crate::replay::driver::{Picky, plan};
+use crate::scene::are;
 use bitflags::Flags as FlagSet;
 use ctrl_handlers::Plan;
 use ctrl_types::{CtrlValue, FhId, Pair, RequestId, SubFlags};
@@ -15,8 +16,11 @@ use std::test::Fail;
 
 fn list(alloc: Global, pairs: Pairs) -> Result<PairList, AllocError> {
     let mut items = Vec::new(alloc);
-    for &(control, value) in pairs {
-        items.push(Pair { control, value })?;
+    for &(control, number) in pairs {
+        items.push(Pair {
+            control,
+            value: CtrlValue::Number(number),
+        })?;
     }
     Ok(PairList::from_vec(items))
 }
@@ -117,12 +121,9 @@ fn is_audited(alloc: Global, plan: &Plan<Picky>, case: &Case) -> Result<bool, Al
     Ok(is_wanted(&audited, case.1))
 }
 
-fn is_wanted(
-    audited: &Result<Scratch, usize>,
-    wanted: Result<&'static [CtrlValue], usize>,
-) -> bool {
+fn is_wanted(audited: &Result<Scratch, usize>, wanted: Result<&'static [i64], usize>) -> bool {
     match audited {
-        Ok(scratch) => matches!(wanted, Ok(values) if scratch.values() == values),
+        Ok(scratch) => matches!(wanted, Ok(numbers) if are(scratch.values(), numbers)),
         Err(index) => matches!(wanted, Err(place) if *index == place),
     }
 }

@@ -1,21 +1,10 @@
-//! Pairs as data, and whether controls are those of a plan.
+//! Whether controls are those of a plan.
 ghost use Rattle.std.specs.Prelude.{◌≡◌, IsTrue};
 ghost use Rattle.ctrl_clusters.specs.Rows.{AreControlsOf};
 
 use crate::cluster::driver::Strict;
 use ctrl_handlers::Plan;
 use ctrl_settle::Ctrl;
-use ctrl_types::{CtrlValue, Pair};
-use std::alloc::Global;
-use std::test::Fail;
-
-pub fn pairs_of(alloc: Global, asked: &[(u32, CtrlValue)]) -> Result<Vec<Pair>, Fail> {
-    let mut pairs = Vec::new(alloc);
-    for &(control, value) in asked {
-        pairs.push(Pair { control, value })?;
-    }
-    Ok(pairs)
-}
 
 /// Whether these are the two controls of a plan, maybe with other bounds or defaults.
 pub fn are_of(plan: &Plan<Strict>, controls: &[Ctrl]) -> bool

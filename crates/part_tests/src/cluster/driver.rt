@@ -1,10 +1,11 @@
 //! A driver whose validators take a row, take another in its place or refuse, and whose notifiers count their calls.
-ghost use Rattle.std.specs.Prelude.{⊤, ◌≡◌, ◌==◌, pos, ◌∷◌, [], if◌then◌else◌};
+ghost use Rattle.std.specs.Prelude.{⊤, ◌≡◌, ◌≤◌, ◌==◌, pos, ◌∷◌, [], length, if◌then◌else◌};
 ghost use Rattle.ctrl_calls.specs.declared.verdict.Verdict.TheVariants.{Accept, Refuse};
+ghost use Rattle.ctrl_types.specs.declared.value.CtrlValue.TheVariants.{Number};
 ghost use Rattle.ctrl_types.specs.declared.errno.Errno.TheVariants.{ENOENT, EACCES, EBUSY, ERANGE};
 
 use ctrl_calls::{ClusterRow, Judging, Notifies, Relation, Telling, Validates, Verdict};
-use ctrl_types::Errno;
+use ctrl_types::{CtrlValue, Errno};
 use std::sync::Arc;
 use std::sync::atomic::{AtomicU64, Ordering};
 
@@ -22,12 +23,12 @@ impl Judging for Judge {
 
     ghost answers = { λ judge row verdict. verdict ≡ (
         if judge.number == 0 then Accept row
-        else if judge.number == 1 then Accept (pos 60 ∷ [])
-        else if judge.number == 2 then Accept (pos 7 ∷ pos 8 ∷ [])
-        else if judge.number == 3 then Accept (pos 50 ∷ pos 3 ∷ [])
-        else if judge.number == 4 then Accept (pos 55 ∷ pos 3 ∷ [])
-        else if judge.number == 5 then Accept (pos 50 ∷ pos 2 ∷ [])
-        else if judge.number == 6 then Accept (pos 50 ∷ pos 3 ∷ pos 0 ∷ [])
+        else if judge.number == 1 then Accept (Number (pos 60) ∷ [])
+        else if judge.number == 2 then Accept (Number (pos 7) ∷ Number (pos 8) ∷ [])
+        else if judge.number == 3 then Accept (Number (pos 50) ∷ Number (pos 3) ∷ [])
+        else if judge.number == 4 then Accept (Number (pos 55) ∷ Number (pos 3) ∷ [])
+        else if judge.number == 5 then Accept (Number (pos 50) ∷ Number (pos 2) ∷ [])
+        else if judge.number == 6 then Accept (Number (pos 50) ∷ Number (pos 3) ∷ Number (pos 0) ∷ [])
         else if judge.number == 7 then Refuse EBUSY
         else if judge.number == 8 then Refuse EACCES
         else if judge.number == 9 then Refuse ERANGE
@@ -36,18 +37,37 @@ impl Judging for Judge {
     fn judge(&self, row: ClusterRow) -> Verdict {
         match self.number {
             0 => Verdict::Accept(row),
-            1 => Verdict::Accept(ClusterRow::from_slice(&[60]).unwrap()),
-            2 => Verdict::Accept(ClusterRow::from_slice(&[7, 8]).unwrap()),
-            3 => Verdict::Accept(ClusterRow::from_slice(&[50, 3]).unwrap()),
-            4 => Verdict::Accept(ClusterRow::from_slice(&[55, 3]).unwrap()),
-            5 => Verdict::Accept(ClusterRow::from_slice(&[50, 2]).unwrap()),
-            6 => Verdict::Accept(ClusterRow::from_slice(&[50, 3, 0]).unwrap()),
+            1 => accept(&[CtrlValue::Number(60)]),
+            2 => accept(&two(7, 8)),
+            3 => accept(&two(50, 3)),
+            4 => accept(&two(55, 3)),
+            5 => accept(&two(50, 2)),
+            6 => accept(&[
+                CtrlValue::Number(50),
+                CtrlValue::Number(3),
+                CtrlValue::Number(0),
+            ]),
             7 => Verdict::Refuse(Errno::EBUSY),
             8 => Verdict::Refuse(Errno::EACCES),
             9 => Verdict::Refuse(Errno::ERANGE),
             _ => Verdict::Refuse(Errno::ENOENT),
         }
     }
+}
+
+// The row of at most eight values is taken.
+fn accept(values: &[CtrlValue]) -> Verdict
+    requires { length values.now ≤ 8 }
+    ensures { result ≡ Accept values.now }
+{
+    Verdict::Accept(ClusterRow::from_slice(values).unwrap())
+}
+
+// The values that are these two numbers.
+fn two(first: i64, second: i64) -> [CtrlValue; 2]
+    ensures { result ≡ Number first ∷ Number second ∷ [] }
+{
+    [CtrlValue::Number(first), CtrlValue::Number(second)]
 }
 
 /// A notifier counts its own calls. The word has how many calls of all notifiers came before, and the row.
@@ -67,7 +87,7 @@ impl Telling for Says {
         let mut word = self.all.fetch_add(1, Ordering::SeqCst);
         for place in 0..row.len() {
             word = word.wrapping_mul(1000);
-            word = word.wrapping_add(row.value(place).unsigned_abs());
+            word = word.wrapping_add(row.value(place).number().unsigned_abs());
         }
         word
     }
@@ -78,12 +98,12 @@ impl Validates for Strict {
 
     ghost verdict = { λ relation row.
         if relation.number == 0 then Accept row
-        else if relation.number == 1 then Accept (pos 60 ∷ [])
-        else if relation.number == 2 then Accept (pos 7 ∷ pos 8 ∷ [])
-        else if relation.number == 3 then Accept (pos 50 ∷ pos 3 ∷ [])
-        else if relation.number == 4 then Accept (pos 55 ∷ pos 3 ∷ [])
-        else if relation.number == 5 then Accept (pos 50 ∷ pos 2 ∷ [])
-        else if relation.number == 6 then Accept (pos 50 ∷ pos 3 ∷ pos 0 ∷ [])
+        else if relation.number == 1 then Accept (Number (pos 60) ∷ [])
+        else if relation.number == 2 then Accept (Number (pos 7) ∷ Number (pos 8) ∷ [])
+        else if relation.number == 3 then Accept (Number (pos 50) ∷ Number (pos 3) ∷ [])
+        else if relation.number == 4 then Accept (Number (pos 55) ∷ Number (pos 3) ∷ [])
+        else if relation.number == 5 then Accept (Number (pos 50) ∷ Number (pos 2) ∷ [])
+        else if relation.number == 6 then Accept (Number (pos 50) ∷ Number (pos 3) ∷ Number (pos 0) ∷ [])
         else if relation.number == 7 then Refuse EBUSY
         else if relation.number == 8 then Refuse EACCES
         else if relation.number == 9 then Refuse ERANGE

@@ -3,17 +3,17 @@
 use crate::event::scene::Scene;
 use bitflags::Flags as FlagSet;
 use ctrl_events::{Event, Payload};
-use ctrl_types::{Changes, CtrlId, CtrlValue, Errno, Flags, Kind, SubFlags};
+use ctrl_types::{Changes, CtrlId, Errno, Flags, Kind, SubFlags};
 
 /// A call. Flags and changes stand as bits, and a payload as the control's value.
 #[derive(Clone, Copy)]
 pub(crate) enum Call {
     /// A file handle, a control, the flags, and the value of an event at once.
-    Subscribe(u32, u32, u32, CtrlValue),
+    Subscribe(u32, u32, u32, i64),
     /// A file handle and a control.
     Unsubscribe(u32, u32),
     /// A control, what changed, its value, and the file handle that it comes from.
-    Raise(u32, u32, CtrlValue, Option<u32>),
+    Raise(u32, u32, i64, Option<u32>),
     /// A file handle.
     Take(u32),
     /// A file handle.
@@ -25,7 +25,7 @@ pub(crate) enum Call {
 pub(crate) struct Told {
     pub(crate) control: u32,
     pub(crate) changes: u32,
-    pub(crate) value: CtrlValue,
+    pub(crate) value: i64,
     pub(crate) sequence: u32,
     pub(crate) pending: u32,
 }
@@ -44,7 +44,7 @@ pub(crate) enum Look {
 }
 
 /// What is told of a control that has a value.
-pub(crate) fn payload(control: u32, value: CtrlValue) -> Payload {
+pub(crate) fn payload(control: u32, value: i64) -> Payload {
     Payload {
         id: CtrlId(control),
         kind: Kind::Menu,

@@ -6,7 +6,7 @@ ghost use Rattle.ctrl_events.specs.Events.{events_of};
 use crate::event::calls::{Call, payload};
 use bitflags::Flags as FlagSet;
 use ctrl_events::{Event, Events};
-use ctrl_types::{Changes, CtrlValue, Errno, FhId, SubFlags};
+use ctrl_types::{Changes, Errno, FhId, SubFlags};
 use std::alloc::Global;
 
 /// The events, and how many calls were made.
@@ -57,13 +57,7 @@ impl Scene {
         }
     }
 
-    fn subscribe(
-        &mut self,
-        fh: u32,
-        control: u32,
-        flags: u32,
-        value: CtrlValue,
-    ) -> Result<(), Errno> {
+    fn subscribe(&mut self, fh: u32, control: u32, flags: u32, value: i64) -> Result<(), Errno> {
         if self.calls == u32::MAX {
             return Err(Errno::ERANGE);
         }
@@ -78,7 +72,7 @@ impl Scene {
         answer
     }
 
-    fn raise(&mut self, control: u32, changes: u32, value: CtrlValue, from: Option<u32>) {
+    fn raise(&mut self, control: u32, changes: u32, value: i64, from: Option<u32>) {
         if self.calls == u32::MAX {
             return;
         }

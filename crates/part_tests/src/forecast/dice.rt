@@ -22,7 +22,7 @@ impl Dice {
 
     /// A value, now and then one that no control takes as it is.
     pub fn value(&mut self) -> CtrlValue {
-        i64::from(self.roll(13))
+        CtrlValue::Number(i64::from(self.roll(13)))
     }
 
     /// One to three pairs of these controls.

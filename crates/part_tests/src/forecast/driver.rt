@@ -4,7 +4,7 @@ ghost use Rattle.std.specs.Prelude.{⊤, ◌≡◌};
 ghost use Rattle.part_tests.specs.Verdicts.{ordered as ordered_of, ordered_verdict};
 
 use ctrl_calls::{ClusterRow, Judging, Notifies, Telling, Validates, Verdict};
-use ctrl_types::Errno;
+use ctrl_types::{CtrlValue, Errno};
 
 /// The driver. It tells nobody anything.
 pub enum Ordered {}
@@ -28,10 +28,12 @@ fn judge_row(row: &ClusterRow) -> Verdict
     if row.len() != 2 {
         return Verdict::Accept(*row);
     }
-    if row.value(1) < row.value(0) {
-        return Verdict::Refuse(Errno::ERANGE);
+    match (row.value(0), row.value(1)) {
+        (CtrlValue::Number(first), CtrlValue::Number(second)) if second < first => {
+            Verdict::Refuse(Errno::ERANGE)
+        }
+        _ => Verdict::Accept(*row),
     }
-    Verdict::Accept(*row)
 }
 
 #[derive(Drop)]

@@ -1,5 +1,6 @@
 //! Calls of a queue of frames over three controls, and looks at it.
 
+use crate::values::are_numbers;
 use ctrl_types::{CtrlValue, Errno, Pair, RequestId};
 use frame_queue::{Frames, RequestState};
 
@@ -14,9 +15,9 @@ pub(crate) enum Call {
     Buffer(u32, u32),
     Queue(u32),
     Begin(&'static [Pair]),
-    Complete(CtrlValue),
-    Cancel(u32, CtrlValue),
-    Off(CtrlValue),
+    Complete(i64),
+    Cancel(u32, i64),
+    Off(i64),
     Reinit(u32),
     Free(u32),
 }
@@ -28,9 +29,9 @@ pub(crate) enum Look {
     Gone(u32),
     Holds(u32, Option<u32>),
     Asks(u32, &'static [Pair]),
-    Had(u32, &'static [CtrlValue]),
+    Had(u32, &'static [i64]),
     HadNothing(u32, Errno),
-    HadValue(u32, u32, Result<CtrlValue, Errno>),
+    HadValue(u32, u32, Result<i64, Errno>),
     Waits(&'static [u32]),
     Runs(Option<u32>),
     Count(usize),
@@ -48,9 +49,9 @@ pub(crate) fn answer(frames: &mut Frames, call: Call) -> Result<u32, Errno> {
             Ok((_, number)) => Ok(number),
             Err(errno) => Err(errno),
         },
-        Call::Complete(value) => complete(frames, value),
-        Call::Cancel(id, value) => cancel(frames, RequestId(id), value),
-        Call::Off(value) => stream_off(frames, value),
+        Call::Complete(number) => complete(frames, number),
+        Call::Cancel(id, number) => cancel(frames, RequestId(id), number),
+        Call::Off(number) => stream_off(frames, number),
         Call::Reinit(id) => done(frames.reinit(RequestId(id))),
         Call::Free(id) => done(frames.free(RequestId(id))),
     }
@@ -63,25 +64,25 @@ fn done(answer: Result<(), Errno>) -> Result<u32, Errno> {
     }
 }
 
-fn complete(frames: &mut Frames, value: CtrlValue) -> Result<u32, Errno> {
+fn complete(frames: &mut Frames, number: i64) -> Result<u32, Errno> {
     if frames.controls() == CONTROLS {
-        done(frames.complete([value; 3].as_slice()))
+        done(frames.complete([CtrlValue::Number(number); 3].as_slice()))
     } else {
         Err(Errno::ERANGE)
     }
 }
 
-fn cancel(frames: &mut Frames, id: RequestId, value: CtrlValue) -> Result<u32, Errno> {
+fn cancel(frames: &mut Frames, id: RequestId, number: i64) -> Result<u32, Errno> {
     if frames.controls() == CONTROLS {
-        done(frames.cancel(id, [value; 3].as_slice()))
+        done(frames.cancel(id, [CtrlValue::Number(number); 3].as_slice()))
     } else {
         Err(Errno::ERANGE)
     }
 }
 
-fn stream_off(frames: &mut Frames, value: CtrlValue) -> Result<u32, Errno> {
+fn stream_off(frames: &mut Frames, number: i64) -> Result<u32, Errno> {
     if frames.controls() == CONTROLS {
-        frames.stream_off([value; 3].as_slice());
+        frames.stream_off([CtrlValue::Number(number); 3].as_slice());
         Ok(0)
     } else {
         Err(Errno::ERANGE)
@@ -114,15 +115,17 @@ pub(crate) fn shows(frames: &Frames, look: Look) -> bool {
             Ok(asked) => asked == pairs,
             Err(_) => false,
         },
-        Look::Had(id, values) => match frames.snapshot_values(RequestId(id)) {
-            Ok(snapshot) => snapshot == values,
+        Look::Had(id, numbers) => match frames.snapshot_values(RequestId(id)) {
+            Ok(snapshot) => are_numbers(snapshot, numbers),
             Err(_) => false,
         },
         Look::HadNothing(id, errno) => match frames.snapshot_values(RequestId(id)) {
             Ok(_) => false,
             Err(refusal) => refusal == errno,
         },
-        Look::HadValue(id, control, value) => frames.snapshot(RequestId(id), control) == value,
+        Look::HadValue(id, control, want) => {
+            frames.snapshot(RequestId(id), control) == want.map(CtrlValue::Number)
+        }
         Look::Waits(ids) => waits(frames, ids),
         Look::Runs(id) => match frames.running() {
             Some(running) => id == Some(running.0),

@@ -1,23 +1,23 @@
 //! Which requests and frames are alike: those that are seen as the same, however they came to be so.
 
 use crate::frame::calls::{CONTROLS, Call, answer};
-use ctrl_types::{Errno, Pair};
+use ctrl_types::{CtrlValue, Errno, Pair};
 use frame_queue::Frames;
 use std::alloc::Global;
 
 const FIRST: &[Pair] = &[Pair {
     control: 0,
-    value: 1,
+    value: CtrlValue::Number(1),
 }];
 
 const FIRST_MORE: &[Pair] = &[Pair {
     control: 0,
-    value: 2,
+    value: CtrlValue::Number(2),
 }];
 
 const SECOND: &[Pair] = &[Pair {
     control: 1,
-    value: 1,
+    value: CtrlValue::Number(1),
 }];
 
 // How many controls there are, and calls that are accepted. Those with the same number in front make the same requests and queue.

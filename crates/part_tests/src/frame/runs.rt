@@ -1,7 +1,7 @@
 //! What requests and frames come through, from a queue of frames without requests.
 
 use crate::frame::calls::{CONTROLS, Call, Look, answer, shows};
-use ctrl_types::{Errno, Pair};
+use ctrl_types::{CtrlValue, Errno, Pair};
 use frame_queue::{Frames, MAX_REQUESTS, RequestState};
 use std::alloc::Global;
 
@@ -62,7 +62,7 @@ const RUNS: &[Run] = &[
                     0,
                     &[Pair {
                         control: 0,
-                        value: 1,
+                        value: CtrlValue::Number(1),
                     }],
                 ),
                 Ok(0),
@@ -99,15 +99,15 @@ const RUNS: &[Run] = &[
                     &[
                         Pair {
                             control: 2,
-                            value: 5,
+                            value: CtrlValue::Number(5),
                         },
                         Pair {
                             control: 0,
-                            value: 1,
+                            value: CtrlValue::Number(1),
                         },
                         Pair {
                             control: 2,
-                            value: 6,
+                            value: CtrlValue::Number(6),
                         },
                     ],
                 ),
@@ -119,11 +119,11 @@ const RUNS: &[Run] = &[
                     &[
                         Pair {
                             control: 0,
-                            value: 9,
+                            value: CtrlValue::Number(9),
                         },
                         Pair {
                             control: 1,
-                            value: -1,
+                            value: CtrlValue::Number(-1),
                         },
                     ],
                 ),
@@ -137,15 +137,15 @@ const RUNS: &[Run] = &[
                 &[
                     Pair {
                         control: 0,
-                        value: 9,
+                        value: CtrlValue::Number(9),
                     },
                     Pair {
                         control: 1,
-                        value: -1,
+                        value: CtrlValue::Number(-1),
                     },
                     Pair {
                         control: 2,
-                        value: 6,
+                        value: CtrlValue::Number(6),
                     },
                 ],
             ),
@@ -165,7 +165,7 @@ const RUNS: &[Run] = &[
                     0,
                     &[Pair {
                         control: 1,
-                        value: 2,
+                        value: CtrlValue::Number(2),
                     }],
                 ),
                 Ok(0),
@@ -177,7 +177,7 @@ const RUNS: &[Run] = &[
                     0,
                     &[Pair {
                         control: 2,
-                        value: 3,
+                        value: CtrlValue::Number(3),
                     }],
                 ),
                 Ok(0),
@@ -188,7 +188,7 @@ const RUNS: &[Run] = &[
                 0,
                 &[Pair {
                     control: 2,
-                    value: 3,
+                    value: CtrlValue::Number(3),
                 }],
             ),
             Look::Holds(0, None),
@@ -204,11 +204,11 @@ const RUNS: &[Run] = &[
                     &[
                         Pair {
                             control: 0,
-                            value: 1,
+                            value: CtrlValue::Number(1),
                         },
                         Pair {
                             control: 1,
-                            value: 2,
+                            value: CtrlValue::Number(2),
                         },
                     ],
                 ),
@@ -219,7 +219,7 @@ const RUNS: &[Run] = &[
             (
                 Call::Begin(&[Pair {
                     control: 1,
-                    value: 2,
+                    value: CtrlValue::Number(2),
                 }]),
                 Ok(4),
             ),
@@ -235,11 +235,11 @@ const RUNS: &[Run] = &[
                 &[
                     Pair {
                         control: 0,
-                        value: 1,
+                        value: CtrlValue::Number(1),
                     },
                     Pair {
                         control: 1,
-                        value: 2,
+                        value: CtrlValue::Number(2),
                     },
                 ],
             ),
@@ -285,7 +285,7 @@ const RUNS: &[Run] = &[
             (
                 Call::Begin(&[Pair {
                     control: 0,
-                    value: 4,
+                    value: CtrlValue::Number(4),
                 }]),
                 Ok(11),
             ),

@@ -5,11 +5,13 @@ ghost use Rattle.ctrl_types.specs.declared.errno.Errno.TheVariants.{ERANGE};
 ghost use Rattle.ctrl_calls.specs.Meanings.{JudgesBy, TellsBy};
 ghost use Rattle.ctrl_calls.specs.declared.verdict.Verdict.TheVariants.{Accept, Refuse};
 
+use crate::values::{row_of, values_of};
 use ctrl_calls::{
     Calls, ClusterRow, Driver, Judging, Notifier, Notifies, Relation, Relations, Telling,
     Validates, Validator, Verdict, Work, ask, tell,
 };
 use ctrl_types::{CtrlValue, Errno};
+use std::alloc::{AllocError, Global};
 use std::sync::Arc;
 use std::sync::atomic::{AtomicU64, Ordering};
 use std::test::Fail;
@@ -40,7 +42,7 @@ const REFUSES: Relation = Relation {
 };
 
 // A list of values, and whether it is a row.
-const ROWS: &[(&[CtrlValue], bool)] = &[
+const ROWS: &[(&[i64], bool)] = &[
     (&[], true),
     (&[i64::MIN], true),
     (&[i64::MIN, -1], true),
@@ -70,33 +72,35 @@ const COUNTS: &[(u64, Work, Work)] = &[
 ];
 
 // The values of the row are these.
-fn shows(row: &ClusterRow, values: &[CtrlValue]) -> bool {
-    for (i, value) in values.iter().enumerate() {
-        if i >= row.len() || row.value(i) != *value {
+fn shows(row: &ClusterRow, numbers: &[i64]) -> bool {
+    for (i, number) in numbers.iter().enumerate() {
+        if i >= row.len() || row.value(i) != CtrlValue::Number(*number) {
             return false;
         }
     }
-    row.len() == values.len()
+    row.len() == numbers.len()
 }
 
-fn holds(values: &[CtrlValue], is_row: bool) -> bool {
-    match ClusterRow::from_slice(values) {
-        Some(row) => is_row && shows(&row, values),
+fn holds(alloc: Global, numbers: &[i64], is_row: bool) -> Result<bool, AllocError> {
+    let values = values_of(alloc, numbers)?;
+    Ok(match ClusterRow::from_slice(values.as_slice()) {
+        Some(row) => is_row && shows(&row, numbers),
         None => !is_row,
-    }
+    })
 }
 
 #[test]
-fn rows_hold_up_to_eight_values(rt: HostRuntime) {
-    for (values, is_row) in ROWS {
-        assert!(rt; holds(values, *is_row), "{values:?}");
+fn rows_hold_up_to_eight_values(rt: HostRuntime) -> Result<(), Fail> {
+    for (numbers, is_row) in ROWS {
+        assert!(rt; holds(rt.alloc(), numbers, *is_row)?, "{numbers:?}");
     }
+    Ok(())
 }
 
 #[test]
 fn a_row_with_another_value(rt: HostRuntime) -> Result<(), Fail> {
-    let row = ClusterRow::from_slice(&[1, 2, 3]).ok_or("three")?;
-    let is_written = row.len() == 3 && shows(&row.with(1, -9), &[1, -9, 3]);
+    let row = row_of(&[1, 2, 3]).ok_or("three")?;
+    let is_written = row.len() == 3 && shows(&row.with(1, CtrlValue::Number(-9)), &[1, -9, 3]);
     assert!(rt; is_written && shows(&row, &[1, 2, 3]));
     Ok(())
 }
@@ -159,7 +163,7 @@ fn drives<D: Driver>(
 
 #[test]
 fn boxes_are_called_as_often_as_counted(rt: HostRuntime) -> Result<(), Fail> {
-    let row = ClusterRow::from_slice(&[3, -4]).ok_or("two")?;
+    let row = row_of(&[3, -4]).ok_or("two")?;
     let asked = Arc::new(rt.alloc(), AtomicU64::new(0))?;
     let told = Arc::new(rt.alloc(), AtomicU64::new(0))?;
     let asked_too = asked.clone()?;
@@ -186,7 +190,7 @@ fn boxes_are_called_as_often_as_counted(rt: HostRuntime) -> Result<(), Fail> {
 
 #[test]
 fn a_relation_that_refuses(rt: HostRuntime) -> Result<(), Fail> {
-    let row = ClusterRow::from_slice(&[3, -4]).ok_or("two")?;
+    let row = row_of(&[3, -4]).ok_or("two")?;
     let judge: Box<dyn Fn(ClusterRow) -> Verdict + Send> = Box::new(
         rt.alloc(),
         |_row: ClusterRow| Verdict::Refuse(Errno::ERANGE),
@@ -245,7 +249,7 @@ impl Notifies for Structs {
 
 #[test]
 fn closures_as_structs(rt: HostRuntime) -> Result<(), Fail> {
-    let row = ClusterRow::from_slice(&[3, -4]).ok_or("two")?;
+    let row = row_of(&[3, -4]).ok_or("two")?;
     let judge = Refuser {
         errno: Errno::ERANGE,
     };

@@ -1,7 +1,8 @@
 //! Limits and words as data, asked and told through the calls that are made of them.
 
+use crate::values::row_of;
 use ctrl_calls::{ClusterRow, Relation, Verdict, Work, ask, tell};
-use ctrl_types::{CtrlValue, Errno};
+use ctrl_types::Errno;
 use data_driver::{Excess, Limit, NoMember, Word, data_calls};
 
 const SUM: Limit = Limit::Sum { most: 384 };
@@ -59,7 +60,7 @@ const WHILE: Limit = Limit::AtMostWhile {
 };
 
 // A limit, a row, and the row that it accepts in its place; none where it is refused.
-const LIMITS: &[(Limit, &[CtrlValue], Option<&[CtrlValue]>)] = &[
+const LIMITS: &[(Limit, &[i64], Option<&[i64]>)] = &[
     (SUM, &[200, 184], Some(&[200, 184])),
     (SUM, &[200, 185], None),
     (SUM, &[], Some(&[])),
@@ -121,7 +122,7 @@ const MOST: Word = Word::Plus {
 const CONSTANT: Word = Word::Constant(4_294_967_295);
 
 // A word, a row, and what is told of it.
-const WORDS: &[(Word, &[CtrlValue], u64)] = &[
+const WORDS: &[(Word, &[i64], u64)] = &[
     (JOINED, &[1, 16], 272),
     (JOINED, &[4_294_967_297, 3], 259),
     (JOINED, &[-1, -1], 1_103_806_594_815),
@@ -162,9 +163,9 @@ fn word_on(word: Word, row: &ClusterRow) -> Option<u64> {
     Some(tell(calls.notifier.as_ref()?, row, &mut work))
 }
 
-fn wanted(row: Option<&[CtrlValue]>) -> Option<Verdict> {
+fn wanted(row: Option<&[i64]>) -> Option<Verdict> {
     match row {
-        Some(row) => ClusterRow::from_slice(row).map(Verdict::Accept),
+        Some(row) => row_of(row).map(Verdict::Accept),
         None => Some(Verdict::Refuse(Errno::EINVAL)),
     }
 }
@@ -172,7 +173,7 @@ fn wanted(row: Option<&[CtrlValue]>) -> Option<Verdict> {
 #[test]
 fn limits_and_words(rt: HostRuntime) {
     for (limit, row, want) in LIMITS {
-        let verdict = ClusterRow::from_slice(row).and_then(|row| verdict_on(*limit, &row));
+        let verdict = row_of(row).and_then(|row| verdict_on(*limit, &row));
         let is_read = Limit::of(&limit.relation()) == Some(*limit);
         assert!(rt;
             is_read && verdict.is_some() && verdict == wanted(*want),
@@ -180,7 +181,7 @@ fn limits_and_words(rt: HostRuntime) {
         );
     }
     for (word, row, want) in WORDS {
-        let told = ClusterRow::from_slice(row).and_then(|row| word_on(*word, &row));
+        let told = row_of(row).and_then(|row| word_on(*word, &row));
         let is_read = Word::of(&word.relation()) == Some(*word);
         assert!(rt; is_read && told == Some(*want), "{word:?} {row:?} {told:?}");
     }

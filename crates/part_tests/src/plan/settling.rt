@@ -14,7 +14,7 @@ const READ_ONLY: u32 = 0x4;
 const INACTIVE: u32 = 0x10;
 
 // Kind, minimum, maximum, step, default, skipped items and flags.
-type Given = (Kind, i64, i64, u64, CtrlValue, u64, u32);
+type Given = (Kind, i64, i64, u64, i64, u64, u32);
 
 const ENDS: Given = (
     Kind::Integer64,
@@ -32,7 +32,7 @@ const BUTTON: Given = (Kind::Button, 0, 0, 0, 0, 0, READ_ONLY);
 const TEST_PATTERN: Given = (Kind::Menu, 1, 5, 1, 2, 0x8, 0x8001);
 
 // A value is asked for, and settles so.
-type Settled = (Given, CtrlValue, Result<CtrlValue, Errno>);
+type Settled = (Given, i64, Result<i64, Errno>);
 
 // No file of a device has such a step.
 const EXTREMES: &[Settled] = &[(ENDS, -1, Ok(i64::MIN)), (ENDS, 0, Ok(i64::MAX))];
@@ -131,7 +131,7 @@ const FAULTS: &[(Given, CtrlFault, u32)] = &[
 ];
 
 // Minimum, maximum, step and default that a control gets in place of its own, and what is wrong with them, where something is.
-type Ranged = (Given, i64, i64, u64, CtrlValue, Option<CtrlFault>);
+type Ranged = (Given, i64, i64, u64, i64, Option<CtrlFault>);
 
 const BRIGHTNESS: Given = (Kind::Integer, -64, 64, 1, 0, 0, 0);
 
@@ -210,13 +210,13 @@ fn made(given: Given, is_private: bool) -> Result<Ctrl, CtrlFault> {
 fn settles(case: Settled) -> bool {
     let (given, asked, want) = case;
     match made(given, false) {
-        Ok(control) => settle(&control, asked) == want,
+        Ok(control) => settle(&control, CtrlValue::Number(asked)) == want.map(CtrlValue::Number),
         Err(_) => false,
     }
 }
 
 // A value from within another range, and what the control has then.
-const ANEW: &[(Given, CtrlValue, CtrlValue)] = &[
+const ANEW: &[(Given, i64, i64)] = &[
     (BRIGHTNESS, 65, 64),
     (BRIGHTNESS, -9, -9),
     (BUTTON, 1, 0),
@@ -228,9 +228,9 @@ const ANEW: &[(Given, CtrlValue, CtrlValue)] = &[
     (MASK, 10, 2),
 ];
 
-fn settles_anew(given: Given, value: CtrlValue, want: CtrlValue) -> bool {
+fn settles_anew(given: Given, value: i64, want: i64) -> bool {
     match made(given, false) {
-        Ok(control) => settle_anew(&control, value) == want,
+        Ok(control) => settle_anew(&control, CtrlValue::Number(value)) == CtrlValue::Number(want),
         Err(_) => false,
     }
 }

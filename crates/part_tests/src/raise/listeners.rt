@@ -131,7 +131,7 @@ impl Listeners {
 }
 
 /// What an event tells: the control's number, the changes, the value and the flags.
-pub(crate) type Told = (u32, u32, CtrlValue, u32);
+pub(crate) type Told = (u32, u32, i64, u32);
 
 fn tells(event: &Event, first: u32, told: Told) -> bool {
     let (control, changes, value, flags) = told;

@@ -2,7 +2,8 @@
 
 ghost use Rattle.std.specs.Prelude.{◌≡◌, length};
 
-use crate::raise::planning::{FIRST, Silent, pairs_of, plan};
+use crate::raise::planning::{FIRST, Silent, plan};
+use crate::values::{pairs_of, values_of};
 use bitflags::Flags as FlagSet;
 use ctrl_clusters::{Ranges, is_among, is_changed};
 use ctrl_events::Payload;
@@ -16,15 +17,15 @@ use std::test::Fail;
 #[derive(Clone, Copy)]
 struct Told {
     kind: Kind,
-    value: CtrlValue,
+    value: i64,
     flags: u32,
     maximum: i64,
     step: u64,
-    default: CtrlValue,
+    default: i64,
 }
 
 // Values, grabs and a control, and what is told of it then.
-const TOLD: &[(&[CtrlValue], &[bool], u32, Told)] = &[
+const TOLD: &[(&[i64], &[bool], u32, Told)] = &[
     (
         &[2, 60, 0, 32, 8],
         &[false; 5],
@@ -140,10 +141,11 @@ fn tells(
 fn payloads(rt: HostRuntime) -> Result<(), Fail> {
     let plan = plan(rt.alloc())?;
     let ranges = Ranges::of_plan(rt.alloc(), &plan)?;
-    for &(values, grabs, control, told) in TOLD {
+    for &(numbers, grabs, control, told) in TOLD {
+        let values = values_of(rt.alloc(), numbers)?;
         assert!(rt;
-            tells(&plan, &ranges, values, grabs, control, told),
-            "control {control}, {values:?}, {grabs:?}"
+            tells(&plan, &ranges, values.as_slice(), grabs, control, told),
+            "control {control}, {numbers:?}, {grabs:?}"
         );
     }
     Ok(())
@@ -169,9 +171,9 @@ fn changes_at_once(rt: HostRuntime) -> Result<(), Fail> {
 
 // Values before and after, the pairs and a control; whether it is changed, and whether it is among the pairs.
 type Change = (
-    &'static [CtrlValue],
-    &'static [CtrlValue],
-    &'static [(u32, CtrlValue)],
+    &'static [i64],
+    &'static [i64],
+    &'static [(u32, i64)],
     u32,
     bool,
     bool,
@@ -226,13 +228,20 @@ const CHANGES: &[Change] = &[
 
 fn is_change(alloc: Global, plan: &Plan<Silent>, change: Change) -> Result<bool, Fail> {
     let (before, after, asked, control, changed, among) = change;
+    let (before, after) = (values_of(alloc, before)?, values_of(alloc, after)?);
     let count = plan.controls().len();
     if before.len() != count || after.len() != count || control as usize >= count {
         return Ok(false);
     }
     let pairs = pairs_of(alloc, asked)?;
     Ok(
-        is_changed(plan, before, after, pairs.as_slice(), control) == changed
+        is_changed(
+            plan,
+            before.as_slice(),
+            after.as_slice(),
+            pairs.as_slice(),
+            control,
+        ) == changed
             && is_among(pairs.as_slice(), control) == among,
     )
 }

@@ -7,7 +7,7 @@ use bitflags::Flags as FlagSet;
 use ctrl_calls::{Calls, ClusterRow, Judging, Notifies, Telling, Validates, Verdict};
 use ctrl_handlers::{Plan, PlanBuilder};
 use ctrl_settle::Ctrl;
-use ctrl_types::{CtrlId, CtrlValue, Flags, Kind, Pair};
+use ctrl_types::{CtrlId, Flags, Kind};
 use std::alloc::Global;
 use std::test::Fail;
 
@@ -57,7 +57,7 @@ impl Notifies for Silent {
 pub(crate) const FIRST: u32 = 0x0098_0900;
 
 // Kind, maximum, step, default and flags of each control; each has 0 as its minimum.
-const MADE: &[(Kind, i64, u64, CtrlValue, u32)] = &[
+const MADE: &[(Kind, i64, u64, i64, u32)] = &[
     (Kind::Menu, 3, 1, 1, 0),
     (Kind::Integer, 255, 1, 50, 0),
     (Kind::Button, 0, 0, 0, 0),
@@ -73,7 +73,7 @@ fn control(
     kind: Kind,
     maximum: i64,
     step: u64,
-    default: CtrlValue,
+    default: i64,
     bits: u32,
 ) -> Result<Ctrl, Fail> {
     let flags = Flags::from_bits_retain(bits);
@@ -107,12 +107,4 @@ pub(crate) fn plan_with(alloc: Global, members: &[u32], manual: i64) -> Result<P
         Ok(plan) => Ok(plan),
         Err(_) => Err(Fail::new("the plan")),
     }
-}
-
-pub(crate) fn pairs_of(alloc: Global, asked: &[(u32, CtrlValue)]) -> Result<Vec<Pair>, Fail> {
-    let mut pairs = Vec::new(alloc);
-    for &(control, value) in asked {
-        pairs.push(Pair { control, value })?;
-    }
-    Ok(pairs)
 }

@@ -3,11 +3,12 @@
 ghost use Rattle.std.specs.Prelude.{◌≡◌, length, IfOk};
 
 use crate::raise::listeners::{Listeners, Told, takes};
-use crate::raise::planning::{FIRST, Silent, pairs_of, plan};
+use crate::raise::planning::{FIRST, Silent, plan};
+use crate::values::{pairs_of, values_of};
 use ctrl_clusters::Ranges;
 use ctrl_handlers::Plan;
 use ctrl_raises::Moment;
-use ctrl_types::{CtrlValue, FhId};
+use ctrl_types::FhId;
 use std::alloc::Global;
 use std::test::Fail;
 
@@ -15,10 +16,10 @@ use std::test::Fail;
 #[derive(Clone, Copy)]
 struct Case {
     // values and grabs before and after
-    before: (&'static [CtrlValue], &'static [bool]),
-    after: (&'static [CtrlValue], &'static [bool]),
+    before: (&'static [i64], &'static [bool]),
+    after: (&'static [i64], &'static [bool]),
     // what was applied, and the file handle whose set it is
-    pairs: &'static [(u32, CtrlValue)],
+    pairs: &'static [(u32, i64)],
     from: Option<u32>,
     // what the file handles take: 0, subscribed to all without feedback; 1, to all with it; 2, to control 3 without
     taken: [&'static [Told]; 3],
@@ -31,15 +32,15 @@ const FOLLOWER_HELD: &[bool] = &[false, true, false, false, false];
 const PLAIN_HELD: &[bool] = &[false, false, false, true, false];
 
 // The menu is manual.
-const MANUAL: &[CtrlValue] = &[1, 50, 0, 30, 9];
+const MANUAL: &[i64] = &[1, 50, 0, 30, 9];
 
 // It is automatic, in two ways.
-const AUTO: &[CtrlValue] = &[0, 50, 0, 30, 9];
+const AUTO: &[i64] = &[0, 50, 0, 30, 9];
 
-const OTHER_AUTO: &[CtrlValue] = &[2, 50, 0, 30, 9];
+const OTHER_AUTO: &[i64] = &[2, 50, 0, 30, 9];
 
 // The plain number differs.
-const PLAIN: &[CtrlValue] = &[1, 50, 0, 32, 9];
+const PLAIN: &[i64] = &[1, 50, 0, 32, 9];
 
 const WITHOUT_SET: &[Case] = &[
     // a value alone
@@ -228,7 +229,7 @@ const OF_A_SET: &[Case] = &[
 ];
 
 // Minimum, maximum, step and default that control 3 gets in place of its own, 0 to 90 in steps of 2 with 30.
-type Range = (i64, i64, u64, CtrlValue);
+type Range = (i64, i64, u64, i64);
 
 const OWN: Range = (0, 90, 2, 30);
 
@@ -298,6 +299,7 @@ fn ranges_with(alloc: Global, plan: &Plan<Silent>, range: Range) -> Result<Range
 // Whether the file handles take what they should, where control 3 has another range afterwards.
 fn is_heard(alloc: Global, plan: &Plan<Silent>, range: Range, case: &Case) -> Result<bool, Fail> {
     let ((old, held), (new, holding)) = (case.before, case.after);
+    let (old, new) = (values_of(alloc, old)?, values_of(alloc, new)?);
     let count = plan.controls().len();
     if old.len() != count || held.len() != count || new.len() != count || holding.len() != count {
         return Ok(false);
@@ -309,8 +311,8 @@ fn is_heard(alloc: Global, plan: &Plan<Silent>, range: Range, case: &Case) -> Re
     };
     let ranges = Ranges::of_plan(alloc, plan)?;
     let changed = ranges_with(alloc, plan, range)?;
-    let before = Moment::new(&ranges, old, held);
-    let after = Moment::new(&changed, new, holding);
+    let before = Moment::new(&ranges, old.as_slice(), held);
+    let after = Moment::new(&changed, new.as_slice(), holding);
     let listeners = Listeners::subscribed(alloc)?;
     let mut events = listeners.raised(plan, &before, &after, pairs.as_slice(), from)?;
     let [first, second, third] = case.taken;

@@ -6,6 +6,7 @@ ghost use Rattle.ctrl_clusters.specs.Ranges.{HasRangeFor};
 
 use crate::raise::listeners::{Listeners, Told, takes};
 use crate::raise::planning::{FIRST, Silent, plan, plan_with};
+use crate::values::values_of;
 use ctrl_clusters::Ranges;
 use ctrl_events::Events;
 use ctrl_handlers::Plan;
@@ -16,7 +17,7 @@ use std::alloc::Global;
 use std::test::Fail;
 
 // Minimum, maximum, step and default.
-type Range = (i64, i64, u64, CtrlValue);
+type Range = (i64, i64, u64, i64);
 
 /// A control that got the range and the value that it has, and what is taken of that.
 #[derive(Clone, Copy)]
@@ -24,9 +25,9 @@ struct Case {
     control: u32,
     // the range and the value that it had
     had: Range,
-    value: CtrlValue,
+    value: i64,
     // values and grabs afterwards
-    after: &'static [CtrlValue],
+    after: &'static [i64],
     grabs: &'static [bool],
     // what the file handles take: 0, subscribed to all without feedback; 1, to all with it; 2, to control 3 without
     taken: [&'static [Told]; 3],
@@ -46,10 +47,10 @@ const PLAIN: Range = (0, 90, 2, 30);
 const HIDDEN: Range = (0, 255, 1, 9);
 
 // The menu is manual.
-const MANUAL: &[CtrlValue] = &[1, 50, 0, 30, 9];
+const MANUAL: &[i64] = &[1, 50, 0, 30, 9];
 
 // It is automatic.
-const AUTO: &[CtrlValue] = &[3, 50, 0, 30, 9];
+const AUTO: &[i64] = &[3, 50, 0, 30, 9];
 
 // The menu is the master of an auto cluster, and a number follows it.
 const MENU_LEADS: &[Case] = &[
@@ -204,16 +205,23 @@ fn control_before(ranges: &Ranges, case: &Case) -> Result<Ctrl, Fail>
 }
 
 // The events once what a case changes is raised.
-fn heard(alloc: Global, plan: &Plan<Silent>, ranges: &Ranges, case: &Case) -> Result<Events, Fail>
+fn heard(
+    alloc: Global,
+    plan: &Plan<Silent>,
+    ranges: &Ranges,
+    values: &[CtrlValue],
+    case: &Case,
+) -> Result<Events, Fail>
     requires known { case.now.control < length plan.now.controls }
     requires ranges { length ranges.now ≡ length plan.now.controls }
-    requires values { length case.now.after.now ≡ length plan.now.controls }
+    requires values { length values.now ≡ length plan.now.controls }
     requires grabs { length case.now.grabs.now ≡ length plan.now.controls }
 {
     let old = control_before(ranges, case)?;
-    let after = Moment::new(ranges, case.after, case.grabs);
+    let after = Moment::new(ranges, values, case.grabs);
     let listeners = Listeners::subscribed(alloc)?;
-    listeners.range_raised(plan, &after, case.control, &old, case.value)
+    let old_value = CtrlValue::Number(case.value);
+    listeners.range_raised(plan, &after, case.control, &old, old_value)
 }
 
 // The same, between the moments before and after.
@@ -221,20 +229,21 @@ fn heard_between(
     alloc: Global,
     plan: &Plan<Silent>,
     ranges: &Ranges,
+    values: &[CtrlValue],
     case: &Case,
 ) -> Result<Events, Fail>
     requires known { case.now.control < length plan.now.controls }
     requires ranges { length ranges.now ≡ length plan.now.controls }
-    requires values { length case.now.after.now ≡ length plan.now.controls }
+    requires values { length values.now ≡ length plan.now.controls }
     requires grabs { length case.now.grabs.now ≡ length plan.now.controls }
 {
     let mut earlier = Ranges::of_plan(alloc, plan)?;
     let old = control_before(&earlier, case)?;
     earlier.modify(case.control, old);
-    let mut values = Vec::from_slice(alloc, case.after)?;
-    values[case.control as usize] = case.value;
-    let before = Moment::new(&earlier, values.as_slice(), case.grabs);
-    let after = Moment::new(ranges, case.after, case.grabs);
+    let mut earlier_values = Vec::from_slice(alloc, values)?;
+    earlier_values[case.control as usize] = CtrlValue::Number(case.value);
+    let before = Moment::new(&earlier, earlier_values.as_slice(), case.grabs);
+    let after = Moment::new(ranges, values, case.grabs);
     let listeners = Listeners::subscribed(alloc)?;
     listeners.raised(plan, &before, &after, &[], None)
 }
@@ -251,13 +260,14 @@ fn are_alike(events: &Events, others: &Events) -> bool {
 
 // Whether the file handles take what they should, which is also what is raised between the two moments.
 fn is_heard(alloc: Global, plan: &Plan<Silent>, case: &Case) -> Result<bool, Fail> {
+    let values = values_of(alloc, case.after)?;
     let count = plan.controls().len();
-    if case.control as usize >= count || case.after.len() != count || case.grabs.len() != count {
+    if case.control as usize >= count || values.len() != count || case.grabs.len() != count {
         return Ok(false);
     }
     let ranges = Ranges::of_plan(alloc, plan)?;
-    let mut events = heard(alloc, plan, &ranges, case)?;
-    let others = heard_between(alloc, plan, &ranges, case)?;
+    let mut events = heard(alloc, plan, &ranges, values.as_slice(), case)?;
+    let others = heard_between(alloc, plan, &ranges, values.as_slice(), case)?;
     let [first, second, third] = case.taken;
     Ok(
         are_alike(&events, &others)

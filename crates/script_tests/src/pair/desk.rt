@@ -5,7 +5,7 @@ ghost use Rattle.turn_desk.specs.Views.{IsSeatOf};
 
 use crate::pair::closures::{Course, goes};
 use ctrl_calls::Driver;
-use ctrl_types::{CtrlId, ExtControl, Fault, FhId};
+use ctrl_types::{CtrlId, CtrlValue, ExtControl, Fault, FhId};
 use device_state::{Ask, ControlList, Device, Reply};
 use std::alloc::{AllocError, Global};
 use std::sync::Wait;
@@ -18,7 +18,7 @@ fn brightness(alloc: Global, value: i64) -> Result<ControlList, AllocError> {
     let mut list = Vec::new(alloc);
     list.push(ExtControl {
         id: BRIGHTNESS,
-        value,
+        value: CtrlValue::Number(value),
     })?;
     Ok(ControlList::from_vec(list))
 }
@@ -46,7 +46,7 @@ fn set(alloc: Global, fh: FhId, value: i64) -> Result<Ask, AllocError> {
 fn has_value(answer: &Result<Reply, Fault>, value: i64) -> bool {
     match answer {
         Ok(Reply::Controls(list)) => match list.as_slice() {
-            [entry] => entry.value == value,
+            [entry] => entry.value == CtrlValue::Number(value),
             _ => false,
         },
         _ => false,

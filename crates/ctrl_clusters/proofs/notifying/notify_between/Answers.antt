@@ -1,5 +1,5 @@
 use Rattle.std.proofs.Common.{ℕ, List, rules}
-use Rattle.ctrl_types.specs.Values.{CtrlValue}
+use Rattle.ctrl_types.specs.declared.value.CtrlValue.{CtrlValue}
 use Rattle.ctrl_handlers.specs.Plan.{members}
 use Rattle.ctrl_clusters.specs.Rows.{row_of}
 use Rattle.ctrl_clusters.specs.Changes.{members_change}

@@ -1,11 +1,8 @@
-use Rattle.std.proofs.Common.{w64, FitsSigned, rules}
-use Rattle.std.proofs.Math.Facts.{to_z-of_z}
+use Rattle.std.proofs.Common.{rules}
 use Rattle.ctrl_clusters.proofs.RowLemmas.{given_here}
 use Rattle.ctrl_clusters.proofs.rows.member_value.Goals as goal
 
 -- the member's value is found
 pub returns-then-member-control : goal.returns-then-member-control
 returns-then-member-control c =
-    let fits : FitsSigned w64 c.value.result = search rules in
-    rw (to_z-of_z {w = w64} {z = c.value.result} fits)
-    (given_here c.args.members.now c.args.row.now c.args.control c.loop-place.place c.value.result (search rules) (search rules) (search rules) (search rules) c.loop-place.invariant)
+    given_here c.args.members.now c.args.row.now c.args.control c.loop-place.place c.value.result (search rules) (search rules) (search rules) (search rules) c.loop-place.invariant

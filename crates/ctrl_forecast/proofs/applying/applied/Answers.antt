@@ -1,6 +1,6 @@
-use Rattle.std.proofs.Common.{rules, ◌≡◌, ◌∙◌, ◌++◌, ap, sym, ℕ, true, false, [], ◌∷◌, List, Vec, Global, get_or, pos, to_z, of_z, w64}
+use Rattle.std.proofs.Common.{◌≡◌, ◌∙◌, ◌++◌, ap, sym, ℕ, true, false, ◌∷◌, List, Vec, Global, get_or}
 use Rattle.std.proofs.lemmas.List.{append-nil}
-use Rattle.ctrl_types.specs.Values.{CtrlValue}
+use Rattle.ctrl_types.specs.Values.{zero_value}
 use Rattle.ctrl_types.specs.declared.ids.Pair.{Pair}
 use Rattle.ctrl_forecast.proofs.ApplyingLemmas.{applied_next}
 use Rattle.ctrl_forecast.proofs.applying.applied.Goals.{then-not-is_refused+in_ok-push, else-not-is_refused}
@@ -9,19 +9,15 @@ use Rattle.ctrl_forecast.proofs.applying.applied.Goals as goal
 -- one more pair is applied, where its cluster isn't refused
 pub loop-pair-preserved : goal.loop-pair-preserved
 loop-pair-preserved g c =
-    let d : Pair = record { control = 0; value = pos 0 } in
+    let d : Pair = record { control = 0; value = zero_value } in
     let i : ℕ = c.loop-pair.pair-index in
     let k : ℕ = (get_or c.args.pairs.now i d).control in
     let old : List Pair = c.loop-pair.applied.items in
     let new : List Pair = c.if-not-is_refused.applied.items in
     elim c.if-not-is_refused.branch [
       | then-not-is_refused+in_ok-push w ↦
-          let given : CtrlValue → Pair = λ value. record { control = k; value = value } in
-          let read : CtrlValue = get_or c.args.values.now k (pos 0) in
-          let same : to_z w64 (of_z w64 read) ≡ read = search rules in
           applied_next c.args.plan.now c.args.values.now c.args.refused.now c.args.pairs.now i d false old new c.loop-pair-test.true c.loop-pair.invariant w.if-not-is_refused.ensures
-          (ap (λ (v : Vec Pair Global). v.items) w.applied-is ∙ w.in_ok-push.ensures.items
-          ∙ ap (λ value. old ++ given value ∷ []) same)
+          (ap (λ (v : Vec Pair Global). v.items) w.applied-is ∙ w.in_ok-push.ensures.items)
       | else-not-is_refused w ↦
           applied_next c.args.plan.now c.args.values.now c.args.refused.now c.args.pairs.now i d true old new c.loop-pair-test.true c.loop-pair.invariant w.if-not-is_refused.ensures
           (ap (λ (v : Vec Pair Global). v.items) w.applied-is ∙ sym (append-nil old))

@@ -2,7 +2,7 @@ use Rattle.std.proofs.Common.{rules, ◌≡◌, ◌∙◌, ◌<◌, ◌≤◌, �
 use Rattle.std.proofs.lemmas.List.{drop_more, drop_all}
 use Rattle.std.proofs.lemmas.List.Sums.{length-filter}
 use Rattle.std.specs.List.{range_with_len}
-use Rattle.ctrl_types.specs.Values.{CtrlValue}
+use Rattle.ctrl_types.specs.declared.value.CtrlValue.{CtrlValue}
 use Rattle.ctrl_handlers.specs.Plan.{members}
 use Rattle.ctrl_clusters.specs.Rows.{Values}
 use Rattle.ctrl_calls.specs.declared.work.Work.{Work}

@@ -1,4 +1,4 @@
-use Rattle.std.proofs.Common.{pos}
+use Rattle.ctrl_types.specs.Values.{zero_value}
 use Rattle.ctrl_types.specs.declared.ids.Pair.{Pair}
 use Rattle.ctrl_lists.specs.Answers.{entry_read}
 use Rattle.ctrl_lists.proofs.ListLemmas.{map_pushed}
@@ -8,7 +8,7 @@ use Rattle.ctrl_lists.proofs.lists.entries_read.Goals as goal
 pub loop-pair-preserved : goal.loop-pair-preserved
 loop-pair-preserved g c =
     let old = c.loop-pair.invariant in
-    let d : Pair = record { control = 0; value = pos 0 } in
+    let d : Pair = record { control = 0; value = zero_value } in
     record {
       so_far = map_pushed (entry_read c.args.plan.now c.args.view.now) c.args.pairs.now c.loop-pair.pair-index d c.loop-pair.answers.items c.push_reserved.new.self.items c.entry_read.result
           c.loop-pair-test.true old.so_far c.push_reserved.ensures.items c.entry_read.ensures;

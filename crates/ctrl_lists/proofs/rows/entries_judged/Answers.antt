@@ -1,5 +1,6 @@
-use Rattle.std.proofs.Common.{◌≡◌, pos, get_or, ap, ◌∙◌, IsTrue}
+use Rattle.std.proofs.Common.{◌≡◌, get_or, ap, ◌∙◌, IsTrue}
 use Rattle.std.proofs.lemmas.List.Elements.{All-get_or}
+use Rattle.ctrl_types.specs.Values.{zero_value}
 use Rattle.ctrl_clusters.specs.Overlay.{is_among}
 use Rattle.ctrl_types.specs.declared.ids.Pair.{Pair}
 use Rattle.ctrl_lists.specs.View.{ViewData}
@@ -13,7 +14,7 @@ use Rattle.ctrl_lists.proofs.rows.entries_judged.Goals as goal
 pub loop-pair-preserved : goal.loop-pair-preserved
 loop-pair-preserved g c =
     let old = c.loop-pair.invariant in
-    let d : Pair = record { control = 0; value = pos 0 } in
+    let d : Pair = record { control = 0; value = zero_value } in
     let pairs = c.args.pairs.now in
     let i = c.loop-pair.pair-index in
     let is : c.entry_judged.result ≡ entry_judged g.D.Validates.verdict c.args.plan.now c.args.view.now c.args.laid.now (get_or pairs i d) =

@@ -1,4 +1,5 @@
-use Rattle.std.proofs.Common.{◌≡◌, ℕ, ℤ, List, length, ap, sym, ◌∙◌, Some}
+use Rattle.std.proofs.Common.{◌≡◌, ℕ, List, length, ap, sym, ◌∙◌, Some}
+use Rattle.ctrl_types.specs.declared.value.CtrlValue.{CtrlValue}
 use Rattle.ctrl_handlers.specs.Plan.{members}
 use Rattle.ctrl_clusters.specs.NewRows.{row_among}
 use Rattle.ctrl_clusters.proofs.NewRowLemmas.{row_met}
@@ -8,5 +9,5 @@ use Rattle.ctrl_lists.proofs.rows.entry_judged.Goals as goal
 pub member_value-requires : goal.member_value-requires
 member_value-requires g c =
     let found : row_among c.args.rows.now.rows c.cluster_of-cluster.result ≡ Some c.in-Some.row = sym c.among.ensures ∙ c.in-Some.is in
-    row_met (λ (k : ℕ) (row : List ℤ). length row ≡ length (members c.args.plan.now k)) c.args.rows.now.rows c.cluster_of-cluster.result c.in-Some.row c.requires.long found
+    row_met (λ (k : ℕ) (row : List CtrlValue). length row ≡ length (members c.args.plan.now k)) c.args.rows.now.rows c.cluster_of-cluster.result c.in-Some.row c.requires.long found
     ∙ sym (ap length c.members.ensures.members)

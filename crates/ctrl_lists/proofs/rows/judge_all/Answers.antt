@@ -1,4 +1,5 @@
-use Rattle.std.proofs.Common.{pos, length, inl, ◌∙◌}
+use Rattle.std.proofs.Common.{length, inl, ◌∙◌}
+use Rattle.ctrl_types.specs.Values.{zero_value}
 use Rattle.ctrl_types.specs.declared.ids.Pair.{Pair}
 use Rattle.ctrl_clusters.specs.NewRows.{clusters_of}
 use Rattle.ctrl_lists.specs.Checks.{at_first, judging_refusal}
@@ -14,7 +15,7 @@ returns-in-Err-clause-err g c =
 pub returns-in-Err-clause-at_most : goal.returns-in-Err-clause-at_most
 returns-in-Err-clause-at_most g c =
     let old = c.loop-place.invariant in
-    let d : Pair = record { control = 0; value = pos 0 } in
+    let d : Pair = record { control = 0; value = zero_value } in
     asked_within c.args.plan.now c.args.pairs.now c.loop-place.place d (clusters_of c.loop-place.rows.rows) c.args.work.now.asked c.loop-place.work.asked c.judge_next.new.work.asked
     c.loop-place-test.true old.each old.asked c.judge_next.ensures.at_most
 
@@ -24,7 +25,7 @@ loop-place-preserved g c =
     let old = c.loop-place.invariant in
     let does = c.in_default-judge_next.ensures in
     let refused = judging_refusal g.D.Validates.verdict c.args.plan.now c.args.view.now c.args.laid.now in
-    let d : Pair = record { control = 0; value = pos 0 } in
+    let d : Pair = record { control = 0; value = zero_value } in
     record {
       none = passes refused (at_first refused c.args.pairs.now) c.args.pairs.now c.loop-place.place d c.loop-place-test.true does.ok old.none;
       each = each_next c.args.plan.now c.args.pairs.now c.loop-place.place d (clusters_of c.loop-place.rows.rows) (clusters_of c.judge_next.new.rows.rows) c.loop-place-test.true old.each does.each;

@@ -1,8 +1,8 @@
 // Rows that are written, and notifiers that hear of them.
 use super::planning::{BYTE, Made, Named, plan_of};
 use super::rows::{Two, are_rows, is_work, kept_rows, rows_of};
-use crate::cluster::common::pairs_of;
 use crate::cluster::driver::Strict;
+use crate::values::{are_numbers, pairs_of, values_of};
 use ctrl_calls::Work;
 use ctrl_clusters::{first_words, notify_changed, write_rows};
 use ctrl_handlers::Plan;
@@ -23,22 +23,17 @@ const HEARD: &[Named] = &[
     Named::Plain(&[4]),
 ];
 
-const VALUES: &[CtrlValue] = &[10, 11, 0, 13, 14];
+const VALUES: &[i64] = &[10, 11, 0, 13, 14];
 
 // Rows that are written, and the values then.
-const WRITTEN: &[(Two, &[CtrlValue])] = &[
+const WRITTEN: &[(Two, &[i64])] = &[
     (&[(0, &[21, 20]), (2, &[23])], &[20, 21, 0, 23, 14]),
     (&[(2, &[23]), (0, &[21, 20])], &[20, 21, 0, 23, 14]),
     (&[(3, &[24]), (1, &[0])], &[10, 11, 0, 13, 24]),
     (&[(0, &[21, 10]), (3, &[14])], &[10, 21, 0, 13, 14]),
 ];
 
-fn is_written(
-    plan: &Plan<Strict>,
-    values: &mut Vec<CtrlValue>,
-    two: Two,
-    want: &[CtrlValue],
-) -> bool {
+fn is_written(plan: &Plan<Strict>, values: &mut Vec<CtrlValue>, two: Two, want: &[i64]) -> bool {
     let Some(rows) = rows_of(two) else {
         return false;
     };
@@ -46,7 +41,7 @@ fn is_written(
         return false;
     }
     write_rows(plan, values, &rows);
-    values.as_slice() == want
+    are_numbers(values.as_slice(), want)
 }
 
 #[test]
@@ -54,8 +49,7 @@ fn rows_are_written(rt: HostRuntime) -> Result<(), Fail> {
     let alloc = rt.alloc();
     let plan = plan_of(alloc, NOTIFIED, HEARD, &mut Vec::new(alloc))?;
     for &(two, want) in WRITTEN {
-        let mut values = Vec::new(alloc);
-        values.extend_from_slice(VALUES)?;
+        let mut values = values_of(alloc, VALUES)?;
         assert!(rt; is_written(&plan, &mut values, two, want), "{two:?}");
     }
     Ok(())
@@ -64,7 +58,7 @@ fn rows_are_written(rt: HostRuntime) -> Result<(), Fail> {
 // What is laid over the values, and the rows that two clusters get; the words then, and how often each of the notifiers was called.
 #[derive(Clone, Copy)]
 struct Change {
-    pairs: &'static [(u32, CtrlValue)],
+    pairs: &'static [(u32, i64)],
     rows: Two,
     words: [u64; 4],
     counts: [u64; 3],
@@ -126,14 +120,15 @@ fn are_told(
     let Some(rows) = kept_rows(alloc, plan.cluster_count(), change.rows)? else {
         return Ok(false);
     };
-    if plan.controls().len() != VALUES.len() || plan.cluster_count() as usize != words.len() {
+    let values = values_of(alloc, VALUES)?;
+    if plan.controls().len() != values.len() || plan.cluster_count() as usize != words.len() {
         return Ok(false);
     }
     let mut work = Work::new();
     if !are_rows(plan, rows.as_slice()) {
         return Ok(false);
     }
-    notify_changed(plan, VALUES, pairs, &rows, words, &mut work);
+    notify_changed(plan, values.as_slice(), pairs, &rows, words, &mut work);
     Ok(words.as_slice() == change.words.as_slice() && is_work(&work, 0, change.told))
 }
 
@@ -176,11 +171,12 @@ fn first_words_of_notifiers(rt: HostRuntime) -> Result<(), Fail> {
     let alloc = rt.alloc();
     let mut heard = Vec::new(alloc);
     let plan = plan_of(alloc, NOTIFIED, HEARD, &mut heard)?;
-    if plan.controls().len() != VALUES.len() {
+    let values = values_of(alloc, VALUES)?;
+    if plan.controls().len() != values.len() {
         return Err(Fail::new("five controls"));
     }
     let mut work = Work::new();
-    let words = first_words(alloc, &plan, VALUES, &mut work)?;
+    let words = first_words(alloc, &plan, values.as_slice(), &mut work)?;
     let are_words = words.as_slice() == [11_010, 1_000, 2_013, 0].as_slice();
     assert!(rt; are_words && are_counts(heard.as_slice(), &[1, 1, 1]) && work.told == 3);
     Ok(())

@@ -31,7 +31,7 @@ const OF_ONE: &[Look] = &[
     Look::Judges(4, &[-1], Ok(&[-1]), 0),
 ];
 
-const NINE: &[(u32, CtrlValue)] = &[(0, 300), (0, 9), (3, -7), (4, 256)];
+const NINE: &[(u32, i64)] = &[(0, 300), (0, 9), (3, -7), (4, 256)];
 
 #[test]
 fn clusters_of_one(rt: HostRuntime) -> Result<(), Fail> {
@@ -63,7 +63,7 @@ const OF_TWO: &[Look] = &[
     Look::Row(&[], &[]),
 ];
 
-const FIVE: &[(u32, CtrlValue)] = &[(1, 300), (0, 5), (1, 21), (3, 7), (9, -1)];
+const FIVE: &[(u32, i64)] = &[(1, 300), (0, 5), (1, 21), (3, 7), (9, -1)];
 
 #[test]
 fn clusters_of_two(rt: HostRuntime) -> Result<(), Fail> {
@@ -121,7 +121,7 @@ const OF_EIGHT: &[Look] = &[
     Look::Becomes(1, FOUR, Err(Errno::EINVAL), 1),
 ];
 
-const FOUR: &[(u32, CtrlValue)] = &[(3, 999), (7, -1), (2, 20), (2, 22)];
+const FOUR: &[(u32, i64)] = &[(3, 999), (7, -1), (2, 20), (2, 22)];
 
 #[test]
 fn clusters_of_eight(rt: HostRuntime) -> Result<(), Fail> {
@@ -138,7 +138,7 @@ const OF_MENUS: &[Look] = &[
     Look::Becomes(1, &[(3, 3)], Ok(&[3, 3]), 1),
 ];
 
-const ITEMS: &[(u32, CtrlValue)] = &[(1, 9), (0, 2), (2, 2), (3, 9)];
+const ITEMS: &[(u32, i64)] = &[(1, 9), (0, 2), (2, 2), (3, 9)];
 
 #[test]
 fn the_first_member_that_does_not_settle(rt: HostRuntime) -> Result<(), Fail> {
@@ -289,8 +289,9 @@ fn holds_under(rt: &impl Abort, alloc: Global, made: &[Made], looks: &[Look]) ->
         return Err(Fail::new("two controls"));
     }
     let ranges = Ranges::of_plan(alloc, &other)?;
+    let values = &[CtrlValue::Number(5), CtrlValue::Number(11)];
     for (row, &look) in looks.iter().enumerate() {
-        let is_shown = shows(alloc, &plan, &ranges, &[5, 11], look)?;
+        let is_shown = shows(alloc, &plan, &ranges, values, look)?;
         assert!(rt; is_shown, "look {row}");
     }
     Ok(())

@@ -4,8 +4,8 @@ ghost use Rattle.ctrl_clusters.specs.Rows.{AreControlsOf};
 
 use super::planning::{Made, Named, plan_of};
 use super::rows::{is_row, is_work};
-use crate::cluster::common::pairs_of;
 use crate::cluster::driver::Strict;
+use crate::values::{are_numbers, pairs_of, row_of, values_of};
 use bitflags::Flags as FlagSet;
 use ctrl_calls::{ClusterRow, Work};
 use ctrl_clusters::{Ranges, flags_under, inactive, judge, present_row, validated_row};
@@ -20,20 +20,20 @@ use std::test::Fail;
 #[derive(Clone, Copy)]
 pub enum Look {
     // what the row of a cluster becomes under pairs, and how many validators are asked
-    Becomes(u32, &'static [(u32, CtrlValue)], Answer, u64),
+    Becomes(u32, &'static [(u32, i64)], Answer, u64),
     // what a cluster makes of a row, and how many validators are asked
-    Judges(u32, &'static [CtrlValue], Answer, u64),
+    Judges(u32, &'static [i64], Answer, u64),
     // the row of some controls
-    Row(&'static [u32], &'static [CtrlValue]),
+    Row(&'static [u32], &'static [i64]),
     // the control is inactive
     Inactive(u32, bool),
     // the flags of a control under grabs
     Flags(u32, &'static [bool], u32),
     // under grabs pairs are laid over the values: the values then, the clusters that are refused, and how many validators are asked
-    Lays(&'static [bool], &'static [(u32, CtrlValue)], &'static [CtrlValue], &'static [u32], u64),
+    Lays(&'static [bool], &'static [(u32, i64)], &'static [i64], &'static [u32], u64),
 }
 
-pub type Answer = Result<&'static [CtrlValue], Errno>;
+pub type Answer = Result<&'static [i64], Errno>;
 
 fn is_answer(answer: Result<ClusterRow, Errno>, want: Answer) -> bool {
     match (answer, want) {
@@ -67,24 +67,24 @@ fn is_judged(
     plan: &Plan<Strict>,
     ranges: &Ranges,
     cluster: u32,
-    row: &[CtrlValue],
+    row: &[i64],
     want: Answer,
     asked: u64,
 ) -> bool
     requires ranges { AreControlsOf plan.now ranges.now }
 {
+    let Some(row) = row_of(row) else {
+        return false;
+    };
     if cluster >= plan.cluster_count() || row.len() != plan.members(cluster).len() {
         return false;
     }
-    let Some(row) = ClusterRow::from_slice(row) else {
-        return false;
-    };
     let mut work = Work::new();
     let row = judge(plan, ranges, cluster, &row, &mut work);
     is_answer(row, want) && is_work(&work, asked, 0)
 }
 
-fn has_row(values: &[CtrlValue], members: &[u32], want: &[CtrlValue]) -> bool {
+fn has_row(values: &[CtrlValue], members: &[u32], want: &[i64]) -> bool {
     let count = values.len();
     if members.len() > 8 || !members.iter().all(|member| (*member as usize) < count) {
         return false;
@@ -114,14 +114,14 @@ fn lays(
     values: &[CtrlValue],
     grabs: &[bool],
     pairs: &[Pair],
-    want: (&[CtrlValue], &[u32], u64),
+    want: (&[i64], &[u32], u64),
 ) -> Result<bool, AllocError>
     requires ranges { AreControlsOf plan.now ranges.now }
     requires values { length values.now ≡ length plan.now.controls }
 {
     let mut work = Work::new();
     let laid = overlay(alloc, plan, ranges, values, grabs, pairs, &mut work)?;
-    let is_laid = laid.values.as_slice() == want.0 && laid.refused.as_slice() == want.1;
+    let is_laid = are_numbers(laid.values.as_slice(), want.0) && laid.refused.as_slice() == want.1;
     Ok(is_laid && is_work(&work, want.2, 0))
 }
 
@@ -162,16 +162,17 @@ pub fn holds(
     alloc: Global,
     made: &[Made],
     named: &[Named],
-    values: &[CtrlValue],
+    numbers: &[i64],
     looks: &[Look],
 ) -> Result<(), Fail> {
     let plan = plan_of(alloc, made, named, &mut Vec::new(alloc))?;
+    let values = values_of(alloc, numbers)?;
     if values.len() != plan.controls().len() {
         return Err(Fail::new("a value for each control"));
     }
     let ranges = Ranges::of_plan(alloc, &plan)?;
     for (row, &look) in looks.iter().enumerate() {
-        let is_shown = shows(alloc, &plan, &ranges, values, look)?;
+        let is_shown = shows(alloc, &plan, &ranges, values.as_slice(), look)?;
         assert!(rt; is_shown, "look {row}");
     }
     Ok(())

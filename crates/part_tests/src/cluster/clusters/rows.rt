@@ -4,6 +4,7 @@ ghost use Rattle.ctrl_handlers.specs.Plan.{members};
 ghost use Rattle.ctrl_clusters.specs.NewRows.{AreNewRows};
 
 use crate::cluster::driver::Strict;
+use crate::values::row_of;
 use ctrl_calls::{ClusterRow, Work};
 use ctrl_clusters::{NewRow, NewRows, member_value};
 use ctrl_handlers::Plan;
@@ -11,8 +12,8 @@ use ctrl_types::CtrlValue;
 use std::alloc::{AllocError, Global};
 use std::test::Fail;
 
-pub fn is_row(row: ClusterRow, want: &[CtrlValue]) -> bool {
-    ClusterRow::from_slice(want) == Some(row)
+pub fn is_row(row: ClusterRow, want: &[i64]) -> bool {
+    row_of(want) == Some(row)
 }
 
 pub fn is_work(work: &Work, asked: u64, told: u64) -> bool {
@@ -20,7 +21,7 @@ pub fn is_work(work: &Work, asked: u64, told: u64) -> bool {
 }
 
 /// Rows that two clusters get.
-pub type Two = &'static [(u32, &'static [CtrlValue])];
+pub type Two = &'static [(u32, &'static [i64])];
 
 pub fn rows_of(two: Two) -> Option<[NewRow; 2]> {
     let &[(one, first), (other, second)] = two else {
@@ -28,11 +29,11 @@ pub fn rows_of(two: Two) -> Option<[NewRow; 2]> {
     };
     let first = NewRow {
         cluster: one,
-        row: ClusterRow::from_slice(first)?,
+        row: row_of(first)?,
     };
     let second = NewRow {
         cluster: other,
-        row: ClusterRow::from_slice(second)?,
+        row: row_of(second)?,
     };
     Some([first, second])
 }
@@ -72,15 +73,17 @@ fn fits(plan: &Plan<Strict>, new: &NewRow) -> bool
 }
 
 // Members, a value for each of them, a control, and the value that the row gives it.
-const GIVEN: &[(&[u32], &[CtrlValue], u32, Option<CtrlValue>)] = &[
+const GIVEN: &[(&[u32], &[i64], u32, Option<i64>)] = &[
     (&[4, 2], &[40, 20], 4, Some(40)),
     (&[4, 2], &[40, 20], 2, Some(20)),
     (&[4, 2], &[40, 20], 0, None),
 ];
 
-fn gives(members: &[u32], row: &[CtrlValue], control: u32, want: Option<CtrlValue>) -> bool {
-    match ClusterRow::from_slice(row) {
-        Some(row) if row.len() == members.len() => member_value(members, &row, control) == want,
+fn gives(members: &[u32], row: &[i64], control: u32, want: Option<i64>) -> bool {
+    match row_of(row) {
+        Some(row) if row.len() == members.len() => {
+            member_value(members, &row, control) == want.map(CtrlValue::Number)
+        }
         _ => false,
     }
 }
@@ -93,7 +96,7 @@ fn values_of_a_row(rt: HostRuntime) {
 }
 
 // Rows of clusters below 8, a cluster, and the row that it gets among them.
-const AMONG: &[(Two, u32, Option<&[CtrlValue]>)] = &[
+const AMONG: &[(Two, u32, Option<&[i64]>)] = &[
     (&[(7, &[1, 2]), (3, &[5])], 7, Some(&[1, 2])),
     (&[(7, &[1, 2]), (3, &[5])], 3, Some(&[5])),
     (&[(7, &[1, 2]), (3, &[5])], 0, None),
@@ -105,7 +108,7 @@ fn is_among(
     alloc: Global,
     two: Two,
     cluster: u32,
-    want: Option<&[CtrlValue]>,
+    want: Option<&[i64]>,
 ) -> Result<bool, AllocError> {
     let Some(rows) = kept_rows(alloc, 8, two)? else {
         return Ok(false);

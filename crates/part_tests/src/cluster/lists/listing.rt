@@ -2,8 +2,8 @@
 ghost use Rattle.std.specs.Prelude.{◌≡◌, length};
 ghost use Rattle.ctrl_clusters.specs.Rows.{AreControlsOf};
 
-use crate::cluster::common::pairs_of;
 use crate::cluster::driver::{Judge, Strict, relation};
+use crate::values::{pairs_of, values_of};
 use bitflags::Flags as FlagSet;
 use ctrl_calls::{Calls, Validator, Work};
 use ctrl_clusters::Ranges;
@@ -28,7 +28,7 @@ fn validated(number: u32) -> Calls<Strict> {
 }
 
 /// A control of 0 to 255: its id, its default and its flags.
-pub type Made = (u32, CtrlValue, u32);
+pub type Made = (u32, i64, u32);
 
 /// A plan of one handler with these controls. Controls 0 and 1 are a cluster that takes each row; where there are more, 2 is one that takes
 /// none, and no other has a validator.
@@ -83,13 +83,13 @@ pub const SIX: &[Made] = &[
     (CAMERA, 7, 0x1),
 ];
 
-pub const VALUES: [CtrlValue; 6] = [10, 11, 12, 13, 14, 15];
+pub const VALUES: [i64; 6] = [10, 11, 12, 13, 14, 15];
 
 // control 0 is grabbed
 const GRABS: [bool; 6] = [true, false, false, false, false, false];
 
 /// An id and a value.
-pub type Entry = (u32, CtrlValue);
+pub type Entry = (u32, i64);
 
 pub type Answer = Result<&'static [Entry], (Errno, u32)>;
 
@@ -104,7 +104,7 @@ pub enum Call {
 pub type Case = (
     Call,
     Which,
-    &'static [(u32, CtrlValue)],
+    &'static [(u32, i64)],
     &'static [Entry],
     Answer,
     u64,
@@ -112,8 +112,8 @@ pub type Case = (
 
 pub fn list_of(alloc: Global, entries: &[Entry]) -> Result<ControlList, Fail> {
     let mut items = Vec::new(alloc);
-    for &(id, value) in entries {
-        let id = CtrlId(id);
+    for &(id, number) in entries {
+        let (id, value) = (CtrlId(id), CtrlValue::Number(number));
         items.push(ExtControl { id, value })?;
     }
     if items.len() > 100 {
@@ -155,8 +155,8 @@ fn answer(
 }
 
 pub fn are_entries(answers: &[ExtControl], want: &[Entry]) -> bool {
-    for (answer, &(id, value)) in answers.iter().zip(want) {
-        if answer.id.0 != id || answer.value != value {
+    for (answer, &(id, number)) in answers.iter().zip(want) {
+        if answer.id.0 != id || answer.value != CtrlValue::Number(number) {
             return false;
         }
     }
@@ -181,7 +181,8 @@ pub fn shows(alloc: Global, plan: &Plan<Strict>, ranges: &Ranges, case: Case) ->
         return Ok(false);
     }
     let pairs = pairs_of(alloc, before)?;
-    let (values, grabs) = (&VALUES[..count], &GRABS[..count]);
+    let values = values_of(alloc, &VALUES)?;
+    let (values, grabs) = (&values[..count], &GRABS[..count]);
     let view = View::new(0, which, ranges, values, grabs, pairs.as_slice());
     let list = list_of(alloc, entries)?;
     let mut work = Work::new();

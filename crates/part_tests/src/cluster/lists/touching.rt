@@ -1,17 +1,18 @@
 // What a set makes of the clusters that it touches.
 use super::listing::{FIRST, SIX, VALUES, are_entries, list_of, plan_of};
-use ctrl_calls::{ClusterRow, Work};
+use crate::values::{row_of, values_of};
+use ctrl_calls::Work;
 use ctrl_clusters::Ranges;
 use ctrl_lists::{Touched, View, plan_set};
 use ctrl_types::{CtrlValue, Pair, Which};
 use std::test::Fail;
 
 // The clusters that a set gives rows, each with its row; its answers and its pairs.
-const ROWS: &[(u32, &[CtrlValue])] = &[(3, &[1]), (0, &[10, 2])];
+const ROWS: &[(u32, &[i64])] = &[(3, &[1]), (0, &[10, 2])];
 
-fn are_rows(touched: &Touched, rows: &[(u32, &[CtrlValue])]) -> bool {
-    for (new, &(cluster, values)) in touched.rows().iter().zip(rows) {
-        let row = ClusterRow::from_slice(values);
+fn are_rows(touched: &Touched, rows: &[(u32, &[i64])]) -> bool {
+    for (new, &(cluster, numbers)) in touched.rows().iter().zip(rows) {
+        let row = row_of(numbers);
         if new.cluster != cluster || Some(new.row) != row || touched.row_of(cluster) != row {
             return false;
         }
@@ -19,9 +20,9 @@ fn are_rows(touched: &Touched, rows: &[(u32, &[CtrlValue])]) -> bool {
     touched.rows().len() == rows.len() && touched.row_of(1).is_none()
 }
 
-fn are_pairs(pairs: &[Pair], want: &[(u32, CtrlValue)]) -> bool {
-    for (pair, &(control, value)) in pairs.iter().zip(want) {
-        if pair.control != control || pair.value != value {
+fn are_pairs(pairs: &[Pair], want: &[(u32, i64)]) -> bool {
+    for (pair, &(control, number)) in pairs.iter().zip(want) {
+        if pair.control != control || pair.value != CtrlValue::Number(number) {
             return false;
         }
     }
@@ -46,7 +47,15 @@ fn rows_of_a_set(rt: HostRuntime) -> Result<(), Fail> {
         return Err(Fail::new("six controls"));
     }
     let ranges = Ranges::of_plan(alloc, &plan)?;
-    let view = View::new(0, Which::Current, &ranges, &VALUES, &[false; 6], &[]);
+    let values = values_of(alloc, &VALUES)?;
+    let view = View::new(
+        0,
+        Which::Current,
+        &ranges,
+        values.as_slice(),
+        &[false; 6],
+        &[],
+    );
     let list = list_of(alloc, &[(FIRST + 4, 1), (FIRST + 1, 2)])?;
     match plan_set(alloc, &plan, &view, &list, &mut Work::new()) {
         Ok(touched) => {

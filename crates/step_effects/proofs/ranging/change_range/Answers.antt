@@ -1,10 +1,11 @@
-use Rattle.std.proofs.Common.{rules, arith, to_z, of_z, w64, ◌≡◌, ◌∙◌, pos, [], List, length, None, slice_set, ap}
+use Rattle.std.proofs.Common.{arith, ◌≡◌, ◌∙◌, [], List, length, None, slice_set, ap}
 use Rattle.std.specs.List.{range_with_len}
 use Rattle.std.proofs.lemmas.List.{get_or_default}
-use Rattle.ctrl_types.specs.Values.{CtrlValue}
+use Rattle.ctrl_types.specs.Values.{zero_value}
+use Rattle.ctrl_types.specs.declared.value.CtrlValue.{CtrlValue}
 use Rattle.ctrl_settle.specs.Control.{Control}
 use Rattle.ctrl_settle.specs.Settle.{settled_anew}
-use Rattle.ctrl_handlers.specs.Plan.{PlanData, control_in}
+use Rattle.ctrl_handlers.specs.Plan.{control_in}
 use Rattle.ctrl_clusters.specs.Rows.{value_at}
 use Rattle.ctrl_events.specs.Events.{FileEvents, events_of}
 use Rattle.ctrl_raises.specs.Raises.{MomentData, before_range, changed_between, payload_at, raised_all}
@@ -14,8 +15,8 @@ use Rattle.step_effects.proofs.ranging.change_range.Goals as goal
 pub returns-clause-events : goal.returns-clause-events
 returns-clause-events g c verdicts e older low high apart default_value is own r v gs fh =
     c.raise_range.ensures fh.0
-    ∙ ap (λ (m : MomentData). raised m c.range.result.now (to_z w64 (of_z w64 c.index-value.result.now))) after
-    ∙ ap (λ (x : Control). raised (moved controls values c.args.grabs.now c.args.control c.args.changed) x (to_z w64 (of_z w64 c.index-value.result.now))) old
+    ∙ ap (λ (m : MomentData). raised m c.range.result.now c.index-value.result.now) after
+    ∙ ap (λ (x : Control). raised (moved controls values c.args.grabs.now c.args.control c.args.changed) x c.index-value.result.now) old
     ∙ ap (raised (moved controls values c.args.grabs.now c.args.control c.args.changed) (control_in controls c.args.control)) old_value
     ∙ ranged_step verdicts c.args.plan.now e older controls values c.args.grabs.now c.args.control low high apart default_value c.args.changed fh (events_of c.args.events.now fh.0) is own r v gs
   where
@@ -32,17 +33,11 @@ returns-clause-events g c verdicts e older low high apart default_value is own r
     old : c.range.result.now ≡ control_in controls c.args.control
     old = c.range.ensures
 
-    read : to_z w64 (of_z w64 c.index-value.result.now) ≡ c.index-value.result.now
-    read = search rules
-
-    old_value : to_z w64 (of_z w64 c.index-value.result.now) ≡ value_at values c.args.control
-    old_value = read ∙ c.index-value.ensures ∙ get_or_default values c.args.control c.index-value.result.now (pos 0) (omega (arith, c.requires.known, c.requires.values))
-
-    same : to_z w64 (of_z w64 c.settle_anew.result) ≡ c.settle_anew.result
-    same = search rules
+    old_value : c.index-value.result.now ≡ value_at values c.args.control
+    old_value = c.index-value.ensures ∙ get_or_default values c.args.control c.index-value.result.now zero_value (omega (arith, c.requires.known, c.requires.values))
 
     laid : c.as_slice.result.now ≡ slice_set values c.args.control (settled_anew c.args.changed (value_at values c.args.control))
-    laid = c.as_slice.ensures.value ∙ ap (slice_set values c.args.control) (same ∙ c.settle_anew.ensures.value ∙ ap (settled_anew c.args.changed) old_value)
+    laid = c.as_slice.ensures.value ∙ ap (slice_set values c.args.control) (c.settle_anew.ensures.value ∙ ap (settled_anew c.args.changed) old_value)
 
     after : c.new.result ≡ moved controls values c.args.grabs.now c.args.control c.args.changed
     after = c.new.ensures ∙ (λ i. record { ranges = c.modify.ensures.ranges i; values = laid i; grabs = c.args.grabs.now })

@@ -1,11 +1,13 @@
-use Rattle.std.proofs.Common.{rules, to_z, of_z, w64, ℕ, pos, not, List, [], ◌∷◌, ◌++◌, ◌≡◌, ◌<◌, length, get_or, slice_set, refl, sym, ap, subst, ◌∙◌, arith}
-use Rattle.std.specs.Ordering.{int_eq}
-use Rattle.std.proofs.Math.Dec.{eqb}
+use Rattle.std.proofs.Common.{rules, to_z, of_z, w64, ℕ, not, List, [], ◌∷◌, ◌++◌, ◌≡◌, ◌<◌, length, get_or, slice_set, refl, sym, ap, subst, ◌∙◌, arith}
 use Rattle.std.proofs.lemmas.List.{get_or_default, length-set}
 use Rattle.std.proofs.lemmas.List.Elements.{All-cons}
+use Rattle.ctrl_types.specs.declared.value.CtrlValue.TheVariants.{Number}
+use Rattle.ctrl_types.specs.contracts.value.CtrlValuePartialEq.TheImpl.{eq-value}
+use Rattle.ctrl_types.specs.Values.{zero_value}
+use Rattle.ctrl_types.specs.Values.{is_same}
 use Rattle.history.specs.declared.entry.Entry.{Entry}
 use Rattle.history.specs.Past.{past}
-use Rattle.ctrl_types.specs.Values.{CtrlValue}
+use Rattle.ctrl_types.specs.declared.value.CtrlValue.{CtrlValue}
 use Rattle.ctrl_calls.specs.declared.work.Work.{Work}
 use Rattle.ctrl_settle.specs.Control.{Control, with_range}
 use Rattle.ctrl_settle.specs.Settle.{settled_anew}
@@ -25,20 +27,20 @@ use Rattle.device_state.specs.Device.{cluster_asks}
 use Rattle.device_state.specs.Ranging.{range_step, values_then}
 use Rattle.device_state.proofs.BoardLemmas.{board_own, board_same}
 use Rattle.device_state.proofs.KeptLemmas.{numbered}
-use Rattle.device_state.proofs.RangingLemmas.{counted_alone, kept_range, range_known, ranges_ranged, same_bits, told_alone, values_ranged}
+use Rattle.device_state.proofs.RangingLemmas.{counted_alone, kept_range, range_known, ranges_ranged, told_alone, values_ranged}
 use Rattle.device_state.proofs.RenewLemmas.{set_apart}
 use Rattle.device_state.proofs.device.Device.accept_range.Goals as goal
 
 -- the control is there, and has a value
-pub index-before-requires : goal.index-before-requires
-index-before-requires g c =
+pub index-requires : goal.index-requires
+index-requires g c =
     let device = c.self.inside in
     let known = range_known device.plan (past device.steps.items) c.args.control c.args.changed (rw (← c.self.view_is) at c.requires.ranged) in
     let many : length device.values.items ≡ length device.plan.controls = ap length c.self.invariant.values ∙ length_now g.D.Validates.verdict device.plan (past device.steps.items) in
     omega (arith, known, many, device.values.ok.0)
 
-pub index-requires : goal.index-requires
-index-requires g c =
+pub index-requires-2 : goal.index-requires-2
+index-requires-2 g c =
     let device = c.self.inside in
     let known = range_known device.plan (past device.steps.items) c.args.control c.args.changed (rw (← c.self.view_is) at c.requires.ranged) in
     let many : length device.values.items ≡ length device.plan.controls = ap length c.self.invariant.values ∙ length_now g.D.Validates.verdict device.plan (past device.steps.items) in
@@ -100,7 +102,7 @@ renew-requires-clause-kept g c =
             set_apart device.plan device.ranges no_control c.args.control c.cluster_of-cluster.result c.args.changed d c.cluster_of-cluster.ensures.cluster apart
             ∙ sym (ap (λ (cs : List Control). get_or cs d no_control) c.change_range.ensures.ranges);
         values_stay = λ d apart.
-            set_apart device.plan device.values.items (pos 0) c.args.control c.cluster_of-cluster.result v d c.cluster_of-cluster.ensures.cluster apart
+            set_apart device.plan device.values.items zero_value c.args.control c.cluster_of-cluster.result v d c.cluster_of-cluster.ensures.cluster apart
             ∙ sym (ap (λ (vs : Values). value_at vs d) set);
         grabs_stay = λ d apart. refl;
       },
@@ -109,20 +111,15 @@ renew-requires-clause-kept g c =
 pub renew-requires-clause-clusters : goal.renew-requires-clause-clusters
 renew-requires-clause-clusters g c = All-cons (λ k. k < length c.self.inside.plan.clusters) c.cluster_of-cluster.result [] c.cluster_of-cluster.ensures.within (λ k d lt. absurd (omega (arith, lt)))
 
+-- `==` of two values is the test of the definitions
+same_test : (v w : CtrlValue) → eq-value.it v w ≡ is_same v w
+same_test (Number v) (Number w) = refl
+
 -- whether the value differs
-differs : (g : _) (c : goal.After-push_reserved g) → not (eqb (of_z w64 c.index-before.result.now) (of_z w64 c.index.result.now)) ≡ not (int_eq (value_at c.self.inside.values.items c.args.control) (value_at c.change_range.new.values.items c.args.control))
+differs : (g : _) (c : goal.After-push_reserved g) → c.ne.result ≡ not (is_same (value_at c.self.inside.values.items c.args.control) (value_at c.change_range.new.values.items c.args.control))
 differs g c =
-    ap not is ∙ ap (λ (x : CtrlValue). not (int_eq x c.index.result.now)) before ∙ ap (λ (x : CtrlValue). not (int_eq (value_at c.self.inside.values.items c.args.control) x)) after
+    c.ne.ensures ∙ ap not (same_test c.index.result.now c.index-2.result.now) ∙ ap (λ (x : CtrlValue). not (is_same x c.index-2.result.now)) before ∙ ap (λ (x : CtrlValue). not (is_same (value_at c.self.inside.values.items c.args.control) x)) after
   where
-    before_read : to_z w64 (of_z w64 c.index-before.result.now) ≡ c.index-before.result.now
-    before_read = search rules
-
-    after_read : to_z w64 (of_z w64 c.index.result.now) ≡ c.index.result.now
-    after_read = search rules
-
-    is : eqb (of_z w64 c.index-before.result.now) (of_z w64 c.index.result.now) ≡ int_eq c.index-before.result.now c.index.result.now
-    is = same_bits c.index-before.result.now c.index.result.now before_read after_read
-
     known : c.args.control < length c.self.inside.plan.controls
     known = range_known c.self.inside.plan (past c.self.inside.steps.items) c.args.control c.args.changed (rw (← c.self.view_is) at c.requires.ranged)
 
@@ -132,11 +129,11 @@ differs g c =
     long : length c.change_range.new.values.items ≡ length c.self.inside.values.items
     long = ap length c.change_range.ensures.values ∙ length-set c.self.inside.values.items c.args.control (settled_anew c.args.changed (value_at c.self.inside.values.items c.args.control))
 
-    before : c.index-before.result.now ≡ value_at c.self.inside.values.items c.args.control
-    before = c.index-before.ensures ∙ get_or_default c.self.inside.values.items c.args.control c.index-before.result.now (pos 0) (omega (arith, known, many))
+    before : c.index.result.now ≡ value_at c.self.inside.values.items c.args.control
+    before = c.index.ensures ∙ get_or_default c.self.inside.values.items c.args.control c.index.result.now zero_value (omega (arith, known, many))
 
-    after : c.index.result.now ≡ value_at c.change_range.new.values.items c.args.control
-    after = c.index.ensures ∙ get_or_default c.change_range.new.values.items c.args.control c.index.result.now (pos 0) (omega (arith, known, many, long))
+    after : c.index-2.result.now ≡ value_at c.change_range.new.values.items c.args.control
+    after = c.index-2.ensures ∙ get_or_default c.change_range.new.values.items c.args.control c.index-2.result.now zero_value (omega (arith, known, many, long))
 
 -- the step
 pushed : (g : _) (c : goal.After-push_reserved g) → c.push_reserved.new.self.items ≡ c.self.inside.steps.items ++ record { seat = c.args.seat; step = range_step c.args.control c.args.changed } ∷ []

@@ -5,7 +5,7 @@ use Rattle.req_book.proofs.ObjectLemmas.{done, undone, never_empty, owed, room_t
 use Rattle.req_book.proofs.objects.Objects.begin.Goals as goal
 use Rattle.std.specs.List.{range_with_len}
 use Rattle.std.proofs.lemmas.List.FromFn.{length-map-range_with_len}
-use Rattle.ctrl_types.specs.Values.{CtrlValue}
+use Rattle.ctrl_types.specs.declared.value.CtrlValue.{CtrlValue}
 use Rattle.ctrl_types.specs.Pairs.{last_value}
 use Rattle.slab.specs.Slab.{with_value}
 use Rattle.req_book.specs.declared.object.Object.{Object}

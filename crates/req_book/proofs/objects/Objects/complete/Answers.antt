@@ -2,7 +2,7 @@ use Rattle.std.proofs.Common.{◌≡◌, ◌∙◌, ap, sym, List, length, true}
 use Rattle.req_book.specs.Requests.{RequestData, RequestsData, with_changed, completed, snapshot_of, is_pending}
 use Rattle.req_book.proofs.ObjectLemmas.{done, undone, never_empty, owed, room_of, room_there}
 use Rattle.req_book.proofs.objects.Objects.complete.Goals as goal
-use Rattle.ctrl_types.specs.Values.{CtrlValue}
+use Rattle.ctrl_types.specs.declared.value.CtrlValue.{CtrlValue}
 use Rattle.req_book.proofs.SettingLemmas.{snapshot_long}
 use Rattle.slab.specs.Slab.{with_value}
 use Rattle.req_book.specs.declared.object.Object.{Object}

@@ -4,7 +4,7 @@ use Rattle.req_book.specs.Requests.{RequestData, RequestsData, with_changed, que
 use Rattle.req_book.proofs.ObjectLemmas.{done, undone, never_empty, owed}
 use Rattle.req_book.proofs.objects.Objects.enqueue.Goals as goal
 use Rattle.std.proofs.lemmas.List.{length-replicate}
-use Rattle.ctrl_types.specs.Values.{CtrlValue}
+use Rattle.ctrl_types.specs.declared.value.CtrlValue.{CtrlValue}
 use Rattle.slab.specs.Slab.{with_value}
 use Rattle.req_book.specs.declared.object.Object.{Object}
 use Rattle.req_book.specs.declared.state.RequestState.TheVariants.{Idle, Queued}

@@ -1,6 +1,6 @@
 use Rattle.std.proofs.Common.{◌∙◌, false, length, refl, subst, sym, ap}
 use Rattle.std.proofs.lemmas.List.{length-map}
-use Rattle.ctrl_settle.specs.Control.{Control}
+use Rattle.ctrl_settle.specs.Control.{Control, default_of}
 use Rattle.ctrl_clusters.specs.Rows.{AreControlsOf}
 use Rattle.ctrl_forecast.specs.Boards.{BoardData, board_of}
 use Rattle.ctrl_forecast.specs.Forecasts.{forecasts}
@@ -11,7 +11,7 @@ pub returns : goal.returns
 unfolding forecasts
 returns c = record {
   ranges_own = subst (AreControlsOf c.args.plan.now) (sym c.in_ok-of_plan.ensures) (record { many = refl; ids = refl; kinds = refl; flags = refl; skipped = refl });
-  values_many = ap length c.in_ok-default_values.ensures ∙ length-map c.controls.result.now (λ (ctrl : Control). ctrl.default_value) ∙ ap length c.controls.ensures.controls;
+  values_many = ap length c.in_ok-default_values.ensures ∙ length-map c.controls.result.now default_of ∙ ap length c.controls.ensures.controls;
   grabs_many = ap length c.in_ok-no_grabs.ensures ∙ length-map c.controls-2.result.now (λ (ctrl : Control). false) ∙ ap length c.controls-2.ensures.controls;
   kept =
       c.empty.ensures
