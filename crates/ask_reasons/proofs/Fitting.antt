@@ -1,9 +1,9 @@
 -- Each check of a list refuses with the errno of its name.
-use Rattle.std.proofs.Common.{◌≡◌, ℕ, ℤ, Bool, true, false, ◌+◌, ◌&&◌, ◌||◌, ◌==◌, not, int_lt, unsigned_abs, List, [], ◌∷◌, ◌++◌, map, Option, None, Some, IfSome, Result, Ok, Err, if◌then◌else◌, is_some, refl, sym, subst}
+use Rattle.std.proofs.Common.{◌≡◌, ℕ, ℤ, Bool, true, false, nat_eq, length, ◌+◌, ◌&&◌, ◌||◌, ◌==◌, not, int_lt, unsigned_abs, List, [], ◌∷◌, ◌++◌, map, Option, None, Some, IfSome, Result, Ok, Err, if◌then◌else◌, is_some, refl, sym, subst}
 use Rattle.std.specs.Int.{bit_at}
 use Rattle.std.specs.Option.{is_none, option_and_then}
 use Rattle.std.specs.Result.{is_ok}
-use Rattle.ctrl_types.specs.declared.value.CtrlValue.TheVariants.{Number}
+use Rattle.ctrl_types.specs.declared.value.CtrlValue.TheVariants.{Number, Bytes}
 use Rattle.ctrl_types.specs.Classes.{which_of}
 use Rattle.ctrl_types.specs.Flags.{contains}
 use Rattle.ctrl_types.specs.declared.flags.TheConstants.Flags.{READ_ONLY, WRITE_ONLY}
@@ -16,12 +16,12 @@ use Rattle.ctrl_types.specs.declared.ids.FhId.{FhId}
 use Rattle.ctrl_types.specs.declared.ids.Pair.{Pair}
 use Rattle.ctrl_types.specs.declared.ids.RequestId.{RequestId}
 use Rattle.ctrl_types.specs.declared.kind.Kind.{Kind}
-use Rattle.ctrl_types.specs.declared.kind.Kind.TheVariants.{Integer, Boolean, Menu, Button, Integer64, Bitmask, IntegerMenu}
+use Rattle.ctrl_types.specs.declared.kind.Kind.TheVariants.{Integer, Boolean, Menu, Button, Integer64, Bitmask, IntegerMenu, U8}
 use Rattle.ctrl_types.specs.declared.which.Which.{Which}
 use Rattle.ctrl_types.specs.declared.which.Which.TheVariants.{Current, Defaults, Class, Request}
 use Rattle.ctrl_calls.specs.Meanings.{Verdicts}
-use Rattle.ctrl_settle.specs.Control.{Control}
-use Rattle.ctrl_settle.specs.Settle.{as_number, item, settle, settle_as}
+use Rattle.ctrl_settle.specs.Control.{Control, elems_of}
+use Rattle.ctrl_settle.specs.Settle.{as_number, item, settle, settle_as, settle_bytes, settle_value, settled_byte}
 use Rattle.ctrl_handlers.specs.Plan.{PlanData, control, control_in}
 use Rattle.ctrl_clusters.specs.Rows.{is_grabbed}
 use Rattle.ctrl_lists.specs.declared.refusal.Refusal.{Refusal}
@@ -141,14 +141,37 @@ kind_own Bitmask c v = tt
 kind_own Button c v = tt
 kind_own Menu c v = item_own c v
 kind_own IntegerMenu c v = item_own c v
+kind_own U8 c v = tt
+
+as_number_own : (r : Result ℤ Errno) → AreOwn writing_part (list_checks.errno_if_refused r) → AreOwn writing_part (list_checks.errno_if_refused (as_number r))
+as_number_own (Ok w) own = own
+as_number_own (Err errno) own = own
+
+bytes_own : (c : Control) (row : List ℕ) → AreOwn writing_part (list_checks.errno_if_refused (settle_bytes c row))
+bytes_own c row = choice_of (nat_eq (length row) (elems_of c)) writing_part (Ok (Bytes (map (settled_byte c) row))) (Err EINVAL) tt refl
+
+-- a number for an array, bytes for another kind
+form_own : (kind : Kind) (c : Control) (v : CtrlValue) → AreOwn writing_part (list_checks.errno_if_refused (settle_value kind c v))
+form_own U8 c (Bytes row) = bytes_own c row
+form_own U8 c (Number v) = refl
+form_own Integer c (Number v) = as_number_own (settle_as Integer c v) (kind_own Integer c v)
+form_own Integer64 c (Number v) = as_number_own (settle_as Integer64 c v) (kind_own Integer64 c v)
+form_own Boolean c (Number v) = as_number_own (settle_as Boolean c v) (kind_own Boolean c v)
+form_own Bitmask c (Number v) = as_number_own (settle_as Bitmask c v) (kind_own Bitmask c v)
+form_own Button c (Number v) = as_number_own (settle_as Button c v) (kind_own Button c v)
+form_own Menu c (Number v) = as_number_own (settle_as Menu c v) (kind_own Menu c v)
+form_own IntegerMenu c (Number v) = as_number_own (settle_as IntegerMenu c v) (kind_own IntegerMenu c v)
+form_own Integer c (Bytes row) = refl
+form_own Integer64 c (Bytes row) = refl
+form_own Boolean c (Bytes row) = refl
+form_own Bitmask c (Bytes row) = refl
+form_own Button c (Bytes row) = refl
+form_own Menu c (Bytes row) = refl
+form_own IntegerMenu c (Bytes row) = refl
 
 settling_own : (c : Control) (v : CtrlValue) → AreOwn writing_part (list_checks.errno_if_refused (settle c v))
 unfolding settle
-settling_own c (Number v) = by (settle_as c.kind c v) (kind_own c.kind c v)
-  where
-    by : (r : Result ℤ Errno) → AreOwn writing_part (list_checks.errno_if_refused r) → AreOwn writing_part (list_checks.errno_if_refused (as_number r))
-    by (Ok w) own = own
-    by (Err errno) own = own
+settling_own c v = form_own c.kind c v
 
 writing_own : (plan : PlanData) (view : ViewData) (is_set : Bool) (p : Pair) → AreOwn writing_part (writing_refusal plan view is_set p)
 writing_own plan view is_set p =

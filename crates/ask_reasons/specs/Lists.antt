@@ -28,12 +28,13 @@ request_part EBUSY = checks.RequestIdle
 request_part EACCES = checks.RequestComplete
 request_part errno = checks.RequestThere
 
--- an entry of a list that writes: its control isn't READ_ONLY; it isn't grabbed; its value lies in the menu's range, and the menu has the item
+-- an entry of a list that writes: its control isn't READ_ONLY; it isn't grabbed; its value lies in the menu's range, and is one that the control takes: an item that isn't
+-- skipped, of an array as many bytes as it has elements, of any other control a number
 abbrev pub writing_part : Errno → Check
 writing_part EACCES = checks.EntryWritable
 writing_part EBUSY = checks.EntryNotGrabbed
 writing_part ERANGE = checks.EntryInRange
-writing_part errno = checks.EntryItem
+writing_part errno = checks.EntryFits
 
 -- the checks of a list's entries and clusters, as ctrl_lists names them
 abbrev pub name_of : ListCheck → Errno → Check

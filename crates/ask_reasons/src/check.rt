@@ -32,8 +32,8 @@ pub enum Check {
     EntryNotGrabbed,
     /// Its value is an index in the menu's range.
     EntryInRange,
-    /// The menu doesn't skip this item.
-    EntryItem,
+    /// Its value is one that the control takes: of a menu an item that isn't skipped, of an array as many bytes as it has elements, of any other control a number.
+    EntryFits,
     /// Each cluster takes its row.
     ClusterTakes,
     /// Fewer than 1,000,000 steps are kept, for a set.
@@ -103,7 +103,7 @@ impl Check {
             | Check::EntryCount
             | Check::ClassShown
             | Check::EntryNamed
-            | Check::EntryItem
+            | Check::EntryFits
             | Check::HandlerThere
             | Check::ControlThere
             | Check::ClusterThere
@@ -151,7 +151,7 @@ impl Check {
             | Check::EntryWritable
             | Check::EntryNotGrabbed
             | Check::EntryInRange
-            | Check::EntryItem => 7,
+            | Check::EntryFits => 7,
             Check::ClusterTakes => 8,
             Check::RoomForSet => 9,
             Check::HandlerThere => 10,
@@ -199,7 +199,7 @@ impl Check {
             Check::EntryWritable => "the control is READ_ONLY",
             Check::EntryNotGrabbed => "the control is grabbed",
             Check::EntryInRange => "the menu's index lies outside its range",
-            Check::EntryItem => "the menu skips this item",
+            Check::EntryFits => "the control takes no such value",
             Check::ClusterTakes => "the cluster doesn't take the row",
             Check::RoomForSet => "1,000,000 steps are kept",
             Check::HandlerThere => "there is no such handler",

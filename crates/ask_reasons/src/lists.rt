@@ -160,6 +160,6 @@ fn writing_part(errno: Errno) -> Check
         Errno::EACCES => Check::EntryWritable,
         Errno::EBUSY => Check::EntryNotGrabbed,
         Errno::ERANGE => Check::EntryInRange,
-        _ => Check::EntryItem,
+        _ => Check::EntryFits,
     }
 }

@@ -52,6 +52,7 @@ const FILES: &[&str] = &[
     "limits.txt",
     "crowds.txt",
     "ranges.txt",
+    "arrays.txt",
 ];
 
 // Lets each command of two scripts pass at once.

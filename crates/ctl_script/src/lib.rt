@@ -20,9 +20,9 @@ pub use input::{MAX_INPUT, MAX_READS, read_input};
 pub use names::Bindings;
 pub use run::{first_line, run_script, with_line, without_line};
 pub use sample_device::{
-    BALANCE_LIMIT, BRIGHTNESS_WORDS, BUTTON_WORDS, GAIN_LIMIT, PAIR_WORDS, Sample, balance_verdict,
-    brightness_word, button_word, gain_verdict, pair_word, sample_builder, sample_plan,
-    sample_words,
+    BALANCE_LIMIT, BRIGHTNESS_WORDS, BUTTON_WORDS, GAIN_LIMIT, PAIR_WORDS, Sample, array_builder,
+    balance_verdict, brightness_word, button_word, gain_verdict, pair_word, sample_builder,
+    sample_plan, sample_words,
 };
 pub use script_lines::ControlWords;
 pub use script_replies::Outcome;

@@ -107,7 +107,7 @@ fn widest_of<D: Driver>(alloc: Global, plan: &Plan<D>, frame: Frame<'_>) -> usiz
     let mut widest = page.text().len();
     for control in 0..plan.control_count() {
         page.clear();
-        put_cell(&mut page, cell_at(plan, frame, control));
+        put_cell(&mut page, &cell_at(plan, frame, control));
         widest = widest.max(page.text().len());
     }
     widest

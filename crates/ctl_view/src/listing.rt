@@ -142,6 +142,7 @@ fn put_head(page: &mut Page, word: &str, id: CtrlId, kind: Kind) {
         Kind::Integer64 => "(int64)  :",
         Kind::Bitmask => "(bitmask):",
         Kind::IntegerMenu => "(intmenu):",
+        Kind::U8 => "(u8)     :",
     };
     put_spaces(page, NAMES.saturating_sub(word.len()));
     page.put(word);
@@ -168,6 +169,12 @@ fn put_range(page: &mut Page, ctrl: &Ctrl) {
         Kind::Bitmask => {
             let _ = write!(page, " max=0x{most:08x} default=0x{default:08x}");
         }
+        Kind::U8 => {
+            put_bounds(page, ctrl);
+            let step = ctrl.step();
+            let elems = ctrl.elems();
+            let _ = write!(page, " step={step} default={default} dims=[{elems}]");
+        }
         Kind::Button => {}
     }
 }
@@ -178,10 +185,14 @@ fn put_bounds(page: &mut Page, ctrl: &Ctrl) {
     let _ = write!(page, " min={least} max={most}");
 }
 
-// A value, and of a menu the item.
+// A value, and of a menu the item; of an array its bytes.
 fn put_value(page: &mut Page, plan: &Plan<Data>, control: u32, ctrl: &Ctrl, value: CtrlValue) {
     match value {
         CtrlValue::Number(number) => put_number(page, plan, control, ctrl, number),
+        CtrlValue::Bytes(_) => {
+            page.put(" value=");
+            page.put_value(&value);
+        }
     }
 }
 

@@ -5,7 +5,7 @@ use bitflags::Flags as FlagSet;
 use ctl_script::ControlWords;
 use ctrl_calls::Driver;
 use ctrl_events::Event;
-use ctrl_types::{Changes, ExtControl, Fault};
+use ctrl_types::{Changes, ExtControl, Fault, Kind};
 use device_state::{Ask, CtrlInfo, Plan, Reply};
 use script_replies::{ReplyLine, write_answer};
 use std::io::Write;
@@ -68,9 +68,9 @@ fn put_controls<D: Driver>(
         page.put(" ");
         put_name(page, known, plan, entry.id);
         page.put("=");
-        page.put_value(entry.value);
+        page.put_value(&entry.value);
         if let Some(asked) = wanted.get(place) {
-            put_wanted(page, entry.value, asked.value);
+            put_wanted(page, &entry.value, &asked.value);
         }
     }
 }
@@ -132,4 +132,8 @@ fn put_info<D: Driver>(page: &mut Page, known: &ControlWords, plan: &Plan<D>, in
     let _ = write!(page, " step {step} default ");
     page.put_number(info.default_value);
     put_flags(page, info.flags);
+    if info.kind == Kind::U8 {
+        page.put(" elems ");
+        page.put_number(i64::from(info.elems));
+    }
 }

@@ -80,7 +80,7 @@ fn widths_of<D: Driver>(alloc: Global, known: &ControlWords, device: &Device<D>)
         let name = word_of(known, control).len().saturating_add(2);
         widths.names = widths.names.max(name.min(LONGEST));
         text.clear();
-        put_look(&mut text, look_at(device.plan(), device.values(), control));
+        put_look(&mut text, &look_at(device.plan(), device.values(), control));
         widths.now = widths.now.max(text.text().len());
     }
     widths.frame = widths.frame.max(widest(alloc, device).saturating_add(2));
@@ -128,23 +128,23 @@ fn put_rows<D: Driver>(
         put_spaces(page, INDENT);
         put_left(page, word_of(known, control), block.widths.names);
         text.clear();
-        put_look(&mut text, look_at(device.plan(), device.values(), control));
+        put_look(&mut text, &look_at(device.plan(), device.values(), control));
         put_right(page, &text, block.widths.now, "", "");
         for place in block.first..block.end {
             let cell = cell_at(device.plan(), frame_at(device, place), control);
             text.clear();
             // the column before the first one stands in the block before, so that "as before" would be read as the value of now
             if place == block.first && place > 0 && cell.mark() == Mark::Stays {
-                put_look(&mut text, cell.behind);
-                put_missed(&mut text, cell);
+                put_look(&mut text, &cell.behind);
+                put_missed(&mut text, &cell);
             } else {
-                put_cell(&mut text, cell);
+                put_cell(&mut text, &cell);
             }
             put_right(
                 page,
                 &text,
                 block.widths.frame,
-                colour_of(cell, ink),
+                colour_of(&cell, ink),
                 ink.plain,
             );
         }
@@ -158,7 +158,7 @@ fn put_left(page: &mut Page, text: &str, width: usize) {
     put_spaces(page, width.saturating_sub(text.len()).max(1));
 }
 
-fn colour_of(cell: Cell, ink: Ink) -> &'static str {
+fn colour_of(cell: &Cell, ink: Ink) -> &'static str {
     match cell.mark() {
         Mark::Stays => ink.faint,
         Mark::Changes => ink.good,

@@ -5,7 +5,7 @@ use crate::words::{control_of, members_beside, put_name, word_of};
 use ask_reasons::{Check, Reason};
 use ctl_script::ControlWords;
 use ctrl_calls::Driver;
-use ctrl_types::{CtrlId, CtrlValue, Fault, Pair, last_value};
+use ctrl_types::{CtrlId, CtrlValue, Fault, Kind, Pair, last_value};
 use device_state::{Ask, Device, Plan};
 use script_replies::{ReplyLine, write_answer};
 use std::io::Write;
@@ -50,6 +50,37 @@ pub fn put_check<D: Driver>(
     if let (Check::ClusterTakes, Some(id)) = (reason.check, id_at(ask, reason.entry)) {
         put_row(page, known, device, ask, id);
     }
+    if reason.check == Check::EntryFits {
+        put_form(page, device.plan(), ask, reason.entry);
+    }
+}
+
+// What the control of an entry would take.
+fn put_form<D: Driver>(page: &mut Page, plan: &Plan<D>, ask: &Ask, entry: Option<u32>) {
+    let Some(id) = id_at(ask, entry) else {
+        return;
+    };
+    let Some(ctrl) = plan.controls().iter().find(|ctrl| ctrl.id() == id) else {
+        return;
+    };
+    let is_number = match value_at(ask, entry) {
+        Some(CtrlValue::Number(_)) => true,
+        _ => false,
+    };
+    match ctrl.kind() {
+        Kind::U8 => {
+            let elems = ctrl.elems();
+            let _ = write!(page, ": it is an array of {elems} bytes");
+        }
+        _ if is_number => page.put(": the menu skips this item"),
+        _ => page.put(": it takes a number"),
+    }
+}
+
+// The value that an entry of a list that writes asks for.
+fn value_at(ask: &Ask, entry: Option<u32>) -> Option<CtrlValue> {
+    let found = wanted_by(ask).get(entry? as usize)?;
+    Some(found.value)
 }
 
 // The entry that is refused, and the control that it or the ask names.
@@ -102,7 +133,7 @@ fn put_row<D: Driver>(
         page.put(" ");
         page.put(word_of(known, *member));
         page.put("=");
-        page.put_value(wanted_of(device, ask, *member));
+        page.put_value(&wanted_of(device, ask, *member));
     }
 }
 

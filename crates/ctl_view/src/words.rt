@@ -101,5 +101,6 @@ pub fn kind_name(kind: Kind) -> &'static str {
         Kind::Integer64 => "INTEGER64",
         Kind::Bitmask => "BITMASK",
         Kind::IntegerMenu => "INTEGER_MENU",
+        Kind::U8 => "U8",
     }
 }

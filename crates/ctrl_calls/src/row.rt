@@ -75,11 +75,17 @@ impl ClusterRow {
         requires { index < length self.now }
         ensures { result ≡ slice_set self.now index value }
     {
-        let mut cells = self.cells;
+        let mut row = *self;
+        row.set(index, value);
+        row
+    }
+
+    /// Puts a value at the index, in place. The caller owes an index within the row.
+    pub fn set(&mut self, index: usize, value: CtrlValue)
+        requires { index < length self.old }
+        ensures { self.new ≡ slice_set self.old index value }
+    {
+        let cells = &mut self.cells[..self.len];
         cells[index] = value;
-        ClusterRow {
-            cells,
-            len: self.len,
-        }
     }
 }

@@ -4,12 +4,13 @@ use Rattle.ctrl_settle.specs.Control.{Control}
 use Rattle.ctrl_handlers.specs.Plan.{PlanData, control_in}
 use Rattle.ctrl_clusters.specs.Rows.{AreControlsOf}
 
--- the same control with a range, which may be another: its id, its kind, its flags and its skipped items stay
+-- the same control with a range, which may be another: its id, its kind, its flags, its skipped items and its number of elements stay
 pub record HasRangeFor (c changed : Control) : Type 0 where
   pub id : changed.id ≡ c.id
   pub kind : changed.kind ≡ c.kind
   pub flags : changed.flags ≡ c.flags
   pub skip : changed.skip ≡ c.skip
+  pub elems : changed.elems ≡ c.elems
 
 -- the controls, where one has another range
 abbrev pub modified : List Control → ℕ → Control → List Control

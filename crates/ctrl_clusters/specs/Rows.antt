@@ -10,14 +10,15 @@ use Rattle.ctrl_settle.specs.Control.{Control}
 use Rattle.ctrl_settle.specs.Settle.{settle}
 use Rattle.ctrl_handlers.specs.Plan.{PlanData, control_in}
 
--- The controls of a plan as they are at a moment: as many, each with the id, the kind, the flags and the skipped items that the plan gives
--- it; its bounds, step and default may be others.
+-- The controls of a plan as they are at a moment: as many, each with the id, the kind, the flags, the skipped items and the number of elements that the plan
+-- gives it; its bounds, step and default may be others.
 pub record AreControlsOf (plan : PlanData) (controls : List Control) : Type 0 where
   pub many : length controls ≡ length plan.controls
   pub ids : map (λ c. c.id) controls ≡ map (λ c. c.id) plan.controls
   pub kinds : map (λ c. c.kind) controls ≡ map (λ c. c.kind) plan.controls
   pub flags : map (λ c. c.flags) controls ≡ map (λ c. c.flags) plan.controls
   pub skipped : map (λ c. c.skip) controls ≡ map (λ c. c.skip) plan.controls
+  pub elems : map (λ c. c.elems) controls ≡ map (λ c. c.elems) plan.controls
 
 -- a value for each control, in the order of their numbers
 abbrev pub Values : Type 0

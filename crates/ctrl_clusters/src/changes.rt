@@ -58,7 +58,7 @@ pub fn is_changed<D: Driver>(
     requires known { control < length plan.now.controls }
     ensures { result ≡ is_changed plan.now before.now pairs.now control (value_at after.now control) }
 {
-    before[control as usize] != after[control as usize]
+    !before[control as usize].is_same(&after[control as usize])
         || (acts_on_each_write(plan, control) && is_among(pairs, control))
 }
 
@@ -86,7 +86,7 @@ fn has_another(values: &[CtrlValue], member: u32, row: &ClusterRow, place: usize
     requires within { place < length row.now }
     ensures { result ≡ not (is_same (value_at values.now member) (value_at row.now place)) }
 {
-    values[member as usize] != row.value(place)
+    !values[member as usize].is_same(&row.value(place))
 }
 
 // Whether a member acts on each write, also of the value that it has.

@@ -55,7 +55,7 @@ pub fn judge<D: Driver>(
 /// - `pairs`: what is asked for; pairs of other clusters' controls count for nothing.
 /// - `work`: its count `asked` grows by one where the members' values settle and the cluster has a validator, and else stays.
 ///
-/// Refused by the checks 51 (ERANGE, 34) and 52 (EINVAL, 22) of docs/RULES.md for the first member that doesn't settle, and then as `judge`
+/// Refused by the checks 57 (EINVAL, 22), 51 (ERANGE, 34) and 52 (EINVAL) of docs/RULES.md for the first member that doesn't settle, and then as `judge`
 /// refuses. It takes no memory.
 #[tactic(auto, unfolding(crate::specs::Judging::validated_row))]
 pub fn validated_row<D: Driver>(

@@ -60,8 +60,8 @@ impl Ranges {
     /// Gives a control another range (Linux driver API, `v4l2_ctrl_modify_range`). It takes no memory and refuses nothing.
     ///
     /// - `control`: the number of a control; the caller owes one that is there.
-    /// - `changed`: the control with its new range, as `Ctrl::with_range` makes it; the caller owes that its id, kind, flags and skipped items are those
-    ///   that it had.
+    /// - `changed`: the control with its new range, as `Ctrl::with_range` makes it; the caller owes that its id, kind, flags, skipped items and number of elements
+    ///   are those that it had.
     pub fn modify(&mut self, control: u32, changed: Ctrl)
         requires known { control < length self.old }
         requires same { HasRangeFor (control_in self.old control) changed }

@@ -49,7 +49,7 @@ pub(crate) fn settle_row(
     let mut settled = *row;
     for (place, &member) in members.iter().enumerate() {
         match settle_at(ranges, member, row, place) {
-            Ok(value) => settled = settled.with(place, value),
+            Ok(value) => settled.set(place, value),
             Err(errno) => return Err(errno),
         }
     }
@@ -93,7 +93,10 @@ fn takes_at(ranges: &Ranges, member: u32, row: &ClusterRow, place: usize) -> boo
     requires within { place < length row.now }
     ensures { result ≡ is_value (settle (control_in ranges.now member) (value_at row.now place)) (value_at row.now place) }
 {
-    settle_at(ranges, member, row, place) == Ok(row.value(place))
+    match settle_at(ranges, member, row, place) {
+        Ok(taken) => taken.is_same(&row.value(place)),
+        Err(_) => false,
+    }
 }
 
 /// The value that a row gives one of a cluster's members, where the control is one (Linux driver API, "V4L2 Controls", "Control

@@ -4,13 +4,14 @@ use Rattle.std.specs.Bool.{Decides}
 use Rattle.std.specs.Cmp.Lexicographic.{pointwise}
 use Rattle.std.proofs.lemmas.Bool.Decides.{Decides-eqb, Decides-and}
 use Rattle.std.proofs.lemmas.Slice.Eq.{slice_eq-Decides}
+use Rattle.ctrl_types.proofs.ValueLemmas.{eq_decides}
 use Rattle.ctrl_types.specs.declared.value.CtrlValue.{CtrlValue}
 use Rattle.ctrl_types.specs.contracts.value.CtrlValuePartialEq.TheImpl.{eq-value}
 use Rattle.ctrl_forecast.specs.declared.board.Forecast.{Forecast}
 
 -- `==` of two values
 same_values : (v w : CtrlValue) (r : Bool) → r ≡ eq-value.it v w → Decides r (v ≡ w)
-same_values v w r is = search rules
+same_values v w r is = rw is (eq_decides v w)
 
 -- whether two rows are the same, part by part
 abbrev pub same_parts : Forecast → Forecast → Bool

@@ -3,6 +3,7 @@
 ghost use Rattle.std.specs.Prelude.{◌≡◌, ◌<◌, length, nat_eq, IfOk};
 ghost use Rattle.std.specs.List.{All, list_any};
 ghost use Rattle.ctrl_handlers.specs.Plan.{cluster_of};
+ghost use Rattle.ctrl_clusters.specs.Rows.{value_at};
 ghost use Rattle.ctrl_forecast.specs.Applied.{is_refused_in, applied_pairs};
 
 use ctrl_calls::Driver;
@@ -35,11 +36,21 @@ pub fn applied<D: Driver>(
     for pair in pairs {
         let control = pair.control;
         if !is_refused(plan, refused, control) {
-            let value = values[control as usize];
-            applied.push(Pair { control, value })?;
+            applied.push(pair_after(values, control))?;
         }
     }
     Ok(applied)
+}
+
+// A control with the value that it has afterwards.
+fn pair_after(values: &[CtrlValue], control: u32) -> Pair
+    requires { control < length values.now }
+    ensures { result ≡ record { control = control; value = value_at values.now control } }
+{
+    Pair {
+        control,
+        value: values[control as usize],
+    }
 }
 
 // Whether the cluster of a control is refused.

@@ -14,10 +14,10 @@ use Rattle.ctrl_calls.specs.declared.relation.Relations.{Relations}
 use Rattle.ctrl_handlers.specs.ClusterData.{ClusterData}
 use Rattle.ctrl_handlers.specs.declared.limits.TheConstants.{MAX_CONTROLS}
 use Rattle.ctrl_handlers.specs.declared.fault.PlanFault.{PlanFault}
-use Rattle.ctrl_handlers.specs.declared.fault.PlanFault.TheVariants.{InCluster, ClusterSize, UnknownNumber}
+use Rattle.ctrl_handlers.specs.declared.fault.PlanFault.TheVariants.{ArrayAlone, InCluster, ClusterSize, UnknownNumber}
 use Rattle.ctrl_calls.specs.declared.row.TheConstants.{MAX_MEMBERS}
 use Rattle.ctrl_handlers.specs.Plan.{PlanData, IsPlan, with_cluster, names_twice, has_member, cluster_of, cluster_at, members, master_of, no_cluster, leads}
-use Rattle.ctrl_handlers.specs.Builder.{cluster_refusal, some_clustered, misfits}
+use Rattle.ctrl_handlers.specs.Builder.{cluster_refusal, crowds_array, some_clustered, misfits}
 
 -- one more in front of a search
 step : (b : Bool) (n m : ℕ) (r : Bool) → ltb n m ≡ r → ltb (cond (not b) (1 + n) 0) (suc m) ≡ (b || r)
@@ -161,15 +161,15 @@ few_clusters plan is =
     omega (arith, length-map plan.clusters master_of, length-le_from_distinct_below (masters plan) (length plan.controls) (masters_apart plan is) (λ c among. masters_below plan c is among))
 
 -- where nothing refuses a cluster, each check passes
-refusal_by : Bool → Bool → Bool → Option PlanFault
-refusal_by size known taken = if size then Some ClusterSize else if not known then Some UnknownNumber else if taken then Some InCluster else None
+unfoldable refusal_by : Bool → Bool → Bool → Bool → Option PlanFault
+refusal_by size known taken crowded = if size then Some ClusterSize else if not known then Some UnknownNumber else if taken then Some InCluster else if crowded then Some ArrayAlone else None
 
-passes : (size known taken : Bool) → refusal_by size known taken ≡ None → (size ≡ false) × (known ≡ true) × (taken ≡ false)
+passes : (size known taken crowded : Bool) → refusal_by size known taken crowded ≡ None → (size ≡ false) × (known ≡ true) × (taken ≡ false)
 unfolding refusal_by
-passes false true false is = (refl, refl, refl)
-passes false true true is = cc
-passes false false taken is = cc
-passes true known taken is = cc
+passes false true false crowded is = (refl, refl, refl)
+passes false true true crowded is = cc
+passes false false taken crowded is = cc
+passes true known taken crowded is = cc
 
 pub or_false : (a b : Bool) → (a || b) ≡ false → a ≡ false
 or_false true b h = cc
@@ -187,10 +187,10 @@ pub record MayCluster (plan : PlanData) (named : List ℕ) : Type 0 where
   pub differ : names_twice named ≡ false
   pub apart : (c : ℕ) → list_any (nat_eq c) named ≡ true → is_some (cluster_of plan c) ≡ false
 
-pub may_cluster : (plan : PlanData) (named : List ℕ) → cluster_refusal plan named ≡ None → MayCluster plan named
+pub may_cluster : (plan : PlanData) (named : List ℕ) (manual : Option ℤ) → cluster_refusal plan named manual ≡ None → MayCluster plan named
 unfolding refusal_by
-may_cluster plan named is =
-    let each = passes (misfits named) (list_all (λ c. nat_lt c (length plan.controls)) named) (some_clustered plan named || names_twice named) is in
+may_cluster plan named manual is =
+    let each = passes (misfits named) (list_all (λ c. nat_lt c (length plan.controls)) named) (some_clustered plan named || names_twice named) (crowds_array plan named manual) is in
     record {
       some = grind (arith, nat_tests, or_false (nat_eq (length named) 0) (nat_lt MAX_MEMBERS (length named)) each.0);
       few = grind (arith, nat_tests, or_false_right (nat_eq (length named) 0) (nat_lt MAX_MEMBERS (length named)) each.0);

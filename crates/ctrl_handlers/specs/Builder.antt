@@ -1,11 +1,11 @@
 -- When the calls of a plan builder refuse (of this project).
-use Rattle.std.specs.Prelude.{◌≡◌, ℕ, Bool, not, ◌||◌, List, nat_eq, nat_le, nat_lt, if◌then◌else◌, length, Option, None, Some, is_some}
+use Rattle.std.specs.Prelude.{◌≡◌, ℕ, ℤ, Bool, not, ◌&&◌, ◌||◌, List, nat_eq, nat_le, nat_lt, if◌then◌else◌, length, Option, None, Some, is_some}
 use Rattle.std.specs.List.{list_any, list_all}
-use Rattle.ctrl_settle.specs.Control.{Control}
+use Rattle.ctrl_settle.specs.Control.{Control, is_array}
 use Rattle.menu_items.specs.Places.{takes_name, takes_number}
 use Rattle.menu_items.specs.declared.name.TheConstants.{MAX_MENU_NAME}
 use Rattle.ctrl_handlers.specs.declared.fault.PlanFault.{PlanFault}
-use Rattle.ctrl_handlers.specs.declared.fault.PlanFault.TheVariants.{DuplicateId, InCluster, ClusterSize, LaterHandler, UnknownNumber, Limit, Memory}
+use Rattle.ctrl_handlers.specs.declared.fault.PlanFault.TheVariants.{DuplicateId, InCluster, ClusterSize, LaterHandler, UnknownNumber, Limit, Memory, ArrayAlone}
 use Rattle.ctrl_handlers.specs.declared.limits.TheConstants.{MAX_CONTROLS, MAX_HANDLERS}
 use Rattle.ctrl_calls.specs.declared.row.TheConstants.{MAX_MEMBERS}
 use Rattle.ctrl_handlers.specs.Plan.{PlanData, own, control, cluster_of, names_twice}
@@ -55,12 +55,18 @@ some_clustered plan members = list_any (λ c. is_some (cluster_of plan c)) membe
 abbrev pub misfits : List ℕ → Bool
 misfits members = nat_eq (length members) 0 || nat_lt MAX_MEMBERS (length members)
 
--- Why a cluster is refused: it has no member or more than 8; some control isn't there; one is in a cluster already or is named twice.
-abbrev pub cluster_refusal : PlanData → List ℕ → Option PlanFault
-cluster_refusal plan members =
+-- an array is beside other members, or in an auto cluster
+abbrev pub crowds_array : PlanData → List ℕ → Option ℤ → Bool
+crowds_array plan members manual = (is_some manual || nat_lt 1 (length members)) && list_any (λ c. is_array (control plan c)) members
+
+-- Why a cluster, which is an auto cluster where it has a manual value, is refused: it has no member or more than 8; some control isn't there; one is in a cluster already
+-- or is named twice; an array isn't alone, or in an auto cluster.
+abbrev pub cluster_refusal : PlanData → List ℕ → Option ℤ → Option PlanFault
+cluster_refusal plan members manual =
     if misfits members then Some ClusterSize
     else if not (list_all (λ c. nat_lt c (length plan.controls)) members) then Some UnknownNumber
     else if some_clustered plan members || names_twice members then Some InCluster
+    else if crowds_array plan members manual then Some ArrayAlone
     else None
 
 -- A call answers its refusal where it has one; where it has none it can only want memory.
@@ -77,3 +83,4 @@ plan_fault_number LaterHandler = 4
 plan_fault_number UnknownNumber = 5
 plan_fault_number Limit = 6
 plan_fault_number Memory = 7
+plan_fault_number ArrayAlone = 8

@@ -27,7 +27,7 @@ pub record PlanData : Type 0 where
 
 -- what stands for a number that names no control
 abbrev pub no_control : Control
-no_control = record { id = record { 0 = 0 }; kind = Integer; minimum = pos 0; maximum = pos 0; step = 1; default_value = pos 0; skip = 0; flags = record { 0 = 0 }; is_private = false }
+no_control = record { id = record { 0 = 0 }; kind = Integer; minimum = pos 0; maximum = pos 0; step = 1; default_value = pos 0; skip = 0; flags = record { 0 = 0 }; is_private = false; elems = None }
 
 -- the control with a number, among these
 abbrev pub control_in : List Control → ℕ → Control

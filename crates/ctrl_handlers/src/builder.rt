@@ -172,15 +172,15 @@ impl<D: Driver> PlanBuilder<D> {
     /// - `members`: the numbers of 1 to 8 controls, each 0 to 255; the first is the master.
     /// - `calls`: the driver's closures for the cluster, each where it has one.
     ///
-    /// Refused by the checks 46, `ClusterSize` (3), 47, `UnknownNumber` (5), 48, `InCluster` (2), and 49, `Memory` (7), of docs/RULES.md, in this
+    /// Refused by the checks 46, `ClusterSize` (3), 47, `UnknownNumber` (5), 48, `InCluster` (2), 56, `ArrayAlone` (8), and 49, `Memory` (7), of docs/RULES.md, in this
     /// order; a refusal hands the closures back and leaves the plan as it was.
     pub fn cluster(
         &mut self,
         members: &[u32],
         calls: Calls<D>,
     ) -> Result<u32, (Calls<D>, PlanFault)>
-        ensures ok { IfOk result (λ n. (cluster_refusal self.old members.now ≡ None) × (n ≡ length self.old.clusters) × (self.new ≡ with_cluster self.old members.now None calls)) }
-        ensures err { IfErr result (λ e. (e.0 ≡ calls) × IsRefusedBy (cluster_refusal self.old members.now) e.1 × (self.new ≡ self.old)) }
+        ensures ok { IfOk result (λ n. (cluster_refusal self.old members.now None ≡ None) × (n ≡ length self.old.clusters) × (self.new ≡ with_cluster self.old members.now None calls)) }
+        ensures err { IfErr result (λ e. (e.0 ≡ calls) × IsRefusedBy (cluster_refusal self.old members.now None) e.1 × (self.new ≡ self.old)) }
     {
         self.any_cluster(members, None, calls)
     }
@@ -198,8 +198,8 @@ impl<D: Driver> PlanBuilder<D> {
         manual: i64,
         calls: Calls<D>,
     ) -> Result<u32, (Calls<D>, PlanFault)>
-        ensures ok { IfOk result (λ n. (cluster_refusal self.old members.now ≡ None) × (n ≡ length self.old.clusters) × (self.new ≡ with_cluster self.old members.now (Some manual) calls)) }
-        ensures err { IfErr result (λ e. (e.0 ≡ calls) × IsRefusedBy (cluster_refusal self.old members.now) e.1 × (self.new ≡ self.old)) }
+        ensures ok { IfOk result (λ n. (cluster_refusal self.old members.now (Some manual) ≡ None) × (n ≡ length self.old.clusters) × (self.new ≡ with_cluster self.old members.now (Some manual) calls)) }
+        ensures err { IfErr result (λ e. (e.0 ≡ calls) × IsRefusedBy (cluster_refusal self.old members.now (Some manual)) e.1 × (self.new ≡ self.old)) }
     {
         self.any_cluster(members, Some(manual), calls)
     }
@@ -211,10 +211,10 @@ impl<D: Driver> PlanBuilder<D> {
         manual: Option<i64>,
         calls: Calls<D>,
     ) -> Result<u32, (Calls<D>, PlanFault)>
-        ensures ok { IfOk result (λ n. (cluster_refusal self.old members.now ≡ None) × (n ≡ length self.old.clusters) × (self.new ≡ with_cluster self.old members.now manual calls)) }
-        ensures err { IfErr result (λ e. (e.0 ≡ calls) × IsRefusedBy (cluster_refusal self.old members.now) e.1 × (self.new ≡ self.old)) }
+        ensures ok { IfOk result (λ n. (cluster_refusal self.old members.now manual ≡ None) × (n ≡ length self.old.clusters) × (self.new ≡ with_cluster self.old members.now manual calls)) }
+        ensures err { IfErr result (λ e. (e.0 ≡ calls) × IsRefusedBy (cluster_refusal self.old members.now manual) e.1 × (self.new ≡ self.old)) }
     {
-        if let Some(fault) = self.outline.cluster_refusal(members) {
+        if let Some(fault) = self.outline.cluster_refusal(members, manual) {
             return Err((calls, fault));
         }
         match self.name_cluster(members, manual, calls) {
@@ -230,7 +230,7 @@ impl<D: Driver> PlanBuilder<D> {
         manual: Option<i64>,
         calls: Calls<D>,
     ) -> Result<u32, Calls<D>>
-        requires { cluster_refusal self.old members.now ≡ None }
+        requires { cluster_refusal self.old members.now manual ≡ None }
         ensures ok { IfOk result (λ n. (n ≡ length self.old.clusters) × (self.new ≡ with_cluster self.old members.now manual calls)) }
         ensures err { IfErr result (λ back. (back ≡ calls) × (self.new ≡ self.old)) }
     {

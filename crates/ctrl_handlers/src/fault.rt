@@ -26,6 +26,9 @@ pub enum PlanFault {
     /// 7: a growth was refused.
     #[error("out of memory")]
     Memory,
+    /// 8: an array stands alone in its cluster, which is no auto cluster.
+    #[error("an array stands alone in its cluster, which is no auto cluster")]
+    ArrayAlone,
 }
 
 impl PlanFault {
@@ -43,6 +46,7 @@ impl PlanFault {
             PlanFault::UnknownNumber => 5,
             PlanFault::Limit => 6,
             PlanFault::Memory => 7,
+            PlanFault::ArrayAlone => 8,
         }
     }
 }

@@ -1,6 +1,7 @@
 ghost use Rattle.std.specs.Prelude.{◌≡◌, ◌==◌, ◌<◌, ◌≤◌, ◌+◌, ℕ, true, false, if◌then◌else◌, [], ◌∷◌, ◌++◌, map, length, vec_capacity, None, Some, is_some, nat_lt, OnOk, OnErr, MatchOption, position, IfOk, IfSome, IsTrue, ◌↔◌};
-ghost use Rattle.ctrl_handlers.specs.Plan.{IsPlan, IsFinished, no_plan, with_handler, with_control, with_added, with_item, with_cluster, finished, in_none, alone, control as control_of, own, added, menu_item, cluster_of, cluster_at, members, has_member, plan_flags, names_twice, HasClusterTable};
-ghost use Rattle.ctrl_handlers.specs.Builder.{control_refusal, adding_refusal, name_refusal, number_refusal, cluster_refusal};
+ghost use Rattle.ctrl_handlers.specs.Plan.{IsPlan, IsFinished, no_plan, with_handler, with_control, with_added, with_item, with_cluster, finished, in_none, alone, control as control_of, control_in, own, added, menu_item, cluster_of, cluster_at, members, has_member, plan_flags, names_twice, HasClusterTable};
+ghost use Rattle.ctrl_handlers.specs.Builder.{control_refusal, adding_refusal, name_refusal, number_refusal, cluster_refusal, crowds_array};
+ghost use Rattle.ctrl_settle.specs.Control.{is_array};
 ghost use Rattle.ctrl_settle.specs.Faults.{IsWellFormed};
 ghost use Rattle.menu_items.specs.Places.{takes};
 ghost use Rattle.ctrl_calls.specs.declared.row.TheConstants.{MAX_MEMBERS};
@@ -171,8 +172,8 @@ impl Outline {
     }
 
     /// Why a cluster of these controls is refused, memory apart.
-    pub(crate) fn cluster_refusal(&self, members: &[u32]) -> Option<PlanFault>
-        ensures { result ≡ cluster_refusal self.now members.now }
+    pub(crate) fn cluster_refusal(&self, members: &[u32], manual: Option<i64>) -> Option<PlanFault>
+        ensures { result ≡ cluster_refusal self.now members.now manual }
     {
         if members.is_empty() || members.len() > MAX_MEMBERS {
             return Some(PlanFault::ClusterSize);
@@ -183,7 +184,18 @@ impl Outline {
         if some_clustered(self.clusters.as_slice(), members) || names_twice(members) {
             return Some(PlanFault::InCluster);
         }
+        if self.crowds_array(members, manual) {
+            return Some(PlanFault::ArrayAlone);
+        }
         None
+    }
+
+    // Whether an array is beside other members, or in an auto cluster.
+    fn crowds_array(&self, members: &[u32], manual: Option<i64>) -> bool
+        ensures { result ≡ crowds_array self.now members.now manual }
+    {
+        let is_shared = manual.is_some() || members.len() > 1;
+        is_shared && some_array(self.controls.as_slice(), members)
     }
 
     /// One more cluster, by its number.
@@ -193,7 +205,7 @@ impl Outline {
         manual: Option<i64>,
         calls: Relations,
     ) -> Result<u32, AllocError>
-        requires { cluster_refusal self.old members.now ≡ None }
+        requires { cluster_refusal self.old members.now manual ≡ None }
         ensures ok { IfOk result (λ n. (n ≡ length self.old.clusters) × (self.new ≡ with_cluster self.old members.now manual calls)) }
         ensures err { OnErr result (self.new ≡ self.old) }
     {
@@ -418,6 +430,23 @@ fn some_clustered(clusters: &[Cluster], controls: &[u32]) -> bool
     controls
         .iter()
         .any(|control| place_of(clusters, *control).is_some())
+}
+
+// Whether some of these controls is an array.
+fn some_array(controls: &[Ctrl], members: &[u32]) -> bool
+    ensures { result ≡ list_any (λ c. is_array (control_in controls.now c)) members.now }
+{
+    members.iter().any(|member| is_array_at(controls, *member))
+}
+
+// Whether a control is there, and an array.
+fn is_array_at(controls: &[Ctrl], control: u32) -> bool
+    ensures { result ≡ is_array (control_in controls.now control) }
+{
+    match controls.get(control as usize) {
+        Some(ctrl) => ctrl.is_array(),
+        None => false,
+    }
 }
 
 // Whether some number stands twice in a list.

@@ -5,7 +5,7 @@ use Rattle.std.specs.Ordering.{int_eq}
 use Rattle.std.proofs.lemmas.Bool.{false≢true}
 use Rattle.std.proofs.lemmas.Bool.Decides.{Decides-int_eq}
 use Rattle.std.proofs.lemmas.List.{get_or-set_other}
-use Rattle.ctrl_types.proofs.ValueLemmas.{Decides-same}
+use Rattle.ctrl_types.proofs.ValueLemmas.{same_self}
 use Rattle.ctrl_types.specs.Values.{zero_value}
 use Rattle.ctrl_types.specs.Values.{is_same}
 use Rattle.ctrl_types.specs.Events.{is_nothing}
@@ -30,14 +30,15 @@ use Rattle.ctrl_raises.proofs.RaiseLemmas.{raised_next}
 same_number : (z : ℤ) → int_eq z z ≡ true
 same_number z = (Decides-int_eq z z).1 refl
 
-same_value : (v : CtrlValue) → is_same v v ≡ true
-same_value v = (Decides-same v v).1 refl
-
 same_flags : (f : Flags) → differ f f ≡ false
 same_flags f = rw (eq-eqb f.0 f.0 refl) refl
 
 same_range : (c : Control) → range_differs c c ≡ false
 same_range c = rw (same_number c.minimum, same_number c.maximum, eq-eqb c.step c.step refl, same_number c.default_value) refl
+
+-- a value that is put at one place leaves those at the others
+pub stays_elsewhere : (values : Values) (c m : ℕ) (v : CtrlValue) → m ≢ c → not (is_same (value_at (slice_set values c v) m) (value_at values m)) ≡ false
+stays_elsewhere values c m v other = rw (get_or-set_other values c m v zero_value other, same_self (value_at values m)) refl
 
 -- where no pairs were applied, none acts on each write
 none_acts : (value acts : Bool) → (value || (acts && false)) ≡ value
@@ -84,7 +85,7 @@ pub nothing_outside : (plan : PlanData) (after : MomentData) (c d k : ℕ) (old 
 nothing_outside plan after c d k old value is own outside =
     let other : d ≢ c = λ same. false≢true (sym outside ∙ subst (λ (i : ℕ). list_any (nat_eq i) (members plan k) ≡ true) (sym same) (cluster_of_member plan c k own)) in
     let by_value : false ≡ not (is_same (value_at (slice_set after.values c value) d) (value_at after.values d)) =
-    rw (get_or-set_other after.values c d value zero_value other, same_value (value_at after.values d)) refl in
+    rw (get_or-set_other after.values c d value zero_value other, same_self (value_at after.values d)) refl in
     let by_flags : false ≡ differ (flags_under plan (slice_set after.values c value) after.grabs d) (flags_under plan after.values after.grabs d) =
     rw (inactive_stays plan after.values c d k value is own outside) (sym (same_flags (flags_under plan after.values after.grabs d))) in
     let by_range : false ≡ range_differs (control_in (modified after.ranges c old) d) (control_in after.ranges d) =

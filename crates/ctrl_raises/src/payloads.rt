@@ -4,7 +4,8 @@ ghost use Rattle.std.specs.Prelude.{◌≡◌, ◌<◌, length};
 ghost use Rattle.ctrl_types.specs.Flags.{contains};
 ghost use Rattle.ctrl_types.specs.declared.flags.TheConstants.Flags.{WRITE_ONLY};
 ghost use Rattle.ctrl_handlers.specs.Plan.{control as control_of};
-ghost use Rattle.ctrl_raises.specs.Raises.{initial_changes, payload_at};
+ghost use Rattle.ctrl_clusters.specs.Rows.{value_at};
+ghost use Rattle.ctrl_raises.specs.Raises.{initial_changes, payload_at, value_shown};
 
 use crate::moment::Moment;
 use bitflags::Flags as FlagSet;
@@ -13,10 +14,10 @@ use ctrl_clusters::flags_under;
 use ctrl_events::Payload;
 use ctrl_handlers::Plan;
 use ctrl_settle::Ctrl;
-use ctrl_types::{Changes, Flags};
+use ctrl_types::{Changes, CtrlValue, Flags};
 
 /// The payload of a control's event at a moment (Linux userspace API, "struct v4l2_event_ctrl"): the value is 0 where it can't be read (of this
-/// project).
+/// project), and of an array.
 ///
 /// - `plan`: what the device is built of.
 /// - `at`: the moment; the caller owes a range, a value and a grab for each control.
@@ -31,20 +32,27 @@ pub fn payload_at<D: Driver>(plan: &Plan<D>, at: &Moment, control: u32) -> Paylo
     ensures { result ≡ payload_at plan.now at.now control }
 {
     let ctrl = at.ranges.range(control);
-    let value = if is_unreadable(ctrl) {
-        0
-    } else {
-        at.values[control as usize].number()
-    };
     Payload {
         id: ctrl.id(),
         kind: ctrl.kind(),
-        value,
+        value: value_shown(ctrl, at.values, control),
         flags: flags_under(plan, at.values, at.grabs, control),
         minimum: ctrl.minimum(),
         maximum: ctrl.maximum(),
         step: ctrl.step(),
         default_value: ctrl.default_value(),
+    }
+}
+
+// The value of a control that its event shows.
+fn value_shown(ctrl: &Ctrl, values: &[CtrlValue], control: u32) -> i64
+    requires { control < length values.now }
+    ensures { result ≡ value_shown ctrl.now (value_at values.now control) }
+{
+    if is_unreadable(ctrl) {
+        0
+    } else {
+        values[control as usize].number()
     }
 }
 

@@ -42,7 +42,7 @@ pub fn raise_range<D: Driver>(
     after: &Moment,
     control: u32,
     old: &Ctrl,
-    old_value: CtrlValue,
+    old_value: &CtrlValue,
     events: &mut Events,
 )
     requires known { control < length plan.now.controls }
@@ -50,7 +50,7 @@ pub fn raise_range<D: Driver>(
     requires values { length after.now.values ≡ length plan.now.controls }
     requires grabs { length after.now.grabs ≡ length plan.now.controls }
     requires numbers { (j : ℕ) → (events_of events.old j).next + length plan.now.controls ≤ 4294967295 }
-    ensures { (j : ℕ) → events_of events.new j ≡ raised_all (changed_between plan.now (before_range after.now control old.now old_value) after.now []) (payload_at plan.now after.now)
+    ensures { (j : ℕ) → events_of events.new j ≡ raised_all (changed_between plan.now (before_range after.now control old.now old_value.now) after.now []) (payload_at plan.now after.now)
         (λ c. None) j (range_with_len 0 (length plan.now.controls)) (events_of events.old j) }
 {
     if events.is_empty() {
@@ -87,7 +87,7 @@ fn raise_member<D: Driver>(
     after: &Moment,
     control: u32,
     old: &Ctrl,
-    old_value: CtrlValue,
+    old_value: &CtrlValue,
     member: u32,
     events: &mut Events,
 )
@@ -97,7 +97,7 @@ fn raise_member<D: Driver>(
     requires values { length after.now.values ≡ length plan.now.controls }
     requires grabs { length after.now.grabs ≡ length plan.now.controls }
     requires numbers { (j : ℕ) → (events_of events.old j).next < 4294967295 }
-    ensures { (j : ℕ) → events_of events.new j ≡ raised_one (changed_between plan.now (before_range after.now control old.now old_value) after.now [] member) (payload_at plan.now after.now member)
+    ensures { (j : ℕ) → events_of events.new j ≡ raised_one (changed_between plan.now (before_range after.now control old.now old_value.now) after.now [] member) (payload_at plan.now after.now member)
         None j member (events_of events.old j) }
 {
     let changes = changes_with(plan, after, control, old, old_value, member);
@@ -115,7 +115,7 @@ fn changes_with<D: Driver>(
     after: &Moment,
     control: u32,
     old: &Ctrl,
-    old_value: CtrlValue,
+    old_value: &CtrlValue,
     member: u32,
 ) -> Changes
     requires known { control < length plan.now.controls }
@@ -123,7 +123,7 @@ fn changes_with<D: Driver>(
     requires ranges { length after.now.ranges ≡ length plan.now.controls }
     requires values { length after.now.values ≡ length plan.now.controls }
     requires grabs { length after.now.grabs ≡ length plan.now.controls }
-    ensures { result ≡ changed_between plan.now (before_range after.now control old.now old_value) after.now [] member }
+    ensures { result ≡ changed_between plan.now (before_range after.now control old.now old_value.now) after.now [] member }
 {
     changes_of(
         value_moves(after.values, control, old_value, member),
@@ -133,11 +133,15 @@ fn changes_with<D: Driver>(
 }
 
 // Whether the value of a member differs, where one control had another.
-fn value_moves(values: &[CtrlValue], control: u32, old_value: CtrlValue, member: u32) -> bool
+#[tactic(auto, using(crate::proofs::RangeLemmas::stays_elsewhere))]
+fn value_moves(values: &[CtrlValue], control: u32, old_value: &CtrlValue, member: u32) -> bool
     requires { control < length values.now }
-    ensures { result ≡ not (is_same (value_at (slice_set values.now control old_value) member) (value_at values.now member)) }
+    ensures { result ≡ not (is_same (value_at (slice_set values.now control old_value.now) member) (value_at values.now member)) }
 {
-    member == control && old_value != values[control as usize]
+    if member != control {
+        return false;
+    }
+    !old_value.is_same(&values[control as usize])
 }
 
 // Whether the flags of a member differ, where one control had another value.
@@ -145,16 +149,16 @@ fn flags_move<D: Driver>(
     plan: &Plan<D>,
     after: &Moment,
     control: u32,
-    old_value: CtrlValue,
+    old_value: &CtrlValue,
     member: u32,
 ) -> bool
     requires known { control < length plan.now.controls }
     requires member { member < length plan.now.controls }
     requires values { length after.now.values ≡ length plan.now.controls }
     requires grabs { length after.now.grabs ≡ length plan.now.controls }
-    ensures { result ≡ differ (flags_under plan.now (slice_set after.now.values control old_value) after.now.grabs member) (flags_under plan.now after.now.values after.now.grabs member) }
+    ensures { result ≡ differ (flags_under plan.now (slice_set after.now.values control old_value.now) after.now.grabs member) (flags_under plan.now after.now.values after.now.grabs member) }
 {
-    let old = flags_with(plan, after.values, after.grabs, control, old_value, member);
+    let old = flags_with(plan, after.values, after.grabs, control, *old_value, member);
     let new = flags_under(plan, after.values, after.grabs, member);
     old.bits() != new.bits()
 }

@@ -1,24 +1,22 @@
 -- Whether a control is well formed can be tested, and so its first fault can be found.
-use Rattle.std.proofs.Common.{◌≡◌, ℕ, ◌+◌, ◌-◌, ◌*◌, ◌/◌, ◌%◌, ◌<◌, ◌≤◌, ◌^◌, ℤ, pos, negsuc, ◌≤ℤ◌, ◌<ℤ◌, Bool, true, false, IsTrue, Ok, Err, Result, None, Some, refl, sym, subst, ◌∙◌, FitsSigned, w32, w64, ap, arith, int_le, int_lt, nat_lt, not, ◌&&◌, ◌||◌, ◌==◌, ◌⊎◌, ⊎_elim, inl, inr}
+use Rattle.std.proofs.Common.{Option, is_some, nat_le, ◌≡◌, ℕ, ◌+◌, ◌-◌, ◌*◌, ◌/◌, ◌%◌, ◌<◌, ◌≤◌, ◌^◌, ℤ, pos, negsuc, ◌≤ℤ◌, ◌<ℤ◌, Bool, true, false, IsTrue, Ok, Err, Result, None, Some, refl, sym, subst, ◌∙◌, FitsSigned, w32, w64, ap, arith, int_le, int_lt, nat_lt, not, ◌&&◌, ◌||◌, ◌==◌, ◌⊎◌, ⊎_elim, inl, inr}
 use Rattle.std.specs.Bool.{Decides}
 use Rattle.std.specs.Ordering.{int_eq}
 use Rattle.std.proofs.lemmas.Bool.{cases_Bool, cases_lt, and_parts, or_cases, not-true, not_from_false, eqb-true, ltb-true, both_ways}
 use Rattle.std.proofs.lemmas.Nat.{div-add-mod'}
-use Rattle.std.proofs.lemmas.Bool.Decides.{Decides-and, Decides-like, Decides-eqb, Decides-int_eq, not_from_Decides}
+use Rattle.std.proofs.lemmas.Bool.Decides.{Decides-and, Decides-like, Decides-eqb, Decides-int_eq, nat_tests, not_from_Decides}
 use Rattle.std.proofs.lemmas.Int.{ints, by_lt_z}
 use Rattle.ctrl_types.specs.Flags.{union, intersects}
-use Rattle.ctrl_types.proofs.ValueLemmas.{Decides-same}
-use Rattle.ctrl_types.specs.declared.value.CtrlValue.{CtrlValue}
 use Rattle.ctrl_types.specs.declared.errno.Errno.{Errno}
 use Rattle.ctrl_types.specs.declared.flags.Flags.{Flags}
 use Rattle.ctrl_types.specs.declared.flags.TheConstants.Flags.{GRABBED, INACTIVE}
 use Rattle.ctrl_types.specs.declared.kind.Kind.{Kind}
-use Rattle.ctrl_types.specs.declared.kind.Kind.TheVariants.{Integer, Boolean, Menu, Button, Integer64, Bitmask, IntegerMenu}
-use Rattle.ctrl_settle.specs.Control.{Control, default_of}
+use Rattle.ctrl_types.specs.declared.kind.Kind.TheVariants.{Integer, Boolean, Menu, Button, Integer64, Bitmask, IntegerMenu, U8}
+use Rattle.ctrl_settle.specs.Control.{Control}
 use Rattle.ctrl_settle.specs.Grid.{distance, IsOnGrid}
-use Rattle.ctrl_settle.specs.Settle.{settle, settle_as, as_number, IsSettled}
-use Rattle.ctrl_settle.specs.Faults.{has_grid, HasRange, HasItems, HasMask, HasBounds, CanSkip, CanDeclare, FitsKind, IsWellFormed, HasFault, IsFirstFault, turn_of}
-use Rattle.ctrl_settle.specs.FirstFault.{lies_between, has_range, has_items, has_mask, has_bounds, can_skip, can_declare, fits_kind, is_value, takes_default, first_fault}
+use Rattle.ctrl_settle.specs.Settle.{settle_as}
+use Rattle.ctrl_settle.specs.Faults.{has_grid, HasRange, HasItems, HasMask, HasBounds, HasElems, TakesDefault, CanSkip, CanDeclare, FitsKind, IsWellFormed, HasFault, IsFirstFault, turn_of}
+use Rattle.ctrl_settle.specs.FirstFault.{lies_between, has_range, has_items, has_mask, has_bounds, has_elems, can_skip, can_declare, fits_kind, is_number, takes_default, first_fault}
 use Rattle.ctrl_settle.proofs.Settling.{nearest-on_grid}
 use Rattle.ctrl_settle.specs.declared.fault.CtrlFault.{CtrlFault}
 use Rattle.ctrl_settle.specs.declared.fault.CtrlFault.TheVariants.{BadRange, ZeroStep, BadDefault, KindBounds}
@@ -84,6 +82,25 @@ Decides-has_bounds Bitmask c = Decides-has_mask c
 Decides-has_bounds Button c = Decides-has_range c (pos 0) (pos 0) 0
 Decides-has_bounds Menu c = Decides-has_items c
 Decides-has_bounds IntegerMenu c = Decides-has_items c
+Decides-has_bounds U8 c = Decides-and (int_le (pos 0) c.minimum) (int_le c.maximum (pos 255)) (Decides-int_le (pos 0) c.minimum) (Decides-int_le c.maximum (pos 255))
+
+Decides-nat_le : (m n : ℕ) → Decides (nat_le m n) (m ≤ n)
+Decides-nat_le m n = (λ e. grind (arith, nat_tests, e), λ h. grind (arith, nat_tests, h))
+
+Decides-none : (elems : Option ℕ) → Decides (not (is_some elems)) (elems ≡ None)
+Decides-none None = (λ e. refl, λ h. refl)
+Decides-none (Some n) = (λ e. absurd (cc), λ h. absurd (cc))
+
+Decides-has_elems : (kind : Kind) (elems : Option ℕ) → Decides (has_elems kind elems) (HasElems kind elems)
+Decides-has_elems U8 None = (λ e. absurd (cc), λ h. absurd h)
+Decides-has_elems U8 (Some n) = Decides-and (nat_le 1 n) (nat_le n 32) (Decides-nat_le 1 n) (Decides-nat_le n 32)
+Decides-has_elems Integer elems = Decides-none elems
+Decides-has_elems Integer64 elems = Decides-none elems
+Decides-has_elems Boolean elems = Decides-none elems
+Decides-has_elems Button elems = Decides-none elems
+Decides-has_elems Bitmask elems = Decides-none elems
+Decides-has_elems Menu elems = Decides-none elems
+Decides-has_elems IntegerMenu elems = Decides-none elems
 
 Decides-can_skip : (kind : Kind) (skip : ℕ) → Decides (can_skip kind skip) (CanSkip kind skip)
 Decides-can_skip Menu skip = (λ _. tt, λ _. refl)
@@ -93,6 +110,7 @@ Decides-can_skip Integer64 skip = Decides-eqb skip 0
 Decides-can_skip Boolean skip = Decides-eqb skip 0
 Decides-can_skip Bitmask skip = Decides-eqb skip 0
 Decides-can_skip Button skip = Decides-eqb skip 0
+Decides-can_skip U8 skip = Decides-eqb skip 0
 
 Decides-can_declare : (flags : Flags) → Decides (can_declare flags) (CanDeclare flags)
 Decides-can_declare flags = (λ e. not-true (intersects flags (union GRABBED INACTIVE)) e, λ h. not_from_false (intersects flags (union GRABBED INACTIVE)) h)
@@ -100,21 +118,22 @@ Decides-can_declare flags = (λ e. not-true (intersects flags (union GRABBED INA
 pub Decides-fits_kind : (c : Control) → Decides (fits_kind c) (FitsKind c)
 Decides-fits_kind c =
     Decides-like (fits_kind c)
-    (λ p. record { bounds = p.0; skip = p.1.0; flags = p.1.1 }) (λ h. (h.bounds, (h.skip, h.flags)))
-    (Decides-and (has_bounds c.kind c) (can_skip c.kind c.skip && can_declare c.flags) (Decides-has_bounds c.kind c)
-    (Decides-and (can_skip c.kind c.skip) (can_declare c.flags) (Decides-can_skip c.kind c.skip) (Decides-can_declare c.flags)))
+    (λ p. record { bounds = p.0; elems = p.1.0; skip = p.1.1.0; flags = p.1.1.1 }) (λ h. (h.bounds, (h.elems, (h.skip, h.flags))))
+    (Decides-and (has_bounds c.kind c) (has_elems c.kind c.elems && (can_skip c.kind c.skip && can_declare c.flags)) (Decides-has_bounds c.kind c)
+    (Decides-and (has_elems c.kind c.elems) (can_skip c.kind c.skip && can_declare c.flags) (Decides-has_elems c.kind c.elems)
+    (Decides-and (can_skip c.kind c.skip) (can_declare c.flags) (Decides-can_skip c.kind c.skip) (Decides-can_declare c.flags))))
 
 -- a test that decides a fact shows it, or that it doesn't hold
 yes_or_no : {P : Type 0} (b : Bool) → Decides b P → P ⊎ (¬ P)
 yes_or_no b d = ⊎_elim (λ (e : b ≡ true). inl (d.0 e)) (λ (e : b ≡ false). inr (not_from_Decides b d e)) (cases_Bool b)
 
-Decides-value : (v : CtrlValue) (r : Result CtrlValue Errno) → Decides (is_value v r) (r ≡ Ok v)
-Decides-value v (Ok w) = (λ e. ap Ok ((Decides-same w v).0 e), λ h. (Decides-same w v).1 (cc))
-Decides-value v (Err e) = (λ h. absurd (cc), λ h. absurd (cc))
+Decides-number : (v : ℤ) (r : Result ℤ Errno) → Decides (is_number v r) (r ≡ Ok v)
+Decides-number v (Ok w) = (λ e. ap Ok ((Decides-int_eq w v).0 e), λ h. (Decides-int_eq w v).1 (cc))
+Decides-number v (Err e) = (λ h. absurd (cc), λ h. absurd (cc))
 
--- whether an answer is this value
-answers : (r : Result CtrlValue Errno) (v : CtrlValue) → (r ≡ Ok v) ⊎ (¬ (r ≡ Ok v))
-answers r v = yes_or_no (is_value v r) (Decides-value v r)
+-- whether an answer is this number
+answers : (r : Result ℤ Errno) (v : ℤ) → (r ≡ Ok v) ⊎ (¬ (r ≡ Ok v))
+answers r v = yes_or_no (is_number v r) (Decides-number v r)
 
 -- each fault is the first where it holds and those before it don't
 first-bad_range : (c : Control) → HasFault c BadRange → IsFirstFault c BadRange
@@ -149,17 +168,17 @@ well_formed_or_first_fault c =
     by_lt_z c.maximum c.minimum (λ bad. inr (BadRange, first-bad_range c bad)) (λ in_order.
     let no_range : ¬ HasFault c BadRange = λ bad. omega (arith, ints) in
     ⊎_elim
-    (λ (zero_step : IsTrue (has_grid c.kind) × (c.step ≡ 0)). inr (ZeroStep, first-zero_step c zero_step no_range))
-    (λ (no_zero : ¬ (IsTrue (has_grid c.kind) × (c.step ≡ 0))).
+    (λ (zero_step : IsTrue (has_grid c.kind c.elems) × (c.step ≡ 0)). inr (ZeroStep, first-zero_step c zero_step no_range))
+    (λ (no_zero : ¬ (IsTrue (has_grid c.kind c.elems) × (c.step ≡ 0))).
     ⊎_elim
     (λ (fits : FitsKind c).
     ⊎_elim
-    (λ (settled : IsSettled c (default_of c)). inl (record { in_order = in_order; stepped = λ on. ⊎_elim (λ (none : c.step < 1). absurd (no_zero (on, omega arith))) (λ (some : 1 ≤ c.step). some) (cases_lt c.step 1); fits_kind = fits; default_settled = settled }))
-    (λ (unsettled : ¬ IsSettled c (default_of c)). inr (BadDefault, first-bad_default c unsettled no_range no_zero (λ no. no fits)))
-    (answers (settle c (default_of c)) (default_of c)))
+    (λ (settled : TakesDefault c). inl (record { in_order = in_order; stepped = λ on. ⊎_elim (λ (none : c.step < 1). absurd (no_zero (on, omega arith))) (λ (some : 1 ≤ c.step). some) (cases_lt c.step 1); fits_kind = fits; default_settled = settled }))
+    (λ (unsettled : ¬ TakesDefault c). inr (BadDefault, first-bad_default c unsettled no_range no_zero (λ no. no fits)))
+    (answers (settle_as c.kind c c.default_value) c.default_value))
     (λ (unfit : ¬ FitsKind c). inr (KindBounds, first-kind_bounds c unfit no_range no_zero))
     (yes_or_no (fits_kind c) (Decides-fits_kind c)))
-    (yes_or_no (has_grid c.kind && (c.step == 0)) (Decides-and (has_grid c.kind) (c.step == 0) (λ e. e, λ e. e) (Decides-eqb c.step 0))))
+    (yes_or_no (has_grid c.kind c.elems && (c.step == 0)) (Decides-and (has_grid c.kind c.elems) (c.step == 0) (λ e. e, λ e. e) (Decides-eqb c.step 0))))
 
 -- what doesn't hold is tested so, and what doesn't not hold
 no : {P : Type 0} (b : Bool) → Decides b P → (¬ P) → b ≡ false
@@ -174,8 +193,8 @@ double false d some = absurd (some (not_from_Decides false d refl))
 no_range : (c : Control) → (¬ HasFault c BadRange) → int_lt c.maximum c.minimum ≡ false
 no_range c h = no (int_lt c.maximum c.minimum) (Decides-int_lt c.maximum c.minimum) h
 
-no_zero : (c : Control) → (¬ HasFault c ZeroStep) → (has_grid c.kind && (c.step == 0)) ≡ false
-no_zero c h = no (has_grid c.kind && (c.step == 0)) (Decides-and (has_grid c.kind) (c.step == 0) (λ e. e, λ e. e) (Decides-eqb c.step 0)) h
+no_zero : (c : Control) → (¬ HasFault c ZeroStep) → (has_grid c.kind c.elems && (c.step == 0)) ≡ false
+no_zero c h = no (has_grid c.kind c.elems && (c.step == 0)) (Decides-and (has_grid c.kind c.elems) (c.step == 0) (λ e. e, λ e. e) (Decides-eqb c.step 0)) h
 
 no_bounds : (c : Control) → (¬ HasFault c KindBounds) → fits_kind c ≡ true
 no_bounds c h = double (fits_kind c) (Decides-fits_kind c) h
@@ -187,7 +206,7 @@ nothing_found c well =
       no_range c (λ bad. omega (arith, ints, well.in_order, bad)),
       no_zero c (λ bad. omega (arith, well.stepped bad.0, bad.1)),
       (Decides-fits_kind c).1 well.fits_kind,
-      (Decides-value (default_of c) (settle c (default_of c))).1 well.default_settled,
+      (Decides-number c.default_value (settle_as c.kind c c.default_value)).1 well.default_settled,
     )
     refl
 
@@ -195,7 +214,7 @@ nothing_found c well =
 pub fault_found : (c : Control) (f : CtrlFault) → IsFirstFault c f → first_fault c ≡ Some f
 fault_found c BadRange first = rw ((Decides-int_lt c.maximum c.minimum).1 first.holds) refl
 fault_found c ZeroStep first =
-    rw (no_range c (first.first BadRange (omega arith)), (Decides-and (has_grid c.kind) (c.step == 0) (λ e. e, λ e. e) (Decides-eqb c.step 0)).1 first.holds) refl
+    rw (no_range c (first.first BadRange (omega arith)), (Decides-and (has_grid c.kind c.elems) (c.step == 0) (λ e. e, λ e. e) (Decides-eqb c.step 0)).1 first.holds) refl
 fault_found c KindBounds first =
     rw (no_range c (first.first BadRange (omega arith)), no_zero c (first.first ZeroStep (omega arith)), no (fits_kind c) (Decides-fits_kind c) first.holds) refl
 fault_found c BadDefault first =
@@ -203,7 +222,7 @@ fault_found c BadDefault first =
       no_range c (first.first BadRange (omega arith)),
       no_zero c (first.first ZeroStep (omega arith)),
       no_bounds c (first.first KindBounds (omega arith)),
-      no (takes_default c) (Decides-value (default_of c) (settle c (default_of c))) first.holds,
+      no (takes_default c) (Decides-number c.default_value (settle_as c.kind c c.default_value)) first.holds,
     )
     refl
 
@@ -240,24 +259,20 @@ IsOnGrid-test c v e =
     let parts : distance v c.minimum / c.step * c.step + distance v c.minimum % c.step ≡ distance v c.minimum = div-add-mod' (distance v c.minimum) c.step in
     record { steps = (distance v c.minimum / c.step, omega (arith, ints)); within = (Decides-int_le v c.maximum).0 q.0 }
 
--- whether an answer is this number
-abbrev is_number : ℤ → Result ℤ Errno → Bool
-is_number v (Ok w) = int_eq w v
-is_number v (Err _) = false
-
 is_number-true : (r : Result ℤ Errno) (v : ℤ) → is_number v r ≡ true → r ≡ Ok v
-is_number-true (Ok w) v e = ap Ok ((Decides-int_eq w v).0 e)
-is_number-true (Err errno) v e = absurd (cc)
+is_number-true r v e = (Decides-number v r).0 e
 
 -- a control of this kind takes the value as it is
 abbrev takes : Kind → Control → ℤ → Bool
 takes Integer c v = is_on_grid c v
 takes Integer64 c v = is_on_grid c v
+takes U8 c v = is_on_grid c v
 takes kind c v = is_number v (settle_as kind c v)
 
 settled-test : (kind : Kind) (c : Control) (v : ℤ) → takes kind c v ≡ true → settle_as kind c v ≡ Ok v
 settled-test Integer c v e = ap Ok (nearest-on_grid c v (IsOnGrid-test c v e))
 settled-test Integer64 c v e = ap Ok (nearest-on_grid c v (IsOnGrid-test c v e))
+settled-test U8 c v e = ap Ok (nearest-on_grid c v (IsOnGrid-test c v e))
 settled-test Boolean c v e = is_number-true (settle_as Boolean c v) v e
 settled-test Button c v e = is_number-true (settle_as Button c v) v e
 settled-test Bitmask c v e = is_number-true (settle_as Bitmask c v) v e
@@ -267,21 +282,20 @@ settled-test IntegerMenu c v e = is_number-true (settle_as IntegerMenu c v) v e
 -- whether a control is well formed: for one that is written out, this computes
 abbrev pub is_well_formed : Control → Bool
 is_well_formed c =
-    int_le c.minimum c.maximum && ((not (has_grid c.kind) || nat_lt 0 c.step) && (fits_kind c && takes c.kind c c.default_value))
+    int_le c.minimum c.maximum && ((not (has_grid c.kind c.elems) || nat_lt 0 c.step) && (fits_kind c && takes c.kind c c.default_value))
 
 -- so `IsWellFormed-test c refl` shows it
 pub IsWellFormed-test : (c : Control) → is_well_formed c ≡ true → IsWellFormed c
-unfolding settle
 IsWellFormed-test c e =
-    let p = and_parts (int_le c.minimum c.maximum) ((not (has_grid c.kind) || nat_lt 0 c.step) && (fits_kind c && takes c.kind c c.default_value)) e in
-    let q = and_parts (not (has_grid c.kind) || nat_lt 0 c.step) (fits_kind c && takes c.kind c c.default_value) p.1 in
+    let p = and_parts (int_le c.minimum c.maximum) ((not (has_grid c.kind c.elems) || nat_lt 0 c.step) && (fits_kind c && takes c.kind c c.default_value)) e in
+    let q = and_parts (not (has_grid c.kind c.elems) || nat_lt 0 c.step) (fits_kind c && takes c.kind c c.default_value) p.1 in
     let r = and_parts (fits_kind c) (takes c.kind c c.default_value) q.1 in
     record {
       in_order = (Decides-int_le c.minimum c.maximum).0 p.0;
       stepped = λ on. ⊎_elim
-          (λ (off : not (has_grid c.kind) ≡ true). absurd (both_ways (has_grid c.kind) (not-true (has_grid c.kind) off) on))
+          (λ (off : not (has_grid c.kind c.elems) ≡ true). absurd (both_ways (has_grid c.kind c.elems) (not-true (has_grid c.kind c.elems) off) on))
           (λ (some : nat_lt 0 c.step ≡ true). ltb-true 0 c.step some)
-          (or_cases (not (has_grid c.kind)) (nat_lt 0 c.step) q.0);
+          (or_cases (not (has_grid c.kind c.elems)) (nat_lt 0 c.step) q.0);
       fits_kind = (Decides-fits_kind c).0 r.0;
-      default_settled = ap as_number (settled-test c.kind c c.default_value r.1);
+      default_settled = settled-test c.kind c c.default_value r.1;
     }

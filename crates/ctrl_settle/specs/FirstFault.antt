@@ -1,17 +1,16 @@
 -- The first fault of a control, by tests that compute: as the law `first_faults` says, the one that `IsFirstFault` speaks of (of this project).
-use Rattle.std.specs.Prelude.{ℕ, ◌-◌, ◌^◌, ◌==◌, ◌&&◌, ℤ, pos, negsuc, int_le, int_lt, Bool, true, false, not, if◌then◌else◌, Option, None, Some, Result, Ok, Err}
+use Rattle.std.specs.Prelude.{ℕ, ◌-◌, ◌^◌, ◌==◌, ◌&&◌, ℤ, pos, negsuc, int_le, int_lt, Bool, true, false, not, if◌then◌else◌, Option, None, Some, is_some, nat_le, Result, Ok, Err}
 use Rattle.std.specs.Ordering.{int_eq}
 use Rattle.ctrl_types.specs.Flags.{union, intersects}
-use Rattle.ctrl_types.specs.Values.{is_same}
 use Rattle.ctrl_types.specs.declared.value.CtrlValue.{CtrlValue}
 use Rattle.ctrl_types.specs.declared.errno.Errno.{Errno}
 use Rattle.ctrl_types.specs.declared.flags.Flags.{Flags}
 use Rattle.ctrl_types.specs.declared.flags.TheConstants.Flags.{GRABBED, INACTIVE}
 use Rattle.ctrl_types.specs.declared.kind.Kind.{Kind}
-use Rattle.ctrl_types.specs.declared.kind.Kind.TheVariants.{Integer, Boolean, Menu, Button, Integer64, Bitmask, IntegerMenu}
-use Rattle.ctrl_settle.specs.Control.{Control, default_of}
+use Rattle.ctrl_types.specs.declared.kind.Kind.TheVariants.{Integer, Boolean, Menu, Button, Integer64, Bitmask, IntegerMenu, U8}
+use Rattle.ctrl_settle.specs.Control.{Control}
 use Rattle.ctrl_settle.specs.Faults.{has_grid}
-use Rattle.ctrl_settle.specs.Settle.{settle}
+use Rattle.ctrl_settle.specs.Settle.{settle_as}
 use Rattle.ctrl_settle.specs.declared.fault.CtrlFault.{CtrlFault}
 use Rattle.ctrl_settle.specs.declared.fault.CtrlFault.TheVariants.{BadRange, ZeroStep, BadDefault, KindBounds}
 
@@ -44,6 +43,7 @@ has_bounds Bitmask c = has_mask c
 has_bounds Button c = has_range c (pos 0) (pos 0) 0
 has_bounds Menu c = has_items c
 has_bounds IntegerMenu c = has_items c
+has_bounds U8 c = int_le (pos 0) c.minimum && int_le c.maximum (pos 255)
 
 -- whether the kind may skip these items: only menus have any
 abbrev pub can_skip : Kind → ℕ → Bool
@@ -51,28 +51,34 @@ can_skip Menu skip = true
 can_skip IntegerMenu skip = true
 can_skip _ skip = skip == 0
 
+-- whether the kind may have so many elements
+abbrev pub has_elems : Kind → Option ℕ → Bool
+has_elems U8 None = false
+has_elems U8 (Some n) = nat_le 1 n && nat_le n 32
+has_elems _ elems = not (is_some elems)
+
 -- whether the flags may be declared
 abbrev pub can_declare : Flags → Bool
 can_declare flags = not (intersects flags (union GRABBED INACTIVE))
 
--- whether bounds, step, skipped items and flags are of the control's kind
+-- whether bounds, step, skipped items, elements and flags are of the control's kind
 abbrev pub fits_kind : Control → Bool
-fits_kind c = has_bounds c.kind c && (can_skip c.kind c.skip && can_declare c.flags)
+fits_kind c = has_bounds c.kind c && (has_elems c.kind c.elems && (can_skip c.kind c.skip && can_declare c.flags))
 
--- whether an answer is this value
-abbrev pub is_value : CtrlValue → Result CtrlValue Errno → Bool
-is_value v (Ok w) = is_same w v
-is_value v (Err _) = false
+-- whether an answer is this number
+abbrev pub is_number : ℤ → Result ℤ Errno → Bool
+is_number v (Ok w) = int_eq w v
+is_number v (Err _) = false
 
--- whether the control takes its default as it is
+-- whether the control, or each element of it, takes the default as it is
 abbrev pub takes_default : Control → Bool
-takes_default c = is_value (default_of c) (settle c (default_of c))
+takes_default c = is_number c.default_value (settle_as c.kind c c.default_value)
 
 -- the first fault of a control, in the order in which they are looked for; none where nothing is wrong with it
 abbrev pub first_fault : Control → Option CtrlFault
 first_fault c =
     if int_lt c.maximum c.minimum then Some BadRange
-    else if has_grid c.kind && (c.step == 0) then Some ZeroStep
+    else if has_grid c.kind c.elems && (c.step == 0) then Some ZeroStep
     else if not (fits_kind c) then Some KindBounds
     else if not (takes_default c) then Some BadDefault
     else None

@@ -1,15 +1,16 @@
 -- The value that a control takes for a value asked (Linux driver API, "V4L2 Controls", and Linux userspace API,
 -- "enum v4l2_ctrl_type").
-use Rattle.std.specs.Prelude.{◌≡◌, ℕ, ◌^◌, ℤ, pos, ◌||◌, Result, Ok, Err, bit_and, unsigned_abs, int_lt, ◌==◌, if◌then◌else◌}
+use Rattle.std.specs.Prelude.{◌≡◌, ℕ, ◌^◌, ℤ, pos, ◌||◌, Result, Ok, Err, bit_and, unsigned_abs, int_lt, ◌==◌, if◌then◌else◌, List, length, map, nat_eq, ◌≤ℤ◌}
 use Rattle.std.specs.Int.{bit_at, int_rem_euclid}
+use Rattle.std.specs.List.{All}
 use Rattle.std.specs.Ordering.{int_eq}
 use Rattle.ctrl_types.specs.declared.value.CtrlValue.{CtrlValue}
-use Rattle.ctrl_types.specs.declared.value.CtrlValue.TheVariants.{Number}
+use Rattle.ctrl_types.specs.declared.value.CtrlValue.TheVariants.{Number, Bytes}
 use Rattle.ctrl_types.specs.declared.errno.Errno.{Errno}
 use Rattle.ctrl_types.specs.declared.errno.Errno.TheVariants.{ERANGE, EINVAL}
 use Rattle.ctrl_types.specs.declared.kind.Kind.{Kind}
-use Rattle.ctrl_types.specs.declared.kind.Kind.TheVariants.{Integer, Boolean, Menu, Button, Integer64, Bitmask, IntegerMenu}
-use Rattle.ctrl_settle.specs.Control.{Control, default_of}
+use Rattle.ctrl_types.specs.declared.kind.Kind.TheVariants.{Integer, Boolean, Menu, Button, Integer64, Bitmask, IntegerMenu, U8}
+use Rattle.ctrl_settle.specs.Control.{Control, default_of, elems_of}
 use Rattle.ctrl_settle.specs.Grid.{nearest}
 
 -- the low 32 bits of a number in two's complement
@@ -27,7 +28,7 @@ item c v =
     else if bit_at c.skip (unsigned_abs v) == 1 then Err EINVAL
     else Ok v
 
--- what a control of a kind takes for the number v, or why it takes none
+-- what a control of a kind, or each element of it, takes for the number v, or why it takes none
 abbrev pub settle_as : Kind → Control → ℤ → Result ℤ Errno
 settle_as Integer c v = Ok (nearest c v)
 settle_as Integer64 c v = Ok (nearest c v)
@@ -36,15 +37,31 @@ settle_as Bitmask c v = Ok (masked c v)
 settle_as Button c v = Ok (pos 0)
 settle_as Menu c v = item c v
 settle_as IntegerMenu c v = item c v
+settle_as U8 c v = Ok (nearest c v)
 
 -- what was taken is a number
 abbrev pub as_number : Result ℤ Errno → Result CtrlValue Errno
 as_number (Ok v) = Ok (Number v)
 as_number (Err errno) = Err errno
 
+-- what each element of an array takes for a byte
+abbrev pub settled_byte : Control → ℕ → ℕ
+settled_byte c byte = unsigned_abs (nearest c (pos byte))
+
+-- what an array takes for bytes: as many as it has elements, each settled by itself; it takes no other number of them
+abbrev pub settle_bytes : Control → List ℕ → Result CtrlValue Errno
+settle_bytes c row = if nat_eq (length row) (elems_of c) then Ok (Bytes (map (settled_byte c) row)) else Err EINVAL
+
+-- what a control of a kind takes for a value: an array takes bytes alone, and every other kind numbers alone
+abbrev pub settle_value : Kind → Control → CtrlValue → Result CtrlValue Errno
+settle_value U8 c (Bytes row) = settle_bytes c row
+settle_value U8 c (Number v) = Err EINVAL
+settle_value kind c (Bytes row) = Err EINVAL
+settle_value kind c (Number v) = as_number (settle_as kind c v)
+
 -- the value that the control takes for another, or why it takes none
 unfoldable pub settle : Control → CtrlValue → Result CtrlValue Errno
-settle c (Number v) = as_number (settle_as c.kind c v)
+settle c v = settle_value c.kind c v
 
 -- the control takes v as it is
 abbrev pub IsSettled : Control → CtrlValue → Type 0
@@ -58,3 +75,8 @@ taken_or default_value (Err errno) = default_value
 -- The value that the control has for v, which may be one of another range: what it takes for v; where it takes none, its default.
 abbrev pub settled_anew : Control → CtrlValue → CtrlValue
 settled_anew c v = taken_or (default_of c) (settle c v)
+
+-- a value lies within the bounds of a control, and so does each element of an array, which has as many as the control says
+abbrev pub IsWithin : Control → CtrlValue → Type 0
+IsWithin c (Number v) = (c.minimum ≤ℤ v) × (v ≤ℤ c.maximum)
+IsWithin c (Bytes row) = (length row ≡ elems_of c) × All (λ b. (c.minimum ≤ℤ pos b) × (pos b ≤ℤ c.maximum)) row

@@ -2,7 +2,8 @@ ghost use Rattle.std.specs.Prelude.{◌≡◌, ◌↔◌, IsOk, IfOk, IfErr};
 ghost use Rattle.ctrl_settle.specs.Config.{control_of};
 ghost use Rattle.ctrl_settle.specs.Faults.{IsFirstFault, IsWellFormed};
 
-use crate::control::Ctrl;
+use crate::control::{Ctrl, flags_of};
+use crate::description::Description;
 use crate::fault::CtrlFault;
 use ctrl_types::{CtrlId, Flags, Kind};
 
@@ -28,26 +29,30 @@ pub struct CtrlConfig {
     pub flags: Flags,
     /// Whether handlers that add this control's handler leave it out.
     pub is_private: bool,
+    /// How many elements an array has, 1 to 32; `None` for every other kind.
+    pub elems: Option<u32>,
 }
 
 impl CtrlConfig {
-    /// The control that the fields describe, as `Ctrl::new` makes it of them. Its faults, of which the first is answered, are 1 `BadRange`,
-    /// 2 `ZeroStep`, 4 `KindBounds` and 3 `BadDefault`, in this order; nothing is made then.
+    /// The control that the fields describe, as `Ctrl::new` makes it of them, and `Ctrl::new_array` where the kind is `U8` and there are elements. Its faults, of which the
+    /// first is answered, are 1 `BadRange`, 2 `ZeroStep`, 4 `KindBounds` (also where an array has no elements here, or another kind has some) and 3 `BadDefault`, in this
+    /// order; nothing is made then.
     pub fn build(&self) -> Result<Ctrl, CtrlFault>
         ensures ok { IsOk result ↔ IsWellFormed (control_of self.now) }
         ensures value { IfOk result (λ c. c ≡ control_of self.now) }
         ensures fault { IfErr result (IsFirstFault (control_of self.now)) }
     {
-        Ctrl::new(
-            self.id,
-            self.kind,
-            self.minimum,
-            self.maximum,
-            self.step,
-            self.default_value,
-            self.skip,
-            self.flags,
-            self.is_private,
-        )
+        Ctrl::made(Description {
+            id: self.id,
+            kind: self.kind,
+            minimum: self.minimum,
+            maximum: self.maximum,
+            step: self.step,
+            default_value: self.default_value,
+            skip: self.skip,
+            flags: flags_of(self.kind, self.flags),
+            is_private: self.is_private,
+            elems: self.elems,
+        })
     }
 }

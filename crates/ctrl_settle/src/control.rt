@@ -1,5 +1,5 @@
 ghost use Rattle.std.specs.Prelude.{◌≡◌, ◌↔◌, IsOk, IfOk, IfErr};
-ghost use Rattle.ctrl_settle.specs.Control.{default_of, described, with_range};
+ghost use Rattle.ctrl_settle.specs.Control.{default_of, described, described_array, elems_of, flags_of, is_array, with_range};
 ghost use Rattle.ctrl_settle.specs.Faults.{IsFirstFault, IsWellFormed};
 ghost use Rattle.ctrl_settle.specs.Settle.{settle, settled_anew};
 
@@ -32,7 +32,7 @@ impl Ctrl {
     /// Makes a control of a driver's description (Linux driver API, "V4L2 Controls", "Custom Controls").
     ///
     /// - `id`: the number by which userspace asks for it; any.
-    /// - `kind`: what values it takes.
+    /// - `kind`: what values it takes; an array of bytes (`U8`) is made by `new_array`.
     /// - `minimum`, `maximum`: the least and the greatest value; of a `Bitmask` 0 and the mask.
     /// - `step`: how far the values of a number lie apart, 1 or more; 1 for a `Boolean` and the menus, 0 for a `Button`
     ///   and a `Bitmask`.
@@ -61,11 +61,7 @@ impl Ctrl {
         ensures fault { IfErr result (IsFirstFault
             (described id kind minimum maximum step default_value skip flags is_private)) }
     {
-        let flags = match kind {
-            Kind::Button => flags.union(Flags::WRITE_ONLY.union(Flags::EXECUTE_ON_WRITE)),
-            _ => flags,
-        };
-        let description = Description {
+        Ctrl::made(Description {
             id,
             kind,
             minimum,
@@ -73,14 +69,68 @@ impl Ctrl {
             step,
             default_value,
             skip,
-            flags,
+            flags: flags_of(kind, flags),
             is_private,
-        };
-        description.check()?;
-        Ok(Ctrl { description })
+            elems: None,
+        })
     }
 
-    /// The control with another range (Linux driver API, `v4l2_ctrl_modify_range`): its id, kind, flags, skipped items and whether it is private stay.
+    // The control that is described, where nothing is wrong with it.
+    pub(crate) fn made(description: Description) -> Result<Ctrl, CtrlFault>
+        ensures ok { IsOk result ↔ IsWellFormed description }
+        ensures value { IfOk result (λ c. c ≡ description) }
+        ensures fault { IfErr result (IsFirstFault description) }
+    {
+        match description.check() {
+            Ok(()) => Ok(Ctrl { description }),
+            Err(fault) => Err(fault),
+        }
+    }
+
+    /// Makes an array of bytes of a driver's description (Linux userspace API, "enum v4l2_ctrl_type", `V4L2_CTRL_TYPE_U8`; Linux driver API, "V4L2
+    /// Controls"; the limit of 32 elements is of this project).
+    ///
+    /// - `id`, `flags`, `is_private`: as of `new`.
+    /// - `elems`: how many elements it has, 1 to 32.
+    /// - `minimum`, `maximum`: the least and the greatest value of each element, within 0 to 255.
+    /// - `step`: how far these lie apart, 1 or more.
+    /// - `default_value`: what stands in each element at the start, a value that an element takes as it is.
+    ///
+    /// Refused by the checks 35, `BadRange` (1), 36, `ZeroStep` (2), 37, `KindBounds` (4), and 38, `BadDefault` (3), of docs/RULES.md, in this order
+    /// (of this project); nothing is made then.
+    pub fn new_array(
+        id: CtrlId,
+        elems: u32,
+        minimum: i64,
+        maximum: i64,
+        step: u64,
+        default_value: i64,
+        flags: Flags,
+        is_private: bool,
+    ) -> Result<Ctrl, CtrlFault>
+        ensures ok { IsOk result ↔ IsWellFormed
+            (described_array id elems minimum maximum step default_value flags is_private) }
+        ensures value { IfOk result (λ c. c ≡
+            described_array id elems minimum maximum step default_value flags is_private) }
+        ensures fault { IfErr result (IsFirstFault
+            (described_array id elems minimum maximum step default_value flags is_private)) }
+    {
+        Ctrl::made(Description {
+            id,
+            kind: Kind::U8,
+            minimum,
+            maximum,
+            step,
+            default_value,
+            skip: 0,
+            flags,
+            is_private,
+            elems: Some(elems),
+        })
+    }
+
+    /// The control with another range (Linux driver API, `v4l2_ctrl_modify_range`): its id, kind, flags, skipped items, number of
+    /// elements and whether it is private stay.
     ///
     /// - `minimum`, `maximum`: the least and the greatest value from then on; of a `Bitmask` 0 and the mask.
     /// - `step`: how far the values of a number lie apart, 1 or more; 1 for a `Boolean` and the menus, 0 for a `Button` and a `Bitmask`.
@@ -99,15 +149,13 @@ impl Ctrl {
         ensures value { IfOk result (λ c. c ≡ with_range self.now minimum maximum step default_value) }
         ensures fault { IfErr result (IsFirstFault (with_range self.now minimum maximum step default_value)) }
     {
-        let description = Description {
+        Ctrl::made(Description {
             minimum,
             maximum,
             step,
             default_value,
             ..self.description
-        };
-        description.check()?;
-        Ok(Ctrl { description })
+        })
     }
 
     /// The number by which userspace asks for the control.
@@ -167,6 +215,20 @@ impl Ctrl {
         self.description.skip
     }
 
+    /// Whether it is an array.
+    pub fn is_array(&self) -> bool
+        ensures { result ≡ is_array self.now }
+    {
+        self.description.elems.is_some()
+    }
+
+    /// How many elements its value has: 1 where it is no array (Linux userspace API, "struct v4l2_query_ext_ctrl").
+    pub fn elems(&self) -> u32
+        ensures { result ≡ elems_of self.now }
+    {
+        self.description.elems.unwrap_or(1)
+    }
+
     /// What holds of the control from the start, a button's own flags included (Linux userspace API, "Control Flags").
     pub fn flags(&self) -> Flags
         ensures { result ≡ self.now.flags }
@@ -183,14 +245,26 @@ impl Ctrl {
     }
 }
 
+// The flags of a control that is given these: a button has two of its own besides.
+pub(crate) fn flags_of(kind: Kind, flags: Flags) -> Flags
+    ensures { result ≡ flags_of kind flags }
+{
+    match kind {
+        Kind::Button => flags.union(Flags::WRITE_ONLY.union(Flags::EXECUTE_ON_WRITE)),
+        _ => flags,
+    }
+}
+
 /// The value that `control` takes when `value` is asked for, which may be any value (Linux driver API, "V4L2
 /// Controls"; the rounding is this project's).
 ///
 /// An `Integer` and an `Integer64` take the nearest of minimum, minimum + step, .. that isn't above the maximum, of two
 /// equally near the larger. A `Boolean` takes 1 for every number but 0, a `Bitmask` the bits of the number that are in
-/// its mask (two's complement), a `Button` 0, and a `Menu` and an `IntegerMenu` an index as it is.
+/// its mask (two's complement), a `Button` 0, and a `Menu` and an `IntegerMenu` an index as it is. An array of bytes (`U8`) takes as many bytes as it has elements, and each
+/// of them as an `Integer` takes a number.
 ///
-/// Refused, of a menu alone, by the checks 51 (ERANGE, 34) and 52 (EINVAL, 22) of docs/RULES.md, in this order.
+/// Refused by the check 57 (EINVAL, 22) of docs/RULES.md where an array is given a number or another count of bytes, or another control bytes; and, of a menu alone, by the
+/// checks 51 (ERANGE, 34) and 52 (EINVAL), in this order.
 pub fn settle(control: &Ctrl, value: CtrlValue) -> Result<CtrlValue, Errno>
     ensures settled { result ≡ settle control.now value }
     ensures well_formed { IsWellFormed control.now }

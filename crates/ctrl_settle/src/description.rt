@@ -1,12 +1,12 @@
-ghost use Rattle.std.specs.Prelude.{◌≡◌, ◌<◌, ◌≤ℤ◌, ◌↔◌, IsTrue, MatchResult};
-ghost use Rattle.ctrl_settle.specs.Control.{default_of};
-ghost use Rattle.ctrl_settle.specs.Faults.{FitsKind, HasBounds, HasItems, IsFirstFault, IsWellFormed, has_grid};
+ghost use Rattle.std.specs.Prelude.{◌≡◌, ◌<◌, ◌≤ℤ◌, ◌↔◌, pos, IsTrue, MatchResult};
+ghost use Rattle.ctrl_settle.specs.Control.{default_of, elems_of};
+ghost use Rattle.ctrl_settle.specs.Faults.{FitsKind, HasBounds, HasElems, HasItems, IsFirstFault, IsWellFormed, has_grid};
 ghost use Rattle.ctrl_settle.specs.Grid.{IsNearest, grid_value, nearest};
-ghost use Rattle.ctrl_settle.specs.Settle.{item, settle, settle_as};
+ghost use Rattle.ctrl_settle.specs.Settle.{item, settle, settle_as, settle_bytes, settled_byte};
 
 use crate::fault::CtrlFault;
 use bitflags::Flags as FlagSet;
-use ctrl_types::{CtrlId, CtrlValue, Errno, Flags, Kind};
+use ctrl_types::{ByteRow, CtrlId, CtrlValue, Errno, Flags, Kind};
 use std::marker::Model;
 
 /// What a driver says of a control, not checked yet.
@@ -21,6 +21,8 @@ pub struct Description {
     pub skip: u64,
     pub flags: Flags,
     pub is_private: bool,
+    // of an array alone
+    pub elems: Option<u32>,
 }
 
 impl Model for Description {
@@ -28,9 +30,9 @@ impl Model for Description {
 
     ghost Value = { Control };
 
-    ghost view = { λ d. record { id = d.id; kind = d.kind; minimum = d.minimum; maximum = d.maximum; step = d.step; default_value = d.default_value; skip = d.skip; flags = d.flags; is_private = d.is_private } };
+    ghost view = { λ d. record { id = d.id; kind = d.kind; minimum = d.minimum; maximum = d.maximum; step = d.step; default_value = d.default_value; skip = d.skip; flags = d.flags; is_private = d.is_private; elems = d.elems } };
 
-    ghost inverse = { λ c. record { id = c.id; kind = c.kind; minimum = c.minimum; maximum = c.maximum; step = c.step; default_value = c.default_value; skip = c.skip; flags = c.flags; is_private = c.is_private } };
+    ghost inverse = { λ c. record { id = c.id; kind = c.kind; minimum = c.minimum; maximum = c.maximum; step = c.step; default_value = c.default_value; skip = c.skip; flags = c.flags; is_private = c.is_private; elems = c.elems } };
 }
 
 impl Description {
@@ -47,17 +49,20 @@ impl Description {
         if !self.fits_kind() {
             return Err(CtrlFault::KindBounds);
         }
-        let usual = self.default_as_value();
-        if self.settle(usual) != Ok(usual) {
+        if self.settle_number(self.default_value) != Ok(self.default_value) {
             return Err(CtrlFault::BadDefault);
         }
         Ok(())
     }
 
     fn has_grid(&self) -> bool
-        ensures { result ≡ has_grid self.now.kind }
+        ensures { result ≡ has_grid self.now.kind self.now.elems }
     {
-        matches!(self.kind, Kind::Integer | Kind::Integer64)
+        match self.kind {
+            Kind::Integer | Kind::Integer64 => true,
+            Kind::U8 => self.elems.is_some(),
+            _ => false,
+        }
     }
 
     fn fits_kind(&self) -> bool
@@ -65,6 +70,7 @@ impl Description {
     {
         let can_skip = matches!(self.kind, Kind::Menu | Kind::IntegerMenu);
         self.has_bounds()
+            && self.has_elems()
             && (can_skip || self.skip == 0)
             && !self.flags.intersects(Flags::GRABBED.union(Flags::INACTIVE))
     }
@@ -82,41 +88,99 @@ impl Description {
             Kind::Bitmask => minimum == 0
                 && (1..=i64::from(u32::MAX)).contains(&maximum)
                 && step == 0,
+            Kind::U8 => minimum >= 0 && maximum <= 255,
+        }
+    }
+
+    fn has_elems(&self) -> bool
+        ensures { IsTrue result ↔ HasElems self.now.kind self.now.elems }
+    {
+        match (self.kind, self.elems) {
+            (Kind::U8, Some(elems)) => (1..=32).contains(&elems),
+            (Kind::U8, None) => false,
+            (_, elems) => elems.is_none(),
         }
     }
 
     /// The default, as a value.
     pub fn default_as_value(&self) -> CtrlValue
+        requires sound { IsWellFormed self.now }
         ensures { result ≡ default_of self.now }
     {
-        CtrlValue::Number(self.default_value)
+        match self.elems {
+            Some(elems) => CtrlValue::Bytes(ByteRow::repeated(
+                elems as usize,
+                self.default_value as u8,
+            )),
+            None => CtrlValue::Number(self.default_value),
+        }
     }
 
     /// The value that the control takes for `value`, or why it takes none.
     #[tactic(auto, unfolding(crate::specs::Settle::settle))]
     pub fn settle(&self, value: CtrlValue) -> Result<CtrlValue, Errno>
         requires in_order { self.now.minimum ≤ℤ self.now.maximum }
-        requires stepped { IsTrue (has_grid self.now.kind) → 0 < self.now.step }
+        requires stepped { IsTrue (has_grid self.now.kind self.now.elems) → 0 < self.now.step }
         requires bounds { HasBounds self.now.kind self.now }
+        requires elems { HasElems self.now.kind self.now.elems }
         ensures { result ≡ settle self.now value }
     {
-        match value {
-            CtrlValue::Number(number) => match self.settle_number(number) {
+        match (self.kind, value) {
+            (Kind::U8, CtrlValue::Bytes(row)) => self.settle_bytes(row),
+            (Kind::U8, CtrlValue::Number(_)) | (_, CtrlValue::Bytes(_)) => Err(Errno::EINVAL),
+            (_, CtrlValue::Number(number)) => match self.settle_number(number) {
                 Ok(taken) => Ok(CtrlValue::Number(taken)),
                 Err(errno) => Err(errno),
             },
         }
     }
 
+    /// How many elements its value has: 1 where it is no array.
+    pub fn elems_of(&self) -> usize
+        ensures { result ≡ elems_of self.now }
+    {
+        self.elems.unwrap_or(1) as usize
+    }
+
+    /// What an array takes for bytes, element by element.
+    fn settle_bytes(&self, row: ByteRow) -> Result<CtrlValue, Errno>
+        requires in_order { self.now.minimum ≤ℤ self.now.maximum }
+        requires stepped { 0 < self.now.step }
+        requires low { pos 0 ≤ℤ self.now.minimum }
+        requires high { self.now.maximum ≤ℤ pos 255 }
+        ensures { result ≡ settle_bytes self.now row }
+    {
+        if row.len() != self.elems_of() {
+            return Err(Errno::EINVAL);
+        }
+        let mut settled = row;
+        for place in 0..row.len() {
+            settled.set(place, self.settled_byte(row.byte(place)));
+        }
+        Ok(CtrlValue::Bytes(settled))
+    }
+
+    // What each element of an array takes for a byte.
+    fn settled_byte(&self, byte: u8) -> u8
+        requires in_order { self.now.minimum ≤ℤ self.now.maximum }
+        requires stepped { 0 < self.now.step }
+        requires low { pos 0 ≤ℤ self.now.minimum }
+        requires high { self.now.maximum ≤ℤ pos 255 }
+        ensures { result ≡ settled_byte self.now byte }
+    {
+        self.nearest(i64::from(byte)) as u8
+    }
+
     /// The number that the control takes for `number`, or why it takes none.
     fn settle_number(&self, number: i64) -> Result<i64, Errno>
         requires in_order { self.now.minimum ≤ℤ self.now.maximum }
-        requires stepped { IsTrue (has_grid self.now.kind) → 0 < self.now.step }
+        requires stepped { IsTrue (has_grid self.now.kind self.now.elems) → 0 < self.now.step }
         requires bounds { HasBounds self.now.kind self.now }
+        requires elems { HasElems self.now.kind self.now.elems }
         ensures { result ≡ settle_as self.now.kind self.now number }
     {
         match self.kind {
-            Kind::Integer | Kind::Integer64 => Ok(self.nearest(number)),
+            Kind::Integer | Kind::Integer64 | Kind::U8 => Ok(self.nearest(number)),
             Kind::Boolean => Ok(i64::from(number != 0)),
             Kind::Bitmask => Ok(number & self.maximum),
             Kind::Button => Ok(0),

@@ -14,8 +14,8 @@ pub enum CtrlFault {
     /// The control doesn't take its default as it is.
     #[error("the control does not take its default as it is")]
     BadDefault,
-    /// Bounds, step, skipped items or flags aren't of the control's kind.
-    #[error("bounds, step, skipped items or flags are not of the kind")]
+    /// Bounds, step, skipped items, elements or flags aren't of the control's kind.
+    #[error("bounds, step, skipped items, elements or flags are not of the kind")]
     KindBounds,
 }
 

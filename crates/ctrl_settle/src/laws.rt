@@ -1,14 +1,12 @@
 //! What follows from the definitions of settling. Each law is the contract of a function that does nothing.
 
-ghost use Rattle.std.specs.Prelude.{◌≡◌, ◌⊎◌, ◌↔◌, ℤ, ◌≤ℤ◌, FitsSigned, None, Some};
-ghost use Rattle.std.specs.Int.{w64};
-ghost use Rattle.ctrl_types.specs.Values.{number_of};
+ghost use Rattle.std.specs.Prelude.{◌≡◌, ◌⊎◌, ◌↔◌, ℤ, ◌≤ℤ◌, None, Some};
 ghost use Rattle.ctrl_types.specs.declared.value.CtrlValue.{CtrlValue};
 ghost use Rattle.ctrl_settle.specs.Control.{Control};
 ghost use Rattle.ctrl_settle.specs.Faults.{IsFirstFault, IsWellFormed};
 ghost use Rattle.ctrl_settle.specs.FirstFault.{first_fault};
 ghost use Rattle.ctrl_settle.specs.Grid.{IsNearest, nearest};
-ghost use Rattle.ctrl_settle.specs.Settle.{IsSettled, settle, settled_anew};
+ghost use Rattle.ctrl_settle.specs.Settle.{IsSettled, IsWithin, settle, settled_anew};
 ghost use Rattle.ctrl_settle.specs.declared.fault.CtrlFault.{CtrlFault};
 
 /// Where the minimum isn't above the maximum, each number has a nearest value of the grid, and `nearest` is one.
@@ -31,11 +29,9 @@ pub fn settled_anew_stays()
     ensures { (c : Control) (v : CtrlValue) → IsWellFormed c → IsSettled c (settled_anew c v) }
 {}
 
-/// What a control takes lies within its bounds, and so fits 64 bits.
+/// What a control takes lies within its bounds, and so does each element of what an array takes, which are as many as it has.
 pub fn settled_values_fit()
-    ensures within { (c : Control) (v w : CtrlValue) → IsWellFormed c → settle c v ≡ Ok w
-        → (c.minimum ≤ℤ number_of w) × (number_of w ≤ℤ c.maximum) }
-    ensures fits { (c : Control) (v w : CtrlValue) → IsWellFormed c → settle c v ≡ Ok w → FitsSigned w64 (number_of w) }
+    ensures { (c : Control) (v w : CtrlValue) → IsWellFormed c → settle c v ≡ Ok w → IsWithin c w }
 {}
 
 /// A control is well formed, or has a first fault: one of these alone, and one fault alone.

@@ -4,3 +4,4 @@ pub mod Flags
 pub mod Values
 pub mod Events
 pub mod Pairs
+pub mod Bytes

@@ -3,7 +3,7 @@ use Rattle.std.specs.Prelude.{ℕ}
 use Rattle.ctrl_types.specs.declared.errno.Errno.{Errno}
 use Rattle.ctrl_types.specs.declared.errno.Errno.TheVariants.{ENOENT, EBADF, ENOMEM, EACCES, EBUSY, EINVAL, ENOSPC, ERANGE}
 use Rattle.ctrl_types.specs.declared.kind.Kind.{Kind}
-use Rattle.ctrl_types.specs.declared.kind.Kind.TheVariants.{Integer, Boolean, Menu, Button, Integer64, Bitmask, IntegerMenu}
+use Rattle.ctrl_types.specs.declared.kind.Kind.TheVariants.{Integer, Boolean, Menu, Button, Integer64, Bitmask, IntegerMenu, U8}
 
 -- an error's number, as errno.h has it
 abbrev pub errno_number : Errno → ℕ
@@ -25,3 +25,4 @@ kind_number Button = 4
 kind_number Integer64 = 5
 kind_number Bitmask = 8
 kind_number IntegerMenu = 9
+kind_number U8 = 256

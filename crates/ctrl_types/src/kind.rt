@@ -17,6 +17,8 @@ pub enum Kind {
     Bitmask,
     /// The index of an item that is a number.
     IntegerMenu,
+    /// An array of bytes, each on a grid.
+    U8,
 }
 
 impl Kind {
@@ -34,6 +36,7 @@ impl Kind {
             Kind::Integer64 => 5,
             Kind::Bitmask => 8,
             Kind::IntegerMenu => 9,
+            Kind::U8 => 256,
         }
     }
 }

@@ -1,6 +1,7 @@
 //! The words of the control interface: ids, kinds, flags, lists, `which` and errors. Nothing here takes memory.
 #![tactic(auto)]
 
+mod bytes;
 mod changes;
 mod errno;
 mod flags;
@@ -11,6 +12,7 @@ mod sub_flags;
 mod value;
 mod which;
 
+pub use bytes::{ByteRow, MAX_ELEMENTS};
 pub use changes::{Changes, EVENT_CTRL};
 pub use errno::{Errno, Fault};
 pub use flags::Flags;

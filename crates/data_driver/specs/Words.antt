@@ -11,7 +11,7 @@ use Rattle.data_driver.specs.declared.word.Word.TheVariants.{Joined, Plus, Const
 abbrev pub low_bits : ℤ → ℕ
 low_bits value = unsigned_abs (int_rem_euclid value (pos (2 ^ 32)))
 
--- 256 times the low bits of one value and those of another; 0 where the row lacks one of them
+-- 256 times the low bits of one number and those of another; 0 where the row lacks one of them
 abbrev pub joined_word : Option ℤ → Option ℤ → ℕ
 joined_word (Some first) (Some second) = 256 * low_bits first + low_bits second
 joined_word _ _ = 0
@@ -21,7 +21,7 @@ abbrev pub or_zero : ℤ → ℕ
 or_zero (pos word) = word
 or_zero (negsuc _) = 0
 
--- a value and a number; 0 where the sum is below that, or the row lacks the member
+-- a member's number and another; 0 where the sum is below that, or the row lacks the member's
 abbrev pub plus : Option ℤ → ℤ → ℕ
 plus (Some value) more = or_zero (value +ℤ more)
 plus None more = 0

@@ -8,7 +8,7 @@ use crate::members::member;
 use ctrl_calls::{ClusterRow, Verdict};
 use ctrl_types::{CtrlValue, Errno};
 
-// All values together: eight values of 64 bits fit.
+// All numbers together: eight of 64 bits fit. An array adds nothing.
 pub(crate) fn sum_of_values(row: &ClusterRow) -> i128
     ensures { result ≡ total_of row.now }
 {

@@ -35,10 +35,11 @@ impl Excess {
 
 /// What a validator holds the values of a cluster's members to, as data (Linux driver API, "V4L2 Controls", "Control Clusters": `try_ctrl`
 /// and `s_ctrl`; the limits are of this project). A member is named by its place in the cluster, from 0 for the master to 7. Sums and
-/// products are exact. A row that lacks a member which the limit names is refused with EINVAL.
+/// products are exact. A row is refused with EINVAL where it lacks a member which the limit names, and where such a member is an array, which
+/// has no number.
 #[derive(Clone, Copy, Debug, PartialEq, Eq)]
 pub enum Limit {
-    /// All values together are at most this; else the row is refused with EINVAL.
+    /// All values together are at most this; else the row is refused with EINVAL. An array adds nothing.
     Sum {
         /// The most that the sum may be.
         most: i64,
@@ -156,8 +157,8 @@ impl Limit {
     }
 
     /// What the limit makes of a row (Linux driver API, "V4L2 Controls", "Control Clusters": `try_ctrl`). A row within the limit is accepted
-    /// as it is; another one is refused with EINVAL, or accepted with the value lowered. A row that lacks a member which the limit names is
-    /// refused with EINVAL.
+    /// as it is; another one is refused with EINVAL, or accepted with the value lowered. A row is refused with EINVAL where it lacks a member
+    /// which the limit names, and where such a member is an array.
     ///
     /// - `row`: the values of a cluster's members, in member order.
     pub fn verdict(self, row: &ClusterRow) -> Verdict

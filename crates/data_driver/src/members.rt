@@ -1,8 +1,9 @@
 ghost use Rattle.std.specs.Prelude.{◌≡◌, ◌<◌, [], ◌∷◌, length, IfSome};
-ghost use Rattle.data_driver.specs.Limits.{number_at};
+ghost use Rattle.data_driver.specs.Limits.{number_at, number_in};
 ghost use Rattle.data_driver.specs.Members.{missing, place_of};
 
 use ctrl_calls::ClusterRow;
+use ctrl_types::CtrlValue;
 use thiserror::Error;
 
 /// What is wrong with a limit or a word: it names a place outside its cluster (of this project).
@@ -15,16 +16,26 @@ pub struct NoMember {
     pub members: usize,
 }
 
-// The value of the member at a place, where the row has it.
+// The number of the member at a place, where the row has it and it is no array.
 pub(crate) fn member(row: &ClusterRow, place: u8) -> Option<i64>
     ensures value { result ≡ number_at row.now place }
     ensures within { IfSome result (λ _. place < length row.now) }
 {
     let place = usize::from(place);
     if place < row.len() {
-        Some(row.value(place).number())
+        number_of(row.value(place))
     } else {
         None
+    }
+}
+
+// The number that a value is; an array has none.
+fn number_of(value: CtrlValue) -> Option<i64>
+    ensures { result ≡ number_in value }
+{
+    match value {
+        CtrlValue::Number(number) => Some(number),
+        CtrlValue::Bytes(_) => None,
     }
 }
 

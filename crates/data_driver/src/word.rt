@@ -9,7 +9,7 @@ use ctrl_calls::{ClusterRow, Relation};
 
 /// What a notifier says of a row, as data (Linux driver API, "V4L2 Controls", "Adding Notify Callbacks"; that a word is answered, and which,
 /// is of this project). A member is named by its place in the cluster, from 0 for the master to 7. Of a row that lacks a member which it
-/// names, the word is 0.
+/// names, and of one where such a member is an array, which has no number, the word is 0.
 #[derive(Clone, Copy, Debug, PartialEq, Eq)]
 pub enum Word {
     /// 256 times one value and another, of each its low 32 bits in two's complement.
@@ -72,7 +72,7 @@ impl Word {
     }
 
     /// The word that is told of a row (Linux driver API, "V4L2 Controls", "Adding Notify Callbacks"); 0 where the row lacks a member that it
-    /// names.
+    /// names, or has an array there.
     ///
     /// - `row`: the values of a cluster's members, in member order.
     pub fn told(self, row: &ClusterRow) -> u64

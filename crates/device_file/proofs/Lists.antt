@@ -1,7 +1,7 @@
 -- Items and keys as lists.
-use Rattle.std.proofs.Common.{◌≡◌, ℕ, suc, ◌+◌, List, [], ◌∷◌, Bool, cond, not, length, map, position, BTreeMap, Global, String, string_bytes, refl, ap, sym, ◌∙◌}
+use Rattle.std.proofs.Common.{◌≡◌, ℕ, suc, ◌+◌, List, [], ◌∷◌, Bool, cond, not, ◌||◌, length, map, position, BTreeMap, Global, String, string_bytes, refl, ap, sym, ◌∙◌}
 use Rattle.std.specs.BTreeMap.{keys}
-use Rattle.std.specs.List.{prefix_len}
+use Rattle.std.specs.List.{list_any, prefix_len}
 use Rattle.std.specs.Map.{keys_of}
 use Rattle.toml.specs.Data.{Data}
 use Rattle.toml.specs.View.{items_of, members_view, table_view}
@@ -28,6 +28,11 @@ length_map f (x ∷ xs) = ap (λ (n : ℕ). suc n) (length_map f xs)
 
 pub position_map : {A B : Type 0} (p : B → Bool) (f : A → B) (xs : List A) → position p (map f xs) ≡ position (λ x. p (f x)) xs
 position_map p f xs = rw (prefix_len_map (λ y. not (p y)) f xs, length_map f xs) refl
+
+-- a test of what some values say
+pub any_map : {A B : Type 0} (p : B → Bool) (f : A → B) (xs : List A) → list_any p (map f xs) ≡ list_any (λ x. p (f x)) xs
+any_map p f [] = refl
+any_map p f (x ∷ xs) = ap (λ (b : Bool). p (f x) || b) (any_map p f xs)
 
 -- the first key that is none of these stands at the same place in both
 pub others_in : (known : List Key) (m : BTreeMap (String Global) Value) → position (λ key. not (is_key_of known (string_bytes key))) (keys m) ≡ position (λ text. not (is_key_of known text)) (keys_in (table_view m))

@@ -1,6 +1,7 @@
 -- The clusters of a file (Linux driver API, "V4L2 Controls", "Control Clusters").
-use Rattle.std.specs.Prelude.{ℕ, ◌+◌, ◌==◌, ◌||◌, nat_lt, if◌then◌else◌, ℤ, List, [], ◌∷◌, ◌++◌, length, Option, Some, None, is_some, Result, Ok, Err, ok_or, option_map}
-use Rattle.toml.specs.Data.{Data, Members, as_str}
+use Rattle.std.specs.Prelude.{ℕ, ◌+◌, ◌==◌, ◌&&◌, ◌||◌, Bool, true, false, nat_lt, if◌then◌else◌, ℤ, List, [], ◌∷◌, ◌++◌, length, Option, Some, None, is_some, Result, Ok, Err, ok_or, option_map}
+use Rattle.std.specs.List.{list_any}
+use Rattle.toml.specs.Data.{Data, Members, as_str, as_table}
 use Rattle.ctrl_calls.specs.declared.relation.Relations.{Relations}
 use Rattle.ctrl_calls.specs.declared.row.TheConstants.{MAX_MEMBERS}
 use Rattle.ctrl_handlers.specs.Builder.{cluster_refusal}
@@ -10,10 +11,11 @@ use Rattle.data_driver.specs.Members.{missing}
 use Rattle.data_driver.specs.Relations.{limit_relation, word_relation}
 use Rattle.data_driver.specs.declared.limit.Limit.{Limit}
 use Rattle.data_driver.specs.declared.word.Word.{Word}
+use Rattle.data_driver.specs.declared.word.Word.TheVariants.{Joined, Plus, Constant}
 use Rattle.script_lines.specs.ControlWords.{ControlWord, known_number}
 use Rattle.device_file.specs.Faults.{◌>>=◌, at_place, wrong, wrong_at}
-use Rattle.device_file.specs.Limits.{limit_of_table, word_of_table}
-use Rattle.device_file.specs.Reading.{elements_at, elements_in, number_in, table_in, table_with, value_at}
+use Rattle.device_file.specs.Limits.{limit_of_table, place_of_text, word_of_table}
+use Rattle.device_file.specs.Reading.{elements_at, elements_in, number_in, table_in, table_with, text_in, value_at}
 use Rattle.device_file.specs.Refusals.{cluster_fault, unless_refused}
 use Rattle.device_file.specs.declared.fault.FileFault.{FileFault}
 use Rattle.device_file.specs.declared.fault.KeyFault.{KeyFault}
@@ -27,27 +29,58 @@ use Rattle.device_file.specs.declared.problem.Sort.TheVariants as sorts
 abbrev pub cluster_keys : List Key
 cluster_keys = keys.Members ∷ keys.Manual ∷ keys.Limit ∷ keys.Told ∷ []
 
--- the limit of a cluster, where it has one
-abbrev pub limit_by : List Data → Option Data → Result (Option Limit) KeyFault
-limit_by names None = Ok None
-limit_by names (Some d) = do
+-- whether some of these values is the name
+abbrev pub is_among : List Data → Result (Option (List ℕ)) KeyFault → Bool
+is_among names (Ok (Some name)) = is_some (place_of_text name names)
+is_among names _ = false
+
+-- whether a control is an array, and some of these values its name; of controls that were taken the arrays are those whose tables give elements
+abbrev pub is_array_among : List Data → Option Members → Bool
+is_array_among names (Some control) = is_some (value_at keys.Elems control) && is_among names (text_in keys.Name control)
+is_array_among names None = false
+
+-- whether a handler has an array whose name is some of these values
+abbrev pub has_array_among : List Data → Option Members → Bool
+has_array_among names (Some handler) = list_any (λ control. is_array_among names (as_table control)) (elements_at keys.Control handler)
+has_array_among names None = false
+
+-- whether a handler of the file has one
+abbrev pub name_array : List Data → List Data → Bool
+name_array handlers names = list_any (λ handler. has_array_among names (as_table handler)) handlers
+
+-- that no member of a cluster is an array; its limit, or its word, may not be one's
+abbrev pub unless_array : Bool → Result (Unit {0}) KeyFault
+unless_array is_array = if is_array then Err (wrong keys.Kind problems.OfArray) else Ok tt
+
+-- the limit of a cluster, where it has one; no member is an array then
+abbrev pub limit_by : List Data → List Data → Option Data → Result (Option Limit) KeyFault
+limit_by handlers names None = Ok None
+limit_by handlers names (Some d) = do
   table ← table_in d
   limit ← limit_of_table names table
+  _ ← unless_array (name_array handlers names)
   Ok (Some limit)
 
-abbrev pub limit_in : Members → Result (Option Limit) KeyFault
-limit_in cluster = limit_by (elements_at keys.Members cluster) (value_at keys.Limit cluster)
+abbrev pub limit_in : List Data → Members → Result (Option Limit) KeyFault
+limit_in handlers cluster = limit_by handlers (elements_at keys.Members cluster) (value_at keys.Limit cluster)
 
--- what is told of a cluster, where something is
-abbrev pub word_by : List Data → Option Data → Result (Option Word) KeyFault
-word_by names None = Ok None
-word_by names (Some d) = do
+-- whether a word is of values
+abbrev pub is_of_values : Word → Bool
+is_of_values (Joined first second) = true
+is_of_values (Plus member more) = true
+is_of_values (Constant word) = false
+
+-- what is told of a cluster, where something is; where it is of values, no member is an array
+abbrev pub word_by : List Data → List Data → Option Data → Result (Option Word) KeyFault
+word_by handlers names None = Ok None
+word_by handlers names (Some d) = do
   table ← table_in d
   word ← word_of_table names table
+  _ ← unless_array (is_of_values word && name_array handlers names)
   Ok (Some word)
 
-abbrev pub word_in : Members → Result (Option Word) KeyFault
-word_in cluster = word_by (elements_at keys.Members cluster) (value_at keys.Told cluster)
+abbrev pub word_in : List Data → Members → Result (Option Word) KeyFault
+word_in handlers cluster = word_by handlers (elements_at keys.Members cluster) (value_at keys.Told cluster)
 
 -- the number of the control that an element of `members` names
 abbrev pub number_named : List ControlWord → ℕ → Option (List ℕ) → Result ℕ KeyFault
@@ -83,7 +116,7 @@ calls_of limit word = record { validator = option_map limit_relation limit; noti
 abbrev pub with_members : PlanData → List ℕ → Option ℤ → Option Limit → Option Word → Result PlanData KeyFault
 with_members plan members manual limit word =
     if is_some (missing (length members) (places_named limit word)) then Err (wrong keys.Members problems.UnknownMember)
-    else unless_refused cluster_fault (cluster_refusal plan members) (with_cluster plan members manual (calls_of limit word))
+    else unless_refused cluster_fault (cluster_refusal plan members manual) (with_cluster plan members manual (calls_of limit word))
 
 -- a plan with the cluster of a table, which has this limit and this word
 abbrev pub with_calls : List ControlWord → PlanData → Members → Option Limit → Option Word → Result PlanData KeyFault
@@ -92,17 +125,17 @@ with_calls words plan cluster limit word = do
   members ← members_in words cluster
   with_members plan members manual limit word
 
--- a plan with the cluster of this number
-abbrev pub with_cluster_of : List ControlWord → PlanData → ℕ → Data → Result PlanData FileFault
-with_cluster_of words plan number value = do
+-- a plan with the cluster of this number; these are the handlers of the file
+abbrev pub with_cluster_of : List Data → List ControlWord → PlanData → ℕ → Data → Result PlanData FileFault
+with_cluster_of handlers words plan number value = do
   cluster ← at_place (places.Cluster number) (table_with cluster_keys value)
-  limit ← at_place (places.Limit number) (limit_in cluster)
-  word ← at_place (places.Told number) (word_in cluster)
+  limit ← at_place (places.Limit number) (limit_in handlers cluster)
+  word ← at_place (places.Told number) (word_in handlers cluster)
   at_place (places.Cluster number) (with_calls words plan cluster limit word)
 
 -- a plan with the clusters that some values describe, from this number on
-abbrev pub with_clusters : List ControlWord → PlanData → ℕ → List Data → Result PlanData FileFault
-with_clusters words plan number [] = Ok plan
-with_clusters words plan number (v ∷ vs) = do
-  more ← with_cluster_of words plan number v
-  with_clusters words more (number + 1) vs
+abbrev pub with_clusters : List Data → List ControlWord → PlanData → ℕ → List Data → Result PlanData FileFault
+with_clusters handlers words plan number [] = Ok plan
+with_clusters handlers words plan number (v ∷ vs) = do
+  more ← with_cluster_of handlers words plan number v
+  with_clusters handlers words more (number + 1) vs

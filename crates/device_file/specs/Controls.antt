@@ -6,14 +6,14 @@ use Rattle.toml.specs.Data.{Data, Members, as_integer, as_str}
 use Rattle.ctrl_types.specs.declared.flags.Flags.{Flags}
 use Rattle.ctrl_types.specs.declared.ids.CtrlId.{CtrlId}
 use Rattle.ctrl_types.specs.declared.kind.Kind.{Kind}
-use Rattle.ctrl_types.specs.declared.kind.Kind.TheVariants.{Integer, Boolean, Menu, Button, Integer64, Bitmask, IntegerMenu}
+use Rattle.ctrl_types.specs.declared.kind.Kind.TheVariants.{Integer, Boolean, Menu, Button, Integer64, Bitmask, IntegerMenu, U8}
 use Rattle.ctrl_settle.specs.Control.{Control, described}
-use Rattle.ctrl_settle.specs.FirstFault.{can_skip, first_fault}
+use Rattle.ctrl_settle.specs.FirstFault.{can_skip, first_fault, has_elems}
 use Rattle.ctrl_settle.specs.declared.fault.CtrlFault.{CtrlFault}
 use Rattle.ctrl_settle.specs.declared.fault.CtrlFault.TheVariants.{BadRange, ZeroStep, BadDefault, KindBounds}
 use Rattle.device_file.specs.Faults.{◌>>=◌, wrong, wrong_at}
 use Rattle.device_file.specs.Names.{flag_named, kind_named}
-use Rattle.device_file.specs.Reading.{elements_at, elements_in, needed_number_in, needed_text_in, number_or_in, truth_in}
+use Rattle.device_file.specs.Reading.{elements_at, elements_in, needed_number_in, needed_text_in, number_in, number_or_in, truth_in}
 use Rattle.device_file.specs.declared.fault.KeyFault.{KeyFault}
 use Rattle.device_file.specs.declared.key.Key.{Key}
 use Rattle.device_file.specs.declared.key.Key.TheVariants as keys
@@ -55,6 +55,7 @@ abbrev pub usual_maximum : Kind → ℤ → ℤ
 usual_maximum Boolean last = pos 1
 usual_maximum Menu last = last
 usual_maximum IntegerMenu last = last
+usual_maximum U8 last = pos 255
 usual_maximum _ last = pos 0
 
 -- the step where a table has none
@@ -68,6 +69,18 @@ abbrev pub step_in : Kind → Members → Result ℕ KeyFault
 step_in kind table = do
   number ← number_or_in keys.Step (pos (usual_step kind)) table
   ok_or (natural number) (wrong keys.Step problems.Negative)
+
+-- how many elements a table gives an array; none where it doesn't say
+abbrev pub elems_of_number : Option ℤ → Result (Option ℕ) KeyFault
+elems_of_number None = Ok None
+elems_of_number (Some number) = do
+  elems ← ok_or (in_32_bits number) (wrong keys.Elems problems.NotWord)
+  Ok (Some elems)
+
+abbrev pub elems_in : Members → Result (Option ℕ) KeyFault
+elems_in table = do
+  number ← number_in keys.Elems table
+  elems_of_number number
 
 -- these bits, and those of some elements of a key's array, the first of which has this place; each has to be one
 abbrev pub bits_from : (Data → Option ℕ) → Key → Problem → ℕ → ℕ → List Data → Result ℕ KeyFault
@@ -109,6 +122,11 @@ flags_in table = do
   bits ← flag_bits_of elements
   Ok (flags_with bits)
 
+-- the control that these describe, with so many elements
+abbrev pub described_with : CtrlId → Kind → ℤ → ℤ → ℕ → ℤ → Option ℕ → ℕ → Flags → Bool → Control
+described_with id kind minimum maximum step default_value elems skip flags is_private =
+    record (described id kind minimum maximum step default_value skip flags is_private) { elems = elems }
+
 -- what a table says of a control, key by key
 abbrev pub description_in : Members → Result Control KeyFault
 description_in table = do
@@ -118,10 +136,11 @@ description_in table = do
   maximum ← number_or_in keys.Max (usual_maximum kind (last_item table)) table
   step ← step_in kind table
   default_value ← number_or_in keys.Default (pos 0) table
+  elems ← elems_in table
   skip ← skip_in table
   flags ← flags_in table
   is_private ← truth_in keys.Private table
-  Ok (described id kind minimum maximum step default_value skip flags is_private)
+  Ok (described_with id kind minimum maximum step default_value elems skip flags is_private)
 
 -- the numbers from one to another
 pub record Range : Type 0 where
@@ -140,6 +159,7 @@ minimums Integer = range (negsuc (2 ^ 31 - 1)) (pos (2 ^ 31 - 1))
 minimums Integer64 = range (negsuc (2 ^ 63 - 1)) (pos (2 ^ 63 - 1))
 minimums Menu = range (pos 0) (pos 63)
 minimums IntegerMenu = range (pos 0) (pos 63)
+minimums U8 = range (pos 0) (pos 255)
 minimums _ = range (pos 0) (pos 0)
 
 -- and as maximum
@@ -148,19 +168,26 @@ maximums Boolean = range (pos 1) (pos 1)
 maximums Bitmask = range (pos 1) (pos (2 ^ 32 - 1))
 maximums kind = minimums kind
 
--- The first of skip, minimum and maximum that isn't of the control's type; the step where these are. The flags are never the fault: a file names none that come and go.
-abbrev pub misfit : Control → Key
+-- what is wrong where there are more elements, or fewer, than a type has
+abbrev pub wrong_elems : Kind → Problem
+wrong_elems U8 = problems.NotOfType U8
+wrong_elems _ = problems.OnlyArrays
+
+-- The first of skip, elements, minimum and maximum that isn't of the control's type; the step where these are. The flags are never the fault: a file names none that come
+-- and go.
+abbrev pub misfit : Control → KeyFault
 misfit c =
-    if not (can_skip c.kind c.skip) then keys.Skip
-    else if not (lies_in (minimums c.kind) c.minimum) then keys.Min
-    else if not (lies_in (maximums c.kind) c.maximum) then keys.Max
-    else keys.Step
+    if not (can_skip c.kind c.skip) then wrong keys.Skip (problems.NotOfType c.kind)
+    else if not (has_elems c.kind c.elems) then wrong keys.Elems (wrong_elems c.kind)
+    else if not (lies_in (minimums c.kind) c.minimum) then wrong keys.Min (problems.NotOfType c.kind)
+    else if not (lies_in (maximums c.kind) c.maximum) then wrong keys.Max (problems.NotOfType c.kind)
+    else wrong keys.Step (problems.NotOfType c.kind)
 
 -- which key a control's fault is of, and what is wrong there
 abbrev pub said_of : Control → CtrlFault → KeyFault
 said_of c BadRange = wrong keys.Min problems.BadRange
 said_of c ZeroStep = wrong keys.Step problems.ZeroStep
-said_of c KindBounds = wrong (misfit c) (problems.NotOfType c.kind)
+said_of c KindBounds = misfit c
 said_of c BadDefault = wrong keys.Default problems.BadDefault
 
 -- a control, unless it has a fault

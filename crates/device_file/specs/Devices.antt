@@ -1,6 +1,6 @@
 -- What a file comes to: a device, or its first fault (of this project).
 use Rattle.std.specs.Prelude.{◌≡◌, ◌<◌, ◌≤◌, ◌⊎◌, ℕ, IsUtf8, List, [], ◌∷◌, length, Option, Some, None, option_map, Result, Ok, Err}
-use Rattle.toml.specs.Data.{Members}
+use Rattle.toml.specs.Data.{Data, Members}
 use Rattle.toml.specs.Parse.{parse_document}
 use Rattle.toml.specs.declared.de.error.Error.{Error}
 use Rattle.ctrl_handlers.specs.Plan.{finished, no_plan}
@@ -22,11 +22,11 @@ use Rattle.device_file.specs.declared.problem.Sort.TheVariants as sorts
 abbrev pub file_keys : List Key
 file_keys = keys.Handler ∷ keys.Cluster ∷ []
 
--- a device with the clusters of a file
-abbrev pub with_clusters_of : Members → DeviceData → Result DeviceData FileFault
-with_clusters_of file d = do
+-- a device with the clusters of a file, whose handlers are these
+abbrev pub with_clusters_of : List Data → Members → DeviceData → Result DeviceData FileFault
+with_clusters_of handlers file d = do
   tables ← at_place places.File (elements_in keys.Cluster sorts.Tables file)
-  plan ← with_clusters d.words d.plan 0 tables
+  plan ← with_clusters handlers d.words d.plan 0 tables
   Ok (device plan d.words)
 
 -- a device whose plan is finished: each control that is in no cluster is one of its own
@@ -39,7 +39,7 @@ device_of file = do
   _ ← at_place places.File (no_others_in file_keys file)
   tables ← at_place places.File (elements_in keys.Handler sorts.Tables file)
   handlers ← with_handlers [] (device no_plan []) 0 tables
-  clusters ← with_clusters_of file handlers
+  clusters ← with_clusters_of tables file handlers
   Ok (finished_device clusters)
 
 -- the same of a text; nothing, where it isn't TOML

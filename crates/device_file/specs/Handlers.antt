@@ -104,7 +104,8 @@ with_built plan h table ctrl = do
 -- the keys of a control
 abbrev pub control_keys : List Key
 control_keys =
-    keys.Name ∷ keys.Id ∷ keys.Type ∷ keys.Min ∷ keys.Max ∷ keys.Step ∷ keys.Default ∷ keys.Flags ∷ keys.Menu ∷ keys.Skip ∷ keys.Private ∷ []
+    keys.Name ∷ keys.Id ∷ keys.Type ∷ keys.Min ∷ keys.Max ∷ keys.Step ∷ keys.Default ∷ keys.Elems ∷ keys.Flags ∷ keys.Menu ∷ keys.Skip ∷ keys.Private
+    ∷ []
 
 -- these words, and behind them that of a control
 abbrev pub with_word : List ControlWord → List ℕ → Control → ℕ → List ControlWord

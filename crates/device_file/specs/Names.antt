@@ -2,7 +2,7 @@
 use Rattle.std.specs.Prelude.{ℕ, List, Option, Some, None, codes, if◌then◌else◌}
 use Rattle.std.specs.Str.{bytes_eq}
 use Rattle.ctrl_types.specs.declared.kind.Kind.{Kind}
-use Rattle.ctrl_types.specs.declared.kind.Kind.TheVariants.{Integer, Boolean, Menu, Button, Integer64, Bitmask, IntegerMenu}
+use Rattle.ctrl_types.specs.declared.kind.Kind.TheVariants.{Integer, Boolean, Menu, Button, Integer64, Bitmask, IntegerMenu, U8}
 
 -- the type that a text names
 abbrev pub kind_named : List ℕ → Option Kind
@@ -14,6 +14,7 @@ kind_named text =
     else if bytes_eq text (codes "integer64") then Some Integer64
     else if bytes_eq text (codes "bitmask") then Some Bitmask
     else if bytes_eq text (codes "integer_menu") then Some IntegerMenu
+    else if bytes_eq text (codes "u8") then Some U8
     else None
 
 -- the bit of the flag that a text names; SLIDER and MODIFY_LAYOUT are kept and mean nothing here

@@ -1,7 +1,7 @@
 -- What a plan builder's refusals are in a file.
 use Rattle.std.specs.Prelude.{ℕ, Option, Some, None, Result, Ok, Err}
 use Rattle.ctrl_handlers.specs.declared.fault.PlanFault.{PlanFault}
-use Rattle.ctrl_handlers.specs.declared.fault.PlanFault.TheVariants.{ClusterSize, DuplicateId, Limit, Memory}
+use Rattle.ctrl_handlers.specs.declared.fault.PlanFault.TheVariants.{ArrayAlone, ClusterSize, DuplicateId, Limit, Memory}
 use Rattle.device_file.specs.Faults.{wrong, wrong_at}
 use Rattle.device_file.specs.declared.fault.KeyFault.{KeyFault}
 use Rattle.device_file.specs.declared.fault.ReadError.{ReadError}
@@ -40,4 +40,5 @@ item_fault index _ = wrong_at keys.Menu index problems.NoItem
 -- a further cluster
 abbrev pub cluster_fault : PlanFault → KeyFault
 cluster_fault ClusterSize = wrong keys.Members problems.ClusterSize
+cluster_fault ArrayAlone = wrong keys.Members problems.ArrayAlone
 cluster_fault _ = wrong keys.Members problems.InCluster

@@ -1,36 +1,44 @@
 //! The clusters of a file.
 
-ghost use Rattle.std.specs.Prelude.{◌≡◌, ◌++◌, [], ◌∷◌, map, Ok, IfOk, IfErr};
+ghost use Rattle.std.specs.Prelude.{◌≡◌, ◌++◌, [], ◌∷◌, map, None, Ok, IfOk, IfErr};
+ghost use Rattle.std.specs.List.{list_any};
+ghost use Rattle.ctrl_handlers.specs.Builder.{cluster_refusal, IsRefusedBy};
+ghost use Rattle.ctrl_handlers.specs.Plan.{with_cluster};
+ghost use Rattle.toml.specs.Data.{as_table};
 ghost use Rattle.toml.specs.View.{view, table_view};
-ghost use Rattle.device_file.specs.Clusters.{limit_in as cluster_limit, members_in as cluster_members, number_by, numbers_with, with_calls, with_cluster_of, with_clusters, with_members, word_in as cluster_word};
+ghost use Rattle.device_file.specs.Clusters.{has_array_among, is_among, is_array_among, is_of_values, limit_in as cluster_limit, members_in as cluster_members, name_array, number_by, numbers_with, unless_array, with_calls, with_cluster_of, with_clusters, with_members, word_in as cluster_word};
 ghost use Rattle.device_file.specs.Faults.{FileStops, Stops};
+ghost use Rattle.device_file.specs.Reading.{text_in};
 ghost use Rattle.device_file.specs.declared.fault.ReadError.TheVariants.{Memory};
+ghost use Rattle.device_file.specs.declared.key.Key.TheVariants as keys;
 
 use crate::fault::{FileFault, KeyFault, ReadError};
 use crate::key::Key;
-use crate::limits::{limit_of, word_of};
+use crate::limits::{limit_of, place_of, word_of};
 use crate::place::Place;
 use crate::problem::{Problem, Sort};
-use crate::reading::{elements, elements_of, find, number, table, table_with};
+use crate::reading::{elements, elements_of, find, number, table, table_with, text};
 use crate::refusals::refused_cluster;
-use ctrl_handlers::PlanBuilder;
+use ctrl_calls::Calls;
+use ctrl_handlers::{PlanBuilder, PlanFault};
 use data_driver::{Data, Limit, Word, data_calls};
 use script_lines::ControlWords;
 use std::alloc::Global;
 use toml::{Table, Value};
 
-// Adds the clusters that these values describe; the controls have these words.
+// Adds the clusters that these values describe; the handlers of the file are these, and the controls have these words.
 pub(crate) fn add_clusters(
     alloc: Global,
     builder: &mut PlanBuilder<Data>,
+    handlers: &[Value],
     tables: &[Value],
     words: &ControlWords,
 ) -> Result<(), FileFault>
-    ensures ok { IfOk result (λ _. with_clusters words.now builder.old 0 (map view tables.now) ≡ Ok builder.new) }
-    ensures err { IfErr result (FileStops (with_clusters words.now builder.old 0 (map view tables.now))) }
+    ensures ok { IfOk result (λ _. with_clusters (map view handlers.now) words.now builder.old 0 (map view tables.now) ≡ Ok builder.new) }
+    ensures err { IfErr result (FileStops (with_clusters (map view handlers.now) words.now builder.old 0 (map view tables.now))) }
 {
     for number in 0..tables.len() {
-        add_cluster(alloc, builder, number, &tables[number], words)?;
+        add_cluster(alloc, builder, handlers, number, &tables[number], words)?;
     }
     Ok(())
 }
@@ -39,12 +47,13 @@ pub(crate) fn add_clusters(
 fn add_cluster(
     alloc: Global,
     builder: &mut PlanBuilder<Data>,
+    handlers: &[Value],
     number: usize,
     value: &Value,
     words: &ControlWords,
 ) -> Result<(), FileFault>
-    ensures ok { IfOk result (λ _. with_cluster_of words.now builder.old number (view value.now) ≡ Ok builder.new) }
-    ensures err { IfErr result (FileStops (with_cluster_of words.now builder.old number (view value.now))) }
+    ensures ok { IfOk result (λ _. with_cluster_of (map view handlers.now) words.now builder.old number (view value.now) ≡ Ok builder.new) }
+    ensures err { IfErr result (FileStops (with_cluster_of (map view handlers.now) words.now builder.old number (view value.now))) }
 {
     let place = Place::Cluster(number);
     let keys = &[Key::Members, Key::Manual, Key::Limit, Key::Told];
@@ -52,11 +61,11 @@ fn add_cluster(
         Ok(cluster) => cluster,
         Err(fault) => return Err(fault.at(place)),
     };
-    let limit = match limit_in(cluster) {
+    let limit = match limit_in(handlers, cluster) {
         Ok(limit) => limit,
         Err(fault) => return Err(fault.at(Place::Limit(number))),
     };
-    let word = match word_in(cluster) {
+    let word = match word_in(handlers, cluster) {
         Ok(word) => word,
         Err(fault) => return Err(fault.at(Place::Told(number))),
     };
@@ -66,27 +75,107 @@ fn add_cluster(
     }
 }
 
-fn limit_in(cluster: &Table) -> Result<Option<Limit>, KeyFault>
-    ensures { result ≡ cluster_limit (table_view cluster.now) }
+// The limit of a cluster, where it has one. No member is an array then.
+fn limit_in(handlers: &[Value], cluster: &Table) -> Result<Option<Limit>, KeyFault>
+    ensures { result ≡ cluster_limit (map view handlers.now) (table_view cluster.now) }
 {
     match find(cluster, Key::Limit) {
         None => Ok(None),
         Some(value) => {
-            let limit = limit_of(table(value)?, elements_of(cluster, Key::Members))?;
+            let members = elements_of(cluster, Key::Members);
+            let limit = limit_of(table(value)?, members)?;
+            no_array(name_array_of(handlers, members))?;
             Ok(Some(limit))
         }
     }
 }
 
-fn word_in(cluster: &Table) -> Result<Option<Word>, KeyFault>
-    ensures { result ≡ cluster_word (table_view cluster.now) }
+// What is told of a cluster, where something is. Where it is made of values, no member is an array.
+fn word_in(handlers: &[Value], cluster: &Table) -> Result<Option<Word>, KeyFault>
+    ensures { result ≡ cluster_word (map view handlers.now) (table_view cluster.now) }
 {
     match find(cluster, Key::Told) {
         None => Ok(None),
         Some(value) => {
-            let word = word_of(table(value)?, elements_of(cluster, Key::Members))?;
+            let members = elements_of(cluster, Key::Members);
+            let word = word_of(table(value)?, members)?;
+            no_array(is_made_of_values(word) && name_array_of(handlers, members))?;
             Ok(Some(word))
         }
+    }
+}
+
+// That what is asked for isn't an array's.
+fn no_array(is_array: bool) -> Result<(), KeyFault>
+    ensures { result ≡ unless_array is_array }
+{
+    if is_array {
+        Err(KeyFault::new(Key::Kind, Problem::OfArray))
+    } else {
+        Ok(())
+    }
+}
+
+fn is_made_of_values(word: Word) -> bool
+    ensures { result ≡ is_of_values word }
+{
+    match word {
+        Word::Joined { .. } => true,
+        Word::Plus { .. } => true,
+        Word::Constant(_) => false,
+    }
+}
+
+// Whether some of these values is the name of an array of these handlers.
+fn name_array_of(handlers: &[Value], names: &[Value]) -> bool
+    ensures { result ≡ name_array (map view handlers.now) (map view names.now) }
+{
+    some_has_array(handlers, names)
+}
+
+fn some_has_array(handlers: &[Value], names: &[Value]) -> bool
+    ensures { result ≡ list_any (λ handler. has_array_among (map view names.now) (as_table (view handler))) handlers.now }
+{
+    handlers.iter().any(|handler| has_array(handler, names))
+}
+
+fn has_array(handler: &Value, names: &[Value]) -> bool
+    ensures { result ≡ has_array_among (map view names.now) (as_table (view handler.now)) }
+{
+    match handler.as_table() {
+        Some(handler) => have_array(elements_of(handler, Key::Control), names),
+        None => false,
+    }
+}
+
+// Whether some of these controls is an array, and some of these values its name.
+fn have_array(controls: &[Value], names: &[Value]) -> bool
+    ensures { result ≡ list_any (λ control. is_array_among (map view names.now) (as_table control)) (map view controls.now) }
+{
+    some_is_array(controls, names)
+}
+
+fn some_is_array(controls: &[Value], names: &[Value]) -> bool
+    ensures { result ≡ list_any (λ control. is_array_among (map view names.now) (as_table (view control))) controls.now }
+{
+    controls.iter().any(|control| is_array(control, names))
+}
+
+fn is_array(control: &Value, names: &[Value]) -> bool
+    ensures { result ≡ is_array_among (map view names.now) (as_table (view control.now)) }
+{
+    match control.as_table() {
+        Some(control) => find(control, Key::Elems).is_some() && is_name_among(control, names),
+        None => false,
+    }
+}
+
+fn is_name_among(control: &Table, names: &[Value]) -> bool
+    ensures { result ≡ is_among (map view names.now) (text_in keys.Name (table_view control.now)) }
+{
+    match text(control, Key::Name) {
+        Ok(Some(name)) => place_of(names, name).is_some(),
+        _ => false,
     }
 }
 
@@ -177,12 +266,28 @@ fn put_cluster(
     let Ok(calls) = data_calls(members.len(), limit, word) else {
         return Err(ReadError::Key(KeyFault::new(Key::Members, Problem::UnknownMember)));
     };
+    match name_cluster(builder, members, manual, calls) {
+        Ok(()) => Ok(()),
+        Err(fault) => Err(refused_cluster(fault)),
+    }
+}
+
+// Adds a cluster, which is an auto cluster where it has a manual value.
+fn name_cluster(
+    builder: &mut PlanBuilder<Data>,
+    members: &[u32],
+    manual: Option<i64>,
+    calls: Calls<Data>,
+) -> Result<(), PlanFault>
+    ensures ok { IfOk result (λ _. (cluster_refusal builder.old members.now manual ≡ None) × (builder.new ≡ with_cluster builder.old members.now manual calls)) }
+    ensures err { IfErr result (IsRefusedBy (cluster_refusal builder.old members.now manual)) }
+{
     let added = match manual {
         Some(manual) => builder.auto_cluster(members, manual, calls),
         None => builder.cluster(members, calls),
     };
     match added {
         Ok(_) => Ok(()),
-        Err((_, fault)) => Err(refused_cluster(fault)),
+        Err((_, fault)) => Err(fault),
     }
 }

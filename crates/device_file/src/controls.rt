@@ -6,14 +6,14 @@ ghost use Rattle.std.specs.Result.{result_map_both};
 ghost use Rattle.toml.specs.View.{view, table_view};
 ghost use Rattle.ctrl_settle.specs.Config.{control_of};
 ghost use Rattle.ctrl_settle.specs.Faults.{CanDeclare, IsWellFormed};
-ghost use Rattle.ctrl_settle.specs.FirstFault.{can_skip};
-ghost use Rattle.device_file.specs.Controls.{bit_at, control_at, description_in, flag_bits_of, flag_of, flags_in, id_in, is_sayable, kind_in, last_item, lies_in, maximums, minimums, misfit, divides, name_at, range, said_of, skip_bits_of, skip_in, skipped, step_in, usual_maximum, usual_step};
+ghost use Rattle.ctrl_settle.specs.FirstFault.{can_skip, has_elems};
+ghost use Rattle.device_file.specs.Controls.{bit_at, control_at, description_in, elems_in, flag_bits_of, flag_of, flags_in, id_in, is_sayable, kind_in, last_item, lies_in, maximums, minimums, misfit, divides, name_at, range, said_of, skip_bits_of, skip_in, skipped, step_in, usual_maximum, usual_step, wrong_elems};
 
 use crate::fault::KeyFault;
 use crate::key::Key;
 use crate::names::{flag_named, kind_named};
 use crate::problem::{Problem, Sort};
-use crate::reading::{elements, elements_of, needed_number, needed_text, number_or, truth};
+use crate::reading::{elements, elements_of, needed_number, needed_text, number, number_or, truth};
 use bitflags::Flags as FlagSet;
 use ctrl_settle::{Ctrl, CtrlConfig, CtrlFault};
 use ctrl_types::{CtrlId, Flags, Kind};
@@ -28,6 +28,7 @@ pub(crate) const CONTROL_KEYS: &[Key] = &[
     Key::Max,
     Key::Step,
     Key::Default,
+    Key::Elems,
     Key::Flags,
     Key::Menu,
     Key::Skip,
@@ -53,23 +54,26 @@ fn fault_of(config: &CtrlConfig, fault: CtrlFault) -> KeyFault
     match fault {
         CtrlFault::BadRange => KeyFault::new(Key::Min, Problem::BadRange),
         CtrlFault::ZeroStep => KeyFault::new(Key::Step, Problem::ZeroStep),
-        CtrlFault::KindBounds => KeyFault::new(wrong_key(config), Problem::NotOfType(config.kind)),
+        CtrlFault::KindBounds => misfit_of(config),
         CtrlFault::BadDefault => KeyFault::new(Key::Default, Problem::BadDefault),
     }
 }
 
-// The first of skip, min and max that isn't of the type; step where these are.
-fn wrong_key(config: &CtrlConfig) -> Key
+// The first of skip, elems, min and max that isn't of the type; step where these are.
+fn misfit_of(config: &CtrlConfig) -> KeyFault
     ensures { result ≡ misfit (control_of config.now) }
 {
+    let problem = Problem::NotOfType(config.kind);
     if !skip_fits(config.kind, config.skip) {
-        Key::Skip
+        KeyFault::new(Key::Skip, problem)
+    } else if !elems_fit(config.kind, config.elems) {
+        KeyFault::new(Key::Elems, elems_problem(config.kind))
     } else if !minimum_fits(config) {
-        Key::Min
+        KeyFault::new(Key::Min, problem)
     } else if !maximum_fits(config) {
-        Key::Max
+        KeyFault::new(Key::Max, problem)
     } else {
-        Key::Step
+        KeyFault::new(Key::Step, problem)
     }
 }
 
@@ -80,6 +84,27 @@ fn skip_fits(kind: Kind, skip: u64) -> bool
         Kind::Menu => true,
         Kind::IntegerMenu => true,
         _ => skip == 0,
+    }
+}
+
+// Whether a type has so many elements: an array 1 to 32, and another control none.
+fn elems_fit(kind: Kind, elems: Option<u32>) -> bool
+    ensures { result ≡ has_elems kind elems }
+{
+    match (kind, elems) {
+        (Kind::U8, Some(elems)) => 1 <= elems && elems <= 32,
+        (Kind::U8, None) => false,
+        (_, elems) => elems.is_none(),
+    }
+}
+
+// What is wrong where it hasn't so many.
+fn elems_problem(kind: Kind) -> Problem
+    ensures { result ≡ wrong_elems kind }
+{
+    match kind {
+        Kind::U8 => Problem::NotOfType(Kind::U8),
+        _ => Problem::OnlyArrays,
     }
 }
 
@@ -106,6 +131,7 @@ fn minimums_of(kind: Kind) -> (i64, i64)
         Kind::Integer64 => (i64::MIN, i64::MAX),
         Kind::Menu => (0, 63),
         Kind::IntegerMenu => (0, 63),
+        Kind::U8 => (0, 255),
         _ => (0, 0),
     }
 }
@@ -131,6 +157,7 @@ fn config_in(table: &Table) -> Result<CtrlConfig, KeyFault>
     let maximum = number_or(table, Key::Max, maximum_of(kind, last_of(table)))?;
     let step = step_of(table, kind)?;
     let default_value = number_or(table, Key::Default, 0)?;
+    let elems = elems_of(table)?;
     let skip = skip_of(table)?;
     let flags = flags_of(table)?;
     let is_private = truth(table, Key::Private)?;
@@ -144,6 +171,7 @@ fn config_in(table: &Table) -> Result<CtrlConfig, KeyFault>
         skip,
         flags,
         is_private,
+        elems,
     })
 }
 
@@ -183,6 +211,7 @@ fn maximum_of(kind: Kind, last: i64) -> i64
         Kind::Boolean => 1,
         Kind::Menu => last,
         Kind::IntegerMenu => last,
+        Kind::U8 => 255,
         _ => 0,
     }
 }
@@ -205,6 +234,19 @@ fn step_of(table: &Table, kind: Kind) -> Result<u64, KeyFault>
     match u64::try_from(number_or(table, Key::Step, usual_step_of(kind))?) {
         Ok(step) => Ok(step),
         Err(_) => Err(KeyFault::new(Key::Step, Problem::Negative)),
+    }
+}
+
+// How many elements an array has; none where the table doesn't say.
+fn elems_of(table: &Table) -> Result<Option<u32>, KeyFault>
+    ensures { result ≡ elems_in (table_view table.now) }
+{
+    match number(table, Key::Elems)? {
+        None => Ok(None),
+        Some(number) => match u32::try_from(number) {
+            Ok(elems) => Ok(Some(elems)),
+            Err(_) => Err(KeyFault::new(Key::Elems, Problem::NotWord)),
+        },
     }
 }
 

@@ -1,5 +1,5 @@
-ghost use Rattle.std.specs.Prelude.{◌≡◌, Ok, IfOk, IfErr};
-ghost use Rattle.toml.specs.View.{table_view};
+ghost use Rattle.std.specs.Prelude.{◌≡◌, map, Ok, IfOk, IfErr};
+ghost use Rattle.toml.specs.View.{table_view, view};
 ghost use Rattle.device_file.specs.Devices.{Describes, IsRefusedWith, device_of, with_clusters_of};
 ghost use Rattle.device_file.specs.Faults.{FileStops};
 ghost use Rattle.device_file.specs.Handlers.{device};
@@ -15,7 +15,7 @@ use ctrl_handlers::{Plan, PlanBuilder};
 use data_driver::Data;
 use script_lines::ControlWords;
 use std::alloc::Global;
-use toml::Table;
+use toml::{Table, Value};
 
 /// How many bytes a device file has at most (of this project).
 pub const MAX_FILE: usize = 1_048_576;
@@ -69,25 +69,26 @@ fn device_in(alloc: Global, file: &Table) -> Result<DeviceFile, FileFault>
     let mut builder = PlanBuilder::new(alloc);
     let mut words = ControlWords::new(alloc);
     add_handlers(alloc, &mut builder, tables, &mut words)?;
-    add_clusters_of(alloc, &mut builder, file, &words)?;
+    add_clusters_of(alloc, &mut builder, tables, file, &words)?;
     match builder.finish() {
         Ok(plan) => Ok(DeviceFile { plan, words }),
         Err(_) => Err(FileFault::Memory),
     }
 }
 
-// Adds the clusters of a file, whose controls have these words.
+// Adds the clusters of a file, whose handlers are these, and whose controls have these words.
 fn add_clusters_of(
     alloc: Global,
     builder: &mut PlanBuilder<Data>,
+    handlers: &[Value],
     file: &Table,
     words: &ControlWords,
 ) -> Result<(), FileFault>
-    ensures ok { IfOk result (λ _. with_clusters_of (table_view file.now) (device builder.old words.now) ≡ Ok (device builder.new words.now)) }
-    ensures err { IfErr result (FileStops (with_clusters_of (table_view file.now) (device builder.old words.now))) }
+    ensures ok { IfOk result (λ _. with_clusters_of (map view handlers.now) (table_view file.now) (device builder.old words.now) ≡ Ok (device builder.new words.now)) }
+    ensures err { IfErr result (FileStops (with_clusters_of (map view handlers.now) (table_view file.now) (device builder.old words.now))) }
 {
     match elements(file, Key::Cluster, Sort::Tables) {
-        Ok(tables) => add_clusters(alloc, builder, tables, words),
+        Ok(tables) => add_clusters(alloc, builder, handlers, tables, words),
         Err(fault) => Err(fault.at(Place::File)),
     }
 }

@@ -30,6 +30,8 @@ pub enum Key {
     Step,
     /// `default`, of a control.
     Default,
+    /// `elems`, of a control: how many elements an array has.
+    Elems,
     /// `flags`, of a control.
     Flags,
     /// `menu`, of a control.
@@ -88,6 +90,7 @@ impl Key {
             Key::Max => "max",
             Key::Step => "step",
             Key::Default => "default",
+            Key::Elems => "elems",
             Key::Flags => "flags",
             Key::Menu => "menu",
             Key::Skip => "skip",

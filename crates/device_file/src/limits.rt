@@ -169,7 +169,7 @@ fn member_of(table: &Table, key: Key, members: &[Value]) -> Result<u8, KeyFault>
 }
 
 // The place of a text among these values.
-fn place_of(values: &[Value], word: &str) -> Option<usize>
+pub(crate) fn place_of(values: &[Value], word: &str) -> Option<usize>
     ensures { result ≡ place_of_text word.now (map view values.now) }
 {
     for place in 0..values.len() {

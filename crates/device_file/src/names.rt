@@ -30,6 +30,9 @@ pub(crate) fn kind_named(text: &str) -> Option<Kind>
     if text == "integer_menu" {
         return Some(Kind::IntegerMenu);
     }
+    if text == "u8" {
+        return Some(Kind::U8);
+    }
     None
 }
 

@@ -71,8 +71,10 @@ pub enum Problem {
     BadRange,
     /// The step of a number is 0.
     ZeroStep,
-    /// Bounds, step or skipped items aren't of the control's type.
+    /// Bounds, step, skipped items or elements aren't of the control's type.
     NotOfType(Kind),
+    /// A control has elements, and isn't of an array's type.
+    OnlyArrays,
     /// The control doesn't take its default as it is.
     BadDefault,
     /// An item is neither a text nor a number.
@@ -85,6 +87,10 @@ pub enum Problem {
     ClusterSize,
     /// A member is in a cluster already, or named twice.
     InCluster,
+    /// An array isn't the only member of its cluster, or the cluster has a manual value.
+    ArrayAlone,
+    /// A limit, or a word that is made of values, has an array among its members.
+    OfArray,
 }
 
 impl fmt::Display for Sort {
@@ -112,6 +118,7 @@ fn taken(kind: Kind) -> &'static str {
             "a bitmask has min 0, as max its mask of 1 to 32 bits, step 0, and nothing to skip"
         }
         Kind::Menu | Kind::IntegerMenu => "a menu has min and max from 0 to 63, and step 1",
+        Kind::U8 => "a u8 has 1 to 32 elems, min and max from 0 to 255, and nothing to skip",
     }
 }
 
@@ -132,7 +139,7 @@ impl Problem {
             Problem::UnknownControl => "no control has this name",
             Problem::UnknownMember => "no member of this cluster has this name",
             Problem::UnknownType => {
-                "has to be integer, boolean, menu, button, integer64, bitmask or integer_menu"
+                "has to be integer, boolean, menu, button, integer64, bitmask, integer_menu or u8"
             }
             Problem::UnknownFlag => {
                 "has to name disabled, read_only, update, slider, write_only, execute_on_write or modify_layout"
@@ -147,6 +154,7 @@ impl Problem {
             Problem::IdTaken => "the handler has another control of this id",
             Problem::BadRange => "min lies above max",
             Problem::ZeroStep => "the step of a number is 1 or more",
+            Problem::OnlyArrays => "only a u8 has elems",
             Problem::BadDefault =>
                 "the control doesn't take it as it is: it has to lie from min to max, on a step, and not be skipped; left out it is 0",
             Problem::NotItem => "an item is a name or a number",
@@ -154,6 +162,8 @@ impl Problem {
             Problem::LongItem => "the name of an item has at most 32 bytes",
             Problem::ClusterSize => "a cluster has 1 to 8 members",
             Problem::InCluster => "a member is in a cluster already, or named twice",
+            Problem::ArrayAlone => "an array is alone in its cluster, which has no manual value",
+            Problem::OfArray => "an array has no such limit or word",
             Problem::Syntax(_) | Problem::Not(_) | Problem::NotOfType(_) => "",
         }
     }

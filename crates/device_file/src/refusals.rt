@@ -58,6 +58,7 @@ pub(crate) fn refused_cluster(fault: PlanFault) -> ReadError
     match fault {
         PlanFault::Memory => ReadError::Memory,
         PlanFault::ClusterSize => ReadError::Key(KeyFault::new(Key::Members, Problem::ClusterSize)),
+        PlanFault::ArrayAlone => ReadError::Key(KeyFault::new(Key::Members, Problem::ArrayAlone)),
         _ => ReadError::Key(KeyFault::new(Key::Members, Problem::InCluster)),
     }
 }

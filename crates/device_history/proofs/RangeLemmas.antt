@@ -107,7 +107,7 @@ ranges_add plan steps e = ap (ranges_now plan) (past_add steps e) ∙ ranges_mor
 -- a step leaves them controls of their plan
 after_own : (plan : PlanData) (step : Step) (controls : List Control) → AreControlsOf plan controls → AreControlsOf plan (ranges_after step controls)
 after_own plan (steps.ModifyRange c low high apart default_value) controls own =
-    modified_stay controls c (with_range (control_in controls c) low high apart default_value) (record { id = refl; kind = refl; flags = refl; skip = refl }) plan own
+    modified_stay controls c (with_range (control_in controls c) low high apart default_value) (record { id = refl; kind = refl; flags = refl; skip = refl; elems = refl }) plan own
 after_own plan (steps.OpenFh handler) controls own = own
 after_own plan (steps.CloseFh fh) controls own = own
 after_own plan (steps.Set fh pairs) controls own = own
@@ -128,5 +128,5 @@ after_own plan (steps.Take f c) controls own = own
 
 -- they are of the plan's controls
 pub ranges_own : (plan : PlanData) (past : Past) → AreControlsOf plan (ranges_now plan past)
-ranges_own plan [] = subst (AreControlsOf plan) (sym (ranges_start plan)) (record { many = refl; ids = refl; kinds = refl; flags = refl; skipped = refl })
+ranges_own plan [] = subst (AreControlsOf plan) (sym (ranges_start plan)) (record { many = refl; ids = refl; kinds = refl; flags = refl; skipped = refl; elems = refl })
 ranges_own plan (e ∷ older) = subst (AreControlsOf plan) (sym (ranges_more plan e older)) (after_own plan e.step (ranges_now plan older) (ranges_own plan older))

@@ -5,7 +5,7 @@ use Rattle.ctrl_types.specs.declared.errno.Errno.TheVariants.{EBADF, EINVAL}
 use Rattle.ctrl_types.specs.declared.flags.Flags.{Flags}
 use Rattle.ctrl_types.specs.declared.ids.CtrlId.{CtrlId}
 use Rattle.ctrl_types.specs.declared.ids.FhId.{FhId}
-use Rattle.ctrl_settle.specs.Control.{Control}
+use Rattle.ctrl_settle.specs.Control.{Control, elems_of}
 use Rattle.device_history.specs.declared.info.CtrlInfo.{CtrlInfo}
 use Rattle.device_history.specs.declared.ask.Reply.TheVariants.{Info, Id, Item, Word}
 use Rattle.menu_items.specs.declared.item.MenuItem.{MenuItem}
@@ -28,6 +28,7 @@ info_of ctrl flags = record {
   step = ctrl.step;
   default_value = ctrl.default_value;
   flags = flags;
+  elems = elems_of ctrl;
 }
 
 -- Querying a control: EINVAL where it isn't shown. Else what it is like, also where it is DISABLED.

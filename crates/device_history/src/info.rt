@@ -12,16 +12,18 @@ pub struct CtrlInfo {
     pub id: CtrlId,
     /// What values it takes.
     pub kind: Kind,
-    /// The least value, or a menu's first index.
+    /// The least value, of an array that of each element, or a menu's first index.
     pub minimum: i64,
-    /// The greatest value, or a menu's last index; of a BITMASK all its bits.
+    /// The greatest value, of an array that of each element, or a menu's last index; of a BITMASK all its bits.
     pub maximum: i64,
     /// How far its values lie apart; 0 for a BUTTON and a BITMASK.
     pub step: u64,
-    /// The default of the moment.
+    /// The default of the moment; of an array it stands in each element.
     pub default_value: i64,
     /// Its present flags: those that it was described with, UPDATE of an auto cluster's master, GRABBED and INACTIVE.
     pub flags: Flags,
+    /// How many elements its value has; 1 where it is no array.
+    pub elems: u32,
 }
 
 impl CtrlInfo {
@@ -40,6 +42,7 @@ impl CtrlInfo {
             step: ctrl.step(),
             default_value: ctrl.default_value(),
             flags,
+            elems: ctrl.elems(),
         }
     }
 }

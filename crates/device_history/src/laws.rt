@@ -69,7 +69,7 @@ pub fn closed_handles()
 {}
 
 /// At first the ranges are the plan's; one more entry makes of them what its step makes of them. At every moment they are of the plan's controls: a range
-/// change leaves id, kind, flags and skipped items.
+/// change leaves id, kind, flags, skipped items and the number of elements.
 #[tactic(auto, using(crate::proofs::RangeLemmas::ranges_start, crate::proofs::RangeLemmas::ranges_add))]
 pub fn present_ranges()
     ensures start { (plan : PlanData) → ranges_now plan (past []) ≡ plan.controls }

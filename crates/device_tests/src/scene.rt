@@ -1,7 +1,9 @@
 //! The sample's plan with closures that count, and scripts that run on a device of it.
 
 use crate::closures::{Counter, Counting};
-use ctl_script::{Outcome, run_script, sample_builder, sample_words};
+use ctl_script::{Outcome, array_builder, run_script, sample_builder, sample_words};
+use ctrl_calls::Calls;
+use ctrl_handlers::{PlanBuilder, PlanFault};
 use ctrl_types::{CtrlId, CtrlValue};
 use data_driver::{Excess, Limit, Word};
 use device_state::{Device, Plan};
@@ -51,19 +53,45 @@ pub fn device(alloc: Global, counters: &Counters) -> Result<Device<Counting>, Al
     }
 }
 
+/// The same of the array device, whose control 10 is an array.
+pub fn array_device(alloc: Global, counters: &Counters) -> Result<Device<Counting>, AllocError> {
+    match Device::new(alloc, array_plan(alloc, counters)?) {
+        Ok(device) => Ok(device),
+        Err(_) => Err(AllocError),
+    }
+}
+
 fn plan(alloc: Global, counters: &Counters) -> Result<Plan<Counting>, AllocError> {
-    let [gain, balance, button, brightness] = counters;
-    let of_gain = gain.calls_by(Some(LOWERED), JOINED)?;
-    let of_balance = balance.calls_by(Some(SUM), JOINED)?;
-    let of_button = button.calls_by(None, PRESSED)?;
-    let of_brightness = brightness.calls_by(None, PLUS)?;
-    let Ok(builder) = sample_builder(alloc, of_gain, of_balance, of_button, of_brightness) else {
+    let [of_gain, of_balance, of_button, of_brightness] = calls(counters)?;
+    finished(sample_builder(alloc, of_gain, of_balance, of_button, of_brightness))
+}
+
+fn array_plan(alloc: Global, counters: &Counters) -> Result<Plan<Counting>, AllocError> {
+    let [of_gain, of_balance, of_button, of_brightness] = calls(counters)?;
+    finished(array_builder(alloc, of_gain, of_balance, of_button, of_brightness))
+}
+
+fn finished(
+    builder: Result<PlanBuilder<Counting>, PlanFault>,
+) -> Result<Plan<Counting>, AllocError> {
+    let Ok(builder) = builder else {
         return Err(AllocError);
     };
     match builder.finish() {
         Ok(plan) => Ok(plan),
         Err(_) => Err(AllocError),
     }
+}
+
+// The closures of the clusters 0 to 3.
+fn calls(counters: &Counters) -> Result<[Calls<Counting>; 4], AllocError> {
+    let [gain, balance, button, brightness] = counters;
+    Ok([
+        gain.calls_by(Some(LOWERED), JOINED)?,
+        balance.calls_by(Some(SUM), JOINED)?,
+        button.calls_by(None, PRESSED)?,
+        brightness.calls_by(None, PLUS)?,
+    ])
 }
 
 /// The device behind a script, each line of which is a command or skipped, and what the script printed. The word `missing` names a control

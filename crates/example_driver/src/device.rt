@@ -104,6 +104,7 @@ fn config(id: CtrlId, kind: Kind, minimum: i64, maximum: i64, default_value: i64
         skip: 0,
         flags: Flags::empty(),
         is_private: false,
+        elems: None,
     }
 }
 

@@ -15,7 +15,8 @@ enum Slot {
     Id,
     Which,
     OnOff,
-    Value,
+    // a bound or a default of a range
+    Bound,
     Step,
     // a control with a value
     Entry,
@@ -42,10 +43,10 @@ const FORMS: &[(&[u8], &[Slot], Tail)] = &[
         b"range",
         &[
             Slot::Word,
-            Slot::Value,
-            Slot::Value,
+            Slot::Bound,
+            Slot::Bound,
             Slot::Step,
-            Slot::Value,
+            Slot::Bound,
         ],
         Tail::Nothing,
     ),
@@ -199,7 +200,7 @@ fn in_slot(
         Slot::Id => is_read(alloc, known, b"next f ", word, b"")?,
         Slot::Which => is_read(alloc, known, b"get f ", word, b"")?,
         Slot::OnOff => is_on_or_off(word),
-        Slot::Value => is_read(alloc, known, b"set f cur 0x0=", word, b"")?,
+        Slot::Bound => is_number(alloc, known, word)?,
         Slot::Step => decimal_u64(word).is_some(),
         Slot::Entry => is_read(alloc, known, b"set f cur ", word, b"")?,
     };
@@ -216,12 +217,17 @@ fn in_slot(
         Slot::Id => Reason::Id,
         Slot::Which => Reason::Which,
         Slot::OnOff => Reason::OnOff,
-        Slot::Value => Reason::Value,
+        Slot::Bound => Reason::Bound,
         Slot::Step if word.iter().all(|byte| byte.is_ascii_digit()) => Reason::LargeStep,
         Slot::Step => Reason::Number,
         Slot::Entry => return in_entry(alloc, known, word),
     };
     Ok(Some(reason))
+}
+
+// Whether a word is a value that isn't the bytes of an array.
+fn is_number(alloc: Global, known: &ControlWords, word: &[u8]) -> Result<bool, AllocError> {
+    Ok(!word.starts_with(b"x") && is_read(alloc, known, b"set f cur 0x0=", word, b"")?)
 }
 
 // Why a word isn't a control with a value.

@@ -35,8 +35,10 @@ pub enum Reason {
     OnOff,
     /// It is to be a control with a value, and has no `=`.
     Equals,
-    /// It is to be a value, or a control with one, and the value is no number of 64 bits.
+    /// It is to be a control with a value, and the value is neither a number of 64 bits nor the bytes of an array.
     Value,
+    /// It is to be a bound or a default of a range, and is no number of 64 bits.
+    Bound,
     /// It is to say how is subscribed.
     Subscription,
 }
@@ -92,7 +94,10 @@ impl fmt::Display for ReasonText<'_> {
             Reason::OnOff => "on or off belongs here",
             Reason::Equals => "a control belongs here, an equals sign and a value",
             Reason::Value => {
-                "a value is a decimal number of 64 bits, of at most 19 digits behind an optional minus sign"
+                "a value is a decimal number of 64 bits, of at most 19 digits behind an optional minus sign, or of an array x and two hexadecimal digits for each of 1 to 32 bytes"
+            }
+            Reason::Bound => {
+                "a decimal number of 64 bits belongs here, of at most 19 digits behind an optional minus sign"
             }
             Reason::Subscription => {
                 "only initial, feedback, or initial feedback may stand behind the control"

@@ -26,6 +26,16 @@ pub(crate) fn are_numbers(values: &[CtrlValue], numbers: &[i64]) -> bool {
     values.len() == numbers.len()
 }
 
+/// Whether pairs are those of these controls and numbers.
+pub(crate) fn are_pairs(pairs: &[Pair], asked: &[(u32, i64)]) -> bool {
+    for (pair, (control, number)) in pairs.iter().zip(asked) {
+        if pair.control != *control || pair.value != CtrlValue::Number(*number) {
+            return false;
+        }
+    }
+    pairs.len() == asked.len()
+}
+
 /// The row of these numbers, where there are at most eight.
 pub(crate) fn row_of(numbers: &[i64]) -> Option<ClusterRow> {
     let mut cells = [CtrlValue::Number(0); MAX_MEMBERS];

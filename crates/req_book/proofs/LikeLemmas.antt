@@ -3,9 +3,10 @@ use Rattle.std.proofs.Common.{rules, arith, ◌≡◌, ◌∙◌, ◌<◌, ℕ, 
 use Rattle.std.specs.Bool.{Decides}
 use Rattle.std.specs.Option.{option_eq, option_map, option_and_then}
 use Rattle.std.specs.Cmp.Lexicographic.{pointwise}
-use Rattle.std.proofs.lemmas.Bool.Decides.{Decides-and}
+use Rattle.std.proofs.lemmas.Bool.Decides.{Decides-and, Decides-eqb}
 use Rattle.std.proofs.lemmas.Slice.Eq.{slice_eq-Decides}
 use denote.Enum.Bare.{sameb}
+use Rattle.ctrl_types.proofs.ValueLemmas.{eq_decides}
 use Rattle.ctrl_types.specs.declared.value.CtrlValue.{CtrlValue}
 use Rattle.ctrl_types.specs.declared.ids.Pair.{Pair}
 use Rattle.ctrl_types.specs.contracts.ids.PairPartialEq.TheImpl.{eq-value as eq-pair}
@@ -29,13 +30,19 @@ states a b r is = search rules
 pub numbers : (a b : Option ℕ) (r : Bool) → r ≡ option_eq nat_eq a b → Decides r (a ≡ b)
 numbers a b r is = search rules
 
+-- of two pairs
+pair_decides : (a b : Pair) → Decides (eq-pair.it a b) (a ≡ b)
+pair_decides a b =
+    let both = Decides-and _ _ (Decides-eqb a.control b.control) (eq_decides a.value b.value) in
+    (λ e. λ i. record { control = (both.0 e).0 i; value = (both.0 e).1 i }, λ h. both.1 (ap (λ (p : Pair). p.control) h, ap (λ (p : Pair). p.value) h))
+
 -- of pairs
 pub pairs : (a b : List Pair) (r : Bool) → r ≡ pointwise eq-pair.it a b → Decides r (a ≡ b)
-pairs = slice_eq-Decides (λ a b. search rules)
+pairs = slice_eq-Decides pair_decides
 
 -- of values
 pub values : (a b : List CtrlValue) (r : Bool) → r ≡ pointwise eq-value.it a b → Decides r (a ≡ b)
-values = slice_eq-Decides (λ a b. search rules)
+values = slice_eq-Decides eq_decides
 
 -- requests that are alike have the same parts
 abbrev pub Same : Object → Object → Type 0

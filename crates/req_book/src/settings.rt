@@ -66,5 +66,8 @@ fn value_kept(applied: &[Option<CtrlValue>], present: &[CtrlValue], control: usi
     requires present { control < length present.now }
     ensures { result ≡ unwrap_or (slice_index_or applied.now control None) (value_of_control present.now control) }
 {
-    applied[control].unwrap_or(present[control])
+    match applied[control] {
+        Some(value) => value,
+        None => present[control],
+    }
 }

@@ -1,14 +1,15 @@
 -- The sample device's controls are made as they are described, and its plan is finished with each other control alone.
-use Rattle.std.proofs.Common.{◌≡◌, ℕ, ℤ, Bool, ap, sym, subst, refl, Result, Ok, Err, IsOk, IfOk, ◌↔◌}
+use Rattle.std.proofs.Common.{◌≡◌, ℕ, ℤ, pos, Bool, false, ap, sym, subst, refl, Result, Ok, Err, IsOk, IfOk, ◌↔◌}
 use Rattle.ctrl_calls.specs.declared.relation.Relations.{Relations}
 use Rattle.ctrl_types.specs.declared.flags.Flags.{Flags}
 use Rattle.ctrl_types.specs.declared.ids.CtrlId.{CtrlId}
 use Rattle.ctrl_types.specs.declared.kind.Kind.{Kind}
-use Rattle.ctrl_settle.specs.Control.{Control, described}
+use Rattle.ctrl_settle.proofs.WellFormed.{IsWellFormed-test}
+use Rattle.ctrl_settle.specs.Control.{Control, described, described_array}
 use Rattle.ctrl_settle.specs.Faults.{IsWellFormed}
 use Rattle.ctrl_settle.specs.declared.fault.CtrlFault.{CtrlFault}
 use Rattle.ctrl_handlers.specs.Plan.{finished}
-use Rattle.sample_device.specs.Sample.{no_flags, sample, whole_sample}
+use Rattle.sample_device.specs.Sample.{no_flags, sample, weights, whole_sample}
 
 -- a set without a bit is the set without flags
 none_is : (f : Flags) → f.0 ≡ 0 → no_flags ≡ f
@@ -28,6 +29,16 @@ plain_made id kind minimum maximum step default_value skip is_private f r e fits
     let P : Flags → Type 0 = λ g. (IsOk r ↔ IsWellFormed (described id kind minimum maximum step default_value skip g is_private))
     → IfOk r (λ c. c ≡ described id kind minimum maximum step default_value skip g is_private) → r ≡ Ok (described id kind minimum maximum step default_value skip no_flags is_private) in
     subst P (none_is f e) (λ o v. made (described id kind minimum maximum step default_value skip no_flags is_private) r fits o.1 v) ok value
+
+-- so does that of weights
+pub weights_made : (f : Flags) (r : Result Control CtrlFault) → f.0 ≡ 0
+    → (IsOk r ↔ IsWellFormed (described_array (record { 0 = 0x00981000 }) 4 (pos 0) (pos 250) 10 (pos 0) f false))
+    → IfOk r (λ c. c ≡ described_array (record { 0 = 0x00981000 }) 4 (pos 0) (pos 250) 10 (pos 0) f false)
+    → r ≡ Ok weights
+weights_made f r e ok value =
+    let P : Flags → Type 0 = λ g. (IsOk r ↔ IsWellFormed (described_array (record { 0 = 0x00981000 }) 4 (pos 0) (pos 250) 10 (pos 0) g false))
+    → IfOk r (λ c. c ≡ described_array (record { 0 = 0x00981000 }) 4 (pos 0) (pos 250) 10 (pos 0) g false) → r ≡ Ok weights in
+    subst P (none_is f e) (λ o v. made weights r (IsWellFormed-test weights refl) o.1 v) ok value
 
 -- hflip, vflip, hue and power are in no named cluster
 pub finished_sample : (of_gain of_balance of_button of_brightness : Relations)

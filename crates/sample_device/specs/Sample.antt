@@ -9,9 +9,9 @@ use Rattle.ctrl_calls.specs.declared.verdict.Verdict.TheVariants.{Accept, Refuse
 use Rattle.ctrl_types.specs.declared.errno.Errno.TheVariants.{EINVAL}
 use Rattle.ctrl_types.specs.declared.kind.Kind.TheVariants.{Boolean, Integer, Menu, Button}
 use Rattle.ctrl_types.specs.declared.flags.Flags.{Flags}
-use Rattle.ctrl_settle.specs.Control.{Control, described}
+use Rattle.ctrl_settle.specs.Control.{Control, described, described_array}
 use Rattle.ctrl_handlers.specs.ClusterData.{ClusterData}
-use Rattle.ctrl_handlers.specs.Plan.{PlanData, no_handler, alone}
+use Rattle.ctrl_handlers.specs.Plan.{PlanData, no_handler, alone, with_control}
 use Rattle.menu_items.specs.declared.item.MenuItem.TheVariants.{Name}
 
 abbrev pub no_flags : Flags
@@ -95,6 +95,14 @@ abbrev pub whole_sample : Relations → Relations → Relations → Relations �
 whole_sample of_gain of_balance of_button of_brightness = record sample_before {
   clusters = clusters_with_calls of_gain of_balance of_button of_brightness ++ alone 2 ∷ alone 3 ∷ alone 4 ∷ alone 6 ∷ [];
 }
+
+-- four weights, each 0, 10, .. 250, 0 at the start
+abbrev pub weights : Control
+weights = described_array (record { 0 = 0x00981000 }) 4 (pos 0) (pos 250) 10 (pos 0) no_flags false
+
+-- the array device: the sample device with its named clusters, and weights, numbered 10, behind the other controls of handler 1
+abbrev pub array_sample : Relations → Relations → Relations → Relations → PlanData
+array_sample of_gain of_balance of_button of_brightness = with_control (sample of_gain of_balance of_button of_brightness) 1 weights
 
 -- the lesser of two
 abbrev pub lesser : ℤ → ℤ → ℤ

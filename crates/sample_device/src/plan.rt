@@ -1,7 +1,7 @@
 ghost use Rattle.std.specs.Prelude.{◌≡◌, IfOk, IfErr, Ok, Some, None};
-ghost use Rattle.ctrl_settle.specs.Control.{described};
+ghost use Rattle.ctrl_settle.specs.Control.{described, described_array};
 ghost use Rattle.ctrl_settle.specs.Faults.{IsWellFormed};
-ghost use Rattle.sample_device.specs.Sample.{sample, whole_sample, sample_before, first_controls as first_controls_of, sample_controls as sample_controls_of, autogain as autogain_of, gain as gain_of, flip as flip_of, hue as hue_of, brightness as brightness_of, power as power_of, button as button_of, balance as balance_of, no_flags};
+ghost use Rattle.sample_device.specs.Sample.{array_sample, sample, weights as weights_of, whole_sample, sample_before, first_controls as first_controls_of, sample_controls as sample_controls_of, autogain as autogain_of, gain as gain_of, flip as flip_of, hue as hue_of, brightness as brightness_of, power as power_of, button as button_of, balance as balance_of, no_flags};
 
 use crate::driver::{BALANCE_LIMIT, BRIGHTNESS_WORDS, BUTTON_WORDS, GAIN_LIMIT, PAIR_WORDS};
 use bitflags::Flags as FlagSet;
@@ -42,6 +42,33 @@ pub fn sample_builder<D: Driver>(
         return Err(fault);
     }
     Ok(builder)
+}
+
+/// A builder that holds the plan of the array device before it is finished: the sample device, and behind the other controls of handler 1 control 10, an array of 4 bytes with
+/// id 0x00981000, each 0 to 250 in steps of 10, with the default 0. No cluster is named for it, so it stands alone in cluster 8 of the finished plan. The only fault is
+/// `Memory` (7); the calls are then let go. Any calls will do, as of `sample_builder`, whose arguments these are.
+pub fn array_builder<D: Driver>(
+    alloc: Global,
+    of_gain: Calls<D>,
+    of_balance: Calls<D>,
+    of_button: Calls<D>,
+    of_brightness: Calls<D>,
+) -> Result<PlanBuilder<D>, PlanFault>
+    ensures ok { IfOk result (λ builder. builder ≡ array_sample of_gain of_balance of_button of_brightness) }
+    ensures err { IfErr result (λ fault. fault ≡ PlanFault.Memory) }
+{
+    let mut builder = sample_builder(alloc, of_gain, of_balance, of_button, of_brightness)?;
+    let Ok(weights) = weights() else {
+        return Err(PlanFault::Memory);
+    };
+    builder.control(1, weights)?;
+    Ok(builder)
+}
+
+fn weights() -> Result<Ctrl, CtrlFault>
+    ensures { result ≡ Ok weights_of }
+{
+    Ctrl::new_array(CtrlId(0x0098_1000), 4, 0, 250, 10, 0, Flags::empty(), false)
 }
 
 // The handlers and controls of the sample device, with the names of the menu's items.

@@ -3,14 +3,14 @@ use Rattle.std.specs.Prelude.{◌≡◌, ℕ, ◌+◌, ◌==◌, ◌&&◌, bit_o
 use Rattle.std.specs.List.{slice_split}
 use Rattle.std.specs.Option.{option_and_then, option_map, option_or}
 use Rattle.std.specs.Str.{bytes_eq}
-use Rattle.ctrl_types.specs.declared.value.CtrlValue.TheVariants as values
+use Rattle.ctrl_types.specs.declared.value.CtrlValue.{CtrlValue}
 use Rattle.ctrl_types.specs.Values.{zero_value}
 use Rattle.ctrl_types.specs.declared.ids.CtrlId.{CtrlId}
 use Rattle.ctrl_types.specs.declared.ids.ExtControl.{ExtControl}
 use Rattle.ctrl_types.specs.declared.sub_flags.SubFlags.{SubFlags}
 use Rattle.ctrl_types.specs.declared.sub_flags.TheConstants.SubFlags.{SEND_INITIAL, ALLOW_FEEDBACK}
 use Rattle.script_lines.specs.ControlWords.{ControlWord, known_number}
-use Rattle.script_lines.specs.Lexemes.{after, control_id, decimal_i64, decimal_u32, decimal_u64, hexadecimal_u32}
+use Rattle.script_lines.specs.Lexemes.{after, control_id, decimal_i64, decimal_u32, decimal_u64, hexadecimal_u32, value_of}
 use Rattle.script_lines.specs.Names.{name_of}
 use Rattle.script_lines.specs.declared.command.Command.{Command}
 use Rattle.script_lines.specs.declared.command.Command.TheVariants.{Open, Close, Get, Set, Try, Grab, Range, Query, Next, Menu, Told, Alloc, Buffer, Queue, Cancel, Reinit, Free, State, Row, Begin, Complete, Off, Subscribe, Unsubscribe, Take, Audit}
@@ -51,15 +51,15 @@ fixed_which_of word = option_and_then (slice_get which_numbers) (position (bytes
 abbrev pub which_of : List ℕ → Option WhichWord
 which_of word = option_or (option_map (λ n. Number n) (fixed_which_of word)) (which_at (after (codes "req:") word) word)
 
-abbrev pub with_value : Option CtrlId → Option ℤ → Option ExtControl
-with_value (Some id) (Some value) = Some (record { id = id; value = values.Number value })
+abbrev pub with_value : Option CtrlId → Option CtrlValue → Option ExtControl
+with_value (Some id) (Some value) = Some (record { id = id; value = value })
 with_value (Some id) None = None
 with_value None value = None
 
 -- a control before an equals sign at this place, and its value behind it
 abbrev pub entry_at : List ControlWord → List ℕ → Option ℕ → Option ExtControl
 entry_at known word None = None
-entry_at known word (Some at) = with_value (control_id known (take at word)) (decimal_i64 (drop (at + 1) word))
+entry_at known word (Some at) = with_value (control_id known (take at word)) (value_of (drop (at + 1) word))
 
 -- an entry of a list: a control, with a value or not
 abbrev pub entry_of : List ControlWord → EntryForm → List ℕ → Option ExtControl

@@ -3,9 +3,13 @@ use Rattle.std.specs.Prelude.{ℕ, ◌^◌, ◌&&◌, nat_lt, nat_le, ℤ, pos, 
 use Rattle.std.specs.Char.{is_digit}
 use Rattle.std.specs.List.{list_all}
 use Rattle.std.specs.Option.{option_map, option_and_then, option_or}
+use Rattle.std.specs.Result.{result_ok}
 use Rattle.std.specs.Str.{bytes_eq}
 use Rattle.std.specs.Str.Parse.{digits_value}
+use Rattle.hex.specs.Hex.{decode_of}
 use Rattle.ctrl_types.specs.declared.ids.CtrlId.{CtrlId}
+use Rattle.ctrl_types.specs.declared.value.CtrlValue.{CtrlValue}
+use Rattle.ctrl_types.specs.declared.value.CtrlValue.TheVariants.{Number, Bytes}
 use Rattle.script_lines.specs.ControlWords.{ControlWord, known_id}
 
 -- The number that at least one digit and at most `most` of them write.
@@ -51,6 +55,18 @@ decimal_i64 word = signed_numeral (after (codes "-") word) word
 -- the number of an id: `0x` and 1 to 8 hexadecimal digits of either case
 abbrev pub hexadecimal_u32 : List ℕ → Option ℕ
 hexadecimal_u32 word = option_and_then (numeral 16 8) (after (codes "0x") word)
+
+-- the bytes of two hexadecimal digits each, of either case: 1 to 32 of them
+abbrev pub pairs_of_digits : List ℕ → Option (List ℕ)
+pairs_of_digits digits = if nat_lt 0 (length digits) && nat_le (length digits) 64 then result_ok (decode_of digits) else None
+
+-- the elements of an array: `x`, and two digits for each
+abbrev pub elements : List ℕ → Option (List ℕ)
+elements word = option_and_then pairs_of_digits (after (codes "x") word)
+
+-- a value: the elements of an array, or a decimal number of 64 bits
+abbrev pub value_of : List ℕ → Option CtrlValue
+value_of word = option_or (option_map Bytes (elements word)) (option_map Number (decimal_i64 word))
 
 -- the id that a word names a control by: that of a known word, or the id itself
 abbrev pub control_id : List ControlWord → List ℕ → Option CtrlId

@@ -1,9 +1,9 @@
 ghost use Rattle.std.specs.Prelude.{◌≡◌, ◌^◌, ◌≤◌, position};
 ghost use Rattle.std.specs.Str.{bytes_eq};
-ghost use Rattle.script_lines.specs.Lexemes.{numeral as numeral_of, decimal_u32 as decimal_u32_of, decimal_u64 as decimal_u64_of, decimal_i64 as decimal_i64_of, hexadecimal_u32 as hexadecimal_u32_of, control_id as control_id_of};
+ghost use Rattle.script_lines.specs.Lexemes.{numeral as numeral_of, decimal_u32 as decimal_u32_of, decimal_u64 as decimal_u64_of, decimal_i64 as decimal_i64_of, hexadecimal_u32 as hexadecimal_u32_of, control_id as control_id_of, elements as elements_of, pairs_of_digits as pairs_of_digits_of, value_of};
 
 use crate::control_words::ControlWords;
-use ctrl_types::CtrlId;
+use ctrl_types::{ByteRow, CtrlId, CtrlValue, MAX_ELEMENTS};
 
 /// The number that a word of at least one and at most `most` digits writes.
 pub fn numeral(word: &[u8], radix: u32, most: usize) -> Option<u64>
@@ -62,6 +62,38 @@ pub fn hexadecimal_u32(word: &[u8]) -> Option<u32>
 {
     let digits = word.strip_prefix(b"0x")?;
     u32::try_from(numeral(digits, 16, 8)?).ok()
+}
+
+/// A value: the elements of an array, which are `x` and two hexadecimal digits of either case for each of 1 to 32, or a decimal number of 64 bits.
+pub fn value(word: &[u8]) -> Option<CtrlValue>
+    ensures { result ≡ value_of word.now }
+{
+    match elements(word) {
+        Some(row) => Some(CtrlValue::Bytes(row)),
+        None => decimal_i64(word).map(CtrlValue::Number),
+    }
+}
+
+// The elements of an array.
+fn elements(word: &[u8]) -> Option<ByteRow>
+    ensures { result ≡ elements_of word.now }
+{
+    pairs_of_digits(word.strip_prefix(b"x")?)
+}
+
+// The bytes that some digits write, two each.
+fn pairs_of_digits(digits: &[u8]) -> Option<ByteRow>
+    ensures { result ≡ pairs_of_digits_of digits.now }
+{
+    if digits.is_empty() || digits.len() > 2 * MAX_ELEMENTS {
+        return None;
+    }
+    let mut cells = [0; MAX_ELEMENTS];
+    let row = &mut cells[..digits.len() / 2];
+    match hex::decode_to_slice(digits, row) {
+        Ok(()) => ByteRow::from_slice(row),
+        Err(_) => None,
+    }
 }
 
 /// The id that a word names a control by: that of a known word, or the id itself.

@@ -8,7 +8,7 @@ use crate::control_words::ControlWords;
 use crate::entry_list::EntryList;
 use crate::fault::LineFault;
 use crate::lexeme::{
-    control_id, decimal_i64, decimal_u32, decimal_u64, hexadecimal_u32, place_of_word,
+    control_id, decimal_i64, decimal_u32, decimal_u64, hexadecimal_u32, place_of_word, value,
 };
 use crate::name::Name;
 use bitflags::Flags as FlagSet;
@@ -567,10 +567,10 @@ fn read_list(
         return Err(LineFault::Memory);
     };
     for word in words {
-        let Some(entry) = read_entry(known, form, *word) else {
+        let Some(ExtControl { id, value }) = read_entry(known, form, *word) else {
             return Err(LineFault::NotACommand);
         };
-        list.push_reserved(entry);
+        list.push_reserved(ExtControl { id, value });
     }
     Ok(EntryList::from_vec(list))
 }
@@ -592,11 +592,8 @@ fn read_valued_entry(known: &ControlWords, word: &[u8]) -> Option<ExtControl>
     ensures { result ≡ entry_at known.now word.now (position (λ b. b == 61) word.now) }
 {
     let at = equals_sign(word)?;
-    match (control_id(known, &word[..at]), decimal_i64(&word[at + 1..])) {
-        (Some(id), Some(number)) => Some(ExtControl {
-            id,
-            value: CtrlValue::Number(number),
-        }),
+    match (control_id(known, &word[..at]), value(&word[at + 1..])) {
+        (Some(id), Some(value)) => Some(ExtControl { id, value }),
         _ => None,
     }
 }

@@ -2,8 +2,11 @@
 use Rattle.std.specs.Prelude.{ℕ, ◌-◌, List, [], ◌∷◌, ◌++◌, length, replicate, Option, None, Some, Result, Ok, Err, false, codes}
 use Rattle.std.specs.Fmt.{decimal, signed_decimal, digits}
 use Rattle.std.specs.List.{flat_map}
+use Rattle.hex.specs.Hex.{encode_lower}
 use Rattle.ctrl_types.specs.declared.value.CtrlValue.{CtrlValue}
-use Rattle.ctrl_types.specs.declared.value.CtrlValue.TheVariants.{Number}
+use Rattle.ctrl_types.specs.declared.value.CtrlValue.TheVariants as values
+use Rattle.ctrl_types.specs.declared.kind.Kind.{Kind}
+use Rattle.ctrl_types.specs.declared.kind.Kind.TheVariants.{U8}
 use Rattle.ctrl_types.specs.Numbers.{errno_number, kind_number}
 use Rattle.ctrl_types.specs.declared.errno.Errno.TheVariants.{ENOMEM}
 use Rattle.ctrl_types.specs.declared.errno.Fault.{Fault}
@@ -27,9 +30,10 @@ use Rattle.script_replies.specs.declared.audited.Audited.TheVariants as audited
 use Rattle.script_replies.specs.declared.outcome.Outcome.{Outcome}
 use Rattle.script_replies.specs.declared.outcome.Outcome.TheVariants.{Finished, BadLine, TooLong, ReadFault, WriteFault, NoSecond, Memory}
 
--- a value behind a space
+-- a value behind a space: a decimal number, or of an array `x` and two hexadecimal digits of lower case for each element
 abbrev pub value_text : CtrlValue → List ℕ
-value_text (Number value) = 32 ∷ signed_decimal value
+value_text (values.Number value) = 32 ∷ signed_decimal value
+value_text (values.Bytes row) = codes " x" ++ encode_lower row
 
 -- the value of an entry of a list
 abbrev pub entry_text : ExtControl → List ℕ
@@ -58,9 +62,18 @@ range_text info = codes " kind " ++ (decimal (kind_number info.kind) ++ (codes "
     ++ (codes " max " ++ (signed_decimal info.maximum ++ (codes " step " ++ (decimal info.step
     ++ (codes " default " ++ (signed_decimal info.default_value ++ codes " flags ")))))))))
 
+-- how many elements an array has; of the other kinds nothing is said
+abbrev pub elems_text : Kind → ℕ → List ℕ
+elems_text U8 elems = codes " elems " ++ decimal elems
+elems_text _ elems = []
+
+-- the flags of a control, of an array its elements, and the end of the line
+abbrev pub ending_text : CtrlInfo → List ℕ
+ending_text info = flags_text info.flags ++ (elems_text info.kind info.elems ++ codes "\n")
+
 -- what a control is like
 abbrev pub info_line : CtrlInfo → List ℕ
-info_line info = codes "ok " ++ (id_text info.id ++ (range_text info ++ (flags_text info.flags ++ codes "\n")))
+info_line info = codes "ok " ++ (id_text info.id ++ (range_text info ++ ending_text info))
 
 -- an item of a menu: its name, or its number
 abbrev pub item_text : MenuItem → List ℕ

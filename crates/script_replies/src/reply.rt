@@ -1,8 +1,9 @@
-ghost use Rattle.std.specs.Prelude.{◌≡◌, OnOk, ◌++◌, ◌∷◌, codes};
+ghost use Rattle.std.specs.Prelude.{◌≡◌, ◌≤◌, OnOk, ◌++◌, ◌∷◌, codes, length};
 ghost use Rattle.std.specs.Io.KnownBytes.{Appends};
 ghost use Rattle.std.specs.List.{flat_map};
+ghost use Rattle.hex.specs.Hex.{encode_lower};
 ghost use Rattle.ctrl_types.specs.Numbers.{errno_number};
-ghost use Rattle.script_replies.specs.Replies.{accepted_line, answer_line, audit_line, clusters_text, entry_text, event_line, flags_text, forecast_line, frame_line, further_text, id_text, info_line, item_text, line_of, outcome_line, place_of as asked_place, range_text, refusal_line, state_line, value_text};
+ghost use Rattle.script_replies.specs.Replies.{accepted_line, answer_line, audit_line, clusters_text, elems_text, ending_text, entry_text, event_line, flags_text, forecast_line, frame_line, further_text, id_text, info_line, item_text, line_of, outcome_line, place_of as asked_place, range_text, refusal_line, state_line, value_text};
 
 use crate::audited::Audited;
 use crate::outcome::Outcome;
@@ -10,7 +11,7 @@ use bitflags::Flags as FlagSet;
 use ctrl_events::Event;
 use ctrl_forecast::Forecast;
 use ctrl_handlers::MenuItem;
-use ctrl_types::{CtrlId, CtrlValue, Errno, ExtControl, Fault, Flags};
+use ctrl_types::{CtrlId, CtrlValue, Errno, ExtControl, Fault, Flags, Kind, MAX_ELEMENTS};
 use device_history::{Ask, CtrlInfo, Reply};
 use req_book::RequestState;
 use std::io;
@@ -70,7 +71,20 @@ fn print_value<W: Write>(out: &mut W, value: CtrlValue) -> io::Result<()>
 {
     match value {
         CtrlValue::Number(number) => write!(out, " {number}"),
+        CtrlValue::Bytes(row) => print_elements(out, row.bytes()),
     }
+}
+
+// The elements of an array behind a space.
+fn print_elements<W: Write>(out: &mut W, bytes: &[u8]) -> io::Result<()>
+    requires { length bytes.now ≤ 32 }
+    ensures { OnOk result (Appends (W.contents out.old) (W.contents out.new) (codes " x" ++ encode_lower bytes.now)) }
+{
+    let mut digits = [0; 2 * MAX_ELEMENTS];
+    let digits = &mut digits[..2 * bytes.len()];
+    let _ = hex::encode_to_slice(bytes, digits);
+    write!(out, " x")?;
+    out.write_all(digits)
 }
 
 // The state of a request.
@@ -167,8 +181,26 @@ fn print_info<W: Write>(out: &mut W, info: CtrlInfo) -> io::Result<()>
     write!(out, "ok ")?;
     print_id(out, info.id)?;
     print_range(out, info)?;
+    print_ending(out, info)
+}
+
+// The flags of a control, of an array its elements, and the end of the line.
+fn print_ending<W: Write>(out: &mut W, info: CtrlInfo) -> io::Result<()>
+    ensures { OnOk result (Appends (W.contents out.old) (W.contents out.new) (ending_text info)) }
+{
     print_flags(out, info.flags)?;
+    print_elems(out, info.kind, info.elems)?;
     writeln!(out)
+}
+
+// How many elements an array has.
+fn print_elems<W: Write>(out: &mut W, kind: Kind, elems: u32) -> io::Result<()>
+    ensures { OnOk result (Appends (W.contents out.old) (W.contents out.new) (elems_text kind elems)) }
+{
+    match kind {
+        Kind::U8 => write!(out, " elems {elems}"),
+        _ => Ok(()),
+    }
 }
 
 fn print_next<W: Write>(out: &mut W, id: CtrlId) -> io::Result<()>

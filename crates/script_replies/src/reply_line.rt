@@ -15,7 +15,7 @@ use std::io::{ErrorKind, Write};
 use std::marker::Model;
 
 /// How many bytes a reply line may have: 72 for each control that a device can have, and 64 beside them. The longest is that of a
-/// forecast: at most 51 bytes, 4 for each of at most 256 clusters, and 21 for each of at most 256 values.
+/// forecast: at most 51 bytes, 4 for each of at most 256 clusters, and 66 for each of at most 256 values.
 pub const MAX_LINE: usize = 64 + 72 * MAX_CONTROLS as usize;
 
 /// Where a reply line is put together, so that it is written at once. Contracts see the bytes so far.

@@ -31,8 +31,8 @@ use ctrl_types::CtrlValue;
 ///
 /// - `plan`: what the device is built of.
 /// - `control`: the number of a control; the caller owes one below `Plan::control_count`.
-/// - `changed`: the control with its new range, as `Ctrl::with_range` makes it; the caller owes that its id, kind, flags and skipped items are those that it
-///   had.
+/// - `changed`: the control with its new range, as `Ctrl::with_range` makes it; the caller owes that its id, kind, flags, skipped items and number of
+///   elements are those that it had.
 /// - `ranges`, `values`, `grabs`: the present ones; the caller owes one for each control.
 /// - `events`: the events of file handles; the caller owes that the number of each one's next event is at most 4294967295 less the number of
 ///   controls.
@@ -66,7 +66,7 @@ pub fn change_range<D: Driver>(
         &Moment::new(ranges, values.as_slice(), grabs),
         control,
         &old,
-        value,
+        &value,
         events,
     );
 }

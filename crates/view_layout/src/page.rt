@@ -51,7 +51,7 @@ impl Page {
     }
 
     /// Puts a value behind the others.
-    pub fn put_value(&mut self, value: CtrlValue) {
+    pub fn put_value(&mut self, value: &CtrlValue) {
         let _ = write!(self, "{value}");
     }
 

@@ -99,7 +99,7 @@ impl<D: Driver> Device<D> {
             &self.plan,
             self.values.as_slice(),
             cluster,
-            before != self.values[control as usize],
+            !before.is_same(&self.values[control as usize]),
             &mut self.words,
             &mut self.work,
         );

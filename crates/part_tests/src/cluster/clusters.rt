@@ -1,5 +1,6 @@
 //! What clusters make of pairs and rows, at the values of a plan.
 
+mod arrays;
 mod changed;
 mod judged;
 mod looks;

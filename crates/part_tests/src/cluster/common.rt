@@ -6,7 +6,7 @@ use crate::cluster::driver::Strict;
 use ctrl_handlers::Plan;
 use ctrl_settle::Ctrl;
 
-/// Whether these are the two controls of a plan, maybe with other bounds or defaults.
+/// Whether these are the two controls of a plan, of which none is an array, maybe with other bounds or defaults.
 pub fn are_of(plan: &Plan<Strict>, controls: &[Ctrl]) -> bool
     ensures { IsTrue result → AreControlsOf plan.now controls.now }
 {
@@ -17,10 +17,12 @@ pub fn are_of(plan: &Plan<Strict>, controls: &[Ctrl]) -> bool
 }
 
 fn is_alike(own: &Ctrl, other: &Ctrl) -> bool
-    ensures { IsTrue result → (own.now.id ≡ other.now.id) × (own.now.kind ≡ other.now.kind) × (own.now.flags ≡ other.now.flags) × (own.now.skip ≡ other.now.skip) }
+    ensures { IsTrue result → (own.now.id ≡ other.now.id) × (own.now.kind ≡ other.now.kind) × (own.now.flags ≡ other.now.flags) × (own.now.skip ≡ other.now.skip) × (own.now.elems ≡ other.now.elems) }
 {
     own.id() == other.id()
         && own.kind() == other.kind()
         && own.flags() == other.flags()
         && own.skip() == other.skip()
+        && !own.is_array()
+        && !other.is_array()
 }

@@ -1,16 +1,16 @@
 //! A driver whose validators take a row, take another in its place or refuse, and whose notifiers count their calls.
 ghost use Rattle.std.specs.Prelude.{⊤, ◌≡◌, ◌≤◌, ◌==◌, pos, ◌∷◌, [], length, if◌then◌else◌};
 ghost use Rattle.ctrl_calls.specs.declared.verdict.Verdict.TheVariants.{Accept, Refuse};
-ghost use Rattle.ctrl_types.specs.declared.value.CtrlValue.TheVariants.{Number};
+ghost use Rattle.ctrl_types.specs.declared.value.CtrlValue.TheVariants.{Number, Bytes};
 ghost use Rattle.ctrl_types.specs.declared.errno.Errno.TheVariants.{ENOENT, EACCES, EBUSY, ERANGE};
 
 use ctrl_calls::{ClusterRow, Judging, Notifies, Relation, Telling, Validates, Verdict};
-use ctrl_types::{CtrlValue, Errno};
+use ctrl_types::{ByteRow, CtrlValue, Errno};
 use std::sync::Arc;
 use std::sync::atomic::{AtomicU64, Ordering};
 
-/// Relation 0 takes each row as it is; 1 to 6 take another row in its place; 7, 8 and 9 refuse with EBUSY, EACCES and ERANGE, and every
-/// other with ENOENT.
+/// Relation 0 takes each row as it is; 1 to 6 take another row in its place, and so do 11 to 14, of which only the last isn't one of an array; 7, 8 and 9 refuse with EBUSY,
+/// EACCES and ERANGE, and every other with ENOENT.
 pub enum Strict {}
 
 #[derive(Drop)]
@@ -32,6 +32,10 @@ impl Judging for Judge {
         else if judge.number == 7 then Refuse EBUSY
         else if judge.number == 8 then Refuse EACCES
         else if judge.number == 9 then Refuse ERANGE
+        else if judge.number == 11 then Accept (Bytes (10 ∷ 20 ∷ []) ∷ [])
+        else if judge.number == 12 then Accept (Bytes (10 ∷ 15 ∷ []) ∷ [])
+        else if judge.number == 13 then Accept (Bytes (10 ∷ []) ∷ [])
+        else if judge.number == 14 then Accept (Number (pos 10) ∷ [])
         else Refuse ENOENT) };
 
     fn judge(&self, row: ClusterRow) -> Verdict {
@@ -50,6 +54,10 @@ impl Judging for Judge {
             7 => Verdict::Refuse(Errno::EBUSY),
             8 => Verdict::Refuse(Errno::EACCES),
             9 => Verdict::Refuse(Errno::ERANGE),
+            11 => accept_bytes(&[10, 20]),
+            12 => accept_bytes(&[10, 15]),
+            13 => accept_bytes(&[10]),
+            14 => accept(&[CtrlValue::Number(10)]),
             _ => Verdict::Refuse(Errno::ENOENT),
         }
     }
@@ -61,6 +69,14 @@ fn accept(values: &[CtrlValue]) -> Verdict
     ensures { result ≡ Accept values.now }
 {
     Verdict::Accept(ClusterRow::from_slice(values).unwrap())
+}
+
+// The row of an array of at most 32 bytes is taken.
+fn accept_bytes(bytes: &[u8]) -> Verdict
+    requires { length bytes.now ≤ 32 }
+    ensures { result ≡ Accept (Bytes bytes.now ∷ []) }
+{
+    accept(&[CtrlValue::Bytes(ByteRow::from_slice(bytes).unwrap())])
 }
 
 // The values that are these two numbers.
@@ -107,6 +123,10 @@ impl Validates for Strict {
         else if relation.number == 7 then Refuse EBUSY
         else if relation.number == 8 then Refuse EACCES
         else if relation.number == 9 then Refuse ERANGE
+        else if relation.number == 11 then Accept (Bytes (10 ∷ 20 ∷ []) ∷ [])
+        else if relation.number == 12 then Accept (Bytes (10 ∷ 15 ∷ []) ∷ [])
+        else if relation.number == 13 then Accept (Bytes (10 ∷ []) ∷ [])
+        else if relation.number == 14 then Accept (Number (pos 10) ∷ [])
         else Refuse ENOENT };
 }
 

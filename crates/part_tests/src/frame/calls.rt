@@ -1,8 +1,9 @@
 //! Calls of a queue of frames over three controls, and looks at it.
 
-use crate::values::are_numbers;
+use crate::values::{are_numbers, are_pairs, pairs_of};
 use ctrl_types::{CtrlValue, Errno, Pair, RequestId};
 use frame_queue::{Frames, RequestState};
+use std::alloc::Global;
 
 /// How many controls there are.
 pub(crate) const CONTROLS: u32 = 3;
@@ -11,10 +12,10 @@ pub(crate) const CONTROLS: u32 = 3;
 #[derive(Clone, Copy)]
 pub(crate) enum Call {
     Alloc(u32),
-    Store(u32, &'static [Pair]),
+    Store(u32, &'static [(u32, i64)]),
     Buffer(u32, u32),
     Queue(u32),
-    Begin(&'static [Pair]),
+    Begin(&'static [(u32, i64)]),
     Complete(i64),
     Cancel(u32, i64),
     Off(i64),
@@ -28,7 +29,7 @@ pub(crate) enum Look {
     State(u32, RequestState),
     Gone(u32),
     Holds(u32, Option<u32>),
-    Asks(u32, &'static [Pair]),
+    Asks(u32, &'static [(u32, i64)]),
     Had(u32, &'static [i64]),
     HadNothing(u32, Errno),
     HadValue(u32, u32, Result<i64, Errno>),
@@ -39,21 +40,32 @@ pub(crate) enum Look {
 
 /// What a call answers; a begin the number of its frame's buffer, every other call 0. A call that its caller owes something else isn't made,
 /// and answers ERANGE.
-pub(crate) fn answer(frames: &mut Frames, call: Call) -> Result<u32, Errno> {
+pub(crate) fn answer(alloc: Global, frames: &mut Frames, call: Call) -> Result<u32, Errno> {
     match call {
-        Call::Alloc(id) => alloc(frames, RequestId(id)),
-        Call::Store(id, pairs) => store(frames, RequestId(id), pairs),
+        Call::Alloc(id) => make(frames, RequestId(id)),
+        Call::Store(id, pairs) => {
+            let pairs = made(alloc, pairs)?;
+            store(frames, RequestId(id), pairs.as_slice())
+        }
         Call::Buffer(id, number) => done(frames.add_buffer(RequestId(id), number)),
         Call::Queue(id) => done(frames.queue(RequestId(id))),
-        Call::Begin(applied) => match frames.begin(applied) {
-            Ok((_, number)) => Ok(number),
-            Err(errno) => Err(errno),
-        },
+        Call::Begin(applied) => {
+            let applied = made(alloc, applied)?;
+            let (_, number) = frames.begin(applied.as_slice())?;
+            Ok(number)
+        }
         Call::Complete(number) => complete(frames, number),
         Call::Cancel(id, number) => cancel(frames, RequestId(id), number),
         Call::Off(number) => stream_off(frames, number),
         Call::Reinit(id) => done(frames.reinit(RequestId(id))),
         Call::Free(id) => done(frames.free(RequestId(id))),
+    }
+}
+
+fn made(alloc: Global, asked: &[(u32, i64)]) -> Result<Vec<Pair>, Errno> {
+    match pairs_of(alloc, asked) {
+        Ok(pairs) => Ok(pairs),
+        Err(_) => Err(Errno::ENOMEM),
     }
 }
 
@@ -89,7 +101,7 @@ fn stream_off(frames: &mut Frames, number: i64) -> Result<u32, Errno> {
     }
 }
 
-fn alloc(frames: &mut Frames, id: RequestId) -> Result<u32, Errno> {
+fn make(frames: &mut Frames, id: RequestId) -> Result<u32, Errno> {
     match frames.state_of(id) {
         Ok(_) => Err(Errno::ERANGE),
         Err(_) => done(frames.alloc(id)),
@@ -112,7 +124,7 @@ pub(crate) fn shows(frames: &Frames, look: Look) -> bool {
         Look::Gone(id) => frames.state_of(RequestId(id)) == Err(Errno::EINVAL),
         Look::Holds(id, number) => frames.buffer_of(RequestId(id)) == Ok(number),
         Look::Asks(id, pairs) => match frames.asked(RequestId(id)) {
-            Ok(asked) => asked == pairs,
+            Ok(asked) => are_pairs(asked, pairs),
             Err(_) => false,
         },
         Look::Had(id, numbers) => match frames.snapshot_values(RequestId(id)) {

@@ -1,24 +1,15 @@
 //! Which requests and frames are alike: those that are seen as the same, however they came to be so.
 
 use crate::frame::calls::{CONTROLS, Call, answer};
-use ctrl_types::{CtrlValue, Errno, Pair};
+use ctrl_types::Errno;
 use frame_queue::Frames;
 use std::alloc::Global;
 
-const FIRST: &[Pair] = &[Pair {
-    control: 0,
-    value: CtrlValue::Number(1),
-}];
+const FIRST: &[(u32, i64)] = &[(0, 1)];
 
-const FIRST_MORE: &[Pair] = &[Pair {
-    control: 0,
-    value: CtrlValue::Number(2),
-}];
+const FIRST_MORE: &[(u32, i64)] = &[(0, 2)];
 
-const SECOND: &[Pair] = &[Pair {
-    control: 1,
-    value: CtrlValue::Number(1),
-}];
+const SECOND: &[(u32, i64)] = &[(1, 1)];
 
 // How many controls there are, and calls that are accepted. Those with the same number in front make the same requests and queue.
 type Past = (u32, u32, &'static [Call]);
@@ -200,13 +191,13 @@ const PASTS: &[Past] = &[
 fn after(alloc: Global, past: &Past) -> Result<Frames, Errno> {
     let (_, controls, calls) = *past;
     let mut frames = Frames::new(alloc, controls)?;
-    make_all(&mut frames, calls)?;
+    make_all(alloc, &mut frames, calls)?;
     Ok(frames)
 }
 
-fn make_all(frames: &mut Frames, calls: &[Call]) -> Result<(), Errno> {
+fn make_all(alloc: Global, frames: &mut Frames, calls: &[Call]) -> Result<(), Errno> {
     for call in calls {
-        answer(frames, *call)?;
+        answer(alloc, frames, *call)?;
     }
     Ok(())
 }

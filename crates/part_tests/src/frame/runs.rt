@@ -1,7 +1,7 @@
 //! What requests and frames come through, from a queue of frames without requests.
 
 use crate::frame::calls::{CONTROLS, Call, Look, answer, shows};
-use ctrl_types::{CtrlValue, Errno, Pair};
+use ctrl_types::Errno;
 use frame_queue::{Frames, MAX_REQUESTS, RequestState};
 use std::alloc::Global;
 
@@ -57,16 +57,7 @@ const RUNS: &[Run] = &[
     (
         &[
             (Call::Alloc(0), Ok(0)),
-            (
-                Call::Store(
-                    0,
-                    &[Pair {
-                        control: 0,
-                        value: CtrlValue::Number(1),
-                    }],
-                ),
-                Ok(0),
-            ),
+            (Call::Store(0, &[(0, 1)]), Ok(0)),
             (Call::Buffer(0, 5), Ok(0)),
             (Call::Queue(0), Ok(0)),
             (Call::Cancel(0, 1), Ok(0)),
@@ -93,62 +84,12 @@ const RUNS: &[Run] = &[
     (
         &[
             (Call::Alloc(3), Ok(0)),
-            (
-                Call::Store(
-                    3,
-                    &[
-                        Pair {
-                            control: 2,
-                            value: CtrlValue::Number(5),
-                        },
-                        Pair {
-                            control: 0,
-                            value: CtrlValue::Number(1),
-                        },
-                        Pair {
-                            control: 2,
-                            value: CtrlValue::Number(6),
-                        },
-                    ],
-                ),
-                Ok(0),
-            ),
-            (
-                Call::Store(
-                    3,
-                    &[
-                        Pair {
-                            control: 0,
-                            value: CtrlValue::Number(9),
-                        },
-                        Pair {
-                            control: 1,
-                            value: CtrlValue::Number(-1),
-                        },
-                    ],
-                ),
-                Ok(0),
-            ),
+            (Call::Store(3, &[(2, 5), (0, 1), (2, 6)]), Ok(0)),
+            (Call::Store(3, &[(0, 9), (1, -1)]), Ok(0)),
             (Call::Store(3, &[]), Ok(0)),
         ],
         &[
-            Look::Asks(
-                3,
-                &[
-                    Pair {
-                        control: 0,
-                        value: CtrlValue::Number(9),
-                    },
-                    Pair {
-                        control: 1,
-                        value: CtrlValue::Number(-1),
-                    },
-                    Pair {
-                        control: 2,
-                        value: CtrlValue::Number(6),
-                    },
-                ],
-            ),
+            Look::Asks(3, &[(0, 9), (1, -1), (2, 6)]),
             Look::State(3, RequestState::Idle),
             Look::Holds(3, None),
             Look::HadNothing(3, Errno::EACCES),
@@ -160,69 +101,21 @@ const RUNS: &[Run] = &[
     (
         &[
             (Call::Alloc(0), Ok(0)),
-            (
-                Call::Store(
-                    0,
-                    &[Pair {
-                        control: 1,
-                        value: CtrlValue::Number(2),
-                    }],
-                ),
-                Ok(0),
-            ),
+            (Call::Store(0, &[(1, 2)]), Ok(0)),
             (Call::Buffer(0, 4), Ok(0)),
             (Call::Reinit(0), Ok(0)),
-            (
-                Call::Store(
-                    0,
-                    &[Pair {
-                        control: 2,
-                        value: CtrlValue::Number(3),
-                    }],
-                ),
-                Ok(0),
-            ),
+            (Call::Store(0, &[(2, 3)]), Ok(0)),
         ],
-        &[
-            Look::Asks(
-                0,
-                &[Pair {
-                    control: 2,
-                    value: CtrlValue::Number(3),
-                }],
-            ),
-            Look::Holds(0, None),
-        ],
+        &[Look::Asks(0, &[(2, 3)]), Look::Holds(0, None)],
     ),
     // what was applied at the begin, and else the values at the end
     (
         &[
             (Call::Alloc(0), Ok(0)),
-            (
-                Call::Store(
-                    0,
-                    &[
-                        Pair {
-                            control: 0,
-                            value: CtrlValue::Number(1),
-                        },
-                        Pair {
-                            control: 1,
-                            value: CtrlValue::Number(2),
-                        },
-                    ],
-                ),
-                Ok(0),
-            ),
+            (Call::Store(0, &[(0, 1), (1, 2)]), Ok(0)),
             (Call::Buffer(0, 4), Ok(0)),
             (Call::Queue(0), Ok(0)),
-            (
-                Call::Begin(&[Pair {
-                    control: 1,
-                    value: CtrlValue::Number(2),
-                }]),
-                Ok(4),
-            ),
+            (Call::Begin(&[(1, 2)]), Ok(4)),
             (Call::Complete(9), Ok(0)),
         ],
         &[
@@ -230,19 +123,7 @@ const RUNS: &[Run] = &[
             Look::HadValue(0, 1, Ok(2)),
             Look::HadValue(0, 2, Ok(9)),
             Look::HadValue(0, 3, Err(Errno::EINVAL)),
-            Look::Asks(
-                0,
-                &[
-                    Pair {
-                        control: 0,
-                        value: CtrlValue::Number(1),
-                    },
-                    Pair {
-                        control: 1,
-                        value: CtrlValue::Number(2),
-                    },
-                ],
-            ),
+            Look::Asks(0, &[(0, 1), (1, 2)]),
         ],
     ),
     // in the order of queueing; one is cancelled
@@ -282,13 +163,7 @@ const RUNS: &[Run] = &[
             (Call::Queue(1), Ok(0)),
             (Call::Queue(2), Ok(0)),
             (Call::Queue(3), Ok(0)),
-            (
-                Call::Begin(&[Pair {
-                    control: 0,
-                    value: CtrlValue::Number(4),
-                }]),
-                Ok(11),
-            ),
+            (Call::Begin(&[(0, 4)]), Ok(11)),
             (Call::Off(7), Ok(0)),
             (Call::Off(8), Ok(0)),
         ],
@@ -329,10 +204,10 @@ const RUNS: &[Run] = &[
 ];
 
 // A call has its answer; where a growth was refused, it has it when it is made again.
-fn is_answered(frames: &mut Frames, call: Call, want: Result<u32, Errno>) -> bool {
-    let first = answer(frames, call);
+fn is_answered(alloc: Global, frames: &mut Frames, call: Call, want: Result<u32, Errno>) -> bool {
+    let first = answer(alloc, frames, call);
     if first == Err(Errno::ENOMEM) {
-        answer(frames, call) == want
+        answer(alloc, frames, call) == want
     } else {
         first == want
     }
@@ -347,12 +222,12 @@ fn empty(alloc: Global) -> Result<Frames, Errno> {
 
 fn plays(alloc: Global, run: &Run) -> Result<bool, Errno> {
     let mut frames = empty(alloc)?;
-    Ok(are_answered(&mut frames, run.0) && all_show(&frames, run.1))
+    Ok(are_answered(alloc, &mut frames, run.0) && all_show(&frames, run.1))
 }
 
-fn are_answered(frames: &mut Frames, calls: &[(Call, Result<u32, Errno>)]) -> bool {
+fn are_answered(alloc: Global, frames: &mut Frames, calls: &[(Call, Result<u32, Errno>)]) -> bool {
     for (call, want) in calls {
-        if !is_answered(frames, *call, *want) {
+        if !is_answered(alloc, frames, *call, *want) {
             return false;
         }
     }
@@ -379,39 +254,41 @@ fn runs(rt: HostRuntime) {
 fn fills(alloc: Global) -> Result<bool, Errno> {
     let mut frames = empty(alloc)?;
     Ok(
-        allocates_all(&mut frames)
-            && queues_all(&mut frames)
-            && runs_all(&mut frames)
-            && makes_room(&mut frames),
+        allocates_all(alloc, &mut frames)
+            && queues_all(alloc, &mut frames)
+            && runs_all(alloc, &mut frames)
+            && makes_room(alloc, &mut frames),
     )
 }
 
 const MOST: u32 = MAX_REQUESTS as u32;
 
-fn allocates_all(frames: &mut Frames) -> bool {
+fn allocates_all(alloc: Global, frames: &mut Frames) -> bool {
     for id in 0..MOST {
-        if !is_answered(frames, Call::Alloc(id), Ok(0)) {
+        if !is_answered(alloc, frames, Call::Alloc(id), Ok(0)) {
             return false;
         }
     }
-    is_answered(frames, Call::Alloc(MOST), Err(Errno::ENOSPC))
+    is_answered(alloc, frames, Call::Alloc(MOST), Err(Errno::ENOSPC))
 }
 
-fn queues_all(frames: &mut Frames) -> bool {
+fn queues_all(alloc: Global, frames: &mut Frames) -> bool {
     for id in (0..MOST).rev() {
         let buffer = Call::Buffer(id, id.saturating_add(100));
-        if !is_answered(frames, buffer, Ok(0)) || !is_answered(frames, Call::Queue(id), Ok(0)) {
+        if !is_answered(alloc, frames, buffer, Ok(0))
+            || !is_answered(alloc, frames, Call::Queue(id), Ok(0))
+        {
             return false;
         }
     }
     true
 }
 
-fn runs_all(frames: &mut Frames) -> bool {
+fn runs_all(alloc: Global, frames: &mut Frames) -> bool {
     for id in (0..MOST).rev() {
         let buffer = Ok(id.saturating_add(100));
-        if !is_answered(frames, Call::Begin(&[]), buffer)
-            || !is_answered(frames, Call::Complete(1), Ok(0))
+        if !is_answered(alloc, frames, Call::Begin(&[]), buffer)
+            || !is_answered(alloc, frames, Call::Complete(1), Ok(0))
         {
             return false;
         }
@@ -420,9 +297,9 @@ fn runs_all(frames: &mut Frames) -> bool {
 }
 
 // One that is freed makes room for another.
-fn makes_room(frames: &mut Frames) -> bool {
-    is_answered(frames, Call::Free(0), Ok(0))
-        && is_answered(frames, Call::Alloc(MOST), Ok(0))
+fn makes_room(alloc: Global, frames: &mut Frames) -> bool {
+    is_answered(alloc, frames, Call::Free(0), Ok(0))
+        && is_answered(alloc, frames, Call::Alloc(MOST), Ok(0))
         && shows(frames, Look::Count(MAX_REQUESTS))
 }
 

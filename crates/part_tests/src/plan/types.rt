@@ -36,6 +36,7 @@ const NUMBERS: &[Case] = &[
     Case::Kind(Kind::Integer64, 5),
     Case::Kind(Kind::Bitmask, 8),
     Case::Kind(Kind::IntegerMenu, 9),
+    Case::Kind(Kind::U8, 256),
 ];
 
 const CLASSES: &[Case] = &[

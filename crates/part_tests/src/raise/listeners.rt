@@ -114,7 +114,7 @@ impl Listeners {
         after: &Moment,
         control: u32,
         old: &Ctrl,
-        old_value: CtrlValue,
+        old_value: &CtrlValue,
     ) -> Result<Events, Fail>
         requires known { control < length plan.now.controls }
         requires ranges { length after.now.ranges ≡ length plan.now.controls }

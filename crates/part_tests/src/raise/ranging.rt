@@ -221,7 +221,7 @@ fn heard(
     let after = Moment::new(ranges, values, case.grabs);
     let listeners = Listeners::subscribed(alloc)?;
     let old_value = CtrlValue::Number(case.value);
-    listeners.range_raised(plan, &after, case.control, &old, old_value)
+    listeners.range_raised(plan, &after, case.control, &old, &old_value)
 }
 
 // The same, between the moments before and after.

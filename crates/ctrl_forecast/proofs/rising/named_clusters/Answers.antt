@@ -1,6 +1,5 @@
 use Rattle.std.proofs.Common.{◌≡◌, ◌∙◌, ◌+◌, ◌++◌, ℕ, true, Vec, Global, List, [], ◌∷◌, length, take, slice_index_or, ap, sym, arith}
 use Rattle.std.proofs.lemmas.List.{take_more}
-use Rattle.ctrl_types.specs.Values.{zero_value}
 use Rattle.ctrl_types.specs.declared.ids.Pair.{Pair}
 use Rattle.ctrl_forecast.specs.Boards.{named_clusters}
 use Rattle.ctrl_forecast.specs.Frames.{with_or_without}
@@ -17,9 +16,9 @@ mark-requires g c = record { room = let more = length_marked c.cluster_of.result
 pub loop-pair-preserved : goal.loop-pair-preserved
 loop-pair-preserved g c =
     let i : ℕ = c.loop-pair.pair-index in
-    let p : Pair = slice_index_or c.args.pairs.now i (record { control = 0; value = zero_value }) in
+    let p : Pair = c.pair-item.result in
     let before : List Pair = take i c.args.pairs.now in
-    let next : take (i + 1) c.args.pairs.now ≡ before ++ p ∷ [] = take_more c.args.pairs.now i (record { control = 0; value = zero_value }) c.loop-pair-test.true in
+    let next : take (i + 1) c.args.pairs.now ≡ before ++ p ∷ [] = take_more c.args.pairs.now i p c.loop-pair-test.true ∙ ap (λ (q : Pair). before ++ q ∷ []) (sym c.pair-item.is) in
     elim c.if-control-count.branch [
       | then-control-count+in_ok-reserve w ↦
           ap (λ (v : Vec ℕ Global). v.items) w.named-is ∙ w.mark.ensures.clusters ∙ ap (with_or_without w.cluster_of.result true) (w.reserve.ensures.items ∙ c.loop-pair.invariant)

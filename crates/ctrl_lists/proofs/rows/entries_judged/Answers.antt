@@ -1,6 +1,5 @@
 use Rattle.std.proofs.Common.{◌≡◌, get_or, ap, ◌∙◌, IsTrue}
 use Rattle.std.proofs.lemmas.List.Elements.{All-get_or}
-use Rattle.ctrl_types.specs.Values.{zero_value}
 use Rattle.ctrl_clusters.specs.Overlay.{is_among}
 use Rattle.ctrl_types.specs.declared.ids.Pair.{Pair}
 use Rattle.ctrl_lists.specs.View.{ViewData}
@@ -14,11 +13,12 @@ use Rattle.ctrl_lists.proofs.rows.entries_judged.Goals as goal
 pub loop-pair-preserved : goal.loop-pair-preserved
 loop-pair-preserved g c =
     let old = c.loop-pair.invariant in
-    let d : Pair = record { control = 0; value = zero_value } in
+    let d = c.pair-item.result in
     let pairs = c.args.pairs.now in
     let i = c.loop-pair.pair-index in
     let is : c.entry_judged.result ≡ entry_judged g.D.Validates.verdict c.args.plan.now c.args.view.now c.args.laid.now (get_or pairs i d) =
     c.entry_judged.ensures
+    ∙ ap (λ (p : Pair). entry_in c.args.plan.now c.view.inside.values.now c.args.rows.now.rows p.control) c.pair-item.is
     ∙ ap (λ (v : ViewData). entry_in c.args.plan.now v.values c.args.rows.now.rows (get_or pairs i d).control) c.view.view_is
     ∙ entry_same g.D.Validates.verdict c.args.plan.now c.args.view.now c.args.laid.now pairs c.args.rows.now.rows i d c.requires.rows c.loop-pair-test.true (All-get_or (λ (p : Pair). IsTrue (is_among c.args.laid.now p.control)) pairs i d c.loop-pair-test.true c.requires.among) in
     record {

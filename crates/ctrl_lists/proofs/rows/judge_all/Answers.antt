@@ -1,7 +1,8 @@
-use Rattle.std.proofs.Common.{length, inl, ◌∙◌}
-use Rattle.ctrl_types.specs.Values.{zero_value}
+use Rattle.std.proofs.Common.{◌≡◌, ◌≤◌, ◌+◌, length, inl, ap, subst, sym, get_or, ◌∙◌}
 use Rattle.ctrl_types.specs.declared.ids.Pair.{Pair}
 use Rattle.ctrl_clusters.specs.NewRows.{clusters_of}
+use Rattle.ctrl_handlers.specs.Plan.{cluster_of}
+use Rattle.ctrl_lists.specs.Touched.{with_cluster}
 use Rattle.ctrl_lists.specs.Checks.{at_first, judging_refusal}
 use Rattle.ctrl_lists.proofs.ListLemmas.{passes, stops, each_next, few_more, asked_more, asked_within}
 use Rattle.ctrl_lists.proofs.rows.judge_all.Goals as goal
@@ -10,14 +11,17 @@ use Rattle.ctrl_lists.proofs.rows.judge_all.Goals as goal
 pub returns-in-Err-clause-err : goal.returns-in-Err-clause-err
 returns-in-Err-clause-err g c =
     let refused = judging_refusal g.D.Validates.verdict c.args.plan.now c.args.view.now c.args.laid.now in
-    inl (rw c.at.ensures (stops refused (at_first refused c.args.pairs.now) c.args.pairs.now c.loop-place.place _ c.in-Err.errno c.loop-place-test.true c.in-Err.ensures.err c.loop-place.invariant.none))
+    let d = c.index-pairs-place.result in
+    inl (rw c.at.ensures (stops refused (at_first refused c.args.pairs.now) c.args.pairs.now c.loop-place.place d c.in-Err.errno c.loop-place-test.true (sym (ap refused c.index-pairs-place.is) ∙ c.in-Err.ensures.err) c.loop-place.invariant.none))
 
 pub returns-in-Err-clause-at_most : goal.returns-in-Err-clause-at_most
 returns-in-Err-clause-at_most g c =
     let old = c.loop-place.invariant in
-    let d : Pair = record { control = 0; value = zero_value } in
+    let d = c.index-pairs-place.result in
+    let at_most = subst (λ (p : Pair). c.judge_next.new.work.asked + length (clusters_of c.loop-place.rows.rows) ≤ c.loop-place.work.asked + length (with_cluster (clusters_of c.loop-place.rows.rows) (cluster_of c.args.plan.now p.control)))
+    c.index-pairs-place.is c.judge_next.ensures.at_most in
     asked_within c.args.plan.now c.args.pairs.now c.loop-place.place d (clusters_of c.loop-place.rows.rows) c.args.work.now.asked c.loop-place.work.asked c.judge_next.new.work.asked
-    c.loop-place-test.true old.each old.asked c.judge_next.ensures.at_most
+    c.loop-place-test.true old.each old.asked at_most
 
 -- one more pair, whose cluster has its row
 pub loop-place-preserved : goal.loop-place-preserved
@@ -25,10 +29,11 @@ loop-place-preserved g c =
     let old = c.loop-place.invariant in
     let does = c.in_default-judge_next.ensures in
     let refused = judging_refusal g.D.Validates.verdict c.args.plan.now c.args.view.now c.args.laid.now in
-    let d : Pair = record { control = 0; value = zero_value } in
+    let d = c.index-pairs-place.result in
+    let is = c.index-pairs-place.is in
     record {
-      none = passes refused (at_first refused c.args.pairs.now) c.args.pairs.now c.loop-place.place d c.loop-place-test.true does.ok old.none;
-      each = each_next c.args.plan.now c.args.pairs.now c.loop-place.place d (clusters_of c.loop-place.rows.rows) (clusters_of c.judge_next.new.rows.rows) c.loop-place-test.true old.each does.each;
+      none = passes refused (at_first refused c.args.pairs.now) c.args.pairs.now c.loop-place.place d c.loop-place-test.true (sym (ap refused is) ∙ does.ok) old.none;
+      each = each_next c.args.plan.now c.args.pairs.now c.loop-place.place d (clusters_of c.loop-place.rows.rows) (clusters_of c.judge_next.new.rows.rows) c.loop-place-test.true old.each (does.each ∙ ap (λ (p : Pair). with_cluster (clusters_of c.loop-place.rows.rows) (cluster_of c.args.plan.now p.control)) is);
       become = does.rows;
       within = does.within;
       long = does.long;

@@ -5,4 +5,5 @@ use Rattle.device_file.proofs.clusters.add_clusters.Given as goal
 
 -- the clusters so far, and those that are left
 abbrev pub invariant-loop-number : goal.invariant-loop-number
-invariant-loop-number l = with_clusters l.words l.builder l.number (map view (drop l.number l.tables)) ≡ with_clusters l.words l.initial.builder 0 (map view l.tables)
+invariant-loop-number l =
+    with_clusters (map view l.handlers) l.words l.builder l.number (map view (drop l.number l.tables)) ≡ with_clusters (map view l.handlers) l.words l.initial.builder 0 (map view l.tables)

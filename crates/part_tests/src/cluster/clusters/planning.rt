@@ -20,6 +20,8 @@ pub enum Made {
     Button,
     // a number of 0 to 255 that acts on each write
     Acting,
+    // an array of 2 bytes, each 0, 10, .. 250
+    Array,
 }
 
 /// Clusters that it has.
@@ -35,10 +37,16 @@ pub enum Named {
 
 fn control(id: u32, made: Made) -> Result<Ctrl, Fail> {
     let none = Flags::empty();
+    if let Made::Array = made {
+        return match Ctrl::new_array(CtrlId(id), 2, 0, 250, 10, 0, none, false) {
+            Ok(ctrl) => Ok(ctrl),
+            Err(_) => Err(Fail::new("an array")),
+        };
+    }
     let (kind, maximum, step, skip, flags) = match made {
         Made::Number(maximum, step) => (Kind::Integer, maximum, step, 0, none),
         Made::Menu => (Kind::Menu, 3, 1, 4, none),
-        Made::Button => (Kind::Button, 0, 0, 0, none),
+        Made::Button | Made::Array => (Kind::Button, 0, 0, 0, none),
         Made::Acting => (Kind::Integer, 255, 1, 0, Flags::EXECUTE_ON_WRITE),
     };
     match Ctrl::new(CtrlId(id), kind, 0, maximum, step, 0, skip, flags, false) {

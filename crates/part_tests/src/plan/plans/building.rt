@@ -19,6 +19,8 @@ pub enum Call {
     Marked(u32, u32),
     // a menu of the items 0 to 3, of which 2 is skipped
     Menu(u32, u32, Kind),
+    // an array of 4 bytes
+    Array(u32, u32),
     Add(u32, u32),
     Name(u32, u32, &'static str),
     Number(u32, u32, i64),
@@ -40,6 +42,11 @@ fn menu(rt: &impl Abort, id: u32, kind: Kind) -> Ctrl {
     made.expect(rt, "a menu")
 }
 
+fn array(rt: &impl Abort, id: u32) -> Ctrl {
+    let made = Ctrl::new_array(CtrlId(id), 4, 0, 250, 10, 0, Flags::empty(), false);
+    made.expect(rt, "an array")
+}
+
 /// What the call answers: a number, 0 where it has none, or its refusal.
 pub fn answer(
     rt: &impl Abort,
@@ -54,6 +61,7 @@ pub fn answer(
         }
         Call::Marked(handler, id) => builder.control(handler, number(rt, id, MARKED, false)),
         Call::Menu(handler, id, kind) => builder.control(handler, menu(rt, id, kind)),
+        Call::Array(handler, id) => builder.control(handler, array(rt, id)),
         Call::Add(to, added) => done(builder.add_handler(to, added)),
         Call::Name(control, index, name) => done(builder.menu_name(control, index, name)),
         Call::Number(control, index, number) => done(builder.menu_number(control, index, number)),

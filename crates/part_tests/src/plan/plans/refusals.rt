@@ -19,6 +19,7 @@ const NUMBERS: &[(PlanFault, u32)] = &[
     (PlanFault::UnknownNumber, 5),
     (PlanFault::Limit, 6),
     (PlanFault::Memory, 7),
+    (PlanFault::ArrayAlone, 8),
 ];
 
 #[test]
@@ -26,6 +27,41 @@ fn faults_have_their_numbers(rt: HostRuntime) {
     for &(fault, number) in NUMBERS {
         assert!(rt; fault.number() == number, "{fault:?}");
     }
+}
+
+// An array has no other member beside it, and no manual value. That it is in a cluster already comes first.
+const ARRAYS: &[(Call, Result<u32, PlanFault>)] = &[
+    (Call::Handler, Ok(0)),
+    (Call::Control(0, 0, false), Ok(0)),
+    (Call::Control(0, 1, false), Ok(1)),
+    (Call::Array(0, 2), Ok(2)),
+    (Call::Array(0, 3), Ok(3)),
+    (Call::Array(0, 4), Ok(4)),
+    (Call::Cluster(&[0, 2]), Err(PlanFault::ArrayAlone)),
+    (Call::Cluster(&[2, 0]), Err(PlanFault::ArrayAlone)),
+    (Call::Cluster(&[2, 3]), Err(PlanFault::ArrayAlone)),
+    (Call::Auto(&[2], 0), Err(PlanFault::ArrayAlone)),
+    (Call::Auto(&[0, 2], 1), Err(PlanFault::ArrayAlone)),
+    (Call::Cluster(&[2]), Ok(0)),
+    (Call::Cluster(&[0, 2]), Err(PlanFault::InCluster)),
+    (Call::Cluster(&[3, 3]), Err(PlanFault::InCluster)),
+    (Call::Cluster(&[3, 9]), Err(PlanFault::UnknownNumber)),
+    (Call::Cluster(&[1, 0]), Ok(1)),
+];
+
+const ARRAYS_FOUND: &[Look] = &[
+    Look::Clusters(4),
+    Look::Cluster(0, &[2], None),
+    Look::Cluster(1, &[1, 0], None),
+    Look::Cluster(2, &[3], None),
+    Look::Cluster(3, &[4], None),
+    Look::Closures(0, Some(3)),
+    Look::Closures(2, None),
+];
+
+#[test]
+fn arrays_alone(rt: HostRuntime) {
+    holds(&rt, rt.alloc(), 0, ARRAYS, ARRAYS_FOUND);
 }
 
 // A builder of so many handlers, one of which has so many controls, refuses further ones.

@@ -9,6 +9,6 @@ returns-in_default-read_entry c =
 
 pub loop-word-preserved : goal.loop-word-preserved
 loop-word-preserved c =
-    let more = push_at c.args.known.now c.args.form c.args.words.now c.loop-word.word-index _ c.read_entry.result c.loop-word.list.items c.in-Some.entry
+    let more = push_at c.args.known.now c.args.form c.args.words.now c.loop-word.word-index _ c.read_entry.result c.loop-word.list.items c.in-Some.field-0
     c.loop-word-test.true c.loop-word.invariant.2 c.read_entry.ensures c.in-Some.is in
     (grind (arith, common_steps), grind (arith, common_steps), rw c.push_reserved.ensures.items more)

@@ -15,8 +15,8 @@ use Rattle.step_effects.proofs.ranging.change_range.Goals as goal
 pub returns-clause-events : goal.returns-clause-events
 returns-clause-events g c verdicts e older low high apart default_value is own r v gs fh =
     c.raise_range.ensures fh.0
-    ∙ ap (λ (m : MomentData). raised m c.range.result.now c.index-value.result.now) after
-    ∙ ap (λ (x : Control). raised (moved controls values c.args.grabs.now c.args.control c.args.changed) x c.index-value.result.now) old
+    ∙ ap (λ (m : MomentData). raised m c.range.result.now c.index.result.now) after
+    ∙ ap (λ (x : Control). raised (moved controls values c.args.grabs.now c.args.control c.args.changed) x c.index.result.now) old
     ∙ ap (raised (moved controls values c.args.grabs.now c.args.control c.args.changed) (control_in controls c.args.control)) old_value
     ∙ ranged_step verdicts c.args.plan.now e older controls values c.args.grabs.now c.args.control low high apart default_value c.args.changed fh (events_of c.args.events.now fh.0) is own r v gs
   where
@@ -33,8 +33,8 @@ returns-clause-events g c verdicts e older low high apart default_value is own r
     old : c.range.result.now ≡ control_in controls c.args.control
     old = c.range.ensures
 
-    old_value : c.index-value.result.now ≡ value_at values c.args.control
-    old_value = c.index-value.ensures ∙ get_or_default values c.args.control c.index-value.result.now zero_value (omega (arith, c.requires.known, c.requires.values))
+    old_value : c.index.result.now ≡ value_at values c.args.control
+    old_value = c.index.ensures ∙ get_or_default values c.args.control c.index.result.now zero_value (omega (arith, c.requires.known, c.requires.values))
 
     laid : c.as_slice.result.now ≡ slice_set values c.args.control (settled_anew c.args.changed (value_at values c.args.control))
     laid = c.as_slice.ensures.value ∙ ap (slice_set values c.args.control) (c.settle_anew.ensures.value ∙ ap (settled_anew c.args.changed) old_value)

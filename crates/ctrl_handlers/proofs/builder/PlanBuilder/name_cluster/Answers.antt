@@ -6,7 +6,7 @@ use Rattle.ctrl_handlers.proofs.builder.PlanBuilder.name_cluster.Goals as goal
 
 -- nothing refuses the cluster
 pub add_cluster-requires : goal.add_cluster-requires
-add_cluster-requires g c = subst (λ (p : PlanData). cluster_refusal p c.args.members.now ≡ None) (sym c.self.view_is) c.requires
+add_cluster-requires g c = subst (λ (p : PlanData). cluster_refusal p c.args.members.now c.args.manual ≡ None) (sym c.self.view_is) c.requires
 
 -- one more cluster and its closures
 pub invariant_of-self-in-Ok : goal.invariant_of-self-in-Ok

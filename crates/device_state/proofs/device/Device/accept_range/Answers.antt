@@ -111,14 +111,10 @@ renew-requires-clause-kept g c =
 pub renew-requires-clause-clusters : goal.renew-requires-clause-clusters
 renew-requires-clause-clusters g c = All-cons (λ k. k < length c.self.inside.plan.clusters) c.cluster_of-cluster.result [] c.cluster_of-cluster.ensures.within (λ k d lt. absurd (omega (arith, lt)))
 
--- `==` of two values is the test of the definitions
-same_test : (v w : CtrlValue) → eq-value.it v w ≡ is_same v w
-same_test (Number v) (Number w) = refl
-
 -- whether the value differs
-differs : (g : _) (c : goal.After-push_reserved g) → c.ne.result ≡ not (is_same (value_at c.self.inside.values.items c.args.control) (value_at c.change_range.new.values.items c.args.control))
+differs : (g : _) (c : goal.After-push_reserved g) → not c.is_same.result ≡ not (is_same (value_at c.self.inside.values.items c.args.control) (value_at c.change_range.new.values.items c.args.control))
 differs g c =
-    c.ne.ensures ∙ ap not (same_test c.index.result.now c.index-2.result.now) ∙ ap (λ (x : CtrlValue). not (is_same x c.index-2.result.now)) before ∙ ap (λ (x : CtrlValue). not (is_same (value_at c.self.inside.values.items c.args.control) x)) after
+    ap not c.is_same.ensures ∙ ap (λ (x : CtrlValue). not (is_same x c.index-2.result.now)) before ∙ ap (λ (x : CtrlValue). not (is_same (value_at c.self.inside.values.items c.args.control) x)) after
   where
     known : c.args.control < length c.self.inside.plan.controls
     known = range_known c.self.inside.plan (past c.self.inside.steps.items) c.args.control c.args.changed (rw (← c.self.view_is) at c.requires.ranged)

@@ -1,6 +1,7 @@
-use Rattle.std.proofs.Common.{rules, ◌≡◌, ℕ, Bool, true, false, ◌&&◌, nat_eq, Decides, refl, ap, ◌∙◌, arith}
+use Rattle.std.proofs.Common.{◌≡◌, ℕ, Bool, true, false, ◌&&◌, nat_eq, Decides, refl, ap, ◌∙◌, arith}
 use Rattle.std.proofs.lemmas.Bool.Decides.{nat_tests}
 use Rattle.std.proofs.lemmas.Slice.Eq.{slice_eq-Decides}
+use Rattle.ctrl_types.proofs.ValueLemmas.{eq_decides}
 use Rattle.ctrl_types.specs.contracts.value.CtrlValuePartialEq.TheImpl.{eq-value}
 use Rattle.ctrl_types.specs.declared.value.CtrlValue.{CtrlValue}
 use Rattle.ctrl_types.specs.declared.ids.Pair.{Pair}
@@ -22,7 +23,7 @@ own m n h = grind (arith, nat_tests, h)
 
 -- `==` of two values
 same_values : (v w : CtrlValue) → Decides (eq-value.it v w) (v ≡ w)
-same_values v w = search rules
+same_values = eq_decides
 
 -- pairs are the same where both parts are
 alike : (a b : Pair) → (nat_eq a.control b.control && eq-value.it a.value b.value) ≡ true → a ≡ b

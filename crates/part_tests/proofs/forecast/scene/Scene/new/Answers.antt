@@ -10,7 +10,7 @@ use Rattle.part_tests.proofs.forecast.scene.Scene.new.Goals as goal
 pub returns : goal.returns
 unfolding forecasts
 returns c = record {
-  ranges_own = subst (AreControlsOf c.args.plan.now) (sym c.in_ok-of_plan.ensures) (record { many = refl; ids = refl; kinds = refl; flags = refl; skipped = refl });
+  ranges_own = subst (AreControlsOf c.args.plan.now) (sym c.in_ok-of_plan.ensures) (record { many = refl; ids = refl; kinds = refl; flags = refl; skipped = refl; elems = refl });
   values_many = ap length c.in_ok-default_values.ensures ∙ length-map c.controls.result.now default_of ∙ ap length c.controls.ensures.controls;
   grabs_many = ap length c.in_ok-no_grabs.ensures ∙ length-map c.controls-2.result.now (λ (ctrl : Control). false) ∙ ap length c.controls-2.ensures.controls;
   kept =
