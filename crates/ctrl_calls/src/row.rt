@@ -1,4 +1,5 @@
-ghost use Rattle.std.specs.Prelude.{◌≡◌, ◌<◌, ◌≤◌, ◌↔◌, length, slice_get, slice_set, IsNone, IfSome};
+ghost use Rattle.std.specs.Prelude.{◌≡◌, ◌<◌, ◌≤◌, ◌↔◌, length, replicate, slice_get, slice_set, IsNone, IfSome};
+ghost use Rattle.ctrl_types.specs.Values.{zero_value};
 
 use ctrl_types::CtrlValue;
 use std::marker::Model;
@@ -44,6 +45,17 @@ impl ClusterRow {
         let mut cells = [CtrlValue::Number(0); MAX_MEMBERS];
         cells[..len].copy_from_slice(values);
         Some(ClusterRow { cells, len })
+    }
+
+    /// The row of so many zeros. The caller owes 8 at most.
+    pub fn zeros(len: usize) -> ClusterRow
+        requires { len ≤ 8 }
+        ensures { result ≡ replicate len zero_value }
+    {
+        ClusterRow {
+            cells: [CtrlValue::Number(0); MAX_MEMBERS],
+            len,
+        }
     }
 
     /// How many values the row has: 0 to 8.

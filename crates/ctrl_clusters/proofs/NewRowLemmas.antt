@@ -11,7 +11,7 @@ use Rattle.ctrl_types.specs.declared.value.CtrlValue.{CtrlValue}
 use Rattle.ctrl_handlers.specs.Plan.{PlanData, IsPlan, cluster_of, members, names_twice}
 use Rattle.ctrl_handlers.proofs.ClusterLemmas.{or_false, or_false_right}
 use Rattle.ctrl_clusters.specs.Rows.{Values, value_at, member_value}
-use Rattle.ctrl_clusters.specs.NewRows.{clusters_of, row_among, value_among, AreNewRows, value_written, written, with_row}
+use Rattle.ctrl_clusters.specs.NewRows.{clusters_of, row_among, value_among, AreNewRows, one_row, value_written, written, with_row}
 use Rattle.ctrl_clusters.specs.declared.new_row.NewRow.{NewRow}
 
 -- values that are equal one by one are equal
@@ -191,6 +191,12 @@ written_push plan values rows r is many within long new =
         at (inr h) =
             let apart : member_value (members plan r.cluster) r.row i ≡ None = value_in_none (members plan r.cluster) r.row i (member_apart plan i r.cluster (Some k) is within found (λ e. h.1 (sym (some_same k r.cluster e)))) in
             rw (row_among_push rows r k, h.0, apart, or_none (row_among rows k)) refl
+
+-- the row of one cluster is written
+pub written_one : (plan : PlanData) (values : Values) (k : ℕ) (row : List CtrlValue) → IsPlan plan → length values ≡ length plan.controls → k < length plan.clusters → length row ≡ length (members plan k)
+    → with_row values (members plan k) row ≡ written plan values (one_row k row)
+written_one plan values k row is many within long =
+    ap (λ (v : Values). with_row v (members plan k) row) (sym (written_none plan values)) ∙ written_push plan values [] (record { cluster = k; row = row }) is many within long refl
 
 -- the clusters of rows so far don't have that of the next
 new_next : (rows : List NewRow) (i : ℕ) (d : NewRow) → names_twice (clusters_of rows) ≡ false → i < length rows → row_among (take i rows) (get_or rows i d).cluster ≡ None

@@ -35,6 +35,10 @@ value_written plan values rows c = unwrap_or (value_among plan rows (cluster_of 
 unfoldable pub written : PlanData → Values → List NewRow → Values
 written plan values rows = map (value_written plan values rows) (range_with_len 0 (length values))
 
+-- the row of one cluster alone
+abbrev pub one_row : ℕ → List CtrlValue → List NewRow
+one_row k row = record { cluster = k; row = row } ∷ []
+
 -- the row that a cluster gets; an empty one where it gets none
 abbrev pub row_or_empty : List NewRow → ℕ → List CtrlValue
 row_or_empty rows k = unwrap_or (row_among rows k) []

@@ -1,7 +1,7 @@
 -- The ranges of controls at a moment, and one that is changed (Linux driver API, `v4l2_ctrl_modify_range`).
-use Rattle.std.specs.Prelude.{◌≡◌, ℕ, ◌<◌, List, length, slice_set}
+use Rattle.std.specs.Prelude.{◌≡◌, ℕ, List, slice_set}
 use Rattle.ctrl_settle.specs.Control.{Control}
-use Rattle.ctrl_handlers.specs.Plan.{PlanData, control_in}
+use Rattle.ctrl_handlers.specs.Plan.{PlanData}
 use Rattle.ctrl_clusters.specs.Rows.{AreControlsOf}
 
 -- the same control with a range, which may be another: its id, its kind, its flags, its skipped items and its number of elements stay

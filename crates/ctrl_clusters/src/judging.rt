@@ -1,22 +1,22 @@
-ghost use Rattle.std.specs.Prelude.{◌≡◌, ◌<◌, ◌≤◌, ◌+◌, length, IfOk, OnOk};
+ghost use Rattle.std.specs.Prelude.{◌≡◌, ◌<◌, ◌≤◌, ◌+◌, length, Ok, Err, IfErr, OnOk};
 ghost use Rattle.std.specs.List.{All};
 ghost use Rattle.ctrl_handlers.specs.Plan.{members, calls_of};
 ghost use Rattle.ctrl_clusters.specs.Rows.{AreControlsOf};
 ghost use Rattle.ctrl_clusters.specs.Judging.{refusal_of, judged, judge, validated_row, asks_validator, after_judging, with_call};
 
 use crate::ranges::Ranges;
-use crate::rows::{overwritten, settle_row, takes_row};
+use crate::rows::{read_overwritten, settle_row, takes_row};
 use ctrl_calls::{ClusterRow, Driver, Verdict, Work, ask};
 use ctrl_handlers::Plan;
 use ctrl_types::{CtrlValue, Errno, Pair};
 
 /// What a cluster makes of a row of its members' values, in member order (Linux driver API, "V4L2 Controls", "Control
-/// Clusters"): its validator is asked, once, where it has one; else the row is accepted as it is. Nobody is told.
+/// Clusters"): its validator is asked, once, where it has one, and what it accepts is the row then; else the row is accepted as it is. Nobody is told.
 ///
 /// - `plan`: what the device is built of.
 /// - `ranges`: the ranges of its controls as they are now; the caller owes that they are of this plan's controls.
 /// - `cluster`: the number of a cluster; the caller owes one below `Plan::cluster_count`.
-/// - `row`: a value for each of its members; the caller owes exactly as many.
+/// - `row`: a value for each of its members; the caller owes exactly as many. Where it is refused it stays as it is.
 /// - `work`: its count `asked` grows by one where the validator is asked.
 ///
 /// Refused by the checks 53, with EACCES (13), EBUSY (16), EINVAL (22) or ERANGE (34), and 54 (EINVAL, 22) of docs/RULES.md. It takes no
@@ -26,21 +26,26 @@ pub fn judge<D: Driver>(
     plan: &Plan<D>,
     ranges: &Ranges,
     cluster: u32,
-    row: &ClusterRow,
+    row: &mut ClusterRow,
     work: &mut Work,
-) -> Result<ClusterRow, Errno>
+) -> Result<(), Errno>
     requires ranges { AreControlsOf plan.now ranges.now }
     requires cluster { cluster < length plan.now.clusters }
-    requires row { length row.now ≡ length (members plan.now cluster) }
-    ensures judged { result ≡ judge D.verdict plan.now ranges.now cluster row.now }
-    ensures long { IfOk result (λ taken. length taken ≡ length (members plan.now cluster)) }
+    requires row { length row.old ≡ length (members plan.now cluster) }
+    ensures ok { OnOk result (judge D.verdict plan.now ranges.now cluster row.old ≡ Ok row.new) }
+    ensures err { IfErr result (λ errno. judge D.verdict plan.now ranges.now cluster row.old ≡ Err errno) }
+    ensures stays { IfErr result (λ errno. row.new ≡ row.old) }
+    ensures long { length row.new ≡ length (members plan.now cluster) }
     ensures at_most_once { work.new.asked ≤ work.old.asked + 1 }
     ensures told { work.new.told ≡ work.old.told }
     ensures counted { work.new ≡ record work.old { asked = after_judging (calls_of plan.now cluster).validator work.old.asked } }
 {
     match plan.validator(cluster) {
-        Some(validator) => judged(ranges, plan.members(cluster), ask(validator, row, work)),
-        None => Ok(*row),
+        Some(validator) => {
+            let verdict = ask(validator, row, work);
+            judged(ranges, plan.members(cluster), &verdict, row)
+        }
+        None => Ok(()),
     }
 }
 
@@ -53,6 +58,7 @@ pub fn judge<D: Driver>(
 /// - `cluster`: the number of a cluster; the caller owes one below `Plan::cluster_count`.
 /// - `values`: a value for each control, in the order of their numbers; the caller owes exactly as many.
 /// - `pairs`: what is asked for; pairs of other clusters' controls count for nothing.
+/// - `row`: any row of as many values as the cluster has members, which the caller owes; the validated row then. Where it is refused, what it holds then says nothing.
 /// - `work`: its count `asked` grows by one where the members' values settle and the cluster has a validator, and else stays.
 ///
 /// Refused by the checks 57 (EINVAL, 22), 51 (ERANGE, 34) and 52 (EINVAL) of docs/RULES.md for the first member that doesn't settle, and then as `judge`
@@ -64,22 +70,25 @@ pub fn validated_row<D: Driver>(
     cluster: u32,
     values: &[CtrlValue],
     pairs: &[Pair],
+    row: &mut ClusterRow,
     work: &mut Work,
-) -> Result<ClusterRow, Errno>
+) -> Result<(), Errno>
     requires ranges { AreControlsOf plan.now ranges.now }
     requires cluster { cluster < length plan.now.clusters }
     requires values { length values.now ≡ length plan.now.controls }
-    ensures row { result ≡ validated_row D.verdict plan.now ranges.now values.now pairs.now cluster }
-    ensures long { IfOk result (λ taken. length taken ≡ length (members plan.now cluster)) }
+    requires row { length row.old ≡ length (members plan.now cluster) }
+    ensures ok { OnOk result (validated_row D.verdict plan.now ranges.now values.now pairs.now cluster ≡ Ok row.new) }
+    ensures err { IfErr result (λ errno. validated_row D.verdict plan.now ranges.now values.now pairs.now cluster ≡ Err errno) }
+    ensures long { length row.new ≡ length (members plan.now cluster) }
     ensures at_most_once { work.new.asked ≤ work.old.asked + 1 }
     ensures asked { OnOk result (work.new.asked ≡ after_judging (calls_of plan.now cluster).validator work.old.asked) }
     ensures told { work.new.told ≡ work.old.told }
     ensures counted { work.new ≡ record work.old { asked = with_call (asks_validator plan.now ranges.now values.now pairs.now cluster) work.old.asked } }
 {
     let members = plan.members(cluster);
-    let row = overwritten(values, pairs, members);
-    match settle_row(ranges, members, &row) {
-        Ok(row) => judge(plan, ranges, cluster, &row, work),
+    read_overwritten(values, pairs, members, row);
+    match settle_row(ranges, members, row) {
+        Ok(()) => judge(plan, ranges, cluster, row, work),
         Err(errno) => Err(errno),
     }
 }
@@ -95,18 +104,27 @@ fn refusal_of(errno: Errno) -> Errno
 }
 
 // What a verdict makes of the row of these members.
-fn judged(ranges: &Ranges, members: &[u32], verdict: Verdict) -> Result<ClusterRow, Errno>
-    requires { All (λ c. c < length ranges.now) members.now }
-    ensures judged { result ≡ judged ranges.now members.now verdict }
-    ensures long { IfOk result (λ row. length row ≡ length members.now) }
+fn judged(
+    ranges: &Ranges,
+    members: &[u32],
+    verdict: &Verdict,
+    row: &mut ClusterRow,
+) -> Result<(), Errno>
+    requires known { All (λ c. c < length ranges.now) members.now }
+    requires long { length row.old ≡ length members.now }
+    ensures ok { OnOk result (judged ranges.now members.now verdict.now ≡ Ok row.new) }
+    ensures err { IfErr result (λ errno. judged ranges.now members.now verdict.now ≡ Err errno) }
+    ensures stays { IfErr result (λ errno. row.new ≡ row.old) }
+    ensures long { length row.new ≡ length members.now }
 {
-    let row = match verdict {
-        Verdict::Refuse(errno) => return Err(refusal_of(errno)),
-        Verdict::Accept(row) => row,
-    };
-    if takes_row(ranges, members, &row) {
-        Ok(row)
-    } else {
-        Err(Errno::EINVAL)
+    match verdict {
+        Verdict::Refuse(errno) => Err(refusal_of(*errno)),
+        Verdict::Accept(accepted) => {
+            if !takes_row(ranges, members, accepted) {
+                return Err(Errno::EINVAL);
+            }
+            *row = *accepted;
+            Ok(())
+        }
     }
 }

@@ -26,4 +26,4 @@ pub use present_flags::{flags_under, flags_with};
 pub use ranges::Ranges;
 pub use rows::member_value;
 pub use start::{default_values, no_grabs};
-pub use writing::{present_row, write_rows};
+pub use writing::{present_row, read_row, write_row, write_rows};

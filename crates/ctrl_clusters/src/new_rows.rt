@@ -1,4 +1,4 @@
-ghost use Rattle.std.specs.Prelude.{◌≡◌, ◌<◌, ◌≤◌, ◌++◌, ◌∷◌, [], None, false, length, is_some, get_or, IfOk};
+ghost use Rattle.std.specs.Prelude.{◌≡◌, ◌<◌, ◌≤◌, ◌++◌, ◌∷◌, [], None, false, length, is_some, option_map, get_or, IfOk};
 ghost use Rattle.ctrl_clusters.specs.NewRows.{row_among, ArePlaces};
 
 use crate::new_row::NewRow;
@@ -80,8 +80,8 @@ impl NewRows {
     /// - `cluster`: the cluster's number, any `u32`.
     ///
     /// It takes no memory and refuses nothing.
-    pub fn among(&self, cluster: u32) -> Option<ClusterRow>
-        ensures { result ≡ row_among self.now.rows cluster }
+    pub fn among(&self, cluster: u32) -> Option<&ClusterRow>
+        ensures { option_map (λ row. row.now) result ≡ row_among self.now.rows cluster }
     {
         row_at(self.rows.as_slice(), self.places.as_slice(), cluster)
     }
@@ -95,12 +95,12 @@ impl NewRows {
 }
 
 // The row at a cluster's place.
-fn row_at(rows: &[NewRow], places: &[Option<usize>], cluster: u32) -> Option<ClusterRow>
+fn row_at<'a>(rows: &'a [NewRow], places: &[Option<usize>], cluster: u32) -> Option<&'a ClusterRow>
     requires { ArePlaces places.now rows.now }
-    ensures { result ≡ row_among rows.now cluster }
+    ensures { option_map (λ row. row.now) result ≡ row_among rows.now cluster }
 {
     match place_of(places, cluster) {
-        Some(place) => Some(rows[place].row),
+        Some(place) => Some(&rows[place].row),
         None => None,
     }
 }

@@ -64,7 +64,7 @@ fn notify_touched<D: Driver>(
     ensures work { work.new ≡ record work.old { told = after_change plan.now cluster (cluster_changes plan.now values.now pairs.now rows.now.rows cluster) work.old.told } }
 {
     if let Some(row) = rows.among(cluster) {
-        notify_of(plan, values, pairs, &row, cluster, words, work);
+        notify_of(plan, values, pairs, row, cluster, words, work);
     }
 }
 

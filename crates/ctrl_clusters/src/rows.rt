@@ -1,8 +1,7 @@
 //! The row of a cluster under values that are asked for.
 
-ghost use Rattle.std.specs.Prelude.{◌≡◌, ◌<◌, ◌≤◌, true, length, unwrap_or, IfOk};
+ghost use Rattle.std.specs.Prelude.{◌≡◌, ◌<◌, true, length, unwrap_or, Ok, Err, OnOk, IfErr};
 ghost use Rattle.std.specs.List.{All};
-ghost use Rattle.ctrl_calls.specs.declared.row.TheConstants.{MAX_MEMBERS};
 ghost use Rattle.ctrl_settle.specs.Settle.{settle};
 ghost use Rattle.ctrl_handlers.specs.Plan.{control_in};
 ghost use Rattle.ctrl_types.specs.Pairs.{last_value};
@@ -10,21 +9,24 @@ ghost use Rattle.ctrl_clusters.specs.Rows.{value_at, overwritten, settle_row, me
 ghost use Rattle.ctrl_clusters.specs.Judging.{is_value, takes_row};
 
 use crate::ranges::Ranges;
-use ctrl_calls::{ClusterRow, MAX_MEMBERS};
+use ctrl_calls::ClusterRow;
 use ctrl_settle::settle;
 use ctrl_types::{CtrlValue, Errno, Pair, last_value};
 
-/// The values of a cluster's members, in member order, overwritten by pairs: the last pair of a control counts.
-pub(crate) fn overwritten(values: &[CtrlValue], pairs: &[Pair], members: &[u32]) -> ClusterRow
-    requires few { length members.now ≤ MAX_MEMBERS }
+/// Puts the values of a cluster's members into a row, in member order, overwritten by pairs: the last pair of a control counts.
+pub(crate) fn read_overwritten(
+    values: &[CtrlValue],
+    pairs: &[Pair],
+    members: &[u32],
+    row: &mut ClusterRow,
+)
     requires known { All (λ c. c < length values.now) members.now }
-    ensures { result ≡ overwritten values.now pairs.now members.now }
+    requires long { length row.old ≡ length members.now }
+    ensures { row.new ≡ overwritten values.now pairs.now members.now }
 {
-    let mut cells = [CtrlValue::Number(0); MAX_MEMBERS];
     for (place, &member) in members.iter().enumerate() {
-        cells[place] = asked_of(values, pairs, member);
+        row.set(place, asked_of(values, pairs, member));
     }
-    ClusterRow::from_slice(&cells[..members.len()]).unwrap()
 }
 
 // The value that is asked of a control: its last pair's, or else its present one.
@@ -32,28 +34,31 @@ fn asked_of(values: &[CtrlValue], pairs: &[Pair], control: u32) -> CtrlValue
     requires { control < length values.now }
     ensures { result ≡ unwrap_or (last_value pairs.now control) (value_at values.now control) }
 {
-    last_value(pairs, control).unwrap_or(values[control as usize])
+    match last_value(pairs, control) {
+        Some(value) => value,
+        None => values[control as usize],
+    }
 }
 
-/// What a cluster's members take for the values of a row, settled in member order; the errno of the first that doesn't settle.
+/// Settles the values of a row in place, each by its member, in member order; the errno of the first that doesn't settle, where the row is settled before that one.
 pub(crate) fn settle_row(
     ranges: &Ranges,
     members: &[u32],
-    row: &ClusterRow,
-) -> Result<ClusterRow, Errno>
+    row: &mut ClusterRow,
+) -> Result<(), Errno>
     requires known { All (λ c. c < length ranges.now) members.now }
-    requires long { length row.now ≡ length members.now }
-    ensures row { result ≡ settle_row ranges.now members.now row.now }
-    ensures long { IfOk result (λ settled. length settled ≡ length members.now) }
+    requires long { length row.old ≡ length members.now }
+    ensures ok { OnOk result (settle_row ranges.now members.now row.old ≡ Ok row.new) }
+    ensures err { IfErr result (λ errno. settle_row ranges.now members.now row.old ≡ Err errno) }
+    ensures long { length row.new ≡ length members.now }
 {
-    let mut settled = *row;
     for (place, &member) in members.iter().enumerate() {
         match settle_at(ranges, member, row, place) {
-            Ok(value) => settled.set(place, value),
+            Ok(value) => row.set(place, value),
             Err(errno) => return Err(errno),
         }
     }
-    Ok(settled)
+    Ok(())
 }
 
 // What a member takes for its value of a row.

@@ -1,5 +1,5 @@
 -- When rows of boards are seen as the same.
-use Rattle.std.proofs.Common.{rules, arith, ◌≡◌, ◌<◌, ℕ, suc, length, Bool, true, List, [], ◌∷◌, Some, slice_get, nat_eq, ◌&&◌, refl, ap}
+use Rattle.std.proofs.Common.{arith, ◌≡◌, ◌<◌, ℕ, suc, length, Bool, true, List, [], ◌∷◌, Some, slice_get, nat_eq, ◌&&◌, refl, ap}
 use Rattle.std.specs.Bool.{Decides}
 use Rattle.std.specs.Cmp.Lexicographic.{pointwise}
 use Rattle.std.proofs.lemmas.Bool.Decides.{Decides-eqb, Decides-and}

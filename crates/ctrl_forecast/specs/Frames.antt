@@ -1,5 +1,5 @@
 -- Queued frames that are kept, each with what it will have, and how one cluster is renewed in them (of this project).
-use Rattle.std.specs.Prelude.{◌≡◌, ◌≢◌, ℕ, zero, suc, Bool, true, false, not, ◌<◌, if◌then◌else◌, List, [], ◌∷◌, length, map, filter, count_by, Result, Ok, Err, is_err, nat_eq, nat_lt, slice_index_or, slice_set}
+use Rattle.std.specs.Prelude.{◌≡◌, ◌≢◌, ℕ, zero, suc, Bool, true, false, not, ◌<◌, if◌then◌else◌, List, [], length, map, filter, count_by, Result, Ok, Err, is_err, nat_eq, nat_lt, slice_index_or, slice_set}
 use Rattle.std.specs.List.{list_any, range_with_len, insert}
 use Rattle.ctrl_types.specs.declared.value.CtrlValue.{CtrlValue}
 use Rattle.ctrl_types.specs.declared.errno.Errno.{Errno}
@@ -10,7 +10,7 @@ use Rattle.ctrl_settle.specs.Control.{Control}
 use Rattle.ctrl_handlers.specs.Plan.{PlanData, members}
 use Rattle.ctrl_clusters.specs.Rows.{Values, Grabs, row_of}
 use Rattle.ctrl_clusters.specs.Overlay.{is_touched, row_after, overlay, refused_clusters}
-use Rattle.ctrl_clusters.specs.NewRows.{written}
+use Rattle.ctrl_clusters.specs.NewRows.{one_row, written}
 use Rattle.ctrl_forecast.specs.Boards.{BoardData, named_clusters}
 use Rattle.ctrl_forecast.specs.Forecasts.{QueuedData}
 use Rattle.ctrl_forecast.specs.declared.board.Forecast.{Forecast}
@@ -97,7 +97,7 @@ with_or_without k b ks = if b then insert (others k ks) (count_by (λ j. nat_lt 
 
 -- a frame where one cluster has a row, and is refused or isn't
 abbrev pub with_row_result : PlanData → ℕ → List CtrlValue → Bool → FrameData → FrameData
-with_row_result plan k row is_refused frame = record frame { values = written plan frame.values (record { cluster = k; row = row } ∷ []); refused = with_or_without k is_refused frame.refused }
+with_row_result plan k row is_refused frame = record frame { values = written plan frame.values (one_row k row); refused = with_or_without k is_refused frame.refused }
 
 -- a frame where one cluster is as its pairs make it over these values
 abbrev pub renewed : Setting → Values → ℕ → FrameData → FrameData

@@ -13,7 +13,7 @@ use crate::laying::{Overlaid, overlay_named};
 use crate::lists::{ClusterList, ValueRow};
 use crate::rising::{mark, named_clusters};
 use ctrl_calls::{ClusterRow, Driver, Work};
-use ctrl_clusters::{NewRow, Ranges, write_rows};
+use ctrl_clusters::{Ranges, write_row};
 use ctrl_handlers::Plan;
 use ctrl_types::{CtrlValue, Pair, RequestId};
 use std::alloc::{AllocError, Global};
@@ -180,16 +180,16 @@ impl Frame {
         &mut self,
         plan: &Plan<D>,
         cluster: u32,
-        row: ClusterRow,
+        row: &ClusterRow,
         is_refused: bool,
     )
         requires values { length self.old.values ≡ length plan.now.controls }
         requires cluster { cluster < length plan.now.clusters }
-        requires row { length row ≡ length (members plan.now cluster) }
+        requires row { length row.now ≡ length (members plan.now cluster) }
         requires room { length (with_or_without cluster is_refused self.old.refused) ≤ length self.old.named }
-        ensures { self.new ≡ with_row_result plan.now cluster row is_refused self.old }
+        ensures { self.new ≡ with_row_result plan.now cluster row.now is_refused self.old }
     {
-        write_rows(plan, &mut self.values, &[NewRow { cluster, row }]);
+        write_row(plan, &mut self.values, cluster, row);
         mark(&mut self.refused, cluster, is_refused);
     }
 }

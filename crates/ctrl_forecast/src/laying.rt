@@ -1,4 +1,4 @@
-ghost use Rattle.std.specs.Prelude.{◌≡◌, ◌<◌, ◌≤◌, ◌+◌, ◌&&◌, true, length, IfOk, OnOk};
+ghost use Rattle.std.specs.Prelude.{◌≡◌, ◌<◌, ◌≤◌, ◌+◌, ◌&&◌, true, length, Ok, Err, IfOk, IfErr, OnOk};
 ghost use Rattle.ctrl_handlers.specs.Plan.{members};
 ghost use Rattle.ctrl_clusters.specs.Rows.{AreControlsOf, is_grabbed};
 ghost use Rattle.ctrl_clusters.specs.Overlay.{is_touched, names_grabbed, row_after, overlay, refused_clusters};
@@ -10,7 +10,7 @@ ghost use Rattle.ctrl_forecast.specs.Touched.{touched_count};
 use crate::lists::{ClusterList, ValueRow};
 use crate::rising::named_clusters;
 use ctrl_calls::{ClusterRow, Driver, Work};
-use ctrl_clusters::{NewRow, Ranges, is_among, present_row, validated_row, write_rows};
+use ctrl_clusters::{Ranges, is_among, read_row, validated_row, write_row};
 use ctrl_handlers::Plan;
 use ctrl_types::{CtrlValue, Errno, Pair};
 use std::alloc::{AllocError, Global};
@@ -94,8 +94,9 @@ pub(crate) fn overlay_named<D: Driver>(
     // a count fits its type once it is read
     let _before = work.asked;
     for &cluster in named {
-        match touched_row(plan, ranges, values, grabs, pairs, cluster, work) {
-            Ok(row) => write_rows(plan, &mut after, &[NewRow { cluster, row }]),
+        let mut row = ClusterRow::zeros(plan.members(cluster).len());
+        match touched_row(plan, ranges, values, grabs, pairs, cluster, &mut row, work) {
+            Ok(()) => write_row(plan, &mut after, cluster, &row),
             Err(_) => refused.push(cluster)?,
         }
     }
@@ -105,7 +106,7 @@ pub(crate) fn overlay_named<D: Driver>(
     })
 }
 
-// What the row of a cluster is then, or why it is refused.
+// Makes the row of a cluster what it is then, where any of its length stands; or answers why it is refused, and the row says nothing then.
 pub(crate) fn row_after<D: Driver>(
     plan: &Plan<D>,
     ranges: &Ranges,
@@ -113,20 +114,24 @@ pub(crate) fn row_after<D: Driver>(
     grabs: &[bool],
     pairs: &[Pair],
     cluster: u32,
+    row: &mut ClusterRow,
     work: &mut Work,
-) -> Result<ClusterRow, Errno>
+) -> Result<(), Errno>
     requires ranges { AreControlsOf plan.now ranges.now }
     requires values { length values.now ≡ length plan.now.controls }
     requires cluster { cluster < length plan.now.clusters }
-    ensures row { result ≡ row_after D.verdict plan.now ranges.now values.now grabs.now pairs.now cluster }
-    ensures long { IfOk result (λ row. length row ≡ length (members plan.now cluster)) }
+    requires row { length row.old ≡ length (members plan.now cluster) }
+    ensures ok { OnOk result (row_after D.verdict plan.now ranges.now values.now grabs.now pairs.now cluster ≡ Ok row.new) }
+    ensures err { IfErr result (λ errno. row_after D.verdict plan.now ranges.now values.now grabs.now pairs.now cluster ≡ Err errno) }
+    ensures long { length row.new ≡ length (members plan.now cluster) }
     ensures counted { work.new ≡ record work.old { asked = with_call (asks_row plan.now ranges.now values.now grabs.now pairs.now cluster) work.old.asked } }
 {
     let members = plan.members(cluster);
     if !is_touched(pairs, members) {
-        return Ok(present_row(values, members));
+        read_row(values, members, row);
+        return Ok(());
     }
-    touched_row(plan, ranges, values, grabs, pairs, cluster, work)
+    touched_row(plan, ranges, values, grabs, pairs, cluster, row, work)
 }
 
 // The same, of a cluster with a member among the pairs.
@@ -137,20 +142,23 @@ fn touched_row<D: Driver>(
     grabs: &[bool],
     pairs: &[Pair],
     cluster: u32,
+    row: &mut ClusterRow,
     work: &mut Work,
-) -> Result<ClusterRow, Errno>
+) -> Result<(), Errno>
     requires ranges { AreControlsOf plan.now ranges.now }
     requires values { length values.now ≡ length plan.now.controls }
     requires cluster { cluster < length plan.now.clusters }
     requires touched { is_touched pairs.now (members plan.now cluster) ≡ true }
-    ensures row { result ≡ row_after D.verdict plan.now ranges.now values.now grabs.now pairs.now cluster }
-    ensures long { IfOk result (λ row. length row ≡ length (members plan.now cluster)) }
+    requires row { length row.old ≡ length (members plan.now cluster) }
+    ensures ok { OnOk result (row_after D.verdict plan.now ranges.now values.now grabs.now pairs.now cluster ≡ Ok row.new) }
+    ensures err { IfErr result (λ errno. row_after D.verdict plan.now ranges.now values.now grabs.now pairs.now cluster ≡ Err errno) }
+    ensures long { length row.new ≡ length (members plan.now cluster) }
     ensures counted { work.new ≡ record work.old { asked = with_call (asks_row plan.now ranges.now values.now grabs.now pairs.now cluster) work.old.asked } }
 {
     if names_grabbed(grabs, pairs, plan.members(cluster)) {
         return Err(Errno::EBUSY);
     }
-    validated_row(plan, ranges, cluster, values, pairs, work)
+    validated_row(plan, ranges, cluster, values, pairs, row, work)
 }
 
 // Whether some member is among the pairs.

@@ -13,7 +13,7 @@ ghost use Rattle.ctrl_forecast.specs.Frames.{AreKeptFrames, AreReady, IsClusterR
 use crate::frame::Frame;
 use crate::laying::row_after;
 use ctrl_calls::{ClusterRow, Driver, Work};
-use ctrl_clusters::{Ranges, present_row};
+use ctrl_clusters::{Ranges, read_row};
 use ctrl_handlers::Plan;
 use ctrl_types::{CtrlValue, Pair};
 
@@ -69,12 +69,16 @@ fn renew_cluster<D: Driver>(
     // the plan is a finished one, as the contract of `controls` says, and a count fits its type once it is read
     let _plan = plan.controls();
     let _before = work.asked;
+    // one row for all frames, since every row of the cluster is as long
+    let mut row = ClusterRow::zeros(plan.members(cluster).len());
     for place in from..frames.len() {
-        renew_at(frames, place, plan, ranges, values, grabs, cluster, work);
+        renew_at(
+            frames, place, plan, ranges, values, grabs, cluster, &mut row, work,
+        );
     }
 }
 
-// Renews a cluster of the frame at a place, over the values before it as they are.
+// Renews a cluster of the frame at a place, over the values before it as they are; its row is made where another of the cluster stands.
 fn renew_at<D: Driver>(
     frames: &mut Vec<Frame>,
     place: usize,
@@ -83,6 +87,7 @@ fn renew_at<D: Driver>(
     values: &[CtrlValue],
     grabs: &[bool],
     cluster: u32,
+    row: &mut ClusterRow,
     work: &mut Work,
 )
     requires ranges { AreControlsOf plan.now ranges.now }
@@ -90,12 +95,14 @@ fn renew_at<D: Driver>(
     requires cluster { cluster < length plan.now.clusters }
     requires frames { AreKeptFrames plan.now frames.old.items }
     requires place { place < length frames.old.items }
+    requires row { length row.old ≡ length (members plan.now cluster) }
     ensures frames { frames.new.items ≡ renewed_at (setting D.verdict plan.now ranges.now grabs.now values.now) cluster place frames.old.items }
     ensures counted { work.new ≡ record work.old { asked = with_call (asks_row plan.now ranges.now (values_before values.now frames.old.items place) grabs.now (frame_at frames.old.items place).asked cluster) work.old.asked } }
+    ensures long { length row.new ≡ length (members plan.now cluster) }
 {
     let base = values_before(frames.as_slice(), place, values);
     let asked = frames[place].asked();
-    let (row, is_refused) = row_over(plan, ranges, base, grabs, asked, cluster, work);
+    let is_refused = lay_row(plan, ranges, base, grabs, asked, cluster, row, work);
     let frame = &mut frames[place];
     frame.set_row_result(plan, cluster, row, is_refused);
 }
@@ -112,26 +119,31 @@ fn values_before<'a>(frames: &'a [Frame], place: usize, values: &'a [CtrlValue])
     }
 }
 
-// The row that a cluster has once pairs are laid over values, and whether it is refused, where it keeps its own.
-fn row_over<D: Driver>(
+// Makes the row of a cluster the one that it has once pairs are laid over values; answers whether it is refused, where it keeps its own.
+fn lay_row<D: Driver>(
     plan: &Plan<D>,
     ranges: &Ranges,
     base: &[CtrlValue],
     grabs: &[bool],
     pairs: &[Pair],
     cluster: u32,
+    row: &mut ClusterRow,
     work: &mut Work,
-) -> (ClusterRow, bool)
+) -> bool
     requires ranges { AreControlsOf plan.now ranges.now }
     requires values { length base.now ≡ length plan.now.controls }
     requires cluster { cluster < length plan.now.clusters }
-    ensures row { result.0 ≡ row_or (row_of base.now (members plan.now cluster)) (row_after D.verdict plan.now ranges.now base.now grabs.now pairs.now cluster) }
-    ensures refused { result.1 ≡ is_err (row_after D.verdict plan.now ranges.now base.now grabs.now pairs.now cluster) }
-    ensures long { length result.0 ≡ length (members plan.now cluster) }
+    requires row { length row.old ≡ length (members plan.now cluster) }
+    ensures row { row.new ≡ row_or (row_of base.now (members plan.now cluster)) (row_after D.verdict plan.now ranges.now base.now grabs.now pairs.now cluster) }
+    ensures refused { result ≡ is_err (row_after D.verdict plan.now ranges.now base.now grabs.now pairs.now cluster) }
+    ensures long { length row.new ≡ length (members plan.now cluster) }
     ensures counted { work.new ≡ record work.old { asked = with_call (asks_row plan.now ranges.now base.now grabs.now pairs.now cluster) work.old.asked } }
 {
-    match row_after(plan, ranges, base, grabs, pairs, cluster, work) {
-        Ok(row) => (row, false),
-        Err(_) => (present_row(base, plan.members(cluster)), true),
+    match row_after(plan, ranges, base, grabs, pairs, cluster, row, work) {
+        Ok(()) => false,
+        Err(_) => {
+            read_row(base, plan.members(cluster), row);
+            true
+        }
     }
 }

@@ -1,5 +1,5 @@
 -- The rows that clusters get, and how many validators were asked for them.
-use Rattle.std.proofs.Common.{◌≡◌, ℕ, ◌<◌, ◌≤◌, ◌+◌, ◌==◌, Bool, true, false, cond, nat_eq, eq-eqb, get_or, List, [], ◌∷◌, ◌++◌, length, Option, None, Some, is_some, unwrap_or, Ok, Err, Result, IsTrue, refl, ap, sym, ◌∙◌, arith}
+use Rattle.std.proofs.Common.{◌≡◌, ℕ, ◌<◌, ◌≤◌, ◌+◌, ◌==◌, Bool, true, false, cond, nat_eq, eq-eqb, option_map, get_or, List, [], ◌∷◌, ◌++◌, length, Option, None, Some, is_some, unwrap_or, Ok, Err, Result, IsTrue, refl, ap, sym, ◌∙◌, arith}
 use Rattle.std.specs.List.{All, list_any}
 use Rattle.std.specs.Option.{option_and_then}
 use Rattle.std.proofs.lemmas.List.{length_push, map-append}
@@ -145,8 +145,12 @@ entry_same verdicts plan view laid pairs rows i d judged within among =
     entry_with plan c v = record { id = (control plan c).id; value = v }
 
 -- whether a cluster is among the rows, as it was looked up
-pub looked_up : (rows : List NewRow) (k : ℕ) (found : Option (List CtrlValue)) (is b : Bool) → found ≡ row_among rows k → is ≡ is_some found → is ≡ b → is_some (row_among rows k) ≡ b
-looked_up rows k found is b given tells at = sym (ap is_some given) ∙ sym tells ∙ at
+pub looked_up : {A : Type 0} (read : A → List CtrlValue) (rows : List NewRow) (k : ℕ) (found : Option A) (is b : Bool) → option_map read found ≡ row_among rows k → is ≡ is_some found → is ≡ b → is_some (row_among rows k) ≡ b
+looked_up {A} read rows k found is b given tells at = sym (ap is_some given) ∙ there found ∙ sym tells ∙ at
+  where
+    there : (o : Option A) → is_some (option_map read o) ≡ is_some o
+    there None = refl
+    there (Some x) = refl
 
 -- what a row becomes by the parts of a view
 pub becomes_by : (verdicts : Verdicts) (plan : PlanData) (parts view : ViewData) (laid : List Pair) (k : ℕ) (outcome : Result (List CtrlValue) Errno) → outcome ≡ validated_row verdicts plan parts.ranges parts.values laid k → parts ≡ view

@@ -14,7 +14,7 @@ ghost use Rattle.ctrl_lists.specs.declared.limits.TheConstants.{MAX_ENTRIES};
 use crate::control_list::ControlList;
 use crate::refusal::Refusal;
 use crate::view::View;
-use ctrl_calls::{Driver, Work};
+use ctrl_calls::{ClusterRow, Driver, Work};
 use ctrl_clusters::{NewRow, NewRows, member_value, validated_row};
 use ctrl_handlers::Plan;
 use ctrl_types::{CtrlValue, Errno, ExtControl, Pair};
@@ -90,8 +90,17 @@ fn judge_next<D: Driver>(
     if rows.among(cluster).is_some() {
         return Ok(());
     }
-    match validated_row(plan, view.ranges, cluster, view.values, laid, work) {
-        Ok(row) => {
+    let mut row = ClusterRow::zeros(plan.members(cluster).len());
+    match validated_row(
+        plan,
+        view.ranges,
+        cluster,
+        view.values,
+        laid,
+        &mut row,
+        work,
+    ) {
+        Ok(()) => {
             rows.push_reserved(NewRow { cluster, row });
             Ok(())
         }
@@ -140,7 +149,7 @@ fn entry_judged<D: Driver>(
     let cluster = plan.cluster_of(control);
     let before = values[control as usize];
     let value = match rows.among(cluster) {
-        Some(row) => member_value(plan.members(cluster), &row, control).unwrap_or(before),
+        Some(row) => member_value(plan.members(cluster), row, control).unwrap_or(before),
         None => before,
     };
     ExtControl { id, value }

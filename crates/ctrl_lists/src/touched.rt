@@ -1,4 +1,4 @@
-ghost use Rattle.std.specs.Prelude.{◌≡◌, []};
+ghost use Rattle.std.specs.Prelude.{◌≡◌, [], option_map};
 ghost use Rattle.ctrl_clusters.specs.NewRows.{row_among};
 
 use crate::control_list::ControlList;
@@ -68,8 +68,8 @@ impl Touched {
     /// The row that a cluster gets; none where the list doesn't touch it.
     ///
     /// - `cluster`: the cluster's number, any `u32`; one that isn't there isn't touched.
-    pub fn row_of(&self, cluster: u32) -> Option<ClusterRow>
-        ensures { result ≡ row_among self.now.rows cluster }
+    pub fn row_of(&self, cluster: u32) -> Option<&ClusterRow>
+        ensures { option_map (λ row. row.now) result ≡ row_among self.now.rows cluster }
     {
         self.rows.among(cluster)
     }

@@ -105,6 +105,14 @@ fn a_row_with_another_value(rt: HostRuntime) -> Result<(), Fail> {
     Ok(())
 }
 
+#[test]
+fn rows_of_zeros(rt: HostRuntime) {
+    let mut row = ClusterRow::zeros(3);
+    row.set(1, CtrlValue::Number(7));
+    assert!(rt; shows(&row, &[0, 7, 0]));
+    assert!(rt; shows(&ClusterRow::zeros(0), &[]) && shows(&ClusterRow::zeros(8), &[0; 8]));
+}
+
 // Asks and tells of the row this many times, and answers the work; none where an answer is another than these.
 fn call<D: Driver>(
     calls: &Calls<D>,

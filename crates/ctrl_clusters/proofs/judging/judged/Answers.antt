@@ -2,5 +2,5 @@
 use Rattle.std.proofs.Common.{rules}
 use Rattle.ctrl_clusters.proofs.judging.judged.Goals as goal
 
-pub returns-in-Refuse-clause-judged : goal.returns-in-Refuse-clause-judged
-returns-in-Refuse-clause-judged c = search rules
+pub returns-in-Refuse-clause-err : goal.returns-in-Refuse-clause-err
+returns-in-Refuse-clause-err c = search rules

@@ -6,21 +6,21 @@ use Rattle.ctrl_clusters.specs.Judging.{asks_validator, validated_row}
 use Rattle.ctrl_clusters.proofs.RowLemmas.{asked_settled, asked_unsettled}
 use Rattle.ctrl_clusters.proofs.judging.validated_row.Goals as goal
 
-pub returns-in-Ok-clause-row : goal.returns-in-Ok-clause-row
+pub returns-in-Ok-clause-ok : goal.returns-in-Ok-clause-ok
 unfolding validated_row
-returns-in-Ok-clause-row g c = search rules
+returns-in-Ok-clause-ok g c = search rules
 
 -- the row is judged once it has settled
 pub returns-in-Ok-clause-counted : goal.returns-in-Ok-clause-counted
 unfolding asks_validator
 returns-in-Ok-clause-counted g c =
     let k : ℕ = c.args.cluster in
-    let settled : settle_row c.args.ranges.now (members c.args.plan.now k) (overwritten c.args.values.now c.args.pairs.now (members c.args.plan.now k)) ≡ Ok c.in-Ok.row =
+    let settled : settle_row c.args.ranges.now (members c.args.plan.now k) (overwritten c.args.values.now c.args.pairs.now (members c.args.plan.now k)) ≡ Ok c.settle_row.new.row =
     sym
-    (c.settle_row.ensures.row ∙ ap (settle_row c.args.ranges.now c.members-members.result.now) c.overwritten-row.ensures
+    (ap (settle_row c.args.ranges.now c.members-members.result.now) c.read_overwritten.ensures
     ∙ ap (λ (cs : List ℕ). settle_row c.args.ranges.now cs (overwritten c.args.values.now c.args.pairs.now cs)) c.members-members.ensures.members)
-    ∙ c.in-Ok.is in
-    c.judge.ensures.counted ∙ ap (λ (n : ℕ). record c.args.work.now { asked = n }) (asked_settled (calls_of c.args.plan.now k).validator _ c.in-Ok.row c.args.work.now.asked settled)
+    ∙ c.in-Ok.ensures.ok in
+    c.judge.ensures.counted ∙ ap (λ (n : ℕ). record c.args.work.now { asked = n }) (asked_settled (calls_of c.args.plan.now k).validator _ c.settle_row.new.row c.args.work.now.asked settled)
 
 -- and nobody is asked where it doesn't
 pub returns-in-Err-clause-counted : goal.returns-in-Err-clause-counted
@@ -29,7 +29,7 @@ returns-in-Err-clause-counted g c =
     let k : ℕ = c.args.cluster in
     let unsettled : settle_row c.args.ranges.now (members c.args.plan.now k) (overwritten c.args.values.now c.args.pairs.now (members c.args.plan.now k)) ≡ Err c.in-Err.errno =
     sym
-    (c.settle_row.ensures.row ∙ ap (settle_row c.args.ranges.now c.members-members.result.now) c.overwritten-row.ensures
+    (ap (settle_row c.args.ranges.now c.members-members.result.now) c.read_overwritten.ensures
     ∙ ap (λ (cs : List ℕ). settle_row c.args.ranges.now cs (overwritten c.args.values.now c.args.pairs.now cs)) c.members-members.ensures.members)
-    ∙ c.in-Err.is in
+    ∙ c.in-Err.ensures.err in
     ap (λ (n : ℕ). record c.args.work.now { asked = n }) (asked_unsettled (calls_of c.args.plan.now k).validator _ c.in-Err.errno c.args.work.now.asked unsettled)

@@ -1,4 +1,4 @@
-use Rattle.std.proofs.Common.{◌≡◌, ◌∙◌, ◌++◌, ap, sym, ℕ, true, false, [], ◌∷◌, List, Vec, Global}
+use Rattle.std.proofs.Common.{◌∙◌, ◌++◌, ap, sym, ℕ, true, false, [], ◌∷◌, List, Vec, Global}
 use Rattle.std.proofs.lemmas.List.{append-nil}
 use Rattle.ctrl_types.specs.declared.ids.Pair.{Pair}
 use Rattle.ctrl_forecast.proofs.ApplyingLemmas.{applied_next}

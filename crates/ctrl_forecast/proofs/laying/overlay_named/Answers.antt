@@ -1,4 +1,4 @@
-use Rattle.std.proofs.Common.{rules, ◌≡◌, ◌∙◌, ◌<◌, ◌≤◌, ◌+◌, ◌∷◌, ℕ, List, Bool, Vec, Global, length, count_by, drop, take, get_or, slice_index_or, ap, sym, refl, subst, arith}
+use Rattle.std.proofs.Common.{◌≡◌, ◌∙◌, ◌≤◌, ◌+◌, ◌∷◌, ℕ, List, Bool, Vec, Global, length, count_by, drop, take, get_or, ap, refl, subst, arith}
 use Rattle.std.proofs.lemmas.List.{drop_more, drop_all}
 use Rattle.std.proofs.lemmas.List.Sums.{length-filter}
 use Rattle.std.specs.List.{range_with_len}
@@ -25,6 +25,14 @@ loop-cluster-init g c = record {
   told = refl;
 }
 
+pub members-requires : goal.members-requires
+members-requires g c =
+    let l : Laying = laying g.D.Validates.verdict c.args.plan.now c.args.ranges.now c.args.values.now c.args.grabs.now c.args.pairs.now in
+    let i : ℕ = c.loop-cluster.cluster-index in
+    let ks : List ℕ = c.args.named.now in
+    (laid_next l (get_or ks i 0) (drop (i + 1) ks) c.loop-cluster.after.items c.loop-cluster.refused.items
+    (subst (λ (left : List ℕ). IsLaid l left c.loop-cluster.after.items c.loop-cluster.refused.items) (drop_more ks i 0 c.loop-cluster-test.true) c.loop-cluster.invariant.laid)).0
+
 pub touched_row-requires-clause-cluster : goal.touched_row-requires-clause-cluster
 touched_row-requires-clause-cluster g c =
     let l : Laying = laying g.D.Validates.verdict c.args.plan.now c.args.ranges.now c.args.values.now c.args.grabs.now c.args.pairs.now in
@@ -41,21 +49,11 @@ touched_row-requires-clause-touched g c =
     (laid_next l (get_or ks i 0) (drop (i + 1) ks) c.loop-cluster.after.items c.loop-cluster.refused.items
     (subst (λ (left : List ℕ). IsLaid l left c.loop-cluster.after.items c.loop-cluster.refused.items) (drop_more ks i 0 c.loop-cluster-test.true) c.loop-cluster.invariant.laid)).1
 
-pub write_rows-requires-clause-values : goal.write_rows-requires-clause-values
-write_rows-requires-clause-values g c =
+pub write_row-requires-clause-values : goal.write_row-requires-clause-values
+write_row-requires-clause-values g c =
     laid_long (laying g.D.Validates.verdict c.args.plan.now c.args.ranges.now c.args.values.now c.args.grabs.now c.args.pairs.now) (drop c.loop-cluster.cluster-index c.args.named.now) c.loop-cluster.after.items
     c.loop-cluster.refused.items c.loop-cluster.invariant.laid
     ∙ c.requires.values
-
-pub write_rows-requires-clause-rows : goal.write_rows-requires-clause-rows
-write_rows-requires-clause-rows g c =
-    let l : Laying = laying g.D.Validates.verdict c.args.plan.now c.args.ranges.now c.args.values.now c.args.grabs.now c.args.pairs.now in
-    let i : ℕ = c.loop-cluster.cluster-index in
-    let ks : List ℕ = c.args.named.now in
-    let known : slice_index_or ks i 0 < length c.args.plan.now.clusters =
-    (laid_next l (get_or ks i 0) (drop (i + 1) ks) c.loop-cluster.after.items c.loop-cluster.refused.items
-    (subst (λ (left : List ℕ). IsLaid l left c.loop-cluster.after.items c.loop-cluster.refused.items) (drop_more ks i 0 c.loop-cluster-test.true) c.loop-cluster.invariant.laid)).0 in
-    search (rules, known)
 
 pub returns-in_err-push-in-Err-clause-asked : goal.returns-in_err-push-in-Err-clause-asked
 returns-in_err-push-in-Err-clause-asked g c =
@@ -82,14 +80,14 @@ loop-cluster-preserved g c =
     asked_next one ks i c.args.work.now.asked c.loop-cluster.work.asked c.touched_row.new.work.asked c.loop-cluster-test.true c.loop-cluster.invariant.counted made in
     elim c.match-touched_row.branch [
       | in-Ok w ↦ record {
-        laid = laid_ok l k (drop (i + 1) ks) w.in-Ok.row old c.match-touched_row.after.items before c.match-touched_row.refused.items keep laid (sym c.touched_row.ensures.row ∙ w.in-Ok.is)
-            (ap (λ (v : Vec CtrlValue Global). v.items) w.after-is ∙ w.write_rows.ensures) (ap (λ (v : Vec ℕ Global). v.items) w.refused-is);
+        laid = laid_ok l k (drop (i + 1) ks) c.touched_row.new.row old c.match-touched_row.after.items before c.match-touched_row.refused.items keep laid w.in-Ok.ensures.ok
+            (ap (λ (v : Vec CtrlValue Global). v.items) w.after-is ∙ w.write_row.ensures) (ap (λ (v : Vec ℕ Global). v.items) w.refused-is);
         asked = asked;
         counted = counted;
         told = ap (λ (w : Work). w.told) c.touched_row.ensures.counted ∙ c.loop-cluster.invariant.told;
       }
       | in-Err+in_ok-push-in-Err w ↦ record {
-        laid = laid_err l k (drop (i + 1) ks) w.in-Err.field-0 old c.match-touched_row.after.items before c.match-touched_row.refused.items keep laid (sym c.touched_row.ensures.row ∙ w.in-Err.is)
+        laid = laid_err l k (drop (i + 1) ks) w.in-Err.field-0 old c.match-touched_row.after.items before c.match-touched_row.refused.items keep laid w.in-Err.ensures.err
             (ap (λ (v : Vec CtrlValue Global). v.items) w.after-is) (ap (λ (v : Vec ℕ Global). v.items) w.refused-is ∙ w.in_ok-push-in-Err.ensures.items);
         asked = asked;
         counted = counted;

@@ -7,8 +7,8 @@ use Rattle.ctrl_forecast.specs.Frames.{AreKeptFrames, FrameData, Setting, base_a
 use Rattle.ctrl_forecast.proofs.RenewLemmas.{base_long, marked_room}
 use Rattle.ctrl_forecast.proofs.renewing.renew_at.Goals as goal
 
-pub row_over-row-requires-clause-values : goal.row_over-row-requires-clause-values
-row_over-row-requires-clause-values g c =
+pub lay_row-is_refused-requires-clause-values : goal.lay_row-is_refused-requires-clause-values
+lay_row-is_refused-requires-clause-values g c =
     ap length (c.values_before-base.ensures ∙ ap (λ (fs : List FrameData). values_before c.args.values.now fs c.args.place) c.as_slice.ensures.value)
     ∙ base_long c.args.plan.now c.args.values.now c.args.frames.now.items c.args.place c.requires.values c.requires.frames c.requires.place
 
@@ -30,8 +30,8 @@ set_row_result-requires-clause-room g c =
     let read : c.index.result.now ≡ frame_at fs p = get_or_read_under fs p (length fs) c.index.result.now no_frame c.index.ensures c.requires.place refl in
     let asks : c.asked-asked.result.now ≡ (frame_at fs p).asked = c.asked-asked.ensures ∙ ap (λ (f : FrameData). f.asked) read in
     let based : c.values_before-base.result.now ≡ base_at s fs p = c.values_before-base.ensures ∙ ap (λ (l : List FrameData). values_before c.args.values.now l p) c.as_slice.ensures.value in
-    let is : c.row_over-row.result.1 ≡ fails (base_at s fs p) (frame_at fs p).asked =
-    c.row_over-row.ensures.refused ∙ ap (λ (base : Values). fails base c.asked-asked.result.now) based ∙ ap (fails (base_at s fs p)) asks in
+    let is : c.lay_row-is_refused.result ≡ fails (base_at s fs p) (frame_at fs p).asked =
+    c.lay_row-is_refused.ensures.refused ∙ ap (λ (base : Values). fails base c.asked-asked.result.now) based ∙ ap (fails (base_at s fs p)) asks in
     omega (
       arith,
       marked_room s (base_at s fs p) k (frame_at fs p) (c.requires.frames p c.requires.place) c.requires.cluster,

@@ -1,6 +1,7 @@
 use Rattle.std.proofs.Common.{◌≡◌, ◌∙◌, ◌<◌, ◌+◌, ◌-◌, ℕ, Bool, List, length, map, count_by, refl, sym, ap, subst, arith}
 use Rattle.std.specs.List.{range_with_len}
-use Rattle.std.proofs.lemmas.List.{length-map, length-set}
+use Rattle.std.proofs.lemmas.List.{length-map, length-replicate, length-set}
+use Rattle.ctrl_types.specs.Values.{zero_value}
 use Rattle.ctrl_calls.specs.declared.work.Work.{Work}
 use Rattle.ctrl_clusters.specs.Judging.{with_calls}
 use Rattle.ctrl_forecast.specs.Asking.{asks_at}
@@ -18,6 +19,7 @@ loop-place-init g c =
       many = refl;
       counted = calls_none c.args.work.now.asked (omega arith) ∙ ap (λ (n : ℕ). with_calls (count_by (asks_at g.D.Validates.verdict c.args.plan.now c.args.ranges.now c.args.grabs.now c.args.values.now (map queued_of c.args.frames.now.items) c.args.cluster) (range_with_len c.args.from n)) c.args.work.now.asked) (sym none);
       told = refl;
+      row = ap length c.zeros-row.ensures ∙ length-replicate (length c.members.result.now) zero_value ∙ ap length c.members.ensures.members;
     }
 
 pub loop-place-preserved : goal.loop-place-preserved
@@ -33,6 +35,7 @@ loop-place-preserved g c =
       counted = renewed_count s c.args.frames.now.items fs c.args.from k p c.args.work.now.asked c.loop-place.work.asked c.renew_at.new.work.asked c.controls-plan.ensures.plan c.requires.values c.requires.cluster c.loop-place.auto.place lt c.loop-place.invariant.renewed c.loop-place.invariant.counted
           (ap (λ (w : Work). w.asked) c.renew_at.ensures.counted);
       told = ap (λ (w : Work). w.told) c.renew_at.ensures.counted ∙ c.loop-place.invariant.told;
+      row = c.renew_at.ensures.long;
     }
 
 pub returns-clause-counted : goal.returns-clause-counted

@@ -1,5 +1,6 @@
 use Rattle.std.proofs.Common.{◌≡◌, ◌-◌, length, map, count_by}
 use Rattle.std.specs.List.{range_with_len}
+use Rattle.ctrl_handlers.specs.Plan.{members}
 use Rattle.ctrl_clusters.specs.Judging.{with_calls}
 use Rattle.ctrl_forecast.specs.Asking.{asks_at}
 use Rattle.ctrl_forecast.specs.Frames.{IsClusterRenewed, queued_of, setting}
@@ -12,4 +13,5 @@ invariant-loop-place g l = record {
   many : length l.frames.items ≡ length l.initial.frames.items;
   counted : l.work.asked ≡ with_calls (count_by (asks_at g.D.Validates.verdict l.plan l.ranges l.grabs l.values (map queued_of l.initial.frames.items) l.cluster) (range_with_len l.from (l.place - l.from))) l.initial.work.asked;
   told : l.work.told ≡ l.initial.work.told;
+  row : length l.row ≡ length (members l.plan l.cluster);
 }

@@ -1,4 +1,4 @@
-use Rattle.std.proofs.Common.{◌≡◌, ◌∙◌, ◌+◌, ◌++◌, ℕ, true, Vec, Global, List, [], ◌∷◌, length, take, slice_index_or, ap, sym, arith}
+use Rattle.std.proofs.Common.{◌≡◌, ◌∙◌, ◌+◌, ◌++◌, ℕ, true, Vec, Global, List, [], ◌∷◌, length, take, ap, sym, arith}
 use Rattle.std.proofs.lemmas.List.{take_more}
 use Rattle.ctrl_types.specs.declared.ids.Pair.{Pair}
 use Rattle.ctrl_forecast.specs.Boards.{named_clusters}

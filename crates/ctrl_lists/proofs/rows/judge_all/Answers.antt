@@ -1,4 +1,4 @@
-use Rattle.std.proofs.Common.{◌≡◌, ◌≤◌, ◌+◌, length, inl, ap, subst, sym, get_or, ◌∙◌}
+use Rattle.std.proofs.Common.{◌≤◌, ◌+◌, length, inl, ap, subst, sym, ◌∙◌}
 use Rattle.ctrl_types.specs.declared.ids.Pair.{Pair}
 use Rattle.ctrl_clusters.specs.NewRows.{clusters_of}
 use Rattle.ctrl_handlers.specs.Plan.{cluster_of}

@@ -5,7 +5,7 @@ ghost use Rattle.ctrl_clusters.specs.Rows.{AreControlsOf};
 use super::planning::{Made, Named, plan_of};
 use super::rows::is_work;
 use crate::cluster::driver::Strict;
-use ctrl_calls::Work;
+use ctrl_calls::{ClusterRow, Work};
 use ctrl_clusters::{Ranges, default_values, validated_row};
 use ctrl_handlers::Plan;
 use ctrl_types::{ByteRow, CtrlValue, Errno, Pair};
@@ -67,7 +67,16 @@ fn becomes(
         value,
     }];
     let mut work = Work::new();
-    let row = validated_row(plan, ranges, cluster, values, pairs.as_slice(), &mut work)?;
+    let mut row = ClusterRow::zeros(plan.members(cluster).len());
+    validated_row(
+        plan,
+        ranges,
+        cluster,
+        values,
+        pairs.as_slice(),
+        &mut row,
+        &mut work,
+    )?;
     Ok(if is_work(&work, asked, 0) {
         row.values().first().copied()
     } else {

@@ -4,7 +4,7 @@ use super::rows::{Two, are_rows, is_work, kept_rows, rows_of};
 use crate::cluster::driver::Strict;
 use crate::values::{are_numbers, pairs_of, values_of};
 use ctrl_calls::Work;
-use ctrl_clusters::{first_words, notify_changed, write_rows};
+use ctrl_clusters::{first_words, notify_changed, write_row, write_rows};
 use ctrl_handlers::Plan;
 use ctrl_types::{CtrlValue, Pair};
 use std::alloc::{AllocError, Global};
@@ -44,6 +44,28 @@ fn is_written(plan: &Plan<Strict>, values: &mut Vec<CtrlValue>, two: Two, want: 
     are_numbers(values.as_slice(), want)
 }
 
+// The same, one row at a time.
+fn is_written_singly(
+    plan: &Plan<Strict>,
+    values: &mut Vec<CtrlValue>,
+    two: Two,
+    want: &[i64],
+) -> bool {
+    let Some(rows) = rows_of(two) else {
+        return false;
+    };
+    for new in &rows {
+        if values.len() != plan.controls().len()
+            || new.cluster >= plan.cluster_count()
+            || new.row.len() != plan.members(new.cluster).len()
+        {
+            return false;
+        }
+        write_row(plan, values, new.cluster, &new.row);
+    }
+    are_numbers(values.as_slice(), want)
+}
+
 #[test]
 fn rows_are_written(rt: HostRuntime) -> Result<(), Fail> {
     let alloc = rt.alloc();
@@ -51,6 +73,8 @@ fn rows_are_written(rt: HostRuntime) -> Result<(), Fail> {
     for &(two, want) in WRITTEN {
         let mut values = values_of(alloc, VALUES)?;
         assert!(rt; is_written(&plan, &mut values, two, want), "{two:?}");
+        let mut singly = values_of(alloc, VALUES)?;
+        assert!(rt; is_written_singly(&plan, &mut singly, two, want), "{two:?}");
     }
     Ok(())
 }

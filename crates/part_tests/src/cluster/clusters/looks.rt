@@ -8,7 +8,7 @@ use crate::cluster::driver::Strict;
 use crate::values::{are_numbers, pairs_of, row_of, values_of};
 use bitflags::Flags as FlagSet;
 use ctrl_calls::{ClusterRow, Work};
-use ctrl_clusters::{Ranges, flags_under, inactive, judge, present_row, validated_row};
+use ctrl_clusters::{Ranges, flags_under, inactive, judge, present_row, read_row, validated_row};
 use ctrl_forecast::overlay;
 use ctrl_handlers::Plan;
 use ctrl_types::{CtrlValue, Errno, Pair};
@@ -35,9 +35,10 @@ pub enum Look {
 
 pub type Answer = Result<&'static [i64], Errno>;
 
-fn is_answer(answer: Result<ClusterRow, Errno>, want: Answer) -> bool {
+// Whether this is answered, and where it is accepted the row has these values.
+fn is_answer(answer: Result<(), Errno>, row: &ClusterRow, want: Answer) -> bool {
     match (answer, want) {
-        (Ok(row), Ok(values)) => is_row(row, values),
+        (Ok(()), Ok(values)) => is_row(row, values),
         (Err(errno), Err(wanted)) => errno == wanted,
         _ => false,
     }
@@ -59,29 +60,33 @@ fn is_becoming(
         return false;
     }
     let mut work = Work::new();
-    let row = validated_row(plan, ranges, cluster, values, pairs, &mut work);
-    is_answer(row, want) && is_work(&work, asked, 0)
+    let mut row = ClusterRow::zeros(plan.members(cluster).len());
+    let answer = validated_row(plan, ranges, cluster, values, pairs, &mut row, &mut work);
+    is_answer(answer, &row, want) && is_work(&work, asked, 0)
 }
 
 fn is_judged(
     plan: &Plan<Strict>,
     ranges: &Ranges,
     cluster: u32,
-    row: &[i64],
+    numbers: &[i64],
     want: Answer,
     asked: u64,
 ) -> bool
     requires ranges { AreControlsOf plan.now ranges.now }
 {
-    let Some(row) = row_of(row) else {
+    let Some(mut row) = row_of(numbers) else {
         return false;
     };
     if cluster >= plan.cluster_count() || row.len() != plan.members(cluster).len() {
         return false;
     }
     let mut work = Work::new();
-    let row = judge(plan, ranges, cluster, &row, &mut work);
-    is_answer(row, want) && is_work(&work, asked, 0)
+    let answer = judge(plan, ranges, cluster, &mut row, &mut work);
+    // a row that is refused stays
+    is_answer(answer, &row, want)
+        && (want.is_ok() || is_row(&row, numbers))
+        && is_work(&work, asked, 0)
 }
 
 fn has_row(values: &[CtrlValue], members: &[u32], want: &[i64]) -> bool {
@@ -89,7 +94,9 @@ fn has_row(values: &[CtrlValue], members: &[u32], want: &[i64]) -> bool {
     if members.len() > 8 || !members.iter().all(|member| (*member as usize) < count) {
         return false;
     }
-    is_row(present_row(values, members), want)
+    let mut read = ClusterRow::zeros(members.len());
+    read_row(values, members, &mut read);
+    is_row(&read, want) && is_row(&present_row(values, members), want)
 }
 
 fn has_flags(

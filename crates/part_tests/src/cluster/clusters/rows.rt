@@ -12,8 +12,8 @@ use ctrl_types::CtrlValue;
 use std::alloc::{AllocError, Global};
 use std::test::Fail;
 
-pub fn is_row(row: ClusterRow, want: &[i64]) -> bool {
-    row_of(want) == Some(row)
+pub fn is_row(row: &ClusterRow, want: &[i64]) -> bool {
+    row_of(want) == Some(*row)
 }
 
 pub fn is_work(work: &Work, asked: u64, told: u64) -> bool {

@@ -13,7 +13,10 @@ const ROWS: &[(u32, &[i64])] = &[(3, &[1]), (0, &[10, 2])];
 fn are_rows(touched: &Touched, rows: &[(u32, &[i64])]) -> bool {
     for (new, &(cluster, numbers)) in touched.rows().iter().zip(rows) {
         let row = row_of(numbers);
-        if new.cluster != cluster || Some(new.row) != row || touched.row_of(cluster) != row {
+        if new.cluster != cluster
+            || Some(new.row) != row
+            || touched.row_of(cluster).copied() != row
+        {
             return false;
         }
     }

@@ -1,6 +1,6 @@
 use Rattle.std.proofs.Common.{◌≡◌, drop, length}
 use Rattle.ctrl_clusters.specs.NewRows.{with_row}
-use Rattle.ctrl_clusters.proofs.writing.write_row.Given as goal
+use Rattle.ctrl_clusters.proofs.writing.write_members.Given as goal
 
 -- what is left to write gives the whole
 abbrev pub invariant-loop-place : goal.invariant-loop-place
