@@ -1,8 +1,9 @@
 //! Lists of controls.
 
-ghost use Rattle.std.specs.Prelude.{◌≡◌, ◌++◌, true, None, Some, IfOk};
+ghost use Rattle.std.specs.Prelude.{◌≡◌, ◌++◌, true, Option, None, Some, IfOk};
 ghost use Rattle.std.specs.Option.{option_map};
 ghost use Rattle.history.specs.Past.{past};
+ghost use Rattle.ctrl_types.specs.declared.ids.RequestId.{RequestId as RequestIdOf};
 ghost use Rattle.ctrl_lists.specs.Checks.{first_refusal, write_checks};
 ghost use Rattle.ctrl_lists.specs.Failed.{first_failed};
 ghost use Rattle.device_history.specs.Lists.{opening_checks, write_view};
@@ -27,13 +28,12 @@ pub(crate) fn get_reason<D: Driver>(
 ) -> Result<Option<Reason>, AllocError>
     ensures { IfOk result (λ reason. reason ≡ get_reason D.verdict device.now.plan (past device.now.steps) fh which request list.now) }
 {
-    match device.read_view(fh, which, request) {
-        Ok(view) => match failed_read(alloc, device.plan(), &view, list) {
-            Ok(failed) => Ok(named(failed)),
-            Err(error) => Err(error),
-        },
-        Err(errno) => Ok(Some(opening_reason(device, fh, which, request, false, errno))),
-    }
+    let view = match device.read_view(fh, which, request) {
+        Ok(view) => view,
+        Err(errno) => return Ok(Some(opening_reason(device, fh, which, false, errno))),
+    };
+    let failed = failed_read(alloc, &view, list)?;
+    Ok(named(failed))
 }
 
 /// Why a set is refused.
@@ -81,16 +81,13 @@ fn write_reason<D: Driver>(
 ) -> Result<Option<Reason>, AllocError>
     ensures { IfOk result (λ reason. reason ≡ first_failed reason_at try_names (opening_checks D.verdict device.now.plan (past device.now.steps) fh which request true ++ write_checks D.verdict device.now.plan (write_view D.verdict device.now.plan (past device.now.steps) fh which request) is_set list.now)) }
 {
-    match device.write_view(fh, which, request) {
-        Ok(view) => {
-            let mut work = Work::new();
-            match failed_write(alloc, device.plan(), &view, is_set, list, &mut work) {
-                Ok(failed) => Ok(named(failed)),
-                Err(error) => Err(error),
-            }
-        }
-        Err(errno) => Ok(Some(opening_reason(device, fh, which, request, true, errno))),
-    }
+    let view = match device.write_view(fh, which, request) {
+        Ok(view) => view,
+        Err(errno) => return Ok(Some(opening_reason(device, fh, which, true, errno))),
+    };
+    let mut work = Work::new();
+    let failed = failed_write(alloc, &view, is_set, list, &mut work)?;
+    Ok(named(failed))
 }
 
 // Which of the checks that every list begins with refuses one with an errno.
@@ -98,12 +95,11 @@ fn opening_reason<D: Driver>(
     device: &Device<D>,
     fh: FhId,
     which: u32,
-    request: Option<RequestId>,
     writes: bool,
     errno: Errno,
 ) -> Reason
-    requires { first_refusal (opening_checks D.verdict device.now.plan (past device.now.steps) fh which request writes) ≡ Some (record { errno = errno; place = None }) }
-    ensures { Some result ≡ first_failed reason_at opening_names (opening_checks D.verdict device.now.plan (past device.now.steps) fh which request writes) }
+    ensures { (request : Option RequestIdOf) → first_refusal (opening_checks D.verdict device.now.plan (past device.now.steps) fh which request writes) ≡ Some (record { errno = errno; place = None })
+        → Some result ≡ first_failed reason_at opening_names (opening_checks D.verdict device.now.plan (past device.now.steps) fh which request writes) }
 {
     if device.handler_of(fh).is_none() {
         return Reason::as_whole(Check::ListHandle);

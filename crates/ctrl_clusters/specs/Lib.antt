@@ -17,3 +17,5 @@ pub mod NewRows
 pub mod Changes
 pub mod Notified
 pub mod PresentFlags
+pub mod ControlsData
+pub mod Moments

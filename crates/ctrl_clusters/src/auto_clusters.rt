@@ -4,6 +4,7 @@ ghost use Rattle.std.specs.Prelude.{◌≡◌, ◌<◌, length, slice_set};
 ghost use Rattle.ctrl_clusters.specs.AutoClusters.{inactive, is_automatic};
 ghost use Rattle.ctrl_clusters.specs.Rows.{value_at};
 
+use crate::moment::Moment;
 use ctrl_calls::Driver;
 use ctrl_handlers::Plan;
 use ctrl_types::CtrlValue;
@@ -31,30 +32,24 @@ pub fn inactive<D: Driver>(plan: &Plan<D>, values: &[CtrlValue], control: u32) -
 /// Whether a control is inactive, where one control has another value: as `inactive` says of the values with that one (Linux driver API, "V4L2
 /// Controls", "Handling autogain/gain-type Controls with Auto Clusters").
 ///
-/// - `plan`, `values`, `control`: as of `inactive`.
+/// - `at`: the moment whose values count.
+/// - `control`: as of `inactive`.
 /// - `other`: the number of the control that has another value; the caller owes one below `Plan::control_count`.
 /// - `value`: this value.
 ///
 /// It takes no memory and refuses nothing.
 #[tactic(auto, unfolding(crate::specs::AutoClusters::inactive))]
-pub fn inactive_with<D: Driver>(
-    plan: &Plan<D>,
-    values: &[CtrlValue],
-    other: u32,
-    value: CtrlValue,
-    control: u32,
-) -> bool
-    requires known { control < length plan.now.controls }
-    requires values { length values.now ≡ length plan.now.controls }
-    requires other { other < length plan.now.controls }
-    ensures { result ≡ inactive plan.now (slice_set values.now other value) control }
+pub fn inactive_with<D: Driver>(at: &Moment<D>, other: u32, value: CtrlValue, control: u32) -> bool
+    requires known { control < length at.now.plan.now.controls }
+    requires other { other < length at.now.plan.now.controls }
+    ensures { result ≡ inactive at.now.plan.now (slice_set at.now.values.now other value) control }
 {
-    let cluster = plan.cluster_of(control);
-    let master = plan.members(cluster)[0];
+    let cluster = at.plan.cluster_of(control);
+    let master = at.plan.members(cluster)[0];
     master != control
         && is_automatic(
-            plan.manual(cluster),
-            value_with(values, other, value, master),
+            at.plan.manual(cluster),
+            value_with(at.values, other, value, master),
         )
 }
 

@@ -10,6 +10,8 @@ ghost use Rattle.ctrl_clusters.specs.Rows.{value_at};
 ghost use Rattle.ctrl_clusters.specs.Overlay.{is_among};
 ghost use Rattle.ctrl_clusters.specs.Changes.{is_changed, row_changes};
 
+use crate::change::Change;
+use crate::moment::Moment;
 use bitflags::Flags as FlagSet;
 use ctrl_calls::{ClusterRow, Driver};
 use ctrl_handlers::Plan;
@@ -18,19 +20,17 @@ use ctrl_types::{CtrlValue, Flags, Pair};
 /// Whether a row that a cluster's members get where pairs are laid over values changes one of them.
 #[tactic(auto, using(crate::proofs::RowLemmas::changes_next))]
 pub(crate) fn row_changes<D: Driver>(
-    plan: &Plan<D>,
-    values: &[CtrlValue],
+    before: &Moment<D>,
     pairs: &[Pair],
     members: &[u32],
     row: &ClusterRow,
 ) -> bool
-    requires values { length values.now ≡ length plan.now.controls }
-    requires known { All (λ c. c < length plan.now.controls) members.now }
+    requires known { All (λ c. c < length before.now.plan.now.controls) members.now }
     requires long { length row.now ≡ length members.now }
-    ensures { result ≡ row_changes plan.now values.now pairs.now members.now row.now }
+    ensures { result ≡ row_changes before.now.plan.now before.now.values.now pairs.now members.now row.now }
 {
     for (place, &member) in members.iter().enumerate() {
-        if changes_at(plan, values, pairs, member, row, place) {
+        if changes_at(before, pairs, member, row, place) {
             return true;
         }
     }
@@ -40,44 +40,35 @@ pub(crate) fn row_changes<D: Driver>(
 /// Whether a control is changed where pairs are applied: it has another value afterwards, or it acts on each write and is among the pairs (Linux userspace API,
 /// "Control Flags", `V4L2_CTRL_FLAG_EXECUTE_ON_WRITE`).
 ///
-/// - `plan`: what the device is built of.
-/// - `before`, `after`: the values before and afterwards; the caller owes one for each control.
+/// - `before`: the moment before.
+/// - `after`: the values afterwards; the caller owes one for each control.
 /// - `pairs`: what was applied.
 /// - `control`: the number of a control; the caller owes one below `Plan::control_count`.
 ///
 /// It takes no memory and refuses nothing.
-pub fn is_changed<D: Driver>(
-    plan: &Plan<D>,
-    before: &[CtrlValue],
-    after: &[CtrlValue],
-    pairs: &[Pair],
-    control: u32,
-) -> bool
-    requires before { length before.now ≡ length plan.now.controls }
-    requires after { length after.now ≡ length plan.now.controls }
-    requires known { control < length plan.now.controls }
-    ensures { result ≡ is_changed plan.now before.now pairs.now control (value_at after.now control) }
+pub fn is_changed<D: Driver>(change: &Change<D>, pairs: &[Pair], control: u32) -> bool
+    requires { control < length change.now.before.plan.now.controls }
+    ensures { result ≡ is_changed change.now.before.plan.now change.now.before.values.now pairs.now control (value_at change.now.values.now control) }
 {
-    !before[control as usize].is_same(&after[control as usize])
-        || (acts_on_each_write(plan, control) && is_among(pairs, control))
+    let before = &change.before;
+    !before.values[control as usize].is_same(&change.values[control as usize])
+        || (acts_on_each_write(before.plan, control) && is_among(pairs, control))
 }
 
 // Whether its value of the row changes a member.
 fn changes_at<D: Driver>(
-    plan: &Plan<D>,
-    values: &[CtrlValue],
+    before: &Moment<D>,
     pairs: &[Pair],
     member: u32,
     row: &ClusterRow,
     place: usize,
 ) -> bool
-    requires values { length values.now ≡ length plan.now.controls }
-    requires known { member < length plan.now.controls }
+    requires known { member < length before.now.plan.now.controls }
     requires within { place < length row.now }
-    ensures { result ≡ is_changed plan.now values.now pairs.now member (value_at row.now place) }
+    ensures { result ≡ is_changed before.now.plan.now before.now.values.now pairs.now member (value_at row.now place) }
 {
-    has_another(values, member, row, place)
-        || (acts_on_each_write(plan, member) && is_among(pairs, member))
+    has_another(before.values, member, row, place)
+        || (acts_on_each_write(before.plan, member) && is_among(pairs, member))
 }
 
 // Whether a member has another value than its one of the row.

@@ -1,20 +1,18 @@
 ghost use Rattle.std.specs.Prelude.{◌≡◌, ◌<◌, ◌≤◌, ◌+◌, length, Ok, Err, IfErr, OnOk};
 ghost use Rattle.std.specs.List.{All};
 ghost use Rattle.ctrl_handlers.specs.Plan.{members, calls_of};
-ghost use Rattle.ctrl_clusters.specs.Rows.{AreControlsOf};
 ghost use Rattle.ctrl_clusters.specs.Judging.{refusal_of, judged, judge, validated_row, asks_validator, after_judging, with_call};
 
+use crate::moment::Moment;
 use crate::ranges::Ranges;
 use crate::rows::{read_overwritten, settle_row, takes_row};
 use ctrl_calls::{ClusterRow, Driver, Verdict, Work, ask};
-use ctrl_handlers::Plan;
-use ctrl_types::{CtrlValue, Errno, Pair};
+use ctrl_types::{Errno, Pair};
 
 /// What a cluster makes of a row of its members' values, in member order (Linux driver API, "V4L2 Controls", "Control
 /// Clusters"): its validator is asked, once, where it has one, and what it accepts is the row then; else the row is accepted as it is. Nobody is told.
 ///
-/// - `plan`: what the device is built of.
-/// - `ranges`: the ranges of its controls as they are now; the caller owes that they are of this plan's controls.
+/// - `at`: the moment whose ranges count.
 /// - `cluster`: the number of a cluster; the caller owes one below `Plan::cluster_count`.
 /// - `row`: a value for each of its members; the caller owes exactly as many. Where it is refused it stays as it is.
 /// - `work`: its count `asked` grows by one where the validator is asked.
@@ -23,27 +21,25 @@ use ctrl_types::{CtrlValue, Errno, Pair};
 /// memory.
 #[tactic(auto, unfolding(crate::specs::Judging::judge))]
 pub fn judge<D: Driver>(
-    plan: &Plan<D>,
-    ranges: &Ranges,
+    at: &Moment<D>,
     cluster: u32,
     row: &mut ClusterRow,
     work: &mut Work,
 ) -> Result<(), Errno>
-    requires ranges { AreControlsOf plan.now ranges.now }
-    requires cluster { cluster < length plan.now.clusters }
-    requires row { length row.old ≡ length (members plan.now cluster) }
-    ensures ok { OnOk result (judge D.verdict plan.now ranges.now cluster row.old ≡ Ok row.new) }
-    ensures err { IfErr result (λ errno. judge D.verdict plan.now ranges.now cluster row.old ≡ Err errno) }
+    requires cluster { cluster < length at.now.plan.now.clusters }
+    requires row { length row.old ≡ length (members at.now.plan.now cluster) }
+    ensures ok { OnOk result (judge D.verdict at.now.plan.now at.now.ranges.now cluster row.old ≡ Ok row.new) }
+    ensures err { IfErr result (λ errno. judge D.verdict at.now.plan.now at.now.ranges.now cluster row.old ≡ Err errno) }
     ensures stays { IfErr result (λ errno. row.new ≡ row.old) }
-    ensures long { length row.new ≡ length (members plan.now cluster) }
+    ensures long { length row.new ≡ length (members at.now.plan.now cluster) }
     ensures at_most_once { work.new.asked ≤ work.old.asked + 1 }
     ensures told { work.new.told ≡ work.old.told }
-    ensures counted { work.new ≡ record work.old { asked = after_judging (calls_of plan.now cluster).validator work.old.asked } }
+    ensures counted { work.new ≡ record work.old { asked = after_judging (calls_of at.now.plan.now cluster).validator work.old.asked } }
 {
-    match plan.validator(cluster) {
+    match at.plan.validator(cluster) {
         Some(validator) => {
             let verdict = ask(validator, row, work);
-            judged(ranges, plan.members(cluster), &verdict, row)
+            judged(at.ranges, at.plan.members(cluster), &verdict, row)
         }
         None => Ok(()),
     }
@@ -53,10 +49,8 @@ pub fn judge<D: Driver>(
 /// Clusters"): the members' values, overwritten by the pairs, of which the last of a control counts, settle in member order and
 /// are judged.
 ///
-/// - `plan`: what the device is built of.
-/// - `ranges`: the ranges of its controls as they are now; the caller owes that they are of this plan's controls.
+/// - `at`: the moment whose ranges count.
 /// - `cluster`: the number of a cluster; the caller owes one below `Plan::cluster_count`.
-/// - `values`: a value for each control, in the order of their numbers; the caller owes exactly as many.
 /// - `pairs`: what is asked for; pairs of other clusters' controls count for nothing.
 /// - `row`: any row of as many values as the cluster has members, which the caller owes; the validated row then. Where it is refused, what it holds then says nothing.
 /// - `work`: its count `asked` grows by one where the members' values settle and the cluster has a validator, and else stays.
@@ -65,30 +59,26 @@ pub fn judge<D: Driver>(
 /// refuses. It takes no memory.
 #[tactic(auto, unfolding(crate::specs::Judging::validated_row))]
 pub fn validated_row<D: Driver>(
-    plan: &Plan<D>,
-    ranges: &Ranges,
+    at: &Moment<D>,
     cluster: u32,
-    values: &[CtrlValue],
     pairs: &[Pair],
     row: &mut ClusterRow,
     work: &mut Work,
 ) -> Result<(), Errno>
-    requires ranges { AreControlsOf plan.now ranges.now }
-    requires cluster { cluster < length plan.now.clusters }
-    requires values { length values.now ≡ length plan.now.controls }
-    requires row { length row.old ≡ length (members plan.now cluster) }
-    ensures ok { OnOk result (validated_row D.verdict plan.now ranges.now values.now pairs.now cluster ≡ Ok row.new) }
-    ensures err { IfErr result (λ errno. validated_row D.verdict plan.now ranges.now values.now pairs.now cluster ≡ Err errno) }
-    ensures long { length row.new ≡ length (members plan.now cluster) }
+    requires cluster { cluster < length at.now.plan.now.clusters }
+    requires row { length row.old ≡ length (members at.now.plan.now cluster) }
+    ensures ok { OnOk result (validated_row D.verdict at.now.plan.now at.now.ranges.now at.now.values.now pairs.now cluster ≡ Ok row.new) }
+    ensures err { IfErr result (λ errno. validated_row D.verdict at.now.plan.now at.now.ranges.now at.now.values.now pairs.now cluster ≡ Err errno) }
+    ensures long { length row.new ≡ length (members at.now.plan.now cluster) }
     ensures at_most_once { work.new.asked ≤ work.old.asked + 1 }
-    ensures asked { OnOk result (work.new.asked ≡ after_judging (calls_of plan.now cluster).validator work.old.asked) }
+    ensures asked { OnOk result (work.new.asked ≡ after_judging (calls_of at.now.plan.now cluster).validator work.old.asked) }
     ensures told { work.new.told ≡ work.old.told }
-    ensures counted { work.new ≡ record work.old { asked = with_call (asks_validator plan.now ranges.now values.now pairs.now cluster) work.old.asked } }
+    ensures counted { work.new ≡ record work.old { asked = with_call (asks_validator at.now.plan.now at.now.ranges.now at.now.values.now pairs.now cluster) work.old.asked } }
 {
-    let members = plan.members(cluster);
-    read_overwritten(values, pairs, members, row);
-    match settle_row(ranges, members, row) {
-        Ok(()) => judge(plan, ranges, cluster, row, work),
+    let members = at.plan.members(cluster);
+    read_overwritten(at.values, pairs, members, row);
+    match settle_row(at.ranges, members, row) {
+        Ok(()) => judge(at, cluster, row, work),
         Err(errno) => Err(errno),
     }
 }

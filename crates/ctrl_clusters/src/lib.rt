@@ -1,12 +1,15 @@
 //! What clusters make of values that are asked of their members: a row is overwritten, settles in member order, and is judged by the driver's
 //! validator; how pairs are laid over values, rows written, and changed clusters notified; which range each control has; and which flags under values and grabs.
-//! Only `Ranges::of_plan`, `first_words`, `default_values`, `no_grabs` and `NewRows::with_capacity` take memory.
+//! Only `Controls::of_plan`, `Ranges::of_plan`, `first_words`, `default_values`, `no_grabs` and `NewRows::with_capacity` take memory.
 #![tactic(auto)]
 
 mod auto_clusters;
+mod change;
 mod changes;
+mod controls;
 mod judging;
 pub mod laws;
+mod moment;
 mod new_row;
 mod new_rows;
 mod notifying;
@@ -17,8 +20,11 @@ mod start;
 mod writing;
 
 pub use auto_clusters::{inactive, inactive_with};
+pub use change::Change;
 pub use changes::{is_among, is_changed};
+pub use controls::Controls;
 pub use judging::{judge, validated_row};
+pub use moment::Moment;
 pub use new_row::NewRow;
 pub use new_rows::NewRows;
 pub use notifying::{first_words, notify_between, notify_changed, notify_cluster};

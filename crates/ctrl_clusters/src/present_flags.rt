@@ -4,6 +4,7 @@ ghost use Rattle.ctrl_handlers.specs.Plan.{plan_flags};
 ghost use Rattle.ctrl_clusters.specs.PresentFlags.{flags_under, with_flag_if};
 
 use crate::auto_clusters::{inactive, inactive_with};
+use crate::moment::Moment;
 use bitflags::Flags as FlagSet;
 use ctrl_calls::Driver;
 use ctrl_handlers::Plan;
@@ -12,50 +13,33 @@ use ctrl_types::{CtrlValue, Flags};
 /// The flags of a control under a device's values and grabs (Linux userspace API, "Control Flags"): those of the plan; GRABBED where it is
 /// grabbed; INACTIVE where its auto cluster makes it so.
 ///
-/// - `plan`: what the device is built of.
-/// - `values`, `grabs`: a value, and whether it is grabbed, for each control in the order of their numbers; the caller owes exactly as many.
+/// - `at`: the moment whose values and grabs count.
 /// - `control`: the number of a control; the caller owes one below `Plan::control_count`.
 ///
 /// It takes no memory and refuses nothing.
-pub fn flags_under<D: Driver>(
-    plan: &Plan<D>,
-    values: &[CtrlValue],
-    grabs: &[bool],
-    control: u32,
-) -> Flags
-    requires known { control < length plan.now.controls }
-    requires values { length values.now ≡ length plan.now.controls }
-    requires grabs { length grabs.now ≡ length plan.now.controls }
-    ensures { result ≡ flags_under plan.now values.now grabs.now control }
+pub fn flags_under<D: Driver>(at: &Moment<D>, control: u32) -> Flags
+    requires { control < length at.now.plan.now.controls }
+    ensures { result ≡ flags_under at.now.plan.now at.now.values.now at.now.grabs.now control }
 {
-    let is_inactive = inactive(plan, values, control);
-    flags_where(plan, grabs[control as usize], is_inactive, control)
+    let is_inactive = inactive(at.plan, at.values, control);
+    flags_where(at.plan, at.grabs[control as usize], is_inactive, control)
 }
 
 /// The flags of a control under a device's values and grabs, where one control has another value: as `flags_under` says of the values with that one
 /// (Linux userspace API, "Control Flags").
 ///
-/// - `plan`, `values`, `grabs`, `control`: as of `flags_under`.
+/// - `at`, `control`: as of `flags_under`.
 /// - `other`: the number of the control that has another value; the caller owes one below `Plan::control_count`.
 /// - `value`: this value.
 ///
 /// It takes no memory and refuses nothing.
-pub fn flags_with<D: Driver>(
-    plan: &Plan<D>,
-    values: &[CtrlValue],
-    grabs: &[bool],
-    other: u32,
-    value: CtrlValue,
-    control: u32,
-) -> Flags
-    requires known { control < length plan.now.controls }
-    requires values { length values.now ≡ length plan.now.controls }
-    requires grabs { length grabs.now ≡ length plan.now.controls }
-    requires other { other < length plan.now.controls }
-    ensures { result ≡ flags_under plan.now (slice_set values.now other value) grabs.now control }
+pub fn flags_with<D: Driver>(at: &Moment<D>, other: u32, value: CtrlValue, control: u32) -> Flags
+    requires known { control < length at.now.plan.now.controls }
+    requires other { other < length at.now.plan.now.controls }
+    ensures { result ≡ flags_under at.now.plan.now (slice_set at.now.values.now other value) at.now.grabs.now control }
 {
-    let is_inactive = inactive_with(plan, values, other, value, control);
-    flags_where(plan, grabs[control as usize], is_inactive, control)
+    let is_inactive = inactive_with(at, other, value, control);
+    flags_where(at.plan, at.grabs[control as usize], is_inactive, control)
 }
 
 // The flags of a control, where it is grabbed or isn't, and where it is inactive or isn't.

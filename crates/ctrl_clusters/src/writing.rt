@@ -58,8 +58,6 @@ pub fn write_rows<D: Driver>(plan: &Plan<D>, values: &mut Vec<CtrlValue>, rows: 
     requires rows { AreNewRows plan.now rows.now }
     ensures { values.new.items ≡ written plan.now values.old.items rows.now }
 {
-    // the plan is one, as the contract of `controls` says
-    let _plan = plan.controls();
     for new in rows {
         write_members(values, plan.members(new.cluster), &new.row);
     }
@@ -84,8 +82,6 @@ pub fn write_row<D: Driver>(
     requires row { length row.now ≡ length (members plan.now cluster) }
     ensures { values.new.items ≡ written plan.now values.old.items (one_row cluster row.now) }
 {
-    // the plan is one, as the contract of `controls` says
-    let _plan = plan.controls();
     write_members(values, plan.members(cluster), row);
 }
 

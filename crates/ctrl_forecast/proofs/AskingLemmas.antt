@@ -85,11 +85,11 @@ behind_last values (r ∷ rows) row = behind_last r.values rows row
 
 -- what one more frame leaves
 after_next : (verdicts : Verdicts) (plan : PlanData) (controls : List Control) (grabs : Grabs) (values : Values) (qs : List QueuedData) (p : ℕ) → p < length qs
-    → values_after verdicts plan controls grabs values qs (suc p) ≡ overlay verdicts plan controls (values_after verdicts plan controls grabs values qs p) grabs (asked_at qs p)
+    → values_after verdicts plan controls values grabs qs (suc p) ≡ overlay verdicts plan controls (values_after verdicts plan controls values grabs qs p) grabs (asked_at qs p)
 after_next verdicts plan controls grabs values qs p lt =
-    ap (λ (l : List QueuedData). values_behind values (forecasts verdicts plan controls grabs values l)) (ap (λ (n : ℕ). take n qs) (sym (add-one p)) ∙ take_more qs p d lt)
+    ap (λ (l : List QueuedData). values_behind values (forecasts verdicts plan controls values grabs l)) (ap (λ (n : ℕ). take n qs) (sym (add-one p)) ∙ take_more qs p d lt)
     ∙ ap (values_behind values) (forecasts_more verdicts plan controls grabs values (take p qs) (get_or qs p d))
-    ∙ behind_last values (forecasts verdicts plan controls grabs values (take p qs)) (forecast_over verdicts plan controls grabs (values_after verdicts plan controls grabs values qs p) (get_or qs p d))
+    ∙ behind_last values (forecasts verdicts plan controls values grabs (take p qs)) (forecast_over verdicts plan controls (values_after verdicts plan controls values grabs qs p) grabs (get_or qs p d))
   where
     d : QueuedData
     d = record { request = record { 0 = 0 }; buffer = 0; asked = [] }
@@ -113,7 +113,7 @@ row_alike s base values pairs k same =
 -- Before a place up to which a cluster is right, the kept values have the row that the frames before leave.
 based_right : (s : Setting) (fs : List FrameData) (k p : ℕ) → IsPlan s.plan → length s.values ≡ length s.plan.controls → k < length s.plan.clusters → p ≤ length fs
     → ((i : ℕ) → i < p → i < length fs → IsRightAt s fs k i)
-    → row_of (base_at s fs p) (members s.plan k) ≡ row_of (values_after s.verdicts s.plan s.controls s.grabs s.values (map queued_of fs) p) (members s.plan k)
+    → row_of (base_at s fs p) (members s.plan k) ≡ row_of (values_after s.verdicts s.plan s.controls s.values s.grabs (map queued_of fs) p) (members s.plan k)
 unfolding forecasts
 based_right s fs k zero is many lt le right = refl
 based_right s fs k (suc p) is many lt le right =
@@ -127,7 +127,7 @@ based_right s fs k (suc p) is many lt le right =
     qs = map queued_of fs
 
     before : Values
-    before = values_after s.verdicts s.plan s.controls s.grabs s.values qs p
+    before = values_after s.verdicts s.plan s.controls s.values s.grabs qs p
 
     less : p < length fs
     less = omega (arith, le)
@@ -142,9 +142,9 @@ counted_more p a n = ap (count_by p) (range_more a n) ∙ sum_by_push (λ (k : �
 -- the cluster is renewed in one more frame
 pub renewed_count : (s : Setting) (old fs : List FrameData) (from k p count asked new : ℕ) → IsPlan s.plan → length s.values ≡ length s.plan.controls → k < length s.plan.clusters → from ≤ p → p < length fs
     → IsClusterRenewed s k p old fs
-    → asked ≡ with_calls (count_by (asks_at s.verdicts s.plan s.controls s.grabs s.values (map queued_of old) k) (range_with_len from (p - from))) count
+    → asked ≡ with_calls (count_by (asks_at s.verdicts s.plan s.controls s.values s.grabs (map queued_of old) k) (range_with_len from (p - from))) count
     → new ≡ with_call (asks_row s.plan s.controls (base_at s fs p) s.grabs (frame_at fs p).asked k) asked
-    → new ≡ with_calls (count_by (asks_at s.verdicts s.plan s.controls s.grabs s.values (map queued_of old) k) (range_with_len from (p + 1 - from))) count
+    → new ≡ with_calls (count_by (asks_at s.verdicts s.plan s.controls s.values s.grabs (map queued_of old) k) (range_with_len from (p + 1 - from))) count
 renewed_count s old fs from k p count asked new is many lt le less so_far before made =
     made ∙ ap (with_call (asks_row s.plan s.controls (base_at s fs p) s.grabs (frame_at fs p).asked k)) before
     ∙ ap (λ (b : Bool). with_call b (with_calls (count_by there (range_with_len from n)) count)) here
@@ -155,7 +155,7 @@ renewed_count s old fs from k p count asked new is many lt le less so_far before
     n = p - from
 
     there : ℕ → Bool
-    there = asks_at s.verdicts s.plan s.controls s.grabs s.values (map queued_of old) k
+    there = asks_at s.verdicts s.plan s.controls s.values s.grabs (map queued_of old) k
 
     at : from + n ≡ p
     at = omega (arith, le)
@@ -165,10 +165,10 @@ renewed_count s old fs from k p count asked new is many lt le less so_far before
 
     here : asks_row s.plan s.controls (base_at s fs p) s.grabs (frame_at fs p).asked k ≡ there (from + n)
     here =
-        row_alike s (base_at s fs p) (values_after s.verdicts s.plan s.controls s.grabs s.values (map queued_of fs) p) (frame_at fs p).asked k
+        row_alike s (base_at s fs p) (values_after s.verdicts s.plan s.controls s.values s.grabs (map queued_of fs) p) (frame_at fs p).asked k
         (based_right s fs k p is many lt (omega (arith, less)) so_far.here)
-        ∙ ap (λ (pairs : List Pair). asks_row s.plan s.controls (values_after s.verdicts s.plan s.controls s.grabs s.values (map queued_of fs) p) s.grabs pairs k) (kept_asked fs p less)
-        ∙ ap (λ (qs : List QueuedData). asks_at s.verdicts s.plan s.controls s.grabs s.values qs k p) so_far.queued
+        ∙ ap (λ (pairs : List Pair). asks_row s.plan s.controls (values_after s.verdicts s.plan s.controls s.values s.grabs (map queued_of fs) p) s.grabs pairs k) (kept_asked fs p less)
+        ∙ ap (λ (qs : List QueuedData). asks_at s.verdicts s.plan s.controls s.values s.grabs qs k p) so_far.queued
         ∙ ap there (sym at)
 
 -- one more cluster is renewed
@@ -179,10 +179,10 @@ cluster_count f ks i count asked new lt before is =
 
 -- and all are
 pub clusters_count : (verdicts : Verdicts) (plan : PlanData) (controls : List Control) (grabs : Grabs) (values : Values) (qs : List QueuedData) (from : ℕ) (ks : List ℕ) (i count asked : ℕ) → length ks ≤ i
-    → asked ≡ with_calls (sum_by (asked_from verdicts plan controls grabs values qs from) (take i ks)) count → asked ≡ with_calls (renewing_count verdicts plan controls grabs values qs from ks) count
+    → asked ≡ with_calls (sum_by (asked_from verdicts plan controls values grabs qs from) (take i ks)) count → asked ≡ with_calls (renewing_count verdicts plan controls values grabs qs from ks) count
 unfolding renewing_count
 clusters_count verdicts plan controls grabs values qs from ks i count asked all is =
-    is ∙ ap (λ (l : List ℕ). with_calls (sum_by (asked_from verdicts plan controls grabs values qs from) l) count) (take_all i ks all)
+    is ∙ ap (λ (l : List ℕ). with_calls (sum_by (asked_from verdicts plan controls values grabs qs from) l) count) (take_all i ks all)
 
 -- numbers from one on that pass are no more than the items that do, where each such number's item does
 counted_least : (p : ℕ → Bool) (q : QueuedData → Bool) (d : QueuedData) (qs : List QueuedData) (a : ℕ) → ((i : ℕ) → i < length qs → p (a + i) ≡ true → q (get_or qs i d) ≡ true)
@@ -199,20 +199,20 @@ counted_least p q d (x ∷ qs) a each =
 
 -- A renewal asks of a frame only where it names the cluster.
 pub renewing_most : (verdicts : Verdicts) (plan : PlanData) (controls : List Control) (grabs : Grabs) (values : Values) (qs : List QueuedData) (from : ℕ) (ks : List ℕ)
-    → renewing_count verdicts plan controls grabs values qs from ks ≤ named_by_frames plan (drop from qs) ks
+    → renewing_count verdicts plan controls values grabs qs from ks ≤ named_by_frames plan (drop from qs) ks
 unfolding renewing_count
-renewing_most verdicts plan controls grabs values qs from ks = sum_by-le-sum_by (asked_from verdicts plan controls grabs values qs from) (naming_count plan (drop from qs)) ks each
+renewing_most verdicts plan controls grabs values qs from ks = sum_by-le-sum_by (asked_from verdicts plan controls values grabs qs from) (naming_count plan (drop from qs)) ks each
   where
     d : QueuedData
     d = record { request = record { 0 = 0 }; buffer = 0; asked = [] }
 
-    each : (k : ℕ) → asked_from verdicts plan controls grabs values qs from k ≤ naming_count plan (drop from qs) k
+    each : (k : ℕ) → asked_from verdicts plan controls values grabs qs from k ≤ naming_count plan (drop from qs) k
     each k =
         let long : length (drop from qs) ≡ length qs - from = length-drop from qs in
-        let most : count_by (asks_at verdicts plan controls grabs values qs k) (range_with_len from (length (drop from qs))) ≤ naming_count plan (drop from qs) k =
-        counted_least (asks_at verdicts plan controls grabs values qs k) (λ (q : QueuedData). is_touched q.asked (members plan k)) d (drop from qs) from
+        let most : count_by (asks_at verdicts plan controls values grabs qs k) (range_with_len from (length (drop from qs))) ≤ naming_count plan (drop from qs) k =
+        counted_least (asks_at verdicts plan controls values grabs qs k) (λ (q : QueuedData). is_touched q.asked (members plan k)) d (drop from qs) from
         (λ i lt is. ap (λ (q : QueuedData). is_touched q.asked (members plan k)) (get_or-drop from qs i d) ∙ both_first (is_touched (asked_at qs (from + i)) (members plan k)) _ is) in
-        omega (arith, most, ap (λ (n : ℕ). count_by (asks_at verdicts plan controls grabs values qs k) (range_with_len from n)) long)
+        omega (arith, most, ap (λ (n : ℕ). count_by (asks_at verdicts plan controls values grabs qs k) (range_with_len from n)) long)
 
 -- the frames behind one that is taken out
 pub behind_removed : (qs : List QueuedData) (p : ℕ) → p < length qs → drop p (remove qs p) ≡ drop (p + 1) qs

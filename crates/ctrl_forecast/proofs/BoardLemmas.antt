@@ -14,11 +14,11 @@ use Rattle.std.proofs.lemmas.List.Sums.{sum_by_more, sum_by-take-le}
 
 -- one more frame stands over what the last one leaves
 pub forecasts_more : (verdicts : Verdicts) (plan : PlanData) (controls : List Control) (grabs : Grabs) (values : Values) (qs : List QueuedData) (q : QueuedData)
-    → forecasts verdicts plan controls grabs values (qs ++ q ∷ []) ≡ forecasts verdicts plan controls grabs values qs ++ forecast_over verdicts plan controls grabs (values_behind values (forecasts verdicts plan controls grabs values qs)) q ∷ []
+    → forecasts verdicts plan controls values grabs (qs ++ q ∷ []) ≡ forecasts verdicts plan controls values grabs qs ++ forecast_over verdicts plan controls (values_behind values (forecasts verdicts plan controls values grabs qs)) grabs q ∷ []
 unfolding forecasts
 forecasts_more verdicts plan controls grabs values [] q = refl
 forecasts_more verdicts plan controls grabs values (p ∷ qs) q =
-    ap (λ (l : List Forecast). forecast_over verdicts plan controls grabs values p ∷ l) (forecasts_more verdicts plan controls grabs (overlay verdicts plan controls values grabs p.asked) qs q)
+    ap (λ (l : List Forecast). forecast_over verdicts plan controls values grabs p ∷ l) (forecasts_more verdicts plan controls grabs (overlay verdicts plan controls values grabs p.asked) qs q)
 
 -- how many clusters one more touches
 pub touched_next : (plan : PlanData) (qs : List QueuedData) (i : ℕ) (d : QueuedData) → i < length qs → touched_by_all plan (take (i + 1) qs) ≡ touched_by_all plan (take i qs) + touched_count plan (get_or qs i d).asked
@@ -42,8 +42,8 @@ values_at_last values (r ∷ s ∷ rows) row h =
 
 -- without the first frame, the others stand over what it leaves
 pub popped : (verdicts : Verdicts) (plan : PlanData) (controls : List Control) (grabs : Grabs) (values : Values) (q : QueuedData) (qs : List QueuedData)
-    → ◌≡◌ {A = BoardData} (record { queued = drop 1 (board_of verdicts plan controls grabs values (q ∷ qs)).queued; named = drop 1 (board_of verdicts plan controls grabs values (q ∷ qs)).named; forecasts = drop 1 (board_of verdicts plan controls grabs values (q ∷ qs)).forecasts })
-    (board_of verdicts plan controls grabs (overlay verdicts plan controls values grabs q.asked) qs)
+    → ◌≡◌ {A = BoardData} (record { queued = drop 1 (board_of verdicts plan controls values grabs (q ∷ qs)).queued; named = drop 1 (board_of verdicts plan controls values grabs (q ∷ qs)).named; forecasts = drop 1 (board_of verdicts plan controls values grabs (q ∷ qs)).forecasts })
+    (board_of verdicts plan controls (overlay verdicts plan controls values grabs q.asked) grabs qs)
 unfolding forecasts
 popped verdicts plan controls grabs values q qs = refl
 
@@ -53,21 +53,21 @@ rest_of b = record { queued = drop 1 b.queued; named = drop 1 b.named; forecasts
 
 -- what the first frame leaves is what the others stand over
 pub begun : (verdicts : Verdicts) (plan : PlanData) (controls : List Control) (grabs : Grabs) (values : Values) (qs : List QueuedData) (f : Forecast)
-    → Some f ≡ slice_get (forecasts verdicts plan controls grabs values qs) 0
-    → (length f.values ≡ length values) × (◌≡◌ {A = BoardData} (rest_of (board_of verdicts plan controls grabs values qs)) (board_of verdicts plan controls grabs f.values (drop 1 qs)))
+    → Some f ≡ slice_get (forecasts verdicts plan controls values grabs qs) 0
+    → (length f.values ≡ length values) × (◌≡◌ {A = BoardData} (rest_of (board_of verdicts plan controls values grabs qs)) (board_of verdicts plan controls f.values grabs (drop 1 qs)))
 unfolding forecasts
 begun verdicts plan controls grabs values [] f is = cc
 begun verdicts plan controls grabs values (q ∷ qs) f is =
     let left : f.values ≡ overlay verdicts plan controls values grabs q.asked = ap values_of is in
-    (ap length left ∙ length_overlay verdicts plan controls values grabs q.asked, popped verdicts plan controls grabs values q qs ∙ ap (λ (v : Values). board_of verdicts plan controls grabs v qs) (sym left))
+    (ap length left ∙ length_overlay verdicts plan controls values grabs q.asked, popped verdicts plan controls grabs values q qs ∙ ap (λ (v : Values). board_of verdicts plan controls v grabs qs) (sym left))
   where
     values_of : Option Forecast → Values
     values_of None = []
     values_of (Some g) = g.values
 
 -- where there is no first frame, nothing is left
-pub begun_none : (verdicts : Verdicts) (plan : PlanData) (controls : List Control) (grabs : Grabs) (values : Values) (qs : List QueuedData) → None ≡ slice_get (forecasts verdicts plan controls grabs values qs) 0
-    → ◌≡◌ {A = BoardData} (rest_of (board_of verdicts plan controls grabs values qs)) (board_of verdicts plan controls grabs values (drop 1 qs))
+pub begun_none : (verdicts : Verdicts) (plan : PlanData) (controls : List Control) (grabs : Grabs) (values : Values) (qs : List QueuedData) → None ≡ slice_get (forecasts verdicts plan controls values grabs qs) 0
+    → ◌≡◌ {A = BoardData} (rest_of (board_of verdicts plan controls values grabs qs)) (board_of verdicts plan controls values grabs (drop 1 qs))
 unfolding forecasts
 begun_none verdicts plan controls grabs values [] is = refl
 begun_none verdicts plan controls grabs values (q ∷ qs) is = cc

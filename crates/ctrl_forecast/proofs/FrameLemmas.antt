@@ -24,7 +24,7 @@ frame_last values fs f h =
     (ap (option_map forecast_of) h ∙ sym (slice_get-map forecast_of fs (length fs - 1)) ∙ ap (λ (n : ℕ). slice_get (map forecast_of fs) (n - 1)) (sym (length-map fs forecast_of)))
 
 -- the values behind forecasts are as many as before them
-pub behind_long : (verdicts : Verdicts) (plan : PlanData) (controls : List Control) (grabs : Grabs) (values : Values) (qs : List QueuedData) → length (values_behind values (forecasts verdicts plan controls grabs values qs)) ≡ length values
+pub behind_long : (verdicts : Verdicts) (plan : PlanData) (controls : List Control) (grabs : Grabs) (values : Values) (qs : List QueuedData) → length (values_behind values (forecasts verdicts plan controls values grabs qs)) ≡ length values
 unfolding forecasts
 behind_long verdicts plan controls grabs values [] = refl
 behind_long verdicts plan controls grabs values (q ∷ qs) =
@@ -32,14 +32,14 @@ behind_long verdicts plan controls grabs values (q ∷ qs) =
 
 -- one more frame is kept
 pub kept_more : (verdicts : Verdicts) (plan : PlanData) (controls : List Control) (grabs : Grabs) (values : Values) (fs : List FrameData) (qs : List QueuedData) (q : QueuedData)
-    → board_seen fs ≡ board_of verdicts plan controls grabs values qs
-    → board_seen (fs ++ frame_over verdicts plan controls grabs (values_behind values (map forecast_of fs)) q ∷ []) ≡ board_of verdicts plan controls grabs values (qs ++ q ∷ [])
+    → board_seen fs ≡ board_of verdicts plan controls values grabs qs
+    → board_seen (fs ++ frame_over verdicts plan controls (values_behind values (map forecast_of fs)) grabs q ∷ []) ≡ board_of verdicts plan controls values grabs (qs ++ q ∷ [])
 kept_more verdicts plan controls grabs values fs qs q kept = λ i. record { queued = asks i; named = names i; forecasts = has i }
   where
     new : FrameData
-    new = frame_over verdicts plan controls grabs (values_behind values (map forecast_of fs)) q
+    new = frame_over verdicts plan controls (values_behind values (map forecast_of fs)) grabs q
 
-    rows : map forecast_of fs ≡ forecasts verdicts plan controls grabs values qs
+    rows : map forecast_of fs ≡ forecasts verdicts plan controls values grabs qs
     rows = ap (λ (b : BoardData). b.forecasts) kept
 
     asks : map queued_of (fs ++ new ∷ []) ≡ qs ++ q ∷ []
@@ -53,10 +53,10 @@ kept_more verdicts plan controls grabs values fs qs q kept = λ i. record { queu
         map-append (λ (f : FrameData). f.named) fs (new ∷ []) ∙ ap (λ (l : List (List ℕ)). l ++ named_clusters plan q.asked ∷ []) (ap (λ (b : BoardData). b.named) kept)
         ∙ sym (map-append named_of qs (q ∷ []))
 
-    has : map forecast_of (fs ++ new ∷ []) ≡ forecasts verdicts plan controls grabs values (qs ++ q ∷ [])
+    has : map forecast_of (fs ++ new ∷ []) ≡ forecasts verdicts plan controls values grabs (qs ++ q ∷ [])
     has =
         map-append forecast_of fs (new ∷ [])
-        ∙ ap (λ (l : List Forecast). l ++ forecast_over verdicts plan controls grabs (values_behind values l) q ∷ []) rows
+        ∙ ap (λ (l : List Forecast). l ++ forecast_over verdicts plan controls (values_behind values l) grabs q ∷ []) rows
         ∙ sym (forecasts_more verdicts plan controls grabs values qs q)
 
 -- the place of a request among frames, and among the frames as they were queued

@@ -35,7 +35,7 @@ all_each P cs each = All-from_get_or P cs 0 (λ i lt. each (get_or cs i 0) (amon
 -- kept frames, of which some clusters' ranges, values or grabs were changed
 pub ready_changed : (verdicts : Verdicts) (plan : PlanData) (earlier controls : List Control) (held grabs : Grabs) (before values : Values) (clusters : List ℕ) (fs : List FrameData)
     → IsPlan plan → length values ≡ length plan.controls → DifferOnlyIn plan clusters earlier before held controls values grabs
-    → board_seen fs ≡ board_of verdicts plan earlier held before (map queued_of fs) → AreReady (setting verdicts plan controls grabs values) 0 clusters fs
+    → board_seen fs ≡ board_of verdicts plan earlier before held (map queued_of fs) → AreReady (setting verdicts plan controls values grabs) 0 clusters fs
 ready_changed verdicts plan earlier controls held grabs before values clusters fs is many differ kept = record {
   frames_ok = rows_frames verdicts plan earlier held before fs (differ.many ∙ many) (ap (λ (b : BoardData). b.named) kept) rows;
   before = λ k i lt early less. absurd (omega (arith, early));
@@ -46,7 +46,7 @@ ready_changed verdicts plan earlier controls held grabs before values clusters f
       refl refl refl (rows_right verdicts plan earlier held before fs is (differ.many ∙ many) rows k i lt less);
 }
   where
-    rows : map forecast_of fs ≡ forecasts verdicts plan earlier held before (map queued_of fs)
+    rows : map forecast_of fs ≡ forecasts verdicts plan earlier before held (map queued_of fs)
     rows = ap (λ (b : BoardData). b.forecasts) kept
 
     outside : (k c : ℕ) → k < length plan.clusters → list_any (nat_eq k) clusters ≡ false → list_any (nat_eq c) (members plan k) ≡ true → is_in_one_of clusters (cluster_of plan c) ≡ false
@@ -84,7 +84,7 @@ removed_late plan values fs p k (suc i) lt le same = by (eqb_tells p (suc i))
 
 -- kept frames, of which one is taken out
 pub ready_removed : (verdicts : Verdicts) (plan : PlanData) (controls : List Control) (grabs : Grabs) (values : Values) (p : ℕ) (fs : List FrameData) → IsPlan plan → length values ≡ length plan.controls → p < length fs
-    → board_seen fs ≡ board_of verdicts plan controls grabs values (map queued_of fs) → AreReady (setting verdicts plan controls grabs values) p (frame_at fs p).named (remove fs p)
+    → board_seen fs ≡ board_of verdicts plan controls values grabs (map queued_of fs) → AreReady (setting verdicts plan controls values grabs) p (frame_at fs p).named (remove fs p)
 unfolding AreKeptFrames
 ready_removed verdicts plan controls grabs values p fs is many lt kept = record {
   frames_ok = λ i less. by_frame i (split i) less;
@@ -92,13 +92,13 @@ ready_removed verdicts plan controls grabs values p fs is many lt kept = record 
   apart = λ k i within none less. by_right k i within none less (split i);
 }
   where
-    rows : map forecast_of fs ≡ forecasts verdicts plan controls grabs values (map queued_of fs)
+    rows : map forecast_of fs ≡ forecasts verdicts plan controls values grabs (map queued_of fs)
     rows = ap (λ (b : BoardData). b.forecasts) kept
 
     are : AreKeptFrames plan fs
     are = rows_frames verdicts plan controls grabs values fs many (ap (λ (b : BoardData). b.named) kept) rows
 
-    right : (k i : ℕ) → k < length plan.clusters → i < length fs → IsRightAt (setting verdicts plan controls grabs values) fs k i
+    right : (k i : ℕ) → k < length plan.clusters → i < length fs → IsRightAt (setting verdicts plan controls values grabs) fs k i
     right = rows_right verdicts plan controls grabs values fs is many rows
 
     long : length (remove fs p) + 1 ≡ length fs
@@ -114,11 +114,11 @@ ready_removed verdicts plan controls grabs values p fs is many lt kept = record 
     by_frame i (inl early) less = subst (IsKeptFrame plan) (sym (get_or-remove_below fs p no_frame i early lt)) (are i (omega (arith, less, long)))
     by_frame i (inr le) less = subst (IsKeptFrame plan) (sym (late i le)) (are (suc i) (omega (arith, less, long)))
 
-    below : (k i : ℕ) → k < length plan.clusters → i < p → i < length (remove fs p) → IsRightAt (setting verdicts plan controls grabs values) (remove fs p) k i
+    below : (k i : ℕ) → k < length plan.clusters → i < p → i < length (remove fs p) → IsRightAt (setting verdicts plan controls values grabs) (remove fs p) k i
     below k i within early less =
         let same : frame_at fs i ≡ frame_at (remove fs p) i = sym (get_or-remove_below fs p no_frame i early lt) in
         right_moves verdicts plan controls controls grabs grabs values values fs (remove fs p) k i i
-        (ap (λ (v : Values). row_of v (members plan k)) (sym (removed_early values fs p i lt (omega (arith, early))))) (ranges_agree (setting verdicts plan controls grabs values) (members plan k)) (grabs_agree (setting verdicts plan controls grabs values) (members plan k))
+        (ap (λ (v : Values). row_of v (members plan k)) (sym (removed_early values fs p i lt (omega (arith, early))))) (ranges_agree (setting verdicts plan controls values grabs) (members plan k)) (grabs_agree (setting verdicts plan controls values grabs) (members plan k))
         (ap (λ (f : FrameData). row_of f.values (members plan k)) same) (ap (λ (f : FrameData). f.asked) same) (ap (λ (f : FrameData). list_any (nat_eq k) f.refused) same)
         (right k i within (omega (arith, less, long)))
 
@@ -127,15 +127,15 @@ ready_removed verdicts plan controls grabs values p fs is many lt kept = record 
         sym (ap (list_any (nat_eq k)) (are p lt).names ∙ among_passing (λ j. is_touched (frame_at fs p).asked (members plan j)) (length plan.clusters) k within) ∙ none
 
     passes : (k : ℕ) → k < length plan.clusters → list_any (nat_eq k) (frame_at fs p).named ≡ false → row_of (frame_at fs p).values (members plan k) ≡ row_of (values_before values fs p) (members plan k)
-    passes k within none = (right k p within lt).row ∙ untouched_row (setting verdicts plan controls grabs values) (values_before values fs p) (frame_at fs p).asked k (unnamed k within none)
+    passes k within none = (right k p within lt).row ∙ untouched_row (setting verdicts plan controls values grabs) (values_before values fs p) (frame_at fs p).asked k (unnamed k within none)
 
     by_right : (k i : ℕ) → k < length plan.clusters → list_any (nat_eq k) (frame_at fs p).named ≡ false → i < length (remove fs p) → (i < p) ⊎ (p ≤ i)
-        → IsRightAt (setting verdicts plan controls grabs values) (remove fs p) k i
+        → IsRightAt (setting verdicts plan controls values grabs) (remove fs p) k i
     by_right k i within none less (inl early) = below k i within early less
     by_right k i within none less (inr le) =
         let same : frame_at fs (suc i) ≡ frame_at (remove fs p) i = sym (late i le) in
         right_moves verdicts plan controls controls grabs grabs values values fs (remove fs p) k (suc i) i
-        (removed_late plan values fs p k i lt le (passes k within none)) (ranges_agree (setting verdicts plan controls grabs values) (members plan k)) (grabs_agree (setting verdicts plan controls grabs values) (members plan k))
+        (removed_late plan values fs p k i lt le (passes k within none)) (ranges_agree (setting verdicts plan controls values grabs) (members plan k)) (grabs_agree (setting verdicts plan controls values grabs) (members plan k))
         (ap (λ (f : FrameData). row_of f.values (members plan k)) same) (ap (λ (f : FrameData). f.asked) same) (ap (λ (f : FrameData). list_any (nat_eq k) f.refused) same)
         (right k (suc i) within (omega (arith, less, long)))
 
@@ -148,10 +148,10 @@ named_within plan pairs =
 
 -- what a kept frame names is what its pairs do
 pub kept_named : (verdicts : Verdicts) (plan : PlanData) (controls : List Control) (grabs : Grabs) (values : Values) (fs : List FrameData) (p : ℕ) → length values ≡ length plan.controls → p < length fs
-    → (qs : List QueuedData) → board_seen fs ≡ board_of verdicts plan controls grabs values qs → (frame_at fs p).named ≡ named_clusters plan (frame_at fs p).asked
+    → (qs : List QueuedData) → board_seen fs ≡ board_of verdicts plan controls values grabs qs → (frame_at fs p).named ≡ named_clusters plan (frame_at fs p).asked
 unfolding AreKeptFrames
 kept_named verdicts plan controls grabs values fs p many lt qs kept =
     (rows_frames verdicts plan controls grabs values fs many (ap (λ (b : BoardData). b.named) whole) (ap (λ (b : BoardData). b.forecasts) whole) p lt).names
   where
-    whole : board_seen fs ≡ board_of verdicts plan controls grabs values (map queued_of fs)
-    whole = kept ∙ ap (board_of verdicts plan controls grabs values) (sym (ap (λ (b : BoardData). b.queued) kept))
+    whole : board_seen fs ≡ board_of verdicts plan controls values grabs (map queued_of fs)
+    whole = kept ∙ ap (board_of verdicts plan controls values grabs) (sym (ap (λ (b : BoardData). b.queued) kept))

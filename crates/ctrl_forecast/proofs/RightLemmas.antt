@@ -61,7 +61,7 @@ pub right_moves : (verdicts : Verdicts) (plan : PlanData) (earlier controls : Li
     → row_of (frame_at fs i).values (members plan k) ≡ row_of (frame_at gs j).values (members plan k)
     → (frame_at fs i).asked ≡ (frame_at gs j).asked
     → list_any (nat_eq k) (frame_at fs i).refused ≡ list_any (nat_eq k) (frame_at gs j).refused
-    → IsRightAt (setting verdicts plan earlier held before) fs k i → IsRightAt (setting verdicts plan controls grabs values) gs k j
+    → IsRightAt (setting verdicts plan earlier before held) fs k i → IsRightAt (setting verdicts plan controls values grabs) gs k j
 right_moves verdicts plan earlier controls held grabs before values fs gs k i j based ranged alike own asks marks right =
     record { row = sym own ∙ right.row ∙ ap (λ (r : List CtrlValue). row_or r first) based ∙ ap (row_or (row_of (values_before values gs j) (members plan k))) same; refused = sym marks ∙ right.refused ∙ ap is_err same }
   where

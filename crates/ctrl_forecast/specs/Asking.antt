@@ -22,19 +22,19 @@ abbrev pub asked_count : PlanData → List Control → Values → Grabs → List
 asked_count plan controls values grabs pairs = count_by (asks_row plan controls values grabs pairs) (range_with_len 0 (length plan.clusters))
 
 -- the values that the first of some queued frames leave
-abbrev pub values_after : Verdicts → PlanData → List Control → Grabs → Values → List QueuedData → ℕ → Values
-values_after verdicts plan controls grabs values queued n = values_behind values (forecasts verdicts plan controls grabs values (take n queued))
+abbrev pub values_after : Verdicts → PlanData → List Control → Values → Grabs → List QueuedData → ℕ → Values
+values_after verdicts plan controls values grabs queued n = values_behind values (forecasts verdicts plan controls values grabs (take n queued))
 
 -- whether a cluster's validator is asked for the frame at a place, over what the frames before it leave
-abbrev pub asks_at : Verdicts → PlanData → List Control → Grabs → Values → List QueuedData → ℕ → ℕ → Bool
-asks_at verdicts plan controls grabs values queued k i =
-    asks_row plan controls (values_after verdicts plan controls grabs values queued i) grabs (asked_at queued i) k
+abbrev pub asks_at : Verdicts → PlanData → List Control → Values → Grabs → List QueuedData → ℕ → ℕ → Bool
+asks_at verdicts plan controls values grabs queued k i =
+    asks_row plan controls (values_after verdicts plan controls values grabs queued i) grabs (asked_at queued i) k
 
 -- for how many frames from a place on it is
-abbrev pub asked_from : Verdicts → PlanData → List Control → Grabs → Values → List QueuedData → ℕ → ℕ → ℕ
-asked_from verdicts plan controls grabs values queued from k =
-    count_by (asks_at verdicts plan controls grabs values queued k) (range_with_len from (length queued - from))
+abbrev pub asked_from : Verdicts → PlanData → List Control → Values → Grabs → List QueuedData → ℕ → ℕ → ℕ
+asked_from verdicts plan controls values grabs queued from k =
+    count_by (asks_at verdicts plan controls values grabs queued k) (range_with_len from (length queued - from))
 
 -- How many validators are asked where some clusters are renewed in the frames from a place on.
-unfoldable pub renewing_count : Verdicts → PlanData → List Control → Grabs → Values → List QueuedData → ℕ → List ℕ → ℕ
-renewing_count verdicts plan controls grabs values queued from clusters = sum_by (asked_from verdicts plan controls grabs values queued from) clusters
+unfoldable pub renewing_count : Verdicts → PlanData → List Control → Values → Grabs → List QueuedData → ℕ → List ℕ → ℕ
+renewing_count verdicts plan controls values grabs queued from clusters = sum_by (asked_from verdicts plan controls values grabs queued from) clusters

@@ -7,6 +7,7 @@ use Rattle.ctrl_settle.specs.Control.{Control}
 use Rattle.ctrl_handlers.specs.Plan.{PlanData, cluster_of, members, control_in}
 use Rattle.ctrl_clusters.specs.Rows.{Values, value_at, Grabs, is_grabbed}
 use Rattle.ctrl_clusters.specs.Overlay.{is_touched}
+use Rattle.ctrl_clusters.specs.declared.moment.Moment.{Moment}
 use Rattle.ctrl_forecast.specs.Forecasts.{QueuedData, forecasts}
 use Rattle.ctrl_forecast.specs.declared.board.Forecast.{Forecast}
 
@@ -25,12 +26,16 @@ abbrev pub no_board : BoardData
 no_board = record { queued = []; named = []; forecasts = [] }
 
 -- What is kept of queued frames, where the first stands over these values, under these ranges and grabs: nothing of it depends on what was kept before.
-abbrev pub board_of : Verdicts → PlanData → List Control → Grabs → Values → List QueuedData → BoardData
-board_of verdicts plan controls grabs values queued = record {
+abbrev pub board_of : Verdicts → PlanData → List Control → Values → Grabs → List QueuedData → BoardData
+board_of verdicts plan controls values grabs queued = record {
   queued = queued;
   named = map (λ q. named_clusters plan q.asked) queued;
-  forecasts = forecasts verdicts plan controls grabs values queued;
+  forecasts = forecasts verdicts plan controls values grabs queued;
 }
+
+-- what is kept of them at a moment
+abbrev pub board_at : {V J T : Type 0} {v : _} {j : _} {n : _} {t : _} → Verdicts → Moment V J T v j n t → List QueuedData → BoardData
+board_at verdicts at queued = board_of verdicts at.plan.now at.ranges.now at.values.now at.grabs.now queued
 
 -- what the frame at a place asks for; nothing where there is none
 abbrev pub asked_at : List QueuedData → ℕ → List Pair

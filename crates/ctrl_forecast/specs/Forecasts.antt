@@ -18,8 +18,8 @@ pub record QueuedData : Type 0 where
   pub asked : List Pair
 
 -- What a frame will have, over the values before it: what it asks for is laid over them under these ranges and grabs, and these clusters are refused.
-abbrev pub forecast_over : Verdicts → PlanData → List Control → Grabs → Values → QueuedData → Forecast
-forecast_over verdicts plan controls grabs values q = record {
+abbrev pub forecast_over : Verdicts → PlanData → List Control → Values → Grabs → QueuedData → Forecast
+forecast_over verdicts plan controls values grabs q = record {
   request = q.request;
   buffer = q.buffer;
   values = overlay verdicts plan controls values grabs q.asked;
@@ -27,10 +27,10 @@ forecast_over verdicts plan controls grabs values q = record {
 }
 
 -- What queued frames will have, in their order: the first over these values, each other over those of the one before.
-unfoldable pub forecasts : Verdicts → PlanData → List Control → Grabs → Values → List QueuedData → List Forecast
-forecasts verdicts plan controls grabs values [] = []
-forecasts verdicts plan controls grabs values (q ∷ qs) =
-    forecast_over verdicts plan controls grabs values q ∷ forecasts verdicts plan controls grabs (overlay verdicts plan controls values grabs q.asked) qs
+unfoldable pub forecasts : Verdicts → PlanData → List Control → Values → Grabs → List QueuedData → List Forecast
+forecasts verdicts plan controls values grabs [] = []
+forecasts verdicts plan controls values grabs (q ∷ qs) =
+    forecast_over verdicts plan controls values grabs q ∷ forecasts verdicts plan controls (overlay verdicts plan controls values grabs q.asked) grabs qs
 
 -- the values of the last of some frames; where there is none, those before them
 abbrev pub values_behind : Values → List Forecast → Values

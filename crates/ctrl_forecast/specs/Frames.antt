@@ -11,6 +11,7 @@ use Rattle.ctrl_handlers.specs.Plan.{PlanData, members}
 use Rattle.ctrl_clusters.specs.Rows.{Values, Grabs, row_of}
 use Rattle.ctrl_clusters.specs.Overlay.{is_touched, row_after, overlay, refused_clusters}
 use Rattle.ctrl_clusters.specs.NewRows.{one_row, written}
+use Rattle.ctrl_clusters.specs.declared.moment.Moment.{Moment}
 use Rattle.ctrl_forecast.specs.Boards.{BoardData, named_clusters}
 use Rattle.ctrl_forecast.specs.Forecasts.{QueuedData}
 use Rattle.ctrl_forecast.specs.declared.board.Forecast.{Forecast}
@@ -45,8 +46,8 @@ abbrev pub board_seen : List FrameData → BoardData
 board_seen frames = record { queued = map queued_of frames; named = map (λ f. f.named) frames; forecasts = map forecast_of frames }
 
 -- a frame that is queued over values
-abbrev pub frame_over : Verdicts → PlanData → List Control → Grabs → Values → QueuedData → FrameData
-frame_over verdicts plan controls grabs values q = record {
+abbrev pub frame_over : Verdicts → PlanData → List Control → Values → Grabs → QueuedData → FrameData
+frame_over verdicts plan controls values grabs q = record {
   request = q.request;
   buffer = q.buffer;
   asked = q.asked;
@@ -55,16 +56,20 @@ frame_over verdicts plan controls grabs values q = record {
   refused = refused_clusters verdicts plan controls values grabs q.asked;
 }
 
--- what frames stand under: the judges, the plan, its controls with their ranges, the grabs, and the values before the first frame
+-- what frames stand under: the judges, the plan, its controls with their ranges, the values before the first frame, and the grabs
 pub record Setting : Type 0 where
   pub verdicts : Verdicts
   pub plan : PlanData
   pub controls : List Control
-  pub grabs : Grabs
   pub values : Values
+  pub grabs : Grabs
 
-abbrev pub setting : Verdicts → PlanData → List Control → Grabs → Values → Setting
-setting verdicts plan controls grabs values = record { verdicts = verdicts; plan = plan; controls = controls; grabs = grabs; values = values }
+abbrev pub setting : Verdicts → PlanData → List Control → Values → Grabs → Setting
+setting verdicts plan controls values grabs = record { verdicts = verdicts; plan = plan; controls = controls; values = values; grabs = grabs }
+
+-- what they stand under at a moment
+abbrev pub setting_at : {V J T : Type 0} {v : _} {j : _} {n : _} {t : _} → Verdicts → Moment V J T v j n t → Setting
+setting_at verdicts at = setting verdicts at.plan.now at.ranges.now at.values.now at.grabs.now
 
 -- what pairs make of a cluster over some values
 abbrev pub row_result : Setting → Values → List Pair → ℕ → Result (List CtrlValue) Errno

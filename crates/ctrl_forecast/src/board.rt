@@ -1,12 +1,12 @@
 //! What queued frames will have, kept while they wait.
 
-ghost use Rattle.std.specs.Prelude.{◌≡◌, nat_eq, ◌<◌, ◌≤◌, ◌+◌, ◌++◌, ◌∷◌, ◌↔◌, ℕ, List, [], drop, length, option_map, slice_get, IfOk, OnOk, OnErr, IsTrue};
+ghost use Rattle.std.specs.Prelude.{◌≡◌, Some, nat_eq, ◌<◌, ◌≤◌, ◌+◌, ◌++◌, ◌∷◌, ◌↔◌, ℕ, List, [], drop, length, option_map, slice_get, IfOk, OnOk, OnErr, IsTrue};
 ghost use Rattle.std.specs.List.{All, position, remove};
 ghost use Rattle.ctrl_settle.specs.Control.{Control};
-ghost use Rattle.ctrl_clusters.specs.Rows.{AreControlsOf, Grabs, Values};
+ghost use Rattle.ctrl_clusters.specs.Rows.{Grabs, Values};
 ghost use Rattle.ctrl_clusters.specs.Judging.{with_calls};
 ghost use Rattle.ctrl_forecast.specs.Asking.{asked_count, renewing_count};
-ghost use Rattle.ctrl_forecast.specs.Boards.{DifferOnlyIn, asked_at, board_of, named_clusters, no_board};
+ghost use Rattle.ctrl_forecast.specs.Boards.{DifferOnlyIn, asked_at, board_at, named_clusters, no_board, board_of};
 ghost use Rattle.ctrl_forecast.specs.Forecasts.{named_by_frames, touched_by_all, values_behind};
 ghost use Rattle.ctrl_forecast.specs.Looks.{seen};
 ghost use Rattle.ctrl_forecast.specs.Touched.{touched_count};
@@ -15,8 +15,7 @@ use crate::frame::{Frame, Queued};
 use crate::lists::{ClusterList, ValueRow};
 use crate::renewing::renew_clusters;
 use ctrl_calls::{Driver, Work};
-use ctrl_clusters::Ranges;
-use ctrl_handlers::Plan;
+use ctrl_clusters::Moment;
 use ctrl_types::{CtrlValue, RequestId};
 use std::alloc::{AllocError, Global};
 use std::marker::Model;
@@ -171,41 +170,45 @@ impl Board {
     /// Adds a frame behind the others: what it asks for is laid over the values that the last of them leaves, or over those before the first
     /// (of this project).
     ///
-    /// - `plan`, `ranges`, `values`, `grabs`, `work`: as of `overlay`; `values` are those before the first frame.
+    /// - `at`, `work`: as of `overlay`; its values are those before the first frame.
     /// - `queued`: the frame; what it asks for is copied.
     ///
     /// The caller owes that the board was kept with this plan, over these values, under these ranges and grabs. The error is that a
     /// growth was refused; the frames stay as they were. Nobody is told.
     pub fn push<D: Driver>(
         &mut self,
-        plan: &Plan<D>,
-        ranges: &Ranges,
-        values: &[CtrlValue],
-        grabs: &[bool],
+        at: &Moment<D>,
         queued: &Queued<'_>,
         work: &mut Work,
     ) -> Result<(), AllocError>
-        requires ranges { AreControlsOf plan.now ranges.now }
-        requires values { length values.now ≡ length plan.now.controls }
-        requires kept { self.old ≡ board_of D.verdict plan.now ranges.now grabs.now values.now self.old.queued }
-        ensures ok { OnOk result (self.new ≡ board_of D.verdict plan.now ranges.now grabs.now values.now (self.old.queued ++ queued.now ∷ [])) }
+        requires kept { self.old ≡ board_at D.verdict at.now self.old.queued }
+        ensures ok { OnOk result (self.new ≡ board_at D.verdict at.now (self.old.queued ++ queued.now ∷ [])) }
         ensures err { OnErr result (self.new ≡ self.old) }
-        ensures asked { work.new.asked ≤ work.old.asked + touched_count plan.now queued.now.asked }
-        ensures counted { OnOk result (work.new.asked ≡ with_calls (asked_count plan.now ranges.now (values_behind values.now self.old.forecasts) grabs.now queued.now.asked) work.old.asked) }
+        ensures asked { work.new.asked ≤ work.old.asked + touched_count at.now.plan.now queued.now.asked }
+        ensures counted { OnOk result (work.new.asked ≡ with_calls (asked_count at.now.plan.now at.now.ranges.now (values_behind at.now.values.now self.old.forecasts) at.now.grabs.now queued.now.asked) work.old.asked) }
         ensures told { work.new.told ≡ work.old.told }
     {
         self.frames.reserve(1)?;
-        let frame = Frame::new(
-            self.alloc,
-            plan,
-            ranges,
-            self.values_behind(values),
-            grabs,
-            queued,
-            work,
-        )?;
+        let behind = Moment {
+            plan: at.plan,
+            ranges: at.ranges,
+            values: self.values_behind(at.values),
+            grabs: at.grabs,
+        };
+        let frame = Frame::new(self.alloc, &behind, queued, work)?;
         self.frames.push_reserved(frame);
         Ok(())
+    }
+
+    /// Takes the first frame out, and answers what it will have (of this project). What the others will have stays as it is: it is what they have over
+    /// the values that the first one leaves. The caller owes that a frame is queued. It takes no memory, and asks nobody.
+    pub fn begin(&mut self) -> Forecast
+        requires { 0 < length self.old.queued }
+        ensures first { Some result ≡ slice_get self.old.forecasts 0 }
+        ensures rest { self.new ≡ record { queued = drop 1 self.old.queued; named = drop 1 self.old.named; forecasts = drop 1 self.old.forecasts } }
+    {
+        let first = self.frames.remove(0);
+        first.into_forecast()
     }
 
     /// Takes the first frame out, and answers what it will have; none where no frame is queued (of this project). What the others will have stays as it is: it is
@@ -217,92 +220,49 @@ impl Board {
         if self.frames.is_empty() {
             return None;
         }
-        let first = self.frames.remove(0);
-        Some(first.into_forecast())
+        Some(self.begin())
     }
 
     /// Takes the frame at a place out. Behind it only the clusters with a member among its pairs are judged anew (of this project).
     ///
     /// - `place`: a place, from 0; the caller owes a frame there.
-    /// - `plan`, `ranges`, `values`, `grabs`: as of `overlay`; `values` are those before the first frame.
+    /// - `at`: as of `overlay`; its values are those before the first frame.
     /// - `work`: its count `asked` grows by one for each cluster with a validator that the frame names, a member being among its pairs, and each frame
     ///   behind it that names the cluster too, unless a member that this asks for is grabbed or a member doesn't settle.
     ///
     /// The caller owes that the board was kept with this plan, over these values, under these ranges and grabs. It takes no memory and
     /// refuses nothing. Nobody is told.
-    pub fn remove<D: Driver>(
-        &mut self,
-        place: usize,
-        plan: &Plan<D>,
-        ranges: &Ranges,
-        values: &[CtrlValue],
-        grabs: &[bool],
-        work: &mut Work,
-    )
-        requires ranges { AreControlsOf plan.now ranges.now }
-        requires values { length values.now ≡ length plan.now.controls }
+    pub fn remove<D: Driver>(&mut self, place: usize, at: &Moment<D>, work: &mut Work)
         requires place { place < length self.old.queued }
-        requires kept { self.old ≡ board_of D.verdict plan.now ranges.now grabs.now values.now self.old.queued }
-        ensures frames { self.new ≡ board_of D.verdict plan.now ranges.now grabs.now values.now (remove self.old.queued place) }
-        ensures asked { work.new.asked ≤ work.old.asked + named_by_frames plan.now (drop (place + 1) self.old.queued) (named_clusters plan.now (asked_at self.old.queued place)) }
-        ensures counted { work.new.asked ≡ with_calls (renewing_count D.verdict plan.now ranges.now grabs.now values.now (remove self.old.queued place) place (named_clusters plan.now (asked_at self.old.queued place))) work.old.asked }
+        requires kept { self.old ≡ board_at D.verdict at.now self.old.queued }
+        ensures frames { self.new ≡ board_at D.verdict at.now (remove self.old.queued place) }
+        ensures asked { work.new.asked ≤ work.old.asked + named_by_frames at.now.plan.now (drop (place + 1) self.old.queued) (named_clusters at.now.plan.now (asked_at self.old.queued place)) }
+        ensures counted { work.new.asked ≡ with_calls (renewing_count D.verdict at.now.plan.now at.now.ranges.now at.now.values.now at.now.grabs.now (remove self.old.queued place) place (named_clusters at.now.plan.now (asked_at self.old.queued place))) work.old.asked }
         ensures told { work.new.told ≡ work.old.told }
     {
-        // the plan is a finished one, as the contract of `controls` says
-        let _plan = plan.controls();
         let removed = self.frames.remove(place);
-        renew_clusters(
-            &mut self.frames,
-            place,
-            plan,
-            ranges,
-            values,
-            grabs,
-            removed.named(),
-            work,
-        );
+        renew_clusters(&mut self.frames, place, at, removed.named(), work);
     }
 
     /// Renews some clusters in all frames, after the ranges, the values before the first frame, or the grabs, were changed in these clusters (of this
     /// project).
     ///
-    /// - `plan`, `ranges`, `values`, `grabs`: as of `overlay`, as they are now; `values` are those before the first frame.
+    /// - `at`: as of `overlay`, as it is now; its values are those before the first frame.
     /// - `clusters`: the clusters, in any order; the caller owes that each is one of the plan.
     /// - `work`: its count `asked` grows by one for each of the clusters with a validator and each frame that names it, a member being among its pairs,
     ///   unless a member that it asks for is grabbed or a member doesn't settle.
     ///
     /// The caller owes that the board was kept with this plan, under ranges and grabs and over values that differ from these in the
     /// clusters alone. It takes no memory and refuses nothing. Nobody is told.
-    pub fn renew<D: Driver>(
-        &mut self,
-        plan: &Plan<D>,
-        ranges: &Ranges,
-        values: &[CtrlValue],
-        grabs: &[bool],
-        clusters: &[u32],
-        work: &mut Work,
-    )
-        requires ranges { AreControlsOf plan.now ranges.now }
-        requires values { length values.now ≡ length plan.now.controls }
-        requires clusters { All (λ k. k < length plan.now.clusters) clusters.now }
-        requires kept { (earlier : List Control) × (before : Values) × (held : Grabs) × (self.old ≡ board_of D.verdict plan.now earlier held before self.old.queued) × DifferOnlyIn plan.now clusters.now earlier before held ranges.now values.now grabs.now }
-        ensures frames { self.new ≡ board_of D.verdict plan.now ranges.now grabs.now values.now self.old.queued }
-        ensures asked { work.new.asked ≤ work.old.asked + named_by_frames plan.now self.old.queued clusters.now }
-        ensures counted { work.new.asked ≡ with_calls (renewing_count D.verdict plan.now ranges.now grabs.now values.now self.old.queued 0 clusters.now) work.old.asked }
+    pub fn renew<D: Driver>(&mut self, at: &Moment<D>, clusters: &[u32], work: &mut Work)
+        requires clusters { All (λ k. k < length at.now.plan.now.clusters) clusters.now }
+        requires kept { (earlier : List Control) × (before : Values) × (held : Grabs) × (self.old ≡ board_of D.verdict at.now.plan.now earlier before held self.old.queued) × DifferOnlyIn at.now.plan.now clusters.now earlier before held at.now.ranges.now at.now.values.now at.now.grabs.now }
+        ensures frames { self.new ≡ board_at D.verdict at.now self.old.queued }
+        ensures asked { work.new.asked ≤ work.old.asked + named_by_frames at.now.plan.now self.old.queued clusters.now }
+        ensures counted { work.new.asked ≡ with_calls (renewing_count D.verdict at.now.plan.now at.now.ranges.now at.now.values.now at.now.grabs.now self.old.queued 0 clusters.now) work.old.asked }
         ensures told { work.new.told ≡ work.old.told }
     {
-        // the plan is a finished one, as the contract of `controls` says
-        let _plan = plan.controls();
-        renew_clusters(
-            &mut self.frames,
-            0,
-            plan,
-            ranges,
-            values,
-            grabs,
-            clusters,
-            work,
-        );
+        renew_clusters(&mut self.frames, 0, at, clusters, work);
     }
 
     /// Takes all frames out (of this project). It takes no memory, and asks nobody.
@@ -316,29 +276,24 @@ impl Board {
     /// (of this project).
     ///
     /// - `alloc`: where the board lies, and what later calls take.
-    /// - `plan`, `ranges`, `values`, `grabs`: as of `overlay`; `values` are those before the first frame.
+    /// - `at`: as of `overlay`; its values are those before the first frame.
     /// - `queued`: the frames, in the order of the queue.
     /// - `work`: its count `asked` grows by at most one for each frame and each cluster with a member among its pairs.
     ///
     /// The error is that a growth was refused. Nobody is told.
     pub fn compute<D: Driver>(
         alloc: Global,
-        plan: &Plan<D>,
-        ranges: &Ranges,
-        values: &[CtrlValue],
-        grabs: &[bool],
+        at: &Moment<D>,
         queued: &[Queued<'_>],
         work: &mut Work,
     ) -> Result<Board, AllocError>
-        requires ranges { AreControlsOf plan.now ranges.now }
-        requires values { length values.now ≡ length plan.now.controls }
-        ensures frames { IfOk result (λ b. b ≡ board_of D.verdict plan.now ranges.now grabs.now values.now queued.now) }
-        ensures asked { work.new.asked ≤ work.old.asked + touched_by_all plan.now queued.now }
+        ensures frames { IfOk result (λ b. b ≡ board_at D.verdict at.now queued.now) }
+        ensures asked { work.new.asked ≤ work.old.asked + touched_by_all at.now.plan.now queued.now }
         ensures told { work.new.told ≡ work.old.told }
     {
         let mut board = Board::empty(alloc);
         for frame in queued {
-            board.push(plan, ranges, values, grabs, frame, work)?;
+            board.push(at, frame, work)?;
         }
         Ok(board)
     }

@@ -2,7 +2,6 @@
 
 ghost use Rattle.std.specs.Prelude.{◌≡◌, ◌<◌, ◌≤◌, ◌+◌, length, IfOk, OnOk};
 ghost use Rattle.ctrl_handlers.specs.Plan.{members};
-ghost use Rattle.ctrl_clusters.specs.Rows.{AreControlsOf};
 ghost use Rattle.ctrl_clusters.specs.Judging.{with_calls};
 ghost use Rattle.ctrl_forecast.specs.Asking.{asked_count};
 ghost use Rattle.ctrl_forecast.specs.Frames.{forecast_of, frame_over, with_or_without, with_row_result};
@@ -13,7 +12,7 @@ use crate::laying::{Overlaid, overlay_named};
 use crate::lists::{ClusterList, ValueRow};
 use crate::rising::{mark, named_clusters};
 use ctrl_calls::{ClusterRow, Driver, Work};
-use ctrl_clusters::{Ranges, write_row};
+use ctrl_clusters::{Moment, write_row};
 use ctrl_handlers::Plan;
 use ctrl_types::{CtrlValue, Pair, RequestId};
 use std::alloc::{AllocError, Global};
@@ -80,32 +79,18 @@ impl Frame {
     // A frame over values, with room for each cluster that its pairs name. The error is that a growth was refused.
     pub(crate) fn new<D: Driver>(
         alloc: Global,
-        plan: &Plan<D>,
-        ranges: &Ranges,
-        values: &[CtrlValue],
-        grabs: &[bool],
+        at: &Moment<D>,
         queued: &Queued<'_>,
         work: &mut Work,
     ) -> Result<Frame, AllocError>
-        requires ranges { AreControlsOf plan.now ranges.now }
-        requires values { length values.now ≡ length plan.now.controls }
-        ensures frame { IfOk result (λ f. f ≡ frame_over D.verdict plan.now ranges.now grabs.now values.now queued.now) }
-        ensures asked { work.new.asked ≤ work.old.asked + touched_count plan.now queued.now.asked }
-        ensures counted { OnOk result (work.new.asked ≡ with_calls (asked_count plan.now ranges.now values.now grabs.now queued.now.asked) work.old.asked) }
+        ensures frame { IfOk result (λ f. f ≡ frame_over D.verdict at.now.plan.now at.now.ranges.now at.now.values.now at.now.grabs.now queued.now) }
+        ensures asked { work.new.asked ≤ work.old.asked + touched_count at.now.plan.now queued.now.asked }
+        ensures counted { OnOk result (work.new.asked ≡ with_calls (asked_count at.now.plan.now at.now.ranges.now at.now.values.now at.now.grabs.now queued.now.asked) work.old.asked) }
         ensures told { work.new.told ≡ work.old.told }
     {
         let asked = Vec::from_slice(alloc, queued.asked)?;
-        let named = named_clusters(alloc, plan, queued.asked)?;
-        let overlaid = overlay_named(
-            alloc,
-            plan,
-            ranges,
-            values,
-            grabs,
-            queued.asked,
-            named.as_slice(),
-            work,
-        )?;
+        let named = named_clusters(alloc, at.plan, queued.asked)?;
+        let overlaid = overlay_named(alloc, at, queued.asked, named.as_slice(), work)?;
         let Overlaid { values, refused } = overlaid;
         let mut refused = refused.into_vec();
         refused.reserve(named.len())?;

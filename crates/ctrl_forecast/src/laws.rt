@@ -14,6 +14,6 @@ ghost use Rattle.ctrl_forecast.specs.Forecasts.{QueuedData};
 #[tactic(auto, using(crate::proofs::BoardLemmas::popped))]
 pub fn popped_rows()
     ensures { (verdicts : Verdicts) (plan : PlanData) (controls : List Control) (grabs : Grabs) (values : Values) (q : QueuedData) (qs : List QueuedData)
-        → ◌≡◌ {A = BoardData} (record { queued = drop 1 (board_of verdicts plan controls grabs values (q ∷ qs)).queued; named = drop 1 (board_of verdicts plan controls grabs values (q ∷ qs)).named; forecasts = drop 1 (board_of verdicts plan controls grabs values (q ∷ qs)).forecasts })
-        (board_of verdicts plan controls grabs (overlay verdicts plan controls values grabs q.asked) qs) }
+        → ◌≡◌ {A = BoardData} (record { queued = drop 1 (board_of verdicts plan controls values grabs (q ∷ qs)).queued; named = drop 1 (board_of verdicts plan controls values grabs (q ∷ qs)).named; forecasts = drop 1 (board_of verdicts plan controls values grabs (q ∷ qs)).forecasts })
+        (board_of verdicts plan controls (overlay verdicts plan controls values grabs q.asked) grabs qs) }
 {}

@@ -1,6 +1,6 @@
 ghost use Rattle.std.specs.Prelude.{◌≡◌, ◌<◌, ◌≤◌, ◌+◌, ◌&&◌, true, length, Ok, Err, IfOk, IfErr, OnOk};
 ghost use Rattle.ctrl_handlers.specs.Plan.{members};
-ghost use Rattle.ctrl_clusters.specs.Rows.{AreControlsOf, is_grabbed};
+ghost use Rattle.ctrl_clusters.specs.Rows.{is_grabbed};
 ghost use Rattle.ctrl_clusters.specs.Overlay.{is_touched, names_grabbed, row_after, overlay, refused_clusters};
 ghost use Rattle.ctrl_clusters.specs.Judging.{with_call, with_calls};
 ghost use Rattle.ctrl_forecast.specs.Asking.{asked_count, asks_row};
@@ -10,9 +10,8 @@ ghost use Rattle.ctrl_forecast.specs.Touched.{touched_count};
 use crate::lists::{ClusterList, ValueRow};
 use crate::rising::named_clusters;
 use ctrl_calls::{ClusterRow, Driver, Work};
-use ctrl_clusters::{Ranges, is_among, read_row, validated_row, write_row};
-use ctrl_handlers::Plan;
-use ctrl_types::{CtrlValue, Errno, Pair};
+use ctrl_clusters::{Moment, is_among, read_row, validated_row, write_row};
+use ctrl_types::{Errno, Pair};
 use std::alloc::{AllocError, Global};
 
 /// What pairs make of values (of this project).
@@ -28,10 +27,7 @@ pub struct Overlaid {
 /// Clusters"): each cluster with a member among the pairs is overwritten, settled and judged by itself; one that is refused keeps its row.
 ///
 /// - `alloc`: where the answer lies, and what is kept on the way.
-/// - `plan`: what the device is built of.
-/// - `ranges`: the ranges of its controls as they are now; the caller owes that they are of this plan's controls.
-/// - `values`: a value for each control, in the order of their numbers; the caller owes exactly as many.
-/// - `grabs`: for each control whether it is grabbed.
+/// - `at`: the moment with the values.
 /// - `pairs`: what is laid; of a control the last pair counts.
 /// - `work`: its count `asked` grows by one for each cluster with a validator and with a member among the pairs, unless such a member is grabbed or
 ///   a member doesn't settle. Where a growth is refused, it may have grown by less.
@@ -39,64 +35,45 @@ pub struct Overlaid {
 /// The error is that a growth was refused. Nobody is told.
 pub fn overlay<D: Driver>(
     alloc: Global,
-    plan: &Plan<D>,
-    ranges: &Ranges,
-    values: &[CtrlValue],
-    grabs: &[bool],
+    at: &Moment<D>,
     pairs: &[Pair],
     work: &mut Work,
 ) -> Result<Overlaid, AllocError>
-    requires ranges { AreControlsOf plan.now ranges.now }
-    requires values { length values.now ≡ length plan.now.controls }
-    ensures values { IfOk result (λ o. o.values ≡ overlay D.verdict plan.now ranges.now values.now grabs.now pairs.now) }
-    ensures refused { IfOk result (λ o. o.refused ≡ refused_clusters D.verdict plan.now ranges.now values.now grabs.now pairs.now) }
-    ensures long { IfOk result (λ o. length o.values ≡ length values.now) }
-    ensures asked { work.new.asked ≤ work.old.asked + touched_count plan.now pairs.now }
-    ensures counted { OnOk result (work.new.asked ≡ with_calls (asked_count plan.now ranges.now values.now grabs.now pairs.now) work.old.asked) }
+    ensures values { IfOk result (λ o. o.values ≡ overlay D.verdict at.now.plan.now at.now.ranges.now at.now.values.now at.now.grabs.now pairs.now) }
+    ensures refused { IfOk result (λ o. o.refused ≡ refused_clusters D.verdict at.now.plan.now at.now.ranges.now at.now.values.now at.now.grabs.now pairs.now) }
+    ensures long { IfOk result (λ o. length o.values ≡ length at.now.values.now) }
+    ensures asked { work.new.asked ≤ work.old.asked + touched_count at.now.plan.now pairs.now }
+    ensures counted { OnOk result (work.new.asked ≡ with_calls (asked_count at.now.plan.now at.now.ranges.now at.now.values.now at.now.grabs.now pairs.now) work.old.asked) }
     ensures told { work.new.told ≡ work.old.told }
 {
-    let named = named_clusters(alloc, plan, pairs)?;
-    overlay_named(
-        alloc,
-        plan,
-        ranges,
-        values,
-        grabs,
-        pairs,
-        named.as_slice(),
-        work,
-    )
+    let named = named_clusters(alloc, at.plan, pairs)?;
+    overlay_named(alloc, at, pairs, named.as_slice(), work)
 }
 
 // The same, where the clusters with a member among the pairs are handed in. The others stay as they are.
 pub(crate) fn overlay_named<D: Driver>(
     alloc: Global,
-    plan: &Plan<D>,
-    ranges: &Ranges,
-    values: &[CtrlValue],
-    grabs: &[bool],
+    at: &Moment<D>,
     pairs: &[Pair],
     named: &[u32],
     work: &mut Work,
 ) -> Result<Overlaid, AllocError>
-    requires ranges { AreControlsOf plan.now ranges.now }
-    requires values { length values.now ≡ length plan.now.controls }
-    requires named { named.now ≡ named_clusters plan.now pairs.now }
-    ensures values { IfOk result (λ o. o.values ≡ overlay D.verdict plan.now ranges.now values.now grabs.now pairs.now) }
-    ensures refused { IfOk result (λ o. o.refused ≡ refused_clusters D.verdict plan.now ranges.now values.now grabs.now pairs.now) }
-    ensures long { IfOk result (λ o. length o.values ≡ length values.now) }
-    ensures asked { work.new.asked ≤ work.old.asked + touched_count plan.now pairs.now }
-    ensures counted { OnOk result (work.new.asked ≡ with_calls (asked_count plan.now ranges.now values.now grabs.now pairs.now) work.old.asked) }
+    requires named { named.now ≡ named_clusters at.now.plan.now pairs.now }
+    ensures values { IfOk result (λ o. o.values ≡ overlay D.verdict at.now.plan.now at.now.ranges.now at.now.values.now at.now.grabs.now pairs.now) }
+    ensures refused { IfOk result (λ o. o.refused ≡ refused_clusters D.verdict at.now.plan.now at.now.ranges.now at.now.values.now at.now.grabs.now pairs.now) }
+    ensures long { IfOk result (λ o. length o.values ≡ length at.now.values.now) }
+    ensures asked { work.new.asked ≤ work.old.asked + touched_count at.now.plan.now pairs.now }
+    ensures counted { OnOk result (work.new.asked ≡ with_calls (asked_count at.now.plan.now at.now.ranges.now at.now.values.now at.now.grabs.now pairs.now) work.old.asked) }
     ensures told { work.new.told ≡ work.old.told }
 {
-    let mut after = Vec::from_slice(alloc, values)?;
+    let mut after = Vec::from_slice(alloc, at.values)?;
     let mut refused = Vec::new(alloc);
     // a count fits its type once it is read
     let _before = work.asked;
     for &cluster in named {
-        let mut row = ClusterRow::zeros(plan.members(cluster).len());
-        match touched_row(plan, ranges, values, grabs, pairs, cluster, &mut row, work) {
-            Ok(()) => write_row(plan, &mut after, cluster, &row),
+        let mut row = ClusterRow::zeros(at.plan.members(cluster).len());
+        match touched_row(at, pairs, cluster, &mut row, work) {
+            Ok(()) => write_row(at.plan, &mut after, cluster, &row),
             Err(_) => refused.push(cluster)?,
         }
     }
@@ -108,57 +85,47 @@ pub(crate) fn overlay_named<D: Driver>(
 
 // Makes the row of a cluster what it is then, where any of its length stands; or answers why it is refused, and the row says nothing then.
 pub(crate) fn row_after<D: Driver>(
-    plan: &Plan<D>,
-    ranges: &Ranges,
-    values: &[CtrlValue],
-    grabs: &[bool],
+    at: &Moment<D>,
     pairs: &[Pair],
     cluster: u32,
     row: &mut ClusterRow,
     work: &mut Work,
 ) -> Result<(), Errno>
-    requires ranges { AreControlsOf plan.now ranges.now }
-    requires values { length values.now ≡ length plan.now.controls }
-    requires cluster { cluster < length plan.now.clusters }
-    requires row { length row.old ≡ length (members plan.now cluster) }
-    ensures ok { OnOk result (row_after D.verdict plan.now ranges.now values.now grabs.now pairs.now cluster ≡ Ok row.new) }
-    ensures err { IfErr result (λ errno. row_after D.verdict plan.now ranges.now values.now grabs.now pairs.now cluster ≡ Err errno) }
-    ensures long { length row.new ≡ length (members plan.now cluster) }
-    ensures counted { work.new ≡ record work.old { asked = with_call (asks_row plan.now ranges.now values.now grabs.now pairs.now cluster) work.old.asked } }
+    requires cluster { cluster < length at.now.plan.now.clusters }
+    requires row { length row.old ≡ length (members at.now.plan.now cluster) }
+    ensures ok { OnOk result (row_after D.verdict at.now.plan.now at.now.ranges.now at.now.values.now at.now.grabs.now pairs.now cluster ≡ Ok row.new) }
+    ensures err { IfErr result (λ errno. row_after D.verdict at.now.plan.now at.now.ranges.now at.now.values.now at.now.grabs.now pairs.now cluster ≡ Err errno) }
+    ensures long { length row.new ≡ length (members at.now.plan.now cluster) }
+    ensures counted { work.new ≡ record work.old { asked = with_call (asks_row at.now.plan.now at.now.ranges.now at.now.values.now at.now.grabs.now pairs.now cluster) work.old.asked } }
 {
-    let members = plan.members(cluster);
+    let members = at.plan.members(cluster);
     if !is_touched(pairs, members) {
-        read_row(values, members, row);
+        read_row(at.values, members, row);
         return Ok(());
     }
-    touched_row(plan, ranges, values, grabs, pairs, cluster, row, work)
+    touched_row(at, pairs, cluster, row, work)
 }
 
 // The same, of a cluster with a member among the pairs.
 fn touched_row<D: Driver>(
-    plan: &Plan<D>,
-    ranges: &Ranges,
-    values: &[CtrlValue],
-    grabs: &[bool],
+    at: &Moment<D>,
     pairs: &[Pair],
     cluster: u32,
     row: &mut ClusterRow,
     work: &mut Work,
 ) -> Result<(), Errno>
-    requires ranges { AreControlsOf plan.now ranges.now }
-    requires values { length values.now ≡ length plan.now.controls }
-    requires cluster { cluster < length plan.now.clusters }
-    requires touched { is_touched pairs.now (members plan.now cluster) ≡ true }
-    requires row { length row.old ≡ length (members plan.now cluster) }
-    ensures ok { OnOk result (row_after D.verdict plan.now ranges.now values.now grabs.now pairs.now cluster ≡ Ok row.new) }
-    ensures err { IfErr result (λ errno. row_after D.verdict plan.now ranges.now values.now grabs.now pairs.now cluster ≡ Err errno) }
-    ensures long { length row.new ≡ length (members plan.now cluster) }
-    ensures counted { work.new ≡ record work.old { asked = with_call (asks_row plan.now ranges.now values.now grabs.now pairs.now cluster) work.old.asked } }
+    requires cluster { cluster < length at.now.plan.now.clusters }
+    requires touched { is_touched pairs.now (members at.now.plan.now cluster) ≡ true }
+    requires row { length row.old ≡ length (members at.now.plan.now cluster) }
+    ensures ok { OnOk result (row_after D.verdict at.now.plan.now at.now.ranges.now at.now.values.now at.now.grabs.now pairs.now cluster ≡ Ok row.new) }
+    ensures err { IfErr result (λ errno. row_after D.verdict at.now.plan.now at.now.ranges.now at.now.values.now at.now.grabs.now pairs.now cluster ≡ Err errno) }
+    ensures long { length row.new ≡ length (members at.now.plan.now cluster) }
+    ensures counted { work.new ≡ record work.old { asked = with_call (asks_row at.now.plan.now at.now.ranges.now at.now.values.now at.now.grabs.now pairs.now cluster) work.old.asked } }
 {
-    if names_grabbed(grabs, pairs, plan.members(cluster)) {
+    if names_grabbed(at.grabs, pairs, at.plan.members(cluster)) {
         return Err(Errno::EBUSY);
     }
-    validated_row(plan, ranges, cluster, values, pairs, row, work)
+    validated_row(at, cluster, pairs, row, work)
 }
 
 // Whether some member is among the pairs.

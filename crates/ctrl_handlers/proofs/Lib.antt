@@ -8,3 +8,4 @@ pub mod ShownLemmas
 pub mod LeastLemmas
 pub mod IndexLemmas
 pub mod BuilderLemmas
+pub mod Props

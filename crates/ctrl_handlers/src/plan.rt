@@ -223,6 +223,7 @@ impl<D: Driver> Plan<D> {
         ensures some { 0 < length result.now }
         ensures few { length result.now ≤ MAX_MEMBERS }
         ensures differ { names_twice result.now ≡ false }
+        ensures plan { IsPlan self.now }
     {
         self.outline.members(cluster)
     }

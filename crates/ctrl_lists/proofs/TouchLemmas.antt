@@ -22,6 +22,7 @@ use Rattle.ctrl_clusters.specs.NewRows.{clusters_of, row_among, value_among, val
 use Rattle.ctrl_clusters.specs.declared.new_row.NewRow.{NewRow}
 use Rattle.ctrl_clusters.proofs.NewRowLemmas.{row_met, has_row}
 use Rattle.ctrl_clusters.proofs.OverlayLemmas.{any_of, row_after_free, held_not, or_true_right}
+use Rattle.ctrl_lists.specs.Lists.{ListData}
 use Rattle.ctrl_lists.specs.View.{ViewData}
 use Rattle.ctrl_lists.specs.Checks.{errno_if_refused, row_judged}
 use Rattle.ctrl_lists.specs.Touched.{with_cluster, entry_in, AreRows, AreJudged, judged_count, with_calls}
@@ -153,9 +154,9 @@ looked_up {A} read rows k found is b given tells at = sym (ap is_some given) ∙
     there (Some x) = refl
 
 -- what a row becomes by the parts of a view
-pub becomes_by : (verdicts : Verdicts) (plan : PlanData) (parts view : ViewData) (laid : List Pair) (k : ℕ) (outcome : Result (List CtrlValue) Errno) → outcome ≡ validated_row verdicts plan parts.ranges parts.values laid k → parts ≡ view
-    → outcome ≡ validated_row verdicts plan view.ranges view.values laid k
-becomes_by verdicts plan parts view laid k outcome is same = is ∙ ap (λ (v : ViewData). validated_row verdicts plan v.ranges v.values laid k) same
+pub becomes_by : (verdicts : Verdicts) (parts view : ListData) (laid : List Pair) (k : ℕ) (outcome : Result (List CtrlValue) Errno) → outcome ≡ validated_row verdicts parts.plan parts.parts.ranges parts.parts.values laid k → parts ≡ view
+    → outcome ≡ validated_row verdicts view.plan view.parts.ranges view.parts.values laid k
+becomes_by verdicts parts view laid k outcome is same = is ∙ ap (λ (v : ListData). validated_row verdicts v.plan v.parts.ranges v.parts.values laid k) same
 
 -- one more validator at most is asked for a cluster without a row
 pub asked_once : (plan : PlanData) (rows : List NewRow) (c k before after : ℕ) → cluster_of plan c ≡ Some k → is_some (row_among rows k) ≡ false → after ≤ before + 1

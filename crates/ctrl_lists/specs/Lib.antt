@@ -18,3 +18,4 @@ pub mod Checks
 pub mod Failed
 pub mod Touched
 pub mod Answers
+pub mod Lists

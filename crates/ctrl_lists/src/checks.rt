@@ -3,7 +3,6 @@
 ghost use Rattle.std.specs.Prelude.{◌≡◌, ◌<◌, ◌≤◌, [], ◌∷◌, None, Some, length, IfErr, OnOk};
 ghost use Rattle.std.specs.List.{All};
 ghost use Rattle.ctrl_types.specs.declared.errno.Errno.TheVariants.{EINVAL};
-ghost use Rattle.ctrl_clusters.specs.Rows.{AreControlsOf};
 ghost use Rattle.ctrl_lists.specs.Checks.{at_first, first_refusal, refused_if, is_long, is_of_no_class, shows_none_of, reading_refusal, writing_refusal};
 ghost use Rattle.ctrl_lists.specs.declared.limits.TheConstants.{MAX_ENTRIES};
 
@@ -20,16 +19,12 @@ use ctrl_types::{Errno, Flags, Pair, Which};
 
 /// The checks of a list as a whole: that it hasn't too many entries, and that it isn't one without entries about a class of which
 /// no control is shown.
-pub(crate) fn check_whole<D: Driver>(
-    plan: &Plan<D>,
-    view: &View<'_>,
-    list: &ControlList,
-) -> Result<(), Refusal>
-    ensures ok { OnOk result ((refused_if (is_long list.now) EINVAL ≡ None) × (refused_if (is_of_no_class plan.now view.now list.now) EINVAL ≡ None)) }
+pub(crate) fn check_whole<D: Driver>(view: &View<D>, list: &ControlList) -> Result<(), Refusal>
+    ensures ok { OnOk result ((refused_if (is_long list.now) EINVAL ≡ None) × (refused_if (is_of_no_class view.now.plan view.now.parts list.now) EINVAL ≡ None)) }
     ensures few { OnOk result (length list.now ≤ MAX_ENTRIES) }
-    ensures err { IfErr result (λ refusal. first_refusal (refused_if (is_long list.now) EINVAL ∷ refused_if (is_of_no_class plan.now view.now list.now) EINVAL ∷ []) ≡ Some refusal) }
+    ensures err { IfErr result (λ refusal. first_refusal (refused_if (is_long list.now) EINVAL ∷ refused_if (is_of_no_class view.now.plan view.now.parts list.now) EINVAL ∷ []) ≡ Some refusal) }
 {
-    if is_long(list) || is_of_no_class(plan, view, list) {
+    if is_long(list) || is_of_no_class(view, list) {
         Err(Refusal::whole(Errno::EINVAL))
     } else {
         Ok(())
@@ -44,18 +39,18 @@ pub(crate) fn is_long(list: &ControlList) -> bool
 }
 
 /// Whether a list has no entries, and is about a class of which no control is shown.
-pub(crate) fn is_of_no_class<D: Driver>(plan: &Plan<D>, view: &View<'_>, list: &ControlList) -> bool
-    ensures { result ≡ is_of_no_class plan.now view.now list.now }
+pub(crate) fn is_of_no_class<D: Driver>(view: &View<D>, list: &ControlList) -> bool
+    ensures { result ≡ is_of_no_class view.now.plan view.now.parts list.now }
 {
-    list.is_empty() && shows_none_of(plan, view, view.which)
+    list.is_empty() && shows_none_of(view, view.which)
 }
 
 // Whether a list speaks of a class of which no control is shown.
-fn shows_none_of<D: Driver>(plan: &Plan<D>, view: &View<'_>, which: Which) -> bool
-    ensures { result ≡ shows_none_of plan.now view.now which }
+fn shows_none_of<D: Driver>(view: &View<D>, which: Which) -> bool
+    ensures { result ≡ shows_none_of view.now.plan view.now.parts which }
 {
     match which {
-        Which::Class(class) => !shows_class(plan, view.handler, class),
+        Which::Class(class) => !shows_class(view.at.plan, view.handler, class),
         Which::Current | Which::Defaults | Which::Request => false,
     }
 }
@@ -92,19 +87,16 @@ fn reading_refusal<D: Driver>(plan: &Plan<D>, pair: Pair) -> Option<Errno>
 
 /// The first control that can't be written: to be set, or to be tried.
 pub(crate) fn first_unwritable<D: Driver>(
-    plan: &Plan<D>,
-    view: &View<'_>,
+    view: &View<D>,
     is_set: bool,
     pairs: &[Pair],
 ) -> Option<Refusal>
     requires few { length pairs.now ≤ MAX_ENTRIES }
-    requires ranges { AreControlsOf plan.now view.now.ranges }
-    requires grabs { length view.now.grabs ≡ length plan.now.controls }
-    requires known { All (λ p. p.control < length plan.now.controls) pairs.now }
-    ensures { result ≡ at_first (writing_refusal plan.now view.now is_set) pairs.now }
+    requires known { All (λ p. p.control < length view.now.plan.controls) pairs.now }
+    ensures { result ≡ at_first (writing_refusal view.now.plan view.now.parts is_set) pairs.now }
 {
     for (place, pair) in pairs.iter().enumerate() {
-        if let Some(errno) = writing_refusal(plan, view, is_set, *pair) {
+        if let Some(errno) = writing_refusal(view, is_set, *pair) {
             return Some(Refusal::at(errno, place as u32));
         }
     }
@@ -112,23 +104,16 @@ pub(crate) fn first_unwritable<D: Driver>(
 }
 
 // What keeps a control from being written.
-fn writing_refusal<D: Driver>(
-    plan: &Plan<D>,
-    view: &View<'_>,
-    is_set: bool,
-    pair: Pair,
-) -> Option<Errno>
-    requires ranges { AreControlsOf plan.now view.now.ranges }
-    requires grabs { length view.now.grabs ≡ length plan.now.controls }
-    requires known { pair.control < length plan.now.controls }
-    ensures { result ≡ writing_refusal plan.now view.now is_set pair }
+fn writing_refusal<D: Driver>(view: &View<D>, is_set: bool, pair: Pair) -> Option<Errno>
+    requires known { pair.control < length view.now.plan.controls }
+    ensures { result ≡ writing_refusal view.now.plan view.now.parts is_set pair }
 {
-    let flags = plan.control(pair.control).flags();
+    let flags = view.at.plan.control(pair.control).flags();
     if flags.contains(Flags::READ_ONLY) {
         return Some(Errno::EACCES);
     }
-    if is_set && view.grabs[pair.control as usize] {
+    if is_set && view.at.grabs[pair.control as usize] {
         return Some(Errno::EBUSY);
     }
-    settle(view.ranges.range(pair.control), pair.value).err()
+    settle(view.at.ranges.range(pair.control), pair.value).err()
 }

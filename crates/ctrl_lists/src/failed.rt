@@ -2,7 +2,6 @@
 
 ghost use Rattle.std.specs.Prelude.{◌≡◌, ◌≢◌, ◌≤◌, ◌+◌, length, None, Some, IfOk};
 ghost use Rattle.ctrl_types.specs.declared.errno.Errno.TheVariants.{EINVAL};
-ghost use Rattle.ctrl_clusters.specs.Rows.{AreControlsOf};
 ghost use Rattle.ctrl_lists.specs.Checks.{memory_refusal};
 ghost use Rattle.ctrl_lists.specs.Failed.{failed_read, failed_write};
 ghost use Rattle.ctrl_lists.specs.Touched.{list_asks};
@@ -14,7 +13,6 @@ use crate::naming::pairs_of;
 use crate::refusal::Refusal;
 use crate::view::View;
 use ctrl_calls::{Driver, Work};
-use ctrl_handlers::Plan;
 use ctrl_types::Errno;
 use std::alloc::{AllocError, Global};
 
@@ -48,30 +46,28 @@ pub struct Failed {
 /// where it meets all of them. `read_list` refuses the list by it, memory aside. Nothing is changed.
 ///
 /// - `alloc`: where the pairs of the list lie for the moment.
-/// - `plan`: what the device is built of.
 /// - `view`: what the list is checked against; its controls, values, grabs and pairs count for nothing.
 /// - `list`: the entries; their values are ignored. It is lent, and never changed.
 ///
 /// It is an error only where a growth is refused.
 pub fn failed_read<D: Driver>(
     alloc: Global,
-    plan: &Plan<D>,
-    view: &View<'_>,
+    view: &View<D>,
     list: &ControlList,
 ) -> Result<Option<Failed>, AllocError>
-    ensures { IfOk result (λ failed. failed ≡ failed_read plan.now view.now list.now) }
+    ensures { IfOk result (λ failed. failed ≡ failed_read view.now.plan view.now.parts list.now) }
 {
     if is_long(list) {
         return Ok(Some(as_whole(ListCheck::Count)));
     }
-    if is_of_no_class(plan, view, list) {
+    if is_of_no_class(view, list) {
         return Ok(Some(as_whole(ListCheck::Class)));
     }
-    let pairs = match pairs_of(alloc, plan, view, list.as_slice()) {
+    let pairs = match pairs_of(alloc, view, list.as_slice()) {
         Ok(pairs) => pairs,
         Err(refusal) => return unless_memory(ListCheck::Naming, refusal),
     };
-    match first_unreadable(plan, pairs.as_slice()) {
+    match first_unreadable(view.at.plan, pairs.as_slice()) {
         Some(refusal) => Ok(Some(Failed {
             check: ListCheck::Reading,
             refusal,
@@ -86,8 +82,7 @@ pub fn failed_read<D: Driver>(
 /// none is.
 ///
 /// - `alloc`: where pairs and rows lie for the moment.
-/// - `plan`: what the device is built of.
-/// - `view`: what the list is checked against; the caller owes ranges of the plan's controls, and a value and a grab for each.
+/// - `view`: what the list is checked against.
 /// - `is_set`: whether the list sets, so that grabs refuse it, or tries.
 /// - `list`: the entries. It is lent, and never changed.
 /// - `work`: its count `asked` grows by one for each validator that is asked, by no more than the clusters that the list touches; `told`
@@ -96,36 +91,32 @@ pub fn failed_read<D: Driver>(
 /// It is an error only where a growth is refused.
 pub fn failed_write<D: Driver>(
     alloc: Global,
-    plan: &Plan<D>,
-    view: &View<'_>,
+    view: &View<D>,
     is_set: bool,
     list: &ControlList,
     work: &mut Work,
 ) -> Result<Option<Failed>, AllocError>
-    requires ranges { AreControlsOf plan.now view.now.ranges }
-    requires values { length view.now.values ≡ length plan.now.controls }
-    requires grabs { length view.now.grabs ≡ length plan.now.controls }
-    ensures failed { IfOk result (λ failed. failed ≡ failed_write D.verdict plan.now view.now is_set list.now) }
-    ensures at_most { work.new.asked ≤ work.old.asked + list_asks plan.now view.now is_set list.now }
+    ensures failed { IfOk result (λ failed. failed ≡ failed_write D.verdict view.now.plan view.now.parts is_set list.now) }
+    ensures at_most { work.new.asked ≤ work.old.asked + list_asks view.now.plan view.now.parts is_set list.now }
     ensures told { work.new.told ≡ work.old.told }
 {
     if is_long(list) {
         return Ok(Some(as_whole(ListCheck::Count)));
     }
-    if is_of_no_class(plan, view, list) {
+    if is_of_no_class(view, list) {
         return Ok(Some(as_whole(ListCheck::Class)));
     }
-    let pairs = match pairs_of(alloc, plan, view, list.as_slice()) {
+    let pairs = match pairs_of(alloc, view, list.as_slice()) {
         Ok(pairs) => pairs,
         Err(refusal) => return unless_memory(ListCheck::Naming, refusal),
     };
-    if let Some(refusal) = first_unwritable(plan, view, is_set, pairs.as_slice()) {
+    if let Some(refusal) = first_unwritable(view, is_set, pairs.as_slice()) {
         return Ok(Some(Failed {
             check: ListCheck::Writing,
             refusal,
         }));
     }
-    match judge_joined(alloc, plan, view, pairs.as_slice(), work) {
+    match judge_joined(alloc, view, pairs.as_slice(), work) {
         Ok(_) => Ok(None),
         Err(refusal) => unless_memory(ListCheck::Judging, refusal),
     }

@@ -1,7 +1,6 @@
 ghost use Rattle.std.specs.Prelude.{◌≡◌, ◌≢◌, ◌<◌, ◌≤◌, ◌+◌, ◌⊎◌, ◌++◌, true, false, None, Some, Ok, Err, length, map, IfOk, IfErr, OnOk, IsTrue};
 ghost use Rattle.std.specs.List.{All};
 ghost use Rattle.ctrl_types.specs.declared.which.Which.TheVariants.{Defaults};
-ghost use Rattle.ctrl_clusters.specs.Rows.{AreControlsOf};
 ghost use Rattle.ctrl_clusters.specs.Overlay.{is_among};
 ghost use Rattle.ctrl_lists.specs.View.{pairs_of};
 ghost use Rattle.ctrl_lists.specs.Checks.{at_first, first_refusal, judging_refusal, read_checks, write_checks, memory_refusal};
@@ -18,7 +17,6 @@ use crate::touched::Touched;
 use crate::view::View;
 use ctrl_calls::{Driver, Work};
 use ctrl_clusters::{NewRows, Ranges};
-use ctrl_handlers::Plan;
 use ctrl_types::{CtrlValue, ExtControl, Fault, Pair, Which};
 use std::alloc::{AllocError, Global};
 
@@ -28,8 +26,7 @@ use std::alloc::{AllocError, Global};
 /// changed.
 ///
 /// - `alloc`: where the answer lies.
-/// - `plan`: what the device is built of.
-/// - `view`: what the list is checked against; the caller owes ranges of the plan's controls, and a value for each. Its grabs and pairs count for nothing.
+/// - `view`: what the list is checked against. Its grabs and pairs count for nothing.
 /// - `list`: the entries; their values are ignored. It is lent, and never changed.
 ///
 /// Refused by the first of the checks 4 to 7 of a list in docs/RULES.md that doesn't hold: EINVAL (22) or EACCES (13). ENOMEM (12) may
@@ -37,16 +34,13 @@ use std::alloc::{AllocError, Global};
 #[tactic(auto, unfolding(crate::specs::Answers::get_answer))]
 pub fn read_list<D: Driver>(
     alloc: Global,
-    plan: &Plan<D>,
-    view: &View<'_>,
+    view: &View<D>,
     list: &ControlList,
 ) -> Result<ControlList, Fault>
-    requires ranges { AreControlsOf plan.now view.now.ranges }
-    requires values { length view.now.values ≡ length plan.now.controls }
-    ensures ok { IfOk result (λ answers. get_answer plan.now view.now list.now ≡ Ok answers) }
-    ensures err { IfErr result (λ fault. (get_answer plan.now view.now list.now ≡ Err fault) ⊎ (IsTrue (may_lack list.now) × (fault ≡ no_memory (length list.now)))) }
+    ensures ok { IfOk result (λ answers. get_answer view.now.plan view.now.parts list.now ≡ Ok answers) }
+    ensures err { IfErr result (λ fault. (get_answer view.now.plan view.now.parts list.now ≡ Err fault) ⊎ (IsTrue (may_lack list.now) × (fault ≡ no_memory (length list.now)))) }
 {
-    match read_all(alloc, plan, view, list) {
+    match read_all(alloc, view, list) {
         Ok(answers) => Ok(answers),
         Err(unread) => Err(unread.at_count(list.len())),
     }
@@ -60,8 +54,7 @@ pub fn read_list<D: Driver>(
 /// one value. Nothing is changed here.
 ///
 /// - `alloc`: where rows, answers and pairs lie.
-/// - `plan`: what the device is built of.
-/// - `view`: what the list is checked against; the caller owes ranges of the plan's controls, a value and a grab for each, and that it doesn't speak of the defaults, which can't be written.
+/// - `view`: what the list is checked against; the caller owes that it doesn't speak of the defaults, which can't be written.
 /// - `list`: the entries. It is lent, and never changed.
 /// - `work`: its count `asked` grows by one for each validator that is asked, by no more than the clusters that the list touches; `told`
 ///   stays. After a refusal by check 8, or with ENOMEM, `asked` may have grown too; a list that the checks 4 to 7 refuse asks nobody.
@@ -71,23 +64,19 @@ pub fn read_list<D: Driver>(
 #[tactic(auto, unfolding(crate::specs::Answers::set_answer))]
 pub fn plan_set<D: Driver>(
     alloc: Global,
-    plan: &Plan<D>,
-    view: &View<'_>,
+    view: &View<D>,
     list: &ControlList,
     work: &mut Work,
 ) -> Result<Touched, Fault>
-    requires which { view.now.which ≢ Defaults }
-    requires ranges { AreControlsOf plan.now view.now.ranges }
-    requires values { length view.now.values ≡ length plan.now.controls }
-    requires grabs { length view.now.grabs ≡ length plan.now.controls }
-    ensures ok { IfOk result (λ touch. set_answer D.verdict plan.now view.now list.now ≡ Ok touch.answers) }
-    ensures touched { IfOk result (λ touch. IsTouched D.verdict plan.now view.now list.now touch) }
-    ensures err { IfErr result (λ fault. (set_answer D.verdict plan.now view.now list.now ≡ Err fault) ⊎ (IsTrue (may_lack list.now) × (fault ≡ no_memory (length list.now)))) }
-    ensures at_most { work.new.asked ≤ work.old.asked + list_asks plan.now view.now true list.now }
-    ensures asked { OnOk result (work.new.asked ≡ with_calls (judged_count plan.now (touched plan.now (pairs_of plan.now view.now.handler view.now.which list.now))) work.old.asked) }
+    requires which { view.now.parts.which ≢ Defaults }
+    ensures ok { IfOk result (λ touch. set_answer D.verdict view.now.plan view.now.parts list.now ≡ Ok touch.answers) }
+    ensures touched { IfOk result (λ touch. IsTouched D.verdict view.now.plan view.now.parts list.now touch) }
+    ensures err { IfErr result (λ fault. (set_answer D.verdict view.now.plan view.now.parts list.now ≡ Err fault) ⊎ (IsTrue (may_lack list.now) × (fault ≡ no_memory (length list.now)))) }
+    ensures at_most { work.new.asked ≤ work.old.asked + list_asks view.now.plan view.now.parts true list.now }
+    ensures asked { OnOk result (work.new.asked ≡ with_calls (judged_count view.now.plan (touched view.now.plan (pairs_of view.now.plan view.now.parts.handler view.now.parts.which list.now))) work.old.asked) }
     ensures told { work.new.told ≡ work.old.told }
 {
-    match judge_list(alloc, plan, view, true, list, work) {
+    match judge_list(alloc, view, true, list, work) {
         Ok(touched) => Ok(touched),
         Err(refusal) => Err(refusal.at_count(list.len())),
     }
@@ -97,30 +86,26 @@ pub fn plan_set<D: Driver>(
 /// index of a refusal is the place of its entry, from 0, where it stands at one (Linux userspace API, "ioctl VIDIOC_G_EXT_CTRLS,
 /// VIDIOC_S_EXT_CTRLS, VIDIOC_TRY_EXT_CTRLS"; the order of the refusals and the index are of this project).
 ///
-/// - `alloc`, `plan`, `view`, `list`, `work`: as of `plan_set`.
+/// - `alloc`, `view`, `list`, `work`: as of `plan_set`.
 ///
 /// Refused as by `plan_set`, with EBUSY (16) only where a validator refuses with it. In the checks 6, 7 and 8 the index is the place of the
 /// entry that is refused, and in check 8 of the first one of its cluster. It is the number of entries in the others, and with ENOMEM (12).
 #[tactic(auto, unfolding(crate::specs::Answers::try_answer))]
 pub fn try_list<D: Driver>(
     alloc: Global,
-    plan: &Plan<D>,
-    view: &View<'_>,
+    view: &View<D>,
     list: &ControlList,
     work: &mut Work,
 ) -> Result<Touched, Fault>
-    requires which { view.now.which ≢ Defaults }
-    requires ranges { AreControlsOf plan.now view.now.ranges }
-    requires values { length view.now.values ≡ length plan.now.controls }
-    requires grabs { length view.now.grabs ≡ length plan.now.controls }
-    ensures ok { IfOk result (λ touch. try_answer D.verdict plan.now view.now list.now ≡ Ok touch.answers) }
-    ensures touched { IfOk result (λ touch. IsTouched D.verdict plan.now view.now list.now touch) }
-    ensures err { IfErr result (λ fault. (try_answer D.verdict plan.now view.now list.now ≡ Err fault) ⊎ (IsTrue (may_lack list.now) × (fault ≡ no_memory (length list.now)))) }
-    ensures at_most { work.new.asked ≤ work.old.asked + list_asks plan.now view.now false list.now }
-    ensures asked { OnOk result (work.new.asked ≡ with_calls (judged_count plan.now (touched plan.now (pairs_of plan.now view.now.handler view.now.which list.now))) work.old.asked) }
+    requires which { view.now.parts.which ≢ Defaults }
+    ensures ok { IfOk result (λ touch. try_answer D.verdict view.now.plan view.now.parts list.now ≡ Ok touch.answers) }
+    ensures touched { IfOk result (λ touch. IsTouched D.verdict view.now.plan view.now.parts list.now touch) }
+    ensures err { IfErr result (λ fault. (try_answer D.verdict view.now.plan view.now.parts list.now ≡ Err fault) ⊎ (IsTrue (may_lack list.now) × (fault ≡ no_memory (length list.now)))) }
+    ensures at_most { work.new.asked ≤ work.old.asked + list_asks view.now.plan view.now.parts false list.now }
+    ensures asked { OnOk result (work.new.asked ≡ with_calls (judged_count view.now.plan (touched view.now.plan (pairs_of view.now.plan view.now.parts.handler view.now.parts.which list.now))) work.old.asked) }
     ensures told { work.new.told ≡ work.old.told }
 {
-    match judge_list(alloc, plan, view, false, list, work) {
+    match judge_list(alloc, view, false, list, work) {
         Ok(touched) => Ok(touched),
         Err(refusal) => Err(refusal.at_entry(list.len())),
     }
@@ -129,25 +114,22 @@ pub fn try_list<D: Driver>(
 // Reads the controls of a list.
 fn read_all<D: Driver>(
     alloc: Global,
-    plan: &Plan<D>,
-    view: &View<'_>,
+    view: &View<D>,
     list: &ControlList,
 ) -> Result<ControlList, Refusal>
-    requires ranges { AreControlsOf plan.now view.now.ranges }
-    requires values { length view.now.values ≡ length plan.now.controls }
-    ensures ok { IfOk result (λ answers. first_refusal (read_checks plan.now view.now list.now) ≡ None) }
-    ensures answers { IfOk result (λ answers. answers ≡ map (entry_read plan.now view.now) (pairs_of plan.now view.now.handler view.now.which list.now)) }
-    ensures err { IfErr result (λ refusal. (first_refusal (read_checks plan.now view.now list.now) ≡ Some refusal) ⊎ (IsTrue (may_lack list.now) × (refusal ≡ memory_refusal))) }
+    ensures ok { IfOk result (λ answers. first_refusal (read_checks view.now.plan view.now.parts list.now) ≡ None) }
+    ensures answers { IfOk result (λ answers. answers ≡ map (entry_read view.now.plan view.now.parts) (pairs_of view.now.plan view.now.parts.handler view.now.parts.which list.now)) }
+    ensures err { IfErr result (λ refusal. (first_refusal (read_checks view.now.plan view.now.parts list.now) ≡ Some refusal) ⊎ (IsTrue (may_lack list.now) × (refusal ≡ memory_refusal))) }
 {
-    check_whole(plan, view, list)?;
+    check_whole(view, list)?;
     if list.is_empty() {
         return Ok(ControlList::from_vec(Vec::new(alloc)));
     }
-    let pairs = pairs_of(alloc, plan, view, list.as_slice())?;
-    if let Some(refusal) = first_unreadable(plan, pairs.as_slice()) {
+    let pairs = pairs_of(alloc, view, list.as_slice())?;
+    if let Some(refusal) = first_unreadable(view.at.plan, pairs.as_slice()) {
         return Err(refusal);
     }
-    match entries_read(alloc, plan, view, pairs.as_slice()) {
+    match entries_read(alloc, view, pairs.as_slice()) {
         Ok(answers) => Ok(answers),
         Err(_) => Err(Refusal::of_memory()),
     }
@@ -156,33 +138,28 @@ fn read_all<D: Driver>(
 // The controls of these pairs, as they are read.
 fn entries_read<D: Driver>(
     alloc: Global,
-    plan: &Plan<D>,
-    view: &View<'_>,
+    view: &View<D>,
     pairs: &[Pair],
 ) -> Result<ControlList, AllocError>
-    requires ranges { AreControlsOf plan.now view.now.ranges }
-    requires values { length view.now.values ≡ length plan.now.controls }
     requires few { length pairs.now ≤ MAX_ENTRIES }
-    requires known { All (λ p. p.control < length plan.now.controls) pairs.now }
-    ensures { IfOk result (λ answers. answers ≡ map (entry_read plan.now view.now) pairs.now) }
+    requires known { All (λ p. p.control < length view.now.plan.controls) pairs.now }
+    ensures { IfOk result (λ answers. answers ≡ map (entry_read view.now.plan view.now.parts) pairs.now) }
 {
     let mut answers = Vec::with_capacity(alloc, pairs.len())?;
     for pair in pairs {
-        answers.push_reserved(entry_read(plan, view, *pair));
+        answers.push_reserved(entry_read(view, *pair));
     }
     Ok(ControlList::from_vec(answers))
 }
 
 // A control, as it is read.
-fn entry_read<D: Driver>(plan: &Plan<D>, view: &View<'_>, pair: Pair) -> ExtControl
-    requires ranges { AreControlsOf plan.now view.now.ranges }
-    requires values { length view.now.values ≡ length plan.now.controls }
-    requires known { pair.control < length plan.now.controls }
-    ensures { result ≡ entry_read plan.now view.now pair }
+fn entry_read<D: Driver>(view: &View<D>, pair: Pair) -> ExtControl
+    requires known { pair.control < length view.now.plan.controls }
+    ensures { result ≡ entry_read view.now.plan view.now.parts pair }
 {
-    let value = value_read(view.ranges, view.values, view.which, pair.control);
+    let value = value_read(view.at.ranges, view.at.values, view.which, pair.control);
     ExtControl {
-        id: plan.control(pair.control).id(),
+        id: view.at.plan.control(pair.control).id(),
         value,
     }
 }
@@ -202,58 +179,51 @@ fn value_read(ranges: &Ranges, values: &[CtrlValue], which: Which, control: u32)
 // Judges what a list that writes asks for.
 fn judge_list<D: Driver>(
     alloc: Global,
-    plan: &Plan<D>,
-    view: &View<'_>,
+    view: &View<D>,
     is_set: bool,
     list: &ControlList,
     work: &mut Work,
 ) -> Result<Touched, Refusal>
-    requires ranges { AreControlsOf plan.now view.now.ranges }
-    requires values { length view.now.values ≡ length plan.now.controls }
-    requires grabs { length view.now.grabs ≡ length plan.now.controls }
-    ensures ok { IfOk result (λ touch. first_refusal (write_checks D.verdict plan.now view.now is_set list.now) ≡ None) }
-    ensures answers { IfOk result (λ touch. touch.answers ≡ entries_judged D.verdict plan.now view.now list.now) }
-    ensures touched { IfOk result (λ touch. IsTouched D.verdict plan.now view.now list.now touch) }
-    ensures err { IfErr result (λ refusal. (first_refusal (write_checks D.verdict plan.now view.now is_set list.now) ≡ Some refusal) ⊎ (IsTrue (may_lack list.now) × (refusal ≡ memory_refusal))) }
-    ensures at_most { work.new.asked ≤ work.old.asked + list_asks plan.now view.now is_set list.now }
-    ensures asked { OnOk result (work.new.asked ≡ with_calls (judged_count plan.now (touched plan.now (pairs_of plan.now view.now.handler view.now.which list.now))) work.old.asked) }
+    ensures ok { IfOk result (λ touch. first_refusal (write_checks D.verdict view.now.plan view.now.parts is_set list.now) ≡ None) }
+    ensures answers { IfOk result (λ touch. touch.answers ≡ entries_judged D.verdict view.now.plan view.now.parts list.now) }
+    ensures touched { IfOk result (λ touch. IsTouched D.verdict view.now.plan view.now.parts list.now touch) }
+    ensures err { IfErr result (λ refusal. (first_refusal (write_checks D.verdict view.now.plan view.now.parts is_set list.now) ≡ Some refusal) ⊎ (IsTrue (may_lack list.now) × (refusal ≡ memory_refusal))) }
+    ensures at_most { work.new.asked ≤ work.old.asked + list_asks view.now.plan view.now.parts is_set list.now }
+    ensures asked { OnOk result (work.new.asked ≡ with_calls (judged_count view.now.plan (touched view.now.plan (pairs_of view.now.plan view.now.parts.handler view.now.parts.which list.now))) work.old.asked) }
     ensures told { work.new.told ≡ work.old.told }
 {
-    check_whole(plan, view, list)?;
+    check_whole(view, list)?;
     // a count fits its type once it is read
     let _before = work.asked;
     if list.is_empty() {
         return Ok(Touched::empty(alloc));
     }
-    let pairs = pairs_of(alloc, plan, view, list.as_slice())?;
-    if let Some(refusal) = first_unwritable(plan, view, is_set, pairs.as_slice()) {
+    let pairs = pairs_of(alloc, view, list.as_slice())?;
+    if let Some(refusal) = first_unwritable(view, is_set, pairs.as_slice()) {
         return Err(refusal);
     }
-    judge_pairs(alloc, plan, view, pairs, work)
+    judge_pairs(alloc, view, pairs, work)
 }
 
 // Judges what the pairs of a list that writes ask for.
 fn judge_pairs<D: Driver>(
     alloc: Global,
-    plan: &Plan<D>,
-    view: &View<'_>,
+    view: &View<D>,
     pairs: Vec<Pair>,
     work: &mut Work,
 ) -> Result<Touched, Refusal>
     requires few { length pairs.items ≤ MAX_ENTRIES }
-    requires ranges { AreControlsOf plan.now view.now.ranges }
-    requires values { length view.now.values ≡ length plan.now.controls }
-    requires known { All (λ p. p.control < length plan.now.controls) pairs.items }
-    ensures ok { IfOk result (λ touch. at_first (judging_refusal D.verdict plan.now view.now (view.now.asked ++ pairs.items)) pairs.items ≡ None) }
+    requires known { All (λ p. p.control < length view.now.plan.controls) pairs.items }
+    ensures ok { IfOk result (λ touch. at_first (judging_refusal D.verdict view.now.plan view.now.parts (view.now.parts.asked ++ pairs.items)) pairs.items ≡ None) }
     ensures pairs { IfOk result (λ touch. touch.pairs ≡ pairs.items) }
-    ensures rows { IfOk result (λ touch. AreJudged D.verdict plan.now view.now.ranges view.now.values (view.now.asked ++ pairs.items) pairs.items touch.rows) }
-    ensures answers { IfOk result (λ touch. touch.answers ≡ map (entry_judged D.verdict plan.now view.now (view.now.asked ++ pairs.items)) pairs.items) }
-    ensures err { IfErr result (λ refusal. (at_first (judging_refusal D.verdict plan.now view.now (view.now.asked ++ pairs.items)) pairs.items ≡ Some refusal) ⊎ (refusal ≡ memory_refusal)) }
-    ensures at_most { work.new.asked ≤ work.old.asked + length (touched plan.now pairs.items) }
-    ensures asked { OnOk result (work.new.asked ≡ with_calls (judged_count plan.now (touched plan.now pairs.items)) work.old.asked) }
+    ensures rows { IfOk result (λ touch. AreJudged D.verdict view.now.plan view.now.parts.ranges view.now.parts.values (view.now.parts.asked ++ pairs.items) pairs.items touch.rows) }
+    ensures answers { IfOk result (λ touch. touch.answers ≡ map (entry_judged D.verdict view.now.plan view.now.parts (view.now.parts.asked ++ pairs.items)) pairs.items) }
+    ensures err { IfErr result (λ refusal. (at_first (judging_refusal D.verdict view.now.plan view.now.parts (view.now.parts.asked ++ pairs.items)) pairs.items ≡ Some refusal) ⊎ (refusal ≡ memory_refusal)) }
+    ensures at_most { work.new.asked ≤ work.old.asked + length (touched view.now.plan pairs.items) }
+    ensures asked { OnOk result (work.new.asked ≡ with_calls (judged_count view.now.plan (touched view.now.plan pairs.items)) work.old.asked) }
     ensures told { work.new.told ≡ work.old.told }
 {
-    match judge_joined(alloc, plan, view, pairs.as_slice(), work) {
+    match judge_joined(alloc, view, pairs.as_slice(), work) {
         Ok((rows, answers)) => Ok(Touched {
             rows,
             answers,
@@ -267,28 +237,25 @@ fn judge_pairs<D: Driver>(
 #[tactic(auto, using(crate::proofs::TouchLemmas::own_among, crate::proofs::TouchLemmas::more_among))]
 pub(crate) fn judge_joined<D: Driver>(
     alloc: Global,
-    plan: &Plan<D>,
-    view: &View<'_>,
+    view: &View<D>,
     pairs: &[Pair],
     work: &mut Work,
 ) -> Result<(NewRows, ControlList), Refusal>
     requires few { length pairs.now ≤ MAX_ENTRIES }
-    requires ranges { AreControlsOf plan.now view.now.ranges }
-    requires values { length view.now.values ≡ length plan.now.controls }
-    requires known { All (λ p. p.control < length plan.now.controls) pairs.now }
-    ensures ok { IfOk result (λ judged. at_first (judging_refusal D.verdict plan.now view.now (view.now.asked ++ pairs.now)) pairs.now ≡ None) }
-    ensures rows { IfOk result (λ judged. AreJudged D.verdict plan.now view.now.ranges view.now.values (view.now.asked ++ pairs.now) pairs.now judged.0.rows) }
-    ensures answers { IfOk result (λ judged. judged.1 ≡ map (entry_judged D.verdict plan.now view.now (view.now.asked ++ pairs.now)) pairs.now) }
-    ensures err { IfErr result (λ refusal. (at_first (judging_refusal D.verdict plan.now view.now (view.now.asked ++ pairs.now)) pairs.now ≡ Some refusal) ⊎ (refusal ≡ memory_refusal)) }
-    ensures at_most { work.new.asked ≤ work.old.asked + length (touched plan.now pairs.now) }
-    ensures asked { OnOk result (work.new.asked ≡ with_calls (judged_count plan.now (touched plan.now pairs.now)) work.old.asked) }
+    requires known { All (λ p. p.control < length view.now.plan.controls) pairs.now }
+    ensures ok { IfOk result (λ judged. at_first (judging_refusal D.verdict view.now.plan view.now.parts (view.now.parts.asked ++ pairs.now)) pairs.now ≡ None) }
+    ensures rows { IfOk result (λ judged. AreJudged D.verdict view.now.plan view.now.parts.ranges view.now.parts.values (view.now.parts.asked ++ pairs.now) pairs.now judged.0.rows) }
+    ensures answers { IfOk result (λ judged. judged.1 ≡ map (entry_judged D.verdict view.now.plan view.now.parts (view.now.parts.asked ++ pairs.now)) pairs.now) }
+    ensures err { IfErr result (λ refusal. (at_first (judging_refusal D.verdict view.now.plan view.now.parts (view.now.parts.asked ++ pairs.now)) pairs.now ≡ Some refusal) ⊎ (refusal ≡ memory_refusal)) }
+    ensures at_most { work.new.asked ≤ work.old.asked + length (touched view.now.plan pairs.now) }
+    ensures asked { OnOk result (work.new.asked ≡ with_calls (judged_count view.now.plan (touched view.now.plan pairs.now)) work.old.asked) }
     ensures told { work.new.told ≡ work.old.told }
 {
     if view.asked.is_empty() {
-        return judge_under(alloc, plan, view, pairs, pairs, work);
+        return judge_under(alloc, view, pairs, pairs, work);
     }
     match joined(alloc, view.asked, pairs) {
-        Ok(laid) => judge_under(alloc, plan, view, laid.as_slice(), pairs, work),
+        Ok(laid) => judge_under(alloc, view, laid.as_slice(), pairs, work),
         Err(_) => Err(Refusal::of_memory()),
     }
 }
@@ -296,27 +263,24 @@ pub(crate) fn judge_joined<D: Driver>(
 // The rows that the clusters get where the pairs `laid` are laid over the values, and what the entries are answered.
 fn judge_under<D: Driver>(
     alloc: Global,
-    plan: &Plan<D>,
-    view: &View<'_>,
+    view: &View<D>,
     laid: &[Pair],
     pairs: &[Pair],
     work: &mut Work,
 ) -> Result<(NewRows, ControlList), Refusal>
     requires few { length pairs.now ≤ MAX_ENTRIES }
-    requires ranges { AreControlsOf plan.now view.now.ranges }
-    requires values { length view.now.values ≡ length plan.now.controls }
-    requires known { All (λ p. p.control < length plan.now.controls) pairs.now }
+    requires known { All (λ p. p.control < length view.now.plan.controls) pairs.now }
     requires among { All (λ p. IsTrue (is_among laid.now p.control)) pairs.now }
-    ensures ok { IfOk result (λ judged. at_first (judging_refusal D.verdict plan.now view.now laid.now) pairs.now ≡ None) }
-    ensures rows { IfOk result (λ judged. AreJudged D.verdict plan.now view.now.ranges view.now.values laid.now pairs.now judged.0.rows) }
-    ensures answers { IfOk result (λ judged. judged.1 ≡ map (entry_judged D.verdict plan.now view.now laid.now) pairs.now) }
-    ensures err { IfErr result (λ refusal. (at_first (judging_refusal D.verdict plan.now view.now laid.now) pairs.now ≡ Some refusal) ⊎ (refusal ≡ memory_refusal)) }
-    ensures at_most { work.new.asked ≤ work.old.asked + length (touched plan.now pairs.now) }
-    ensures asked { OnOk result (work.new.asked ≡ with_calls (judged_count plan.now (touched plan.now pairs.now)) work.old.asked) }
+    ensures ok { IfOk result (λ judged. at_first (judging_refusal D.verdict view.now.plan view.now.parts laid.now) pairs.now ≡ None) }
+    ensures rows { IfOk result (λ judged. AreJudged D.verdict view.now.plan view.now.parts.ranges view.now.parts.values laid.now pairs.now judged.0.rows) }
+    ensures answers { IfOk result (λ judged. judged.1 ≡ map (entry_judged D.verdict view.now.plan view.now.parts laid.now) pairs.now) }
+    ensures err { IfErr result (λ refusal. (at_first (judging_refusal D.verdict view.now.plan view.now.parts laid.now) pairs.now ≡ Some refusal) ⊎ (refusal ≡ memory_refusal)) }
+    ensures at_most { work.new.asked ≤ work.old.asked + length (touched view.now.plan pairs.now) }
+    ensures asked { OnOk result (work.new.asked ≡ with_calls (judged_count view.now.plan (touched view.now.plan pairs.now)) work.old.asked) }
     ensures told { work.new.told ≡ work.old.told }
 {
-    let rows = judge_all(alloc, plan, view, laid, pairs, work)?;
-    match entries_judged(alloc, plan, view, laid, pairs, &rows) {
+    let rows = judge_all(alloc, view, laid, pairs, work)?;
+    match entries_judged(alloc, view, laid, pairs, &rows) {
         Ok(answers) => Ok((rows, answers)),
         Err(_) => Err(Refusal::of_memory()),
     }

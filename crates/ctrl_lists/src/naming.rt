@@ -20,21 +20,20 @@ use std::alloc::Global;
 /// The pairs of a list: each entry's control with the value as it was given; or the first entry that names no control.
 pub(crate) fn pairs_of<D: Driver>(
     alloc: Global,
-    plan: &Plan<D>,
-    view: &View<'_>,
+    view: &View<D>,
     list: &[ExtControl],
 ) -> Result<Vec<Pair>, Refusal>
     requires { length list.now ≤ MAX_ENTRIES }
-    ensures ok { IfOk result (λ pairs. (pairs.items ≡ pairs_of plan.now view.now.handler view.now.which list.now) × (at_first (naming_refusal plan.now view.now) list.now ≡ None)) }
+    ensures ok { IfOk result (λ pairs. (pairs.items ≡ pairs_of view.now.plan view.now.parts.handler view.now.parts.which list.now) × (at_first (naming_refusal view.now.plan view.now.parts) list.now ≡ None)) }
     ensures few { IfOk result (λ pairs. length pairs.items ≡ length list.now) }
-    ensures known { IfOk result (λ pairs. All (λ p. p.control < length plan.now.controls) pairs.items) }
-    ensures err { IfErr result (λ refusal. (at_first (naming_refusal plan.now view.now) list.now ≡ Some refusal) ⊎ (refusal ≡ memory_refusal)) }
+    ensures known { IfOk result (λ pairs. All (λ p. p.control < length view.now.plan.controls) pairs.items) }
+    ensures err { IfErr result (λ refusal. (at_first (naming_refusal view.now.plan view.now.parts) list.now ≡ Some refusal) ⊎ (refusal ≡ memory_refusal)) }
 {
     let Ok(mut pairs) = Vec::with_capacity(alloc, list.len()) else {
         return Err(Refusal::of_memory());
     };
     for (place, entry) in list.iter().enumerate() {
-        match pair_of(plan, view, *entry) {
+        match pair_of(view, *entry) {
             Some(pair) => pairs.push_reserved(pair),
             None => return Err(Refusal::at(Errno::EINVAL, place as u32)),
         }
@@ -43,11 +42,11 @@ pub(crate) fn pairs_of<D: Driver>(
 }
 
 // An entry's control with the value as it was given.
-fn pair_of<D: Driver>(plan: &Plan<D>, view: &View<'_>, entry: ExtControl) -> Option<Pair>
-    ensures pair { result ≡ pair_of plan.now view.now.handler view.now.which entry }
-    ensures known { IfSome result (λ p. p.control < length plan.now.controls) }
+fn pair_of<D: Driver>(view: &View<D>, entry: ExtControl) -> Option<Pair>
+    ensures pair { result ≡ pair_of view.now.plan view.now.parts.handler view.now.parts.which entry }
+    ensures known { IfSome result (λ p. p.control < length view.now.plan.controls) }
 {
-    let control = named(plan, view, entry.id)?;
+    let control = named(view, entry.id)?;
     Some(Pair {
         control,
         value: entry.value,
@@ -55,12 +54,19 @@ fn pair_of<D: Driver>(plan: &Plan<D>, view: &View<'_>, entry: ExtControl) -> Opt
 }
 
 // The control that an id names.
-fn named<D: Driver>(plan: &Plan<D>, view: &View<'_>, id: CtrlId) -> Option<u32>
-    ensures named { result ≡ named plan.now view.now.handler view.now.which id }
-    ensures known { IfSome result (λ c. c < length plan.now.controls) }
+fn named<D: Driver>(view: &View<D>, id: CtrlId) -> Option<u32>
+    ensures named { result ≡ named view.now.plan view.now.parts.handler view.now.parts.which id }
+    ensures known { IfSome result (λ c. c < length view.now.plan.controls) }
 {
-    let control = plan.find(view.handler, id).ok()?;
-    if is_meant(view.which, id) && !plan.control(control).flags().contains(Flags::DISABLED) {
+    let control = view.at.plan.find(view.handler, id).ok()?;
+    if is_meant(view.which, id)
+        && !view
+            .at
+            .plan
+            .control(control)
+            .flags()
+            .contains(Flags::DISABLED)
+    {
         Some(control)
     } else {
         None

@@ -15,6 +15,7 @@ use Rattle.ctrl_types.specs.declared.changes.Changes.{Changes}
 use Rattle.ctrl_types.specs.declared.flags.Flags.{Flags}
 use Rattle.ctrl_types.specs.declared.flags.TheConstants.Flags.{EXECUTE_ON_WRITE}
 use Rattle.ctrl_settle.specs.Control.{Control}
+use Rattle.ctrl_clusters.specs.ControlsData.{ControlsData}
 use Rattle.ctrl_events.specs.declared.event.Payload.{Payload}
 use Rattle.ctrl_events.specs.Events.{FileEvents}
 use Rattle.ctrl_handlers.specs.Plan.{PlanData, IsPlan, control, control_in, no_control, cluster_of, cluster_at, members, master_of}
@@ -23,7 +24,7 @@ use Rattle.ctrl_clusters.specs.AutoClusters.{inactive, inactive_at}
 use Rattle.ctrl_clusters.specs.PresentFlags.{flags_under}
 use Rattle.ctrl_clusters.specs.Ranges.{modified}
 use Rattle.ctrl_clusters.specs.Rows.{Values, value_at}
-use Rattle.ctrl_raises.specs.Raises.{MomentData, before_range, changed_between, changes_of, differ, payload_at, raised_all, raised_one, range_differs}
+use Rattle.ctrl_raises.specs.Raises.{before_range, changed_between, changes_of, differ, payload_at, raised_all, raised_one, range_differs}
 use Rattle.ctrl_raises.proofs.RaiseLemmas.{raised_next}
 
 -- nothing differs from itself
@@ -47,7 +48,7 @@ none_acts false true = refl
 none_acts false false = refl
 
 -- what changes of a control, by its value, its flags and its range
-pub changed_so : (plan : PlanData) (after : MomentData) (c : ℕ) (old : Control) (old_value : CtrlValue) (m : ℕ) (value flags range : Bool)
+pub changed_so : (plan : PlanData) (after : ControlsData) (c : ℕ) (old : Control) (old_value : CtrlValue) (m : ℕ) (value flags range : Bool)
     → value ≡ not (is_same (value_at (slice_set after.values c old_value) m) (value_at after.values m))
     → flags ≡ differ (flags_under plan (slice_set after.values c old_value) after.grabs m) (flags_under plan after.values after.grabs m)
     → range ≡ range_differs (control_in (modified after.ranges c old) m) (control_in after.ranges m)
@@ -80,7 +81,7 @@ inactive_stays plan values c d k value is own outside = by (cluster_of plan d) r
     by (Some j) of = rw (get_or-set_other values c (master_of (cluster_at plan j)) value zero_value (master_apart plan c d k j is own outside of)) refl
 
 -- and nothing changes of it
-pub nothing_outside : (plan : PlanData) (after : MomentData) (c d k : ℕ) (old : Control) (value : CtrlValue) → IsPlan plan → cluster_of plan c ≡ Some k → list_any (nat_eq d) (members plan k) ≡ false
+pub nothing_outside : (plan : PlanData) (after : ControlsData) (c d k : ℕ) (old : Control) (value : CtrlValue) → IsPlan plan → cluster_of plan c ≡ Some k → list_any (nat_eq d) (members plan k) ≡ false
     → is_nothing (changed_between plan (before_range after c old value) after [] d) ≡ true
 nothing_outside plan after c d k old value is own outside =
     let other : d ≢ c = λ same. false≢true (sym outside ∙ subst (λ (i : ℕ). list_any (nat_eq i) (members plan k) ≡ true) (sym same) (cluster_of_member plan c k own)) in
@@ -108,7 +109,7 @@ still change told from fh a (suc n) old seen nothing before =
     ∙ ap (λ (k : ℕ). raised_all change told from fh (range_with_len 0 k) old) all
 
 -- The events that are raised of the controls below a number are those of the controls below a further one, where no member of the cluster lies between.
-pub raised_further : (plan : PlanData) (after : MomentData) (c k : ℕ) (old_range : Control) (value : CtrlValue) (a b fh : ℕ) (old seen : FileEvents) → IsPlan plan → cluster_of plan c ≡ Some k → a ≤ b
+pub raised_further : (plan : PlanData) (after : ControlsData) (c k : ℕ) (old_range : Control) (value : CtrlValue) (a b fh : ℕ) (old seen : FileEvents) → IsPlan plan → cluster_of plan c ≡ Some k → a ≤ b
     → ((d : ℕ) → a ≤ d → d < b → list_any (nat_eq d) (members plan k) ≡ false)
     → seen ≡ raised_all (changed_between plan (before_range after c old_range value) after []) (payload_at plan after) (λ d. None) fh (range_with_len 0 a) old
     → seen ≡ raised_all (changed_between plan (before_range after c old_range value) after []) (payload_at plan after) (λ d. None) fh (range_with_len 0 b) old

@@ -15,20 +15,15 @@ use Rattle.ctrl_settle.specs.Control.{Control}
 use Rattle.ctrl_events.specs.declared.event.Payload.{Payload}
 use Rattle.ctrl_events.specs.Events.{FileEvents, after_raise}
 use Rattle.ctrl_handlers.specs.Plan.{PlanData, control_in}
+use Rattle.ctrl_clusters.specs.ControlsData.{ControlsData}
 use Rattle.ctrl_clusters.specs.Ranges.{modified}
-use Rattle.ctrl_clusters.specs.Rows.{Grabs, Values, value_at}
+use Rattle.ctrl_clusters.specs.Rows.{value_at}
 use Rattle.ctrl_clusters.specs.Overlay.{is_among}
 use Rattle.ctrl_clusters.specs.Changes.{is_changed}
 use Rattle.ctrl_clusters.specs.PresentFlags.{flags_under}
 
--- the controls of a device with their ranges of a moment, their values and grabs
-pub record MomentData : Type 0 where
-  pub ranges : List Control
-  pub values : Values
-  pub grabs : Grabs
-
 -- the moment before a range change: one control has the range and the value that it had, and all else is as afterwards
-abbrev pub before_range : MomentData → ℕ → Control → CtrlValue → MomentData
+abbrev pub before_range : ControlsData → ℕ → Control → CtrlValue → ControlsData
 before_range after c old value = record { ranges = modified after.ranges c old; values = slice_set after.values c value; grabs = after.grabs }
 
 -- the value of a control that an event shows: 0 where it can't be read
@@ -49,7 +44,7 @@ payload_of ctrl value flags = record {
 }
 
 -- the same, at a moment
-abbrev pub payload_at : PlanData → MomentData → ℕ → Payload
+abbrev pub payload_at : PlanData → ControlsData → ℕ → Payload
 payload_at plan m c = payload_of (control_in m.ranges c) (value_at m.values c) (flags_under plan m.values m.grabs c)
 
 -- changes, where they are
@@ -71,7 +66,7 @@ range_differs a b =
 
 -- What changes of a control from one moment to another, where pairs were applied: its value, also where it acts on each write and is among the
 -- pairs; its flags; its bounds, step or default.
-abbrev pub changed_between : PlanData → MomentData → MomentData → List Pair → ℕ → Changes
+abbrev pub changed_between : PlanData → ControlsData → ControlsData → List Pair → ℕ → Changes
 changed_between plan before after pairs c =
     changes_of (is_changed plan before.values pairs c (value_at after.values c)) (differ (flags_under plan before.values before.grabs c) (flags_under plan after.values after.grabs c))
     (range_differs (control_in before.ranges c) (control_in after.ranges c))

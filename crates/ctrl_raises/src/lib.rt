@@ -3,12 +3,10 @@
 #![tactic(auto)]
 
 pub mod laws;
-mod moment;
 mod payloads;
 mod raising;
 mod range_raising;
 
-pub use moment::Moment;
 pub use payloads::{initial_changes, payload_at};
 pub use raising::raise_between;
 pub use range_raising::raise_range;

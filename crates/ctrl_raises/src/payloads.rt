@@ -4,13 +4,13 @@ ghost use Rattle.std.specs.Prelude.{◌≡◌, ◌<◌, length};
 ghost use Rattle.ctrl_types.specs.Flags.{contains};
 ghost use Rattle.ctrl_types.specs.declared.flags.TheConstants.Flags.{WRITE_ONLY};
 ghost use Rattle.ctrl_handlers.specs.Plan.{control as control_of};
+ghost use Rattle.ctrl_clusters.specs.Moments.{parts};
 ghost use Rattle.ctrl_clusters.specs.Rows.{value_at};
 ghost use Rattle.ctrl_raises.specs.Raises.{initial_changes, payload_at, value_shown};
 
-use crate::moment::Moment;
 use bitflags::Flags as FlagSet;
 use ctrl_calls::Driver;
-use ctrl_clusters::flags_under;
+use ctrl_clusters::{Moment, flags_under};
 use ctrl_events::Payload;
 use ctrl_handlers::Plan;
 use ctrl_settle::Ctrl;
@@ -19,24 +19,20 @@ use ctrl_types::{Changes, CtrlValue, Flags};
 /// The payload of a control's event at a moment (Linux userspace API, "struct v4l2_event_ctrl"): the value is 0 where it can't be read (of this
 /// project), and of an array.
 ///
-/// - `plan`: what the device is built of.
-/// - `at`: the moment; the caller owes a range, a value and a grab for each control.
+/// - `at`: the moment.
 /// - `control`: the number of a control; the caller owes one below `Plan::control_count`.
 ///
 /// It takes no memory and refuses nothing.
-pub fn payload_at<D: Driver>(plan: &Plan<D>, at: &Moment, control: u32) -> Payload
-    requires known { control < length plan.now.controls }
-    requires ranges { length at.now.ranges ≡ length plan.now.controls }
-    requires values { length at.now.values ≡ length plan.now.controls }
-    requires grabs { length at.now.grabs ≡ length plan.now.controls }
-    ensures { result ≡ payload_at plan.now at.now control }
+pub fn payload_at<D: Driver>(at: &Moment<D>, control: u32) -> Payload
+    requires { control < length at.now.plan.now.controls }
+    ensures { result ≡ payload_at at.now.plan.now (parts at.now) control }
 {
     let ctrl = at.ranges.range(control);
     Payload {
         id: ctrl.id(),
         kind: ctrl.kind(),
         value: value_shown(ctrl, at.values, control),
-        flags: flags_under(plan, at.values, at.grabs, control),
+        flags: flags_under(at, control),
         minimum: ctrl.minimum(),
         maximum: ctrl.maximum(),
         step: ctrl.step(),

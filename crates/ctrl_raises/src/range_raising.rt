@@ -3,6 +3,7 @@
 ghost use Rattle.std.specs.Prelude.{◌≡◌, ◌<◌, ◌≤◌, ◌+◌, ℕ, not, None, [], length, slice_set};
 ghost use Rattle.std.specs.List.{range_with_len};
 ghost use Rattle.ctrl_types.specs.Values.{is_same};
+ghost use Rattle.ctrl_clusters.specs.Moments.{parts};
 ghost use Rattle.ctrl_events.specs.Events.{events_of};
 ghost use Rattle.ctrl_handlers.specs.Plan.{control_in};
 ghost use Rattle.ctrl_clusters.specs.PresentFlags.{flags_under};
@@ -11,14 +12,12 @@ ghost use Rattle.ctrl_clusters.specs.Rows.{value_at};
 ghost use Rattle.ctrl_raises.specs.Raises.{before_range, changed_between, differ, payload_at, raised_all, raised_one, range_differs};
 ghost use Rattle.ctrl_raises.specs.Rising.{IsNext};
 
-use crate::moment::Moment;
 use crate::payloads::payload_at;
 use crate::raising::{changes_of, range_differs};
 use bitflags::Flags as FlagSet;
 use ctrl_calls::Driver;
-use ctrl_clusters::{Ranges, flags_under, flags_with};
+use ctrl_clusters::{Moment, Ranges, flags_under, flags_with};
 use ctrl_events::Events;
-use ctrl_handlers::Plan;
 use ctrl_settle::Ctrl;
 use ctrl_types::{Changes, CtrlValue};
 
@@ -28,8 +27,7 @@ use ctrl_types::{Changes, CtrlValue};
 /// `v4l2_ctrl_modify_range`; Linux userspace API, "ioctl VIDIOC_DQEVENT"; the order is of this project). It is what `raise_between` raises from the
 /// moment before to the one after, without pairs and a file handle whose set it is; only the control's own cluster is looked at.
 ///
-/// - `plan`: what the device is built of.
-/// - `after`: the moment after the change; the caller owes a range, a value and a grab for each control.
+/// - `after`: the moment after the change.
 /// - `control`: the number of the control whose range was changed; the caller owes one below `Plan::control_count`.
 /// - `old`: this control with the range that it had before.
 /// - `old_value`: the value that it had before.
@@ -38,31 +36,25 @@ use ctrl_types::{Changes, CtrlValue};
 ///
 /// It takes no memory and refuses nothing.
 pub fn raise_range<D: Driver>(
-    plan: &Plan<D>,
-    after: &Moment,
+    after: &Moment<D>,
     control: u32,
     old: &Ctrl,
     old_value: &CtrlValue,
     events: &mut Events,
 )
-    requires known { control < length plan.now.controls }
-    requires ranges { length after.now.ranges ≡ length plan.now.controls }
-    requires values { length after.now.values ≡ length plan.now.controls }
-    requires grabs { length after.now.grabs ≡ length plan.now.controls }
-    requires numbers { (j : ℕ) → (events_of events.old j).next + length plan.now.controls ≤ 4294967295 }
-    ensures { (j : ℕ) → events_of events.new j ≡ raised_all (changed_between plan.now (before_range after.now control old.now old_value.now) after.now []) (payload_at plan.now after.now)
-        (λ c. None) j (range_with_len 0 (length plan.now.controls)) (events_of events.old j) }
+    requires known { control < length after.now.plan.now.controls }
+    requires numbers { (j : ℕ) → (events_of events.old j).next + length after.now.plan.now.controls ≤ 4294967295 }
+    ensures { (j : ℕ) → events_of events.new j ≡ raised_all (changed_between after.now.plan.now (before_range (parts after.now) control old.now old_value.now) (parts after.now) []) (payload_at after.now.plan.now (parts after.now))
+        (λ c. None) j (range_with_len 0 (length after.now.plan.now.controls)) (events_of events.old j) }
 {
     if events.is_empty() {
         return;
     }
-    // the plan is one, as the contract of `controls` says
-    let _plan = plan.controls();
-    let end = plan.control_count();
-    let members = plan.members(plan.cluster_of(control));
+    let end = after.plan.control_count();
+    let members = after.plan.members(after.plan.cluster_of(control));
     let mut next = next_member(members, 0, end);
     while next < end {
-        raise_member(plan, after, control, old, old_value, next, events);
+        raise_member(after, control, old, old_value, next, events);
         next = next_member(members, next + 1, end);
     }
 }
@@ -83,51 +75,43 @@ fn next_member(members: &[u32], from: u32, end: u32) -> u32
 
 // Raises what changes of a member of the cluster of the control whose range was changed.
 fn raise_member<D: Driver>(
-    plan: &Plan<D>,
-    after: &Moment,
+    after: &Moment<D>,
     control: u32,
     old: &Ctrl,
     old_value: &CtrlValue,
     member: u32,
     events: &mut Events,
 )
-    requires known { control < length plan.now.controls }
-    requires member { member < length plan.now.controls }
-    requires ranges { length after.now.ranges ≡ length plan.now.controls }
-    requires values { length after.now.values ≡ length plan.now.controls }
-    requires grabs { length after.now.grabs ≡ length plan.now.controls }
+    requires known { control < length after.now.plan.now.controls }
+    requires member { member < length after.now.plan.now.controls }
     requires numbers { (j : ℕ) → (events_of events.old j).next < 4294967295 }
-    ensures { (j : ℕ) → events_of events.new j ≡ raised_one (changed_between plan.now (before_range after.now control old.now old_value.now) after.now [] member) (payload_at plan.now after.now member)
+    ensures { (j : ℕ) → events_of events.new j ≡ raised_one (changed_between after.now.plan.now (before_range (parts after.now) control old.now old_value.now) (parts after.now) [] member) (payload_at after.now.plan.now (parts after.now) member)
         None j member (events_of events.old j) }
 {
-    let changes = changes_with(plan, after, control, old, old_value, member);
+    let changes = changes_with(after, control, old, old_value, member);
     if changes.is_empty() {
         return;
     }
-    let payload = payload_at(plan, after, member);
+    let payload = payload_at(after, member);
     events.raise(member, changes, &payload, None);
 }
 
 // What changes of a member.
 #[tactic(auto, using(crate::proofs::RangeLemmas::changed_so))]
 fn changes_with<D: Driver>(
-    plan: &Plan<D>,
-    after: &Moment,
+    after: &Moment<D>,
     control: u32,
     old: &Ctrl,
     old_value: &CtrlValue,
     member: u32,
 ) -> Changes
-    requires known { control < length plan.now.controls }
-    requires member { member < length plan.now.controls }
-    requires ranges { length after.now.ranges ≡ length plan.now.controls }
-    requires values { length after.now.values ≡ length plan.now.controls }
-    requires grabs { length after.now.grabs ≡ length plan.now.controls }
-    ensures { result ≡ changed_between plan.now (before_range after.now control old.now old_value.now) after.now [] member }
+    requires known { control < length after.now.plan.now.controls }
+    requires member { member < length after.now.plan.now.controls }
+    ensures { result ≡ changed_between after.now.plan.now (before_range (parts after.now) control old.now old_value.now) (parts after.now) [] member }
 {
     changes_of(
         value_moves(after.values, control, old_value, member),
-        flags_move(plan, after, control, old_value, member),
+        flags_move(after, control, old_value, member),
         range_moves(after.ranges, control, old, member),
     )
 }
@@ -146,20 +130,17 @@ fn value_moves(values: &[CtrlValue], control: u32, old_value: &CtrlValue, member
 
 // Whether the flags of a member differ, where one control had another value.
 fn flags_move<D: Driver>(
-    plan: &Plan<D>,
-    after: &Moment,
+    after: &Moment<D>,
     control: u32,
     old_value: &CtrlValue,
     member: u32,
 ) -> bool
-    requires known { control < length plan.now.controls }
-    requires member { member < length plan.now.controls }
-    requires values { length after.now.values ≡ length plan.now.controls }
-    requires grabs { length after.now.grabs ≡ length plan.now.controls }
-    ensures { result ≡ differ (flags_under plan.now (slice_set after.now.values control old_value.now) after.now.grabs member) (flags_under plan.now after.now.values after.now.grabs member) }
+    requires known { control < length after.now.plan.now.controls }
+    requires member { member < length after.now.plan.now.controls }
+    ensures { result ≡ differ (flags_under after.now.plan.now (slice_set after.now.values.now control old_value.now) after.now.grabs.now member) (flags_under after.now.plan.now after.now.values.now after.now.grabs.now member) }
 {
-    let old = flags_with(plan, after.values, after.grabs, control, *old_value, member);
-    let new = flags_under(plan, after.values, after.grabs, member);
+    let old = flags_with(after, control, *old_value, member);
+    let new = flags_under(after, member);
     old.bits() != new.bits()
 }
 

@@ -17,7 +17,7 @@ use Rattle.ctrl_clusters.proofs.OverlayLemmas.{length_overlay}
 use Rattle.device_history.specs.Values.{pairs_asked, now, now_after, values_after}
 
 -- pairs that are laid leave as many values
-length_now_after : (verdicts : Verdicts) (plan : PlanData) (controls : List Control) (grabs : Grabs) (pairs : Option (List Pair)) (values : Values) → length (now_after verdicts plan controls grabs pairs values) ≡ length values
+length_now_after : (verdicts : Verdicts) (plan : PlanData) (controls : List Control) (grabs : Grabs) (pairs : Option (List Pair)) (values : Values) → length (now_after verdicts plan controls values grabs pairs) ≡ length values
 length_now_after verdicts plan controls grabs None values = refl
 length_now_after verdicts plan controls grabs (Some pairs) values = length_overlay verdicts plan controls values grabs pairs
 
@@ -45,7 +45,7 @@ length_settled (steps.Take f c) controls values = refl
 -- so does any step
 pub length_values_after : (verdicts : Verdicts) (plan : PlanData) (older : Past) (step : Step) (values : Values) → length (values_after verdicts plan older step values) ≡ length values
 length_values_after verdicts plan older step values =
-    length_settled step (ranges_now plan older) (now_after verdicts plan (ranges_now plan older) (grabbed plan older) (pairs_asked plan older step) values)
+    length_settled step (ranges_now plan older) (now_after verdicts plan (ranges_now plan older) values (grabbed plan older) (pairs_asked plan older step))
     ∙ length_now_after verdicts plan (ranges_now plan older) (grabbed plan older) (pairs_asked plan older step) values
 
 -- there is a value for each control of the plan

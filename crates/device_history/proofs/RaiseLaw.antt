@@ -12,6 +12,7 @@ use Rattle.ctrl_types.specs.declared.ids.RequestId.{RequestId}
 use Rattle.ctrl_calls.specs.Meanings.{Verdicts}
 use Rattle.history.specs.Past.{past}
 use Rattle.history.proofs.Pasts.{past_add}
+use Rattle.ctrl_clusters.specs.ControlsData.{ControlsData}
 use Rattle.ctrl_events.specs.declared.event.Waiting.{Waiting}
 use Rattle.ctrl_events.specs.Pending.{Happening, raise, raises as raises_in}
 use Rattle.ctrl_events.specs.declared.event.Payload.{Payload}
@@ -21,7 +22,7 @@ use Rattle.ctrl_handlers.specs.Plan.{IsPlan, PlanData, control, control_in}
 use Rattle.ctrl_clusters.specs.Changes.{is_changed}
 use Rattle.ctrl_clusters.specs.PresentFlags.{flags_under}
 use Rattle.ctrl_clusters.specs.Rows.{Grabs, Values, value_at}
-use Rattle.ctrl_raises.specs.Raises.{MomentData, changed_between, changes_of, differ, needing_feedback, payload_at, raised_all, raised_one, payload_of, range_differs}
+use Rattle.ctrl_raises.specs.Raises.{changed_between, changes_of, differ, needing_feedback, payload_at, raised_all, raised_one, payload_of, range_differs}
 use Rattle.device_history.specs.declared.ask.Step.{Step}
 use Rattle.device_history.specs.declared.ask.Step.TheVariants as steps
 use Rattle.device_history.specs.declared.limits.TheConstants.{MAX_STEPS}
@@ -47,13 +48,13 @@ raised_same change change' told told' from from' fh (c ∷ cs) f one two three =
     ∙ ap (λ (x : Option ℕ). raised_all change told from fh cs (raised_one (change' c) (told' c) x fh c f)) (three c)
     ∙ raised_same change change' told told' from from' fh cs (raised_one (change' c) (told' c) (from' c) fh c f) one two three
 
-payload_same : (verdicts : Verdicts) (plan : PlanData) (past : Past) (at : MomentData) → at.ranges ≡ ranges_now plan past → at.values ≡ now verdicts plan past → at.grabs ≡ grabbed plan past → (c : ℕ) → payload_at plan at c ≡ payload verdicts plan past c
+payload_same : (verdicts : Verdicts) (plan : PlanData) (past : Past) (at : ControlsData) → at.ranges ≡ ranges_now plan past → at.values ≡ now verdicts plan past → at.grabs ≡ grabbed plan past → (c : ℕ) → payload_at plan at c ≡ payload verdicts plan past c
 payload_same verdicts plan past at r v g c =
     ap (λ (l : List Control). payload_of (control_in l c) (value_at at.values c) (flags_under plan at.values at.grabs c)) r
     ∙ ap (λ (vs : Values). payload_of (control_in (ranges_now plan past) c) (value_at vs c) (flags_under plan vs at.grabs c)) v
     ∙ ap (λ (gs : Grabs). payload_of (control_in (ranges_now plan past) c) (value_at (now verdicts plan past) c) (flags_under plan (now verdicts plan past) gs c)) g
 
-changed_same : (verdicts : Verdicts) (plan : PlanData) (e : Entry Step) (older : Past) (before after : MomentData) (pairs : List Pair) → AreAround verdicts plan e older before after → (c : ℕ)
+changed_same : (verdicts : Verdicts) (plan : PlanData) (e : Entry Step) (older : Past) (before after : ControlsData) (pairs : List Pair) → AreAround verdicts plan e older before after → (c : ℕ)
     → is_changed plan (now verdicts plan older) pairs c (value_at (now verdicts plan (e ∷ older)) c) ≡ value_differs verdicts plan e older c → changed_between plan before after pairs c ≡ changed verdicts plan e older c
 changed_same verdicts plan e older before after pairs around c is =
     ap (λ (vs : Values). changes_of (is_changed plan vs pairs c (value_at after.values c)) (differ (flags_under plan vs before.grabs c) (flags_under plan after.values after.grabs c)) ranged) around.old_values
@@ -68,7 +69,7 @@ changed_same verdicts plan e older before after pairs around c is =
     ranged = range_differs (control_in before.ranges c) (control_in after.ranges c)
 
 -- raises between the moments around an entry
-raised_around : (verdicts : Verdicts) (plan : PlanData) (e : Entry Step) (older : Past) (before after : MomentData) (pairs : List Pair) (from : Option ℕ) (fh : FhId) (cs : List ℕ) (f : FileEvents)
+raised_around : (verdicts : Verdicts) (plan : PlanData) (e : Entry Step) (older : Past) (before after : ControlsData) (pairs : List Pair) (from : Option ℕ) (fh : FhId) (cs : List ℕ) (f : FileEvents)
     → AreAround verdicts plan e older before after → ((c : ℕ) → is_changed plan (now verdicts plan older) pairs c (value_at (now verdicts plan (e ∷ older)) c) ≡ value_differs verdicts plan e older c)
     → ((change : Changes) (c : ℕ) → needing_feedback from pairs change c ≡ from_of e.step change c)
     → raised_all (changed_between plan before after pairs) (payload_at plan after) (λ c. needing_feedback from pairs (changed_between plan before after pairs c) c) fh.0 cs f ≡ raised_by verdicts plan e older fh cs f
@@ -79,7 +80,7 @@ raised_around verdicts plan e older before after pairs from fh cs f around diffe
     (λ c. ap (λ (x : Changes). needing_feedback from pairs x c) (changed_same verdicts plan e older before after pairs around c (differs c)) ∙ hears (changed verdicts plan e older c) c)
 
 -- The raises of a set.
-pub set_raises : (verdicts : Verdicts) (plan : PlanData) (e : Entry Step) (older : Past) (before after : MomentData) (from : FhId) (pairs : List Pair) (fh : FhId) (cs : List ℕ) (f : FileEvents)
+pub set_raises : (verdicts : Verdicts) (plan : PlanData) (e : Entry Step) (older : Past) (before after : ControlsData) (from : FhId) (pairs : List Pair) (fh : FhId) (cs : List ℕ) (f : FileEvents)
     → e.step ≡ steps.Set from pairs → AreAround verdicts plan e older before after
     → raised_all (changed_between plan before after pairs) (payload_at plan after) (λ c. needing_feedback (Some from.0) pairs (changed_between plan before after pairs c) c) fh.0 cs f ≡ raised_by verdicts plan e older fh cs f
 set_raises verdicts plan e older before after from pairs fh cs f is around =
@@ -88,7 +89,7 @@ set_raises verdicts plan e older before after from pairs fh cs f is around =
     (λ change c. sym (ap (λ (s : Step). from_of s change c) is))
 
 -- The raises of the begin of a frame.
-pub begin_raises : (verdicts : Verdicts) (plan : PlanData) (e : Entry Step) (older : Past) (before after : MomentData) (r : RequestId) (fh : FhId) (cs : List ℕ) (f : FileEvents)
+pub begin_raises : (verdicts : Verdicts) (plan : PlanData) (e : Entry Step) (older : Past) (before after : ControlsData) (r : RequestId) (fh : FhId) (cs : List ℕ) (f : FileEvents)
     → e.step ≡ steps.Begin r → AreAround verdicts plan e older before after
     → raised_all (changed_between plan before after (begun_pairs verdicts plan older r.0)) (payload_at plan after) (λ c. needing_feedback None (begun_pairs verdicts plan older r.0) (changed_between plan before after (begun_pairs verdicts plan older r.0) c) c) fh.0 cs f
     ≡ raised_by verdicts plan e older fh cs f
@@ -107,7 +108,7 @@ unchanged plan values c = by (is_same (value_at values c) (value_at values c)) (
     by false is w = cc
 
 -- The raises of a grab.
-pub grab_raises : (verdicts : Verdicts) (plan : PlanData) (e : Entry Step) (older : Past) (before after : MomentData) (d : ℕ) (on : Bool) (fh : FhId) (cs : List ℕ) (f : FileEvents)
+pub grab_raises : (verdicts : Verdicts) (plan : PlanData) (e : Entry Step) (older : Past) (before after : ControlsData) (d : ℕ) (on : Bool) (fh : FhId) (cs : List ℕ) (f : FileEvents)
     → e.step ≡ steps.Grab d on → AreAround verdicts plan e older before after
     → raised_all (changed_between plan before after []) (payload_at plan after) (λ c. needing_feedback None [] (changed_between plan before after [] c) c) fh.0 cs f ≡ raised_by verdicts plan e older fh cs f
 grab_raises verdicts plan e older before after d on fh cs f is around =
@@ -117,7 +118,7 @@ grab_raises verdicts plan e older before after d on fh cs f is around =
     (λ change c. sym (ap (λ (s : Step). from_of s change c) is))
 
 -- The raises of a range change.
-pub range_raises : (verdicts : Verdicts) (plan : PlanData) (e : Entry Step) (older : Past) (before after : MomentData) (d : ℕ) (low high : ℤ) (apart : ℕ) (default_value : ℤ) (fh : FhId) (cs : List ℕ) (f : FileEvents)
+pub range_raises : (verdicts : Verdicts) (plan : PlanData) (e : Entry Step) (older : Past) (before after : ControlsData) (d : ℕ) (low high : ℤ) (apart : ℕ) (default_value : ℤ) (fh : FhId) (cs : List ℕ) (f : FileEvents)
     → e.step ≡ steps.ModifyRange d low high apart default_value → AreAround verdicts plan e older before after
     → raised_all (changed_between plan before after []) (payload_at plan after) (λ c. needing_feedback None [] (changed_between plan before after [] c) c) fh.0 cs f ≡ raised_by verdicts plan e older fh cs f
 range_raises verdicts plan e older before after d low high apart default_value fh cs f is around =
@@ -126,7 +127,7 @@ range_raises verdicts plan e older before after d low high apart default_value f
     (λ change c. sym (ap (λ (s : Step). from_of s change c) is))
 
 -- What a subscription tells at once.
-pub subscribe_tells : (verdicts : Verdicts) (plan : PlanData) (e : Entry Step) (older : Past) (at : MomentData) (c : ℕ) → at.ranges ≡ ranges_now plan (e ∷ older) → at.values ≡ now verdicts plan (e ∷ older) → at.grabs ≡ grabbed plan (e ∷ older) → payload_at plan at c ≡ payload verdicts plan (e ∷ older) c
+pub subscribe_tells : (verdicts : Verdicts) (plan : PlanData) (e : Entry Step) (older : Past) (at : ControlsData) (c : ℕ) → at.ranges ≡ ranges_now plan (e ∷ older) → at.values ≡ now verdicts plan (e ∷ older) → at.grabs ≡ grabbed plan (e ∷ older) → payload_at plan at c ≡ payload verdicts plan (e ∷ older) c
 subscribe_tells verdicts plan e older at c r v g = payload_same verdicts plan (e ∷ older) at r v g c
 
 -- There is a number for each raise of one more step.

@@ -56,22 +56,22 @@ use Rattle.device_history.proofs.RangeLemmas.{ranges_more}
 
 -- a row stands as it did where further frames are queued
 row_stands : (verdicts : Verdicts) (plan : PlanData) (controls : List Control) (grabs : Grabs) (values : Values) (qs more : List QueuedData) (i : ℕ) (row : Forecast)
-    → slice_get (forecasts verdicts plan controls grabs values qs) i ≡ Some row → slice_get (forecasts verdicts plan controls grabs values (qs ++ more)) i ≡ Some row
+    → slice_get (forecasts verdicts plan controls values grabs qs) i ≡ Some row → slice_get (forecasts verdicts plan controls values grabs (qs ++ more)) i ≡ Some row
 unfolding forecasts
 row_stands verdicts plan controls grabs values [] more i row is = cc
 row_stands verdicts plan controls grabs values (q ∷ qs) more zero row is = is
 row_stands verdicts plan controls grabs values (q ∷ qs) more (suc i) row is = row_stands verdicts plan controls grabs (overlay verdicts plan controls values grabs q.asked) qs more i row is
 
 -- a forecast is of the ranges, the grabs, the present values and the queued frames
-forecast_of : (verdicts : Verdicts) (plan : PlanData) (l m : List Control) (a b : Grabs) (v w : Values) (q p : List QueuedData) → l ≡ m → a ≡ b → v ≡ w → q ≡ p → forecasts verdicts plan l a v q ≡ forecasts verdicts plan m b w p
+forecast_of : (verdicts : Verdicts) (plan : PlanData) (l m : List Control) (a b : Grabs) (v w : Values) (q p : List QueuedData) → l ≡ m → a ≡ b → v ≡ w → q ≡ p → forecasts verdicts plan l v a q ≡ forecasts verdicts plan m w b p
 forecast_of verdicts plan l m a b v w q p r x y z = rw (r, x, y, z) refl
 
 -- the forecast, where a request is the first of the queue
 first_row : (verdicts : Verdicts) (plan : PlanData) (older : Past) (r : ℕ) (ids : List ℕ) → queue older ≡ r ∷ ids
-    → forecast verdicts plan older ≡ forecast_over verdicts plan (ranges_now plan older) (grabbed plan older) (now verdicts plan older) (queued_frame plan older r)
-    ∷ forecasts verdicts plan (ranges_now plan older) (grabbed plan older) (overlay verdicts plan (ranges_now plan older) (now verdicts plan older) (grabbed plan older) (asked plan older r)) (map (queued_frame plan older) ids)
+    → forecast verdicts plan older ≡ forecast_over verdicts plan (ranges_now plan older) (now verdicts plan older) (grabbed plan older) (queued_frame plan older r)
+    ∷ forecasts verdicts plan (ranges_now plan older) (overlay verdicts plan (ranges_now plan older) (now verdicts plan older) (grabbed plan older) (asked plan older r)) (grabbed plan older) (map (queued_frame plan older) ids)
 unfolding forecasts
-first_row verdicts plan older r ids is = ap (λ (js : List ℕ). forecasts verdicts plan (ranges_now plan older) (grabbed plan older) (now verdicts plan older) (map (queued_frame plan older) js)) is
+first_row verdicts plan older r ids is = ap (λ (js : List ℕ). forecasts verdicts plan (ranges_now plan older) (now verdicts plan older) (grabbed plan older) (map (queued_frame plan older) js)) is
 
 -- the present values once a frame is begun
 begun_now : (verdicts : Verdicts) (plan : PlanData) (e : Entry Step) (older : Past) (r : RequestId) → e.step ≡ steps.Begin r
@@ -81,7 +81,7 @@ begun_now verdicts plan e older r is = ap (λ (s : Step). values_after verdicts 
 
 -- a row behind the first
 row_behind : (verdicts : Verdicts) (plan : PlanData) (controls : List Control) (grabs : Grabs) (values : Values) (q : QueuedData) (qs : List QueuedData) (i : ℕ)
-    → slice_get (forecasts verdicts plan controls grabs values (q ∷ qs)) (suc i) ≡ slice_get (forecasts verdicts plan controls grabs (overlay verdicts plan controls values grabs q.asked) qs) i
+    → slice_get (forecasts verdicts plan controls values grabs (q ∷ qs)) (suc i) ≡ slice_get (forecasts verdicts plan controls (overlay verdicts plan controls values grabs q.asked) grabs qs) i
 unfolding forecasts
 row_behind verdicts plan controls grabs values q qs i = refl
 
@@ -119,7 +119,7 @@ next_row verdicts plan e older i row fit fits on stood = by e.step refl fits on 
         (begun_now verdicts plan e older r is)
         (frames_waiting verdicts plan e older fit fits ∙ ap (λ (s : Step). waiting_after plan older s (queued_frames plan older)) is ∙ ap (drop 1) frames))
         ∙ sym (row_behind verdicts plan (ranges_now plan older) (grabbed plan older) (now verdicts plan older) (queued_frame plan older r.0) (map (queued_frame plan older) first.0) i)
-        ∙ sym (ap (λ (qs : List QueuedData). slice_get (forecasts verdicts plan (ranges_now plan older) (grabbed plan older) (now verdicts plan older) qs) (suc i)) frames) ∙ stood
+        ∙ sym (ap (λ (qs : List QueuedData). slice_get (forecasts verdicts plan (ranges_now plan older) (now verdicts plan older) (grabbed plan older) qs) (suc i)) frames) ∙ stood
 
     by : (step : Step) → e.step ≡ step → FitsFrames verdicts plan older step → goes_on step ≡ true
         → slice_get (forecast verdicts plan older) (cond (is_some (begun_by step)) (suc i) i) ≡ Some row → slice_get (forecast verdicts plan (e ∷ older)) i ≡ Some row
@@ -166,7 +166,7 @@ rows_stand verdicts plan entries (e ∷ more) i row legal on stood =
     place false h = h
 
 -- each row is of the request at its place
-rows_named : (verdicts : Verdicts) (plan : PlanData) (controls : List Control) (grabs : Grabs) (values : Values) (qs : List QueuedData) → map (λ row. row.request.0) (forecasts verdicts plan controls grabs values qs) ≡ map (λ q. q.request.0) qs
+rows_named : (verdicts : Verdicts) (plan : PlanData) (controls : List Control) (grabs : Grabs) (values : Values) (qs : List QueuedData) → map (λ row. row.request.0) (forecasts verdicts plan controls values grabs qs) ≡ map (λ q. q.request.0) qs
 unfolding forecasts
 rows_named verdicts plan controls grabs values [] = refl
 rows_named verdicts plan controls grabs values (q ∷ qs) = ap (λ (ids : List ℕ). q.request.0 ∷ ids) (rows_named verdicts plan controls grabs (overlay verdicts plan controls values grabs q.asked) qs)
@@ -181,7 +181,7 @@ rows_queued verdicts plan older = rows_named verdicts plan (ranges_now plan olde
 
 -- the row of the frame that is begun next
 pub begun_row : (verdicts : Verdicts) (plan : PlanData) (older : Past) (r : RequestId) (row : Forecast) → FitsFrames verdicts plan older (steps.Begin r) → slice_get (forecast verdicts plan older) 0 ≡ Some row
-    → row ≡ forecast_over verdicts plan (ranges_now plan older) (grabbed plan older) (now verdicts plan older) (queued_frame plan older r.0)
+    → row ≡ forecast_over verdicts plan (ranges_now plan older) (now verdicts plan older) (grabbed plan older) (queued_frame plan older r.0)
 begun_row verdicts plan older r row fit stood =
     let first = first_waits (queue older) r.0 fit.1 in
     same row _ (sym stood ∙ ap (λ (rows : List Forecast). slice_get rows 0) (first_row verdicts plan older r.0 first.0 first.1))
@@ -269,7 +269,7 @@ module _ (verdicts : Verdicts) (plan : PlanData) (entries more : History) (e : E
   legal_then : IsLegal verdicts plan (past (entries ++ more))
   legal_then = legal_front verdicts plan (entries ++ more) (e ∷ []) legal
 
-  row_is : row ≡ forecast_over verdicts plan (ranges_now plan (past (entries ++ more))) (grabbed plan (past (entries ++ more))) (now verdicts plan (past (entries ++ more))) (queued_frame plan (past (entries ++ more)) r.0)
+  row_is : row ≡ forecast_over verdicts plan (ranges_now plan (past (entries ++ more))) (now verdicts plan (past (entries ++ more))) (grabbed plan (past (entries ++ more))) (queued_frame plan (past (entries ++ more)) r.0)
   row_is =
       let none : begins more ≡ begins more + 0 = omega arith in
       begun_row verdicts plan (past (entries ++ more)) r row (fits verdicts plan (past (entries ++ more)) (steps.Begin r) may) (rows_stand verdicts plan entries more 0 row legal_then on (rw none at stood))

@@ -4,9 +4,10 @@ use Rattle.std.specs.List.{range_with_len}
 use Rattle.history.specs.declared.entry.Entry.{Entry}
 use Rattle.ctrl_types.specs.declared.ids.FhId.{FhId}
 use Rattle.ctrl_calls.specs.Meanings.{Verdicts}
+use Rattle.ctrl_clusters.specs.ControlsData.{ControlsData}
 use Rattle.ctrl_events.specs.Events.{FileEvents, no_events, flags_in, after_subscribe, after_unsubscribe, after_take}
 use Rattle.ctrl_handlers.specs.Plan.{PlanData, control}
-use Rattle.ctrl_raises.specs.Raises.{MomentData, initial_changes, raised_all}
+use Rattle.ctrl_raises.specs.Raises.{initial_changes, raised_all}
 use Rattle.device_history.specs.declared.ask.Step.{Step}
 use Rattle.device_history.specs.declared.ask.Step.TheVariants as steps
 use Rattle.device_history.specs.Steps.{Past}
@@ -27,7 +28,7 @@ abbrev pub raised_by : Verdicts → PlanData → Entry Step → Past → FhId �
 raised_by verdicts plan e older fh cs f = raised_all (changed verdicts plan e older) (payload verdicts plan (e ∷ older)) (λ c. from_of e.step (changed verdicts plan e older c) c) fh.0 cs f
 
 -- Two moments are those before and after an entry.
-pub record AreAround (verdicts : Verdicts) (plan : PlanData) (e : Entry Step) (older : Past) (before after : MomentData) : Type 0 where
+pub record AreAround (verdicts : Verdicts) (plan : PlanData) (e : Entry Step) (older : Past) (before after : ControlsData) : Type 0 where
   pub old_ranges : before.ranges ≡ ranges_now plan older
   pub old_values : before.values ≡ now verdicts plan older
   pub old_grabs : before.grabs ≡ grabbed plan older

@@ -37,11 +37,11 @@ waiting_after plan older _ frames = frames
 -- What the queued frames will have: the first over the present values, each other over what the one before leaves, all under the present
 -- ranges and grabs.
 abbrev pub forecast : Verdicts → PlanData → Past → List Forecast
-forecast verdicts plan past = forecasts verdicts plan (ranges_now plan past) (grabbed plan past) (now verdicts plan past) (queued_frames plan past)
+forecast verdicts plan past = forecasts verdicts plan (ranges_now plan past) (now verdicts plan past) (grabbed plan past) (queued_frames plan past)
 
 -- the queued frames with that, as a board keeps them
 abbrev pub board : Verdicts → PlanData → Past → BoardData
-board verdicts plan past = board_of verdicts plan (ranges_now plan past) (grabbed plan past) (now verdicts plan past) (queued_frames plan past)
+board verdicts plan past = board_of verdicts plan (ranges_now plan past) (now verdicts plan past) (grabbed plan past) (queued_frames plan past)
 
 -- A forecast at a place of the queue: ENOENT where no frame is queued there. Neither a running frame nor the limit of steps refuses it.
 abbrev pub forecast_reply : Option Forecast → Answer

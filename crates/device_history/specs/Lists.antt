@@ -185,4 +185,4 @@ list_step plan past fh which request list = pairs_step (meant (which_or (which_o
 
 -- the present values once a list is set that speaks of no request
 abbrev pub values_set : Verdicts → PlanData → Past → FhId → ℕ → List ExtControl → Values
-values_set verdicts plan older fh which list = now_after verdicts plan (ranges_now plan older) (grabbed plan older) (Some (list_pairs plan older fh which list)) (now verdicts plan older)
+values_set verdicts plan older fh which list = now_after verdicts plan (ranges_now plan older) (now verdicts plan older) (grabbed plan older) (Some (list_pairs plan older fh which list))

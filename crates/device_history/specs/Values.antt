@@ -39,13 +39,13 @@ pairs_asked plan older (steps.Unsubscribe fh c) = None
 pairs_asked plan older (steps.Take fh c) = None
 
 -- what pairs that are laid make of values, under ranges and grabs
-abbrev pub now_after : Verdicts → PlanData → List Control → Grabs → Option (List Pair) → Values → Values
-now_after verdicts plan controls grabs None values = values
-now_after verdicts plan controls grabs (Some pairs) values = overlay verdicts plan controls values grabs pairs
+abbrev pub now_after : Verdicts → PlanData → List Control → Values → Grabs → Option (List Pair) → Values
+now_after verdicts plan controls values grabs None = values
+now_after verdicts plan controls values grabs (Some pairs) = overlay verdicts plan controls values grabs pairs
 
 -- What a step that follows a history makes of the values: it lays pairs over them, or settles the value of a control whose range it changes.
 abbrev pub values_after : Verdicts → PlanData → Past → Step → Values → Values
-values_after verdicts plan older step values = settled_after step (ranges_now plan older) (now_after verdicts plan (ranges_now plan older) (grabbed plan older) (pairs_asked plan older step) values)
+values_after verdicts plan older step values = settled_after step (ranges_now plan older) (now_after verdicts plan (ranges_now plan older) values (grabbed plan older) (pairs_asked plan older step))
 
 -- the present values after a history: the defaults at first, and then what each step makes of them
 unfoldable pub now : Verdicts → PlanData → Past → Values

@@ -13,6 +13,7 @@ ghost use Rattle.ctrl_types.specs.declared.value.CtrlValue.{CtrlValue};
 ghost use Rattle.ctrl_types.specs.declared.ids.FhId.{FhId};
 ghost use Rattle.ctrl_types.specs.declared.ids.RequestId.{RequestId};
 ghost use Rattle.ctrl_types.specs.declared.ids.Pair.{Pair};
+ghost use Rattle.ctrl_clusters.specs.ControlsData.{ControlsData};
 ghost use Rattle.device_history.specs.declared.ask.Ask.{Ask};
 ghost use Rattle.device_history.specs.declared.ask.Ask.TheVariants as asks;
 ghost use Rattle.device_history.specs.declared.ask.Reply.TheVariants.{Controls, Frame};
@@ -42,7 +43,7 @@ ghost use Rattle.device_history.specs.Snapshots.{begun_pairs, frames, request, r
 ghost use Rattle.device_history.specs.FrameSteps.{frames_after, request_after};
 ghost use Rattle.device_history.specs.Forecasts.{forecast, queued_frames, waiting_after};
 ghost use Rattle.device_history.specs.Events.{next_sequence, payload, raises, raises_from, all_raised_for};
-ghost use Rattle.ctrl_raises.specs.Raises.{MomentData, changed_between, needing_feedback, payload_at, raised_all};
+ghost use Rattle.ctrl_raises.specs.Raises.{changed_between, needing_feedback, payload_at, raised_all};
 ghost use Rattle.device_history.specs.declared.limits.TheConstants.{MAX_STEPS};
 ghost use Rattle.device_history.specs.EventSteps.{AreAround, AreEvents, events_after, raised_by};
 ghost use Rattle.ctrl_events.specs.Events.{FileEvents, no_events};
@@ -232,16 +233,16 @@ pub fn added_raises()
 /// What a set, a begin, a grab and a range change raise is what changes between the ranges, values and grabs before and those after; the payload of what a
 /// subscription raises is read of those after.
 pub fn raised_events()
-    ensures set { (verdicts : Verdicts) (plan : PlanData) (e : Entry Step) (older : Past) (before after : MomentData) (from : FhId) (pairs : List Pair) (fh : FhId) (cs : List ℕ) (f : FileEvents) → e.step ≡ Set from pairs → AreAround verdicts plan e older before after
+    ensures set { (verdicts : Verdicts) (plan : PlanData) (e : Entry Step) (older : Past) (before after : ControlsData) (from : FhId) (pairs : List Pair) (fh : FhId) (cs : List ℕ) (f : FileEvents) → e.step ≡ Set from pairs → AreAround verdicts plan e older before after
         → raised_all (changed_between plan before after pairs) (payload_at plan after) (λ c. needing_feedback (Some from.0) pairs (changed_between plan before after pairs c) c) fh.0 cs f ≡ raised_by verdicts plan e older fh cs f }
-    ensures begin { (verdicts : Verdicts) (plan : PlanData) (e : Entry Step) (older : Past) (before after : MomentData) (r : RequestId) (fh : FhId) (cs : List ℕ) (f : FileEvents) → e.step ≡ Begin r → AreAround verdicts plan e older before after
+    ensures begin { (verdicts : Verdicts) (plan : PlanData) (e : Entry Step) (older : Past) (before after : ControlsData) (r : RequestId) (fh : FhId) (cs : List ℕ) (f : FileEvents) → e.step ≡ Begin r → AreAround verdicts plan e older before after
         → raised_all (changed_between plan before after (begun_pairs verdicts plan older r.0)) (payload_at plan after) (λ c. needing_feedback None (begun_pairs verdicts plan older r.0) (changed_between plan before after (begun_pairs verdicts plan older r.0) c) c) fh.0 cs f
         ≡ raised_by verdicts plan e older fh cs f }
-    ensures grab { (verdicts : Verdicts) (plan : PlanData) (e : Entry Step) (older : Past) (before after : MomentData) (d : ℕ) (on : Bool) (fh : FhId) (cs : List ℕ) (f : FileEvents) → e.step ≡ Grab d on → AreAround verdicts plan e older before after
+    ensures grab { (verdicts : Verdicts) (plan : PlanData) (e : Entry Step) (older : Past) (before after : ControlsData) (d : ℕ) (on : Bool) (fh : FhId) (cs : List ℕ) (f : FileEvents) → e.step ≡ Grab d on → AreAround verdicts plan e older before after
         → raised_all (changed_between plan before after []) (payload_at plan after) (λ c. needing_feedback None [] (changed_between plan before after [] c) c) fh.0 cs f ≡ raised_by verdicts plan e older fh cs f }
-    ensures range { (verdicts : Verdicts) (plan : PlanData) (e : Entry Step) (older : Past) (before after : MomentData) (d : ℕ) (low high : ℤ) (apart : ℕ) (default_value : ℤ) (fh : FhId) (cs : List ℕ) (f : FileEvents) → e.step ≡ ModifyRange d low high apart default_value → AreAround verdicts plan e older before after
+    ensures range { (verdicts : Verdicts) (plan : PlanData) (e : Entry Step) (older : Past) (before after : ControlsData) (d : ℕ) (low high : ℤ) (apart : ℕ) (default_value : ℤ) (fh : FhId) (cs : List ℕ) (f : FileEvents) → e.step ≡ ModifyRange d low high apart default_value → AreAround verdicts plan e older before after
         → raised_all (changed_between plan before after []) (payload_at plan after) (λ c. needing_feedback None [] (changed_between plan before after [] c) c) fh.0 cs f ≡ raised_by verdicts plan e older fh cs f }
-    ensures subscription { (verdicts : Verdicts) (plan : PlanData) (e : Entry Step) (older : Past) (at : MomentData) (c : ℕ) → at.ranges ≡ ranges_now plan (e ∷ older) → at.values ≡ now verdicts plan (e ∷ older) → at.grabs ≡ grabbed plan (e ∷ older) → payload_at plan at c ≡ payload verdicts plan (e ∷ older) c }
+    ensures subscription { (verdicts : Verdicts) (plan : PlanData) (e : Entry Step) (older : Past) (at : ControlsData) (c : ℕ) → at.ranges ≡ ranges_now plan (e ∷ older) → at.values ≡ now verdicts plan (e ∷ older) → at.grabs ≡ grabbed plan (e ∷ older) → payload_at plan at c ≡ payload verdicts plan (e ∷ older) c }
 {}
 
 /// What is forecast is what a begin then makes, whichever seats make the steps, as long as no set of present values, no grab or release, no

@@ -2,7 +2,7 @@
 use Rattle.std.proofs.Common.{◌≡◌, ℕ, suc, zero, ◌<◌, List, [], ◌∷◌, ◌++◌, length, map, take, slice_get, Some, refl, ap, sym, ◌∙◌, subst, arith}
 use Rattle.history.specs.Past.{past}
 use Rattle.ctrl_calls.specs.Meanings.{Verdicts}
-use Rattle.ctrl_settle.specs.Control.{Control}
+use Rattle.ctrl_clusters.specs.ControlsData.{ControlsData}
 use Rattle.ctrl_handlers.specs.Plan.{PlanData}
 use Rattle.device_history.specs.Steps.{History}
 use Rattle.device_history.specs.Legal.{IsLegal}
@@ -57,13 +57,13 @@ pub own_agrees : (verdicts : Verdicts) (device : DeviceData) (s : ScratchData) �
 own_agrees verdicts device s is = record { ranges = ap (λ (d : ScratchData). d.ranges) is; values = ap (λ (d : ScratchData). d.values) is; flags = ap (λ (d : ScratchData). d.flags) is; frames = same_alike (ap (λ (d : ScratchData). d.frames) is); forecasts = ap (λ (d : ScratchData). d.forecasts) is; events = ap (λ (d : ScratchData). d.events) is }
 
 -- parts that are what a history makes are those of a scratch exactly where it agrees
-pub agrees_both : (verdicts : Verdicts) (plan : PlanData) (past : Past) (s : ScratchData) (ranges : List Control) (values : Values) (grabs : Grabs) (requests : FramesData) (rows : List Forecast) (handles : List (ℕ × ℕ)) (kept : EventsData) → ranges ≡ ranges_now plan past → values ≡ now verdicts plan past
-    → grabs ≡ grabbed plan past → requests ≡ frames verdicts plan past → rows ≡ forecast verdicts plan past → open_events kept handles ≡ all_events verdicts plan past
-    → (HasParts s plan ranges values grabs requests rows handles kept → Agrees verdicts plan past s) × (Agrees verdicts plan past s → HasParts s plan ranges values grabs requests rows handles kept)
-agrees_both verdicts plan past s ranges values grabs requests rows handles kept r v g f b e = (
+pub agrees_both : (verdicts : Verdicts) (plan : PlanData) (past : Past) (s : ScratchData) (controls : ControlsData) (requests : FramesData) (rows : List Forecast) (handles : List (ℕ × ℕ)) (kept : EventsData) → controls.ranges ≡ ranges_now plan past → controls.values ≡ now verdicts plan past
+    → controls.grabs ≡ grabbed plan past → requests ≡ frames verdicts plan past → rows ≡ forecast verdicts plan past → open_events kept handles ≡ all_events verdicts plan past
+    → (HasParts s plan controls requests rows handles kept → Agrees verdicts plan past s) × (Agrees verdicts plan past s → HasParts s plan controls requests rows handles kept)
+agrees_both verdicts plan past s controls requests rows handles kept r v g f b e = (
   λ has. record { ranges = has.ranges ∙ r; values = has.values ∙ v; flags = has.flags ∙ same; frames = subst (IsLike s.frames) f has.frames; forecasts = has.forecasts ∙ b; events = has.events ∙ e },
   λ agrees. record { ranges = agrees.ranges ∙ sym r; values = agrees.values ∙ sym v; flags = agrees.flags ∙ sym same; frames = subst (IsLike s.frames) (sym f) agrees.frames; forecasts = agrees.forecasts ∙ sym b; events = agrees.events ∙ sym e },
 )
   where
-    same : flags_of_all plan values grabs ≡ all_flags verdicts plan past
-    same = ap (λ (vs : Values). flags_of_all plan vs grabs) v ∙ ap (λ (gs : Grabs). flags_of_all plan (now verdicts plan past) gs) g
+    same : flags_of_all plan controls.values controls.grabs ≡ all_flags verdicts plan past
+    same = ap (λ (vs : Values). flags_of_all plan vs controls.grabs) v ∙ ap (λ (gs : Grabs). flags_of_all plan (now verdicts plan past) gs) g

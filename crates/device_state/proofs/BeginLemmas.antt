@@ -1,6 +1,7 @@
 -- The begin of a frame: what it is answered, and what it leaves.
 use Rattle.std.proofs.Common.{◌≡◌, ℕ, false, true, List, [], ◌∷◌, ◌++◌, ◌<◌, length, map, drop, slice_get, subst, Option, None, Some, Result, Ok, Err, refl, ap, sym, ◌∙◌, arith, inl, inr}
 use Rattle.std.specs.List.{list_any}
+use Rattle.std.proofs.lemmas.List.{length-map}
 use Rattle.history.specs.Past.{past}
 use Rattle.ctrl_types.specs.declared.errno.Errno.{Errno}
 use Rattle.ctrl_types.specs.declared.errno.Errno.TheVariants.{ENOMEM, ENOSPC}
@@ -13,6 +14,7 @@ use Rattle.device_history.specs.Ranges.{ranges_now}
 use Rattle.device_history.specs.EventSteps.{events_after}
 use Rattle.ctrl_settle.specs.Control.{Control}
 use Rattle.ctrl_handlers.specs.Plan.{PlanData, members}
+use Rattle.ctrl_clusters.specs.ControlsData.{ControlsData}
 use Rattle.ctrl_clusters.specs.Rows.{Grabs, Values, row_of}
 use Rattle.ctrl_clusters.specs.Changes.{members_change}
 use Rattle.ctrl_clusters.specs.Notified.{AreNotified}
@@ -48,7 +50,7 @@ use Rattle.ctrl_forecast.specs.Boards.{BoardData, board_of, named_clusters}
 use Rattle.ctrl_forecast.specs.Forecasts.{QueuedData, forecasts}
 use Rattle.ctrl_forecast.specs.declared.board.Forecast.{Forecast}
 use Rattle.ctrl_clusters.specs.Overlay.{overlay}
-use Rattle.device_history.specs.Forecasts.{board, forecast, queued_frame}
+use Rattle.device_history.specs.Forecasts.{board, forecast, queued_frame, queued_frames}
 use Rattle.device_state.proofs.KeptLemmas.{kept_add, set_room}
 use Rattle.device_state.proofs.SetLemmas.{notified_same}
 
@@ -103,13 +105,6 @@ begin_reply verdicts plan older r id buffer f free first room own is =
     same : (a b c d : ℕ) → ◌≡◌ {A = Result (ℕ × ℕ) Errno} (Ok (a, b)) (Ok (c, d)) → b ≡ d
     same a b c d h = ap number h
 
--- the queue refuses no such frame
-pub begin_some : (verdicts : Verdicts) (plan : PlanData) (older : Past) (r : ℕ) (errno : Errno) (f : FramesData) → running older ≡ None → first_of (queue older) ≡ Some r → f ≡ frames verdicts plan older → begin_answer f ≡ Err errno → ⊥
-begin_some verdicts plan older r errno f free first own is = clash (sym (answered_first verdicts plan older r free first) ∙ sym (ap begin_answer own) ∙ is)
-  where
-    clash : {a : ℕ × ℕ} → ◌≡◌ {A = Result (ℕ × ℕ) Errno} (Ok a) (Err errno) → ⊥
-    clash h = cc
-
 -- its step may follow
 begin_adds : (verdicts : Verdicts) (plan : PlanData) (older : Past) (r : ℕ) → first_of (queue older) ≡ Some r → step_of verdicts plan older asks.Begin ≡ Some (Begin (record { 0 = r }))
 begin_adds verdicts plan older r first = rw first refl
@@ -128,17 +123,23 @@ begun_first verdicts plan older r row free first stood =
     let is = begun_row verdicts plan older (record { 0 = r }) row (free, first) stood in
     (ap (λ (f : Forecast). f.values) is, ap (λ (f : Forecast). f.refused) is)
 
+-- some number is the first of no empty list
+some_first : (ids : List ℕ) (r : ℕ) → first_of ids ≡ Some r → 0 < length ids
+some_first [] r h = cc
+some_first (j ∷ ids) r h = omega arith
+
 -- and there is one
 pub begun_some : (verdicts : Verdicts) (plan : PlanData) (older : Past) (r : ℕ) → first_of (queue older) ≡ Some r → slice_get (forecast verdicts plan older) 0 ≡ None → ⊥
-begun_some verdicts plan older r first none = none_within (forecast verdicts plan older) 0 (subst (λ (n : ℕ). 0 < n) (sym (forecast_each verdicts plan older)) (some (queue older) first)) none
-  where
-    some : (ids : List ℕ) → first_of ids ≡ Some r → 0 < length ids
-    some [] h = cc
-    some (j ∷ ids) h = omega arith
+begun_some verdicts plan older r first none =
+    none_within (forecast verdicts plan older) 0 (subst (λ (n : ℕ). 0 < n) (sym (forecast_each verdicts plan older)) (some_first (queue older) r first)) none
+
+-- its frame is queued
+pub frames_queued : (plan : PlanData) (older : Past) (r : ℕ) → first_of (queue older) ≡ Some r → 0 < length (queued_frames plan older)
+frames_queued plan older r first = subst (λ (n : ℕ). 0 < n) (sym (length-map (queue older) (queued_frame plan older))) (some_first (queue older) r first)
 
 -- the rows behind the first
 rows_behind : (verdicts : Verdicts) (plan : PlanData) (controls : List Control) (grabs : Grabs) (values : Values) (q : QueuedData) (qs : List QueuedData)
-    → drop 1 (forecasts verdicts plan controls grabs values (q ∷ qs)) ≡ forecasts verdicts plan controls grabs (overlay verdicts plan controls values grabs q.asked) qs
+    → drop 1 (forecasts verdicts plan controls values grabs (q ∷ qs)) ≡ forecasts verdicts plan controls (overlay verdicts plan controls values grabs q.asked) grabs qs
 unfolding forecasts
 rows_behind verdicts plan controls grabs values q qs = refl
 
@@ -154,33 +155,33 @@ begun_board verdicts plan older r old new own first q n f = by (queue older) ref
     by [] is h = cc
     by (j ∷ ids) is h =
         let same : j ≡ r = own_first j h in
-        let whole : old ≡ board_of verdicts plan (ranges_now plan older) (grabbed plan older) (now verdicts plan older) (queued_frame plan older j ∷ map (queued_frame plan older) ids) =
-        own ∙ ap (λ (js : List ℕ). board_of verdicts plan (ranges_now plan older) (grabbed plan older) (now verdicts plan older) (map (queued_frame plan older) js)) is in
+        let whole : old ≡ board_of verdicts plan (ranges_now plan older) (now verdicts plan older) (grabbed plan older) (queued_frame plan older j ∷ map (queued_frame plan older) ids) =
+        own ∙ ap (λ (js : List ℕ). board_of verdicts plan (ranges_now plan older) (now verdicts plan older) (grabbed plan older) (map (queued_frame plan older) js)) is in
         parts (q ∙ ap (λ (b : BoardData). drop 1 b.queued) own) (n ∙ ap (λ (b : BoardData). drop 1 b.named) whole ∙ ap (λ (js : List ℕ). map (λ x. named_clusters plan x.asked) (drop 1 (map (queued_frame plan older) js))) (sym is))
         (f ∙ ap (λ (b : BoardData). drop 1 b.forecasts) whole
         ∙ behind j ids
-        ∙ ap (λ (k : ℕ). forecasts verdicts plan (ranges_now plan older) (grabbed plan older) (overlay verdicts plan (ranges_now plan older) (now verdicts plan older) (grabbed plan older) (asked plan older k)) (map (queued_frame plan older) ids)) same
-        ∙ ap (λ (js : List ℕ). forecasts verdicts plan (ranges_now plan older) (grabbed plan older) (begun_values verdicts plan older r) (drop 1 (map (queued_frame plan older) js))) (sym is))
+        ∙ ap (λ (k : ℕ). forecasts verdicts plan (ranges_now plan older) (overlay verdicts plan (ranges_now plan older) (now verdicts plan older) (grabbed plan older) (asked plan older k)) (grabbed plan older) (map (queued_frame plan older) ids)) same
+        ∙ ap (λ (js : List ℕ). forecasts verdicts plan (ranges_now plan older) (begun_values verdicts plan older r) (grabbed plan older) (drop 1 (map (queued_frame plan older) js))) (sym is))
       where
         own_first : (j : ℕ) → Some j ≡ Some r → j ≡ r
         own_first j h = cc
 
         behind : (j : ℕ) (ids : List ℕ)
-            → drop 1 (forecasts verdicts plan (ranges_now plan older) (grabbed plan older) (now verdicts plan older) (queued_frame plan older j ∷ map (queued_frame plan older) ids))
-            ≡ forecasts verdicts plan (ranges_now plan older) (grabbed plan older) (overlay verdicts plan (ranges_now plan older) (now verdicts plan older) (grabbed plan older) (asked plan older j)) (map (queued_frame plan older) ids)
+            → drop 1 (forecasts verdicts plan (ranges_now plan older) (now verdicts plan older) (grabbed plan older) (queued_frame plan older j ∷ map (queued_frame plan older) ids))
+            ≡ forecasts verdicts plan (ranges_now plan older) (overlay verdicts plan (ranges_now plan older) (now verdicts plan older) (grabbed plan older) (asked plan older j)) (grabbed plan older) (map (queued_frame plan older) ids)
         behind j ids = rows_behind verdicts plan (ranges_now plan older) (grabbed plan older) (now verdicts plan older) (queued_frame plan older j) (map (queued_frame plan older) ids)
 
 -- what is kept after a begin
-pub kept_begin : (verdicts : Verdicts) (told : Words) (plan : PlanData) (entries entries' : History) (caches : Caches) (values : Values) (f : FramesData) (b : BoardData) (events : EventsData) (words : List ℕ) (applied : List Pair) (seat r : ℕ)
-    → IsKept verdicts told plan entries caches → IsBegun verdicts plan (past entries) r applied → values ≡ begun_values verdicts plan (past entries) r → entries' ≡ entries ++ record { seat = seat; step = Begin (record { 0 = r }) } ∷ []
-    → f ≡ after_begin caches.frames applied → AreNotified told plan (members_change plan caches.values values applied) (λ k. row_of values (members plan k)) caches.words words
+pub kept_begin : (verdicts : Verdicts) (told : Words) (plan : PlanData) (entries entries' : History) (caches : Caches) (controls : ControlsData) (f : FramesData) (b : BoardData) (events : EventsData) (words : List ℕ) (applied : List Pair) (seat r : ℕ)
+    → IsKept verdicts told plan entries caches → IsBegun verdicts plan (past entries) r applied → controls ≡ record caches.controls { values = begun_values verdicts plan (past entries) r } → entries' ≡ entries ++ record { seat = seat; step = Begin (record { 0 = r }) } ∷ []
+    → f ≡ after_begin caches.frames applied → AreNotified told plan (members_change plan caches.controls.values controls.values applied) (λ k. row_of controls.values (members plan k)) caches.words words
     → ((fh : FhId) → events_of events fh.0 ≡ events_after verdicts plan (record { seat = seat; step = Begin (record { 0 = r }) }) (past entries) fh (events_of caches.events fh.0))
-    → b ≡ board_after verdicts plan (Begin (record { 0 = r })) (past entries) → IsKept verdicts told plan entries' (record caches { values = values; frames = f; board = b; events = events; words = words })
-kept_begin verdicts told plan entries entries' caches values f b events words applied seat r kept begun v s made renewed ev popped =
-    kept_add verdicts told plan entries entries' caches (record caches { values = values; frames = f; board = b; events = events; words = words }) (record { seat = seat; step = Begin (record { 0 = r }) }) kept (set_room entries begun.room)
-    (begin_follows verdicts plan (past entries) r begun.free begun.first begun.room) s kept.file_handles kept.grabs kept.ranges v
+    → b ≡ board_after verdicts plan (Begin (record { 0 = r })) (past entries) → IsKept verdicts told plan entries' (record caches { controls = controls; frames = f; board = b; events = events; words = words })
+kept_begin verdicts told plan entries entries' caches controls f b events words applied seat r kept begun is s made renewed ev popped =
+    kept_add verdicts told plan entries entries' caches (record caches { controls = controls; frames = f; board = b; events = events; words = words }) (record { seat = seat; step = Begin (record { 0 = r }) }) kept (set_room entries begun.room)
+    (begin_follows verdicts plan (past entries) r begun.free begun.first begun.room) s kept.file_handles (ap (λ (m : ControlsData). m.ranges) is ∙ kept.ranges) (ap (λ (m : ControlsData). m.values) is) (ap (λ (m : ControlsData). m.grabs) is ∙ kept.grabs)
     (made ∙ ap (λ (g : FramesData). after_begin g applied) kept.frames ∙ ap (after_begin (frames verdicts plan (past entries))) begun.are_applied)
-    (words_between told plan caches.values values applied caches.words words kept.words renewed) ev popped
+    (words_between told plan caches.controls.values controls.values applied caches.words words kept.words renewed) ev popped
 
 -- what a begin changes of the members of a cluster
 begin_changing : (verdicts : Verdicts) (plan : PlanData) (older : Past) (r j : ℕ) (reply : Reply) → first_of (queue older) ≡ Some r

@@ -35,10 +35,10 @@ use Rattle.ctrl_settle.specs.Control.{Control}
 use Rattle.step_effects.specs.Leaving.{leaves_controls}
 use Rattle.device_history.proofs.RangeLemmas.{ranges_add}
 
--- a board is of the ranges, the grabs, the values and the queued frames
-pub board_same : (verdicts : Verdicts) (plan : PlanData) {controls controls' : List Control} {grabs grabs' : Grabs} {values values' : Values} {queued queued' : List QueuedData} → controls ≡ controls' → grabs ≡ grabs' → values ≡ values' → queued ≡ queued'
-    → board_of verdicts plan controls grabs values queued ≡ board_of verdicts plan controls' grabs' values' queued'
-board_same verdicts plan r g v q = rw (r, g, v, q) refl
+-- a board is of the ranges, the values, the grabs and the queued frames
+pub board_same : (verdicts : Verdicts) (plan : PlanData) {controls controls' : List Control} {values values' : Values} {grabs grabs' : Grabs} {queued queued' : List QueuedData} → controls ≡ controls' → values ≡ values' → grabs ≡ grabs' → queued ≡ queued'
+    → board_of verdicts plan controls values grabs queued ≡ board_of verdicts plan controls' values' grabs' queued'
+board_same verdicts plan r v g q = rw (r, v, g, q) refl
 
 -- at first no frame is queued
 pub board_start : (verdicts : Verdicts) (plan : PlanData) → board verdicts plan (past []) ≡ no_board
@@ -48,11 +48,11 @@ board_start verdicts plan = rw ever_queued_start refl
 -- what one more step makes of a board
 abbrev pub board_after : Verdicts → PlanData → Step → Past → BoardData
 board_after verdicts plan step older =
-    board_of verdicts plan (ranges_after step (ranges_now plan older)) (grabbed_after step (grabbed plan older)) (values_after verdicts plan older step (now verdicts plan older)) (waiting_after plan older step (queued_frames plan older))
+    board_of verdicts plan (ranges_after step (ranges_now plan older)) (values_after verdicts plan older step (now verdicts plan older)) (grabbed_after step (grabbed plan older)) (waiting_after plan older step (queued_frames plan older))
 
 pub board_add : (verdicts : Verdicts) (plan : PlanData) (entries : History) (e : Entry Step) → IsLegal verdicts plan (past entries) → MayFollow verdicts plan (past entries) e.step
     → board verdicts plan (past (entries ++ e ∷ [])) ≡ board_after verdicts plan e.step (past entries)
-board_add verdicts plan entries e legal may = board_same verdicts plan (ranges_add plan entries e) (grabbed_add plan entries e) (now_add verdicts plan entries e) (waiting_add verdicts plan entries e legal may)
+board_add verdicts plan entries e legal may = board_same verdicts plan (ranges_add plan entries e) (now_add verdicts plan entries e) (grabbed_add plan entries e) (waiting_add verdicts plan entries e legal may)
 
 -- the frame of a request that is there
 frame_is : (verdicts : Verdicts) (plan : PlanData) (older : Past) (r : ℕ) → IsLegal verdicts plan older → (queue_refusal (request verdicts plan older r) ≡ None) → frame_in (frames verdicts plan older) r ≡ queued_frame plan older r
@@ -110,6 +110,6 @@ pub line_bound : (verdicts : Verdicts) (plan : PlanData) (older : Past) (step : 
 line_bound verdicts plan older step f queued own line = rw (own, line) refl
 
 -- the board that is kept, as one of what is kept beside it
-pub board_own : (verdicts : Verdicts) (plan : PlanData) (controls controls' : List Control) (grabs grabs' : Grabs) (values values' : Values) (queued : List QueuedData) (b : BoardData) → b ≡ board_of verdicts plan controls grabs values queued
-    → controls' ≡ controls → grabs' ≡ grabs → values' ≡ values → b ≡ board_of verdicts plan controls' grabs' values' b.queued
-board_own verdicts plan controls controls' grabs grabs' values values' queued b is r g v = is ∙ board_same verdicts plan (sym r) (sym g) (sym v) (sym (ap (λ (x : BoardData). x.queued) is))
+pub board_own : (verdicts : Verdicts) (plan : PlanData) (controls controls' : List Control) (values values' : Values) (grabs grabs' : Grabs) (queued : List QueuedData) (b : BoardData) → b ≡ board_of verdicts plan controls values grabs queued
+    → controls' ≡ controls → values' ≡ values → grabs' ≡ grabs → b ≡ board_of verdicts plan controls' values' grabs' b.queued
+board_own verdicts plan controls controls' values values' grabs grabs' queued b is r v g = is ∙ board_same verdicts plan (sym r) (sym v) (sym g) (sym (ap (λ (x : BoardData). x.queued) is))

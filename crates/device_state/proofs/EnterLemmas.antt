@@ -1,5 +1,5 @@
 -- Steps that leave file handles, grabs, ranges and values: when they may follow, and what a call that adds one does.
-use Rattle.std.proofs.Common.{◌≡◌, ℕ, ◌+◌, ◌≤◌, Bool, true, false, List, [], length, is_some, if◌then◌else◌, Option, None, Some, Ok, Err, IsOk, refl, ap, sym, subst, ◌∙◌, arith, inl, inr}
+use Rattle.std.proofs.Common.{◌≡◌, ℕ, ◌+◌, ◌≤◌, Bool, true, false, List, [], length, is_some, if◌then◌else◌, Option, None, Some, Ok, Err, IsOk, refl, ap, sym, subst, ◌∙◌, arith, inl, inr, Result}
 use Rattle.history.specs.Past.{past}
 use Rattle.ctrl_types.specs.declared.errno.Errno.{Errno}
 use Rattle.ctrl_types.specs.declared.errno.Errno.TheVariants.{EINVAL, ENOMEM, ENOSPC}
@@ -189,18 +189,25 @@ asked_is verdicts plan older r pairs is = by (state older r) is
     by None h = cc
     by (Some s) h = cc
 
--- what a request doesn't refuse is there
-pub not_denied : (o : Option RequestData) (errno : Errno) → errno_if_refused (book.snapshot_answer o) ≡ None → book.snapshot_answer o ≡ Err errno → ⊥
-not_denied o errno passes is = clash (ap errno_if_refused (sym is) ∙ passes)
+-- a request that refuses no list that reads has values to be read
+pub granted : (o : Option RequestData) → errno_if_refused (book.snapshot_answer o) ≡ None → IsOk (book.snapshot_answer o)
+granted o passes = by (book.snapshot_answer o) passes
   where
-    clash : Some errno ≡ None → ⊥
-    clash h = cc
+    by : (answer : Result (List CtrlValue) Errno) → errno_if_refused answer ≡ None → IsOk answer
+    by (Ok values) h = refl
+    by (Err errno) h = cc
 
--- what a request asks for that is there can be read
-pub asked_there : (verdicts : Verdicts) (plan : PlanData) (older : Past) (r : ℕ) (errno : Errno) → is_some (state older r) ≡ true → book.asked_answer (request verdicts plan older r) ≡ Err errno → ⊥
+-- one that refuses no list that writes is there
+pub storable_there : (o : Option RequestData) → book.store_refusal o ≡ None → is_some o ≡ true
+storable_there None h = cc
+storable_there (Some r) h = refl
+
+-- a request that is there is among those that are kept
+pub held : (verdicts : Verdicts) (told : Words) (plan : PlanData) (entries : History) (caches : Caches) (r : ℕ) → IsKept verdicts told plan entries caches → is_some (state (past entries) r) ≡ true
+    → is_some (find caches.frames.requests.all r) ≡ true
 unfolding request
-asked_there verdicts plan older r errno there is = by (state older r) there is
+held verdicts told plan entries caches r kept there = ap is_some (found verdicts told plan entries caches r kept) ∙ by (state (past entries) r) there
   where
-    by : (o : Option RequestState) → is_some o ≡ true → book.asked_answer (option_map (request_in verdicts plan older r) o) ≡ Err errno → ⊥
-    by None h e = cc
-    by (Some s) h e = cc
+    by : (o : Option RequestState) → is_some o ≡ true → is_some (option_map (request_in verdicts plan (past entries) r) o) ≡ true
+    by None h = cc
+    by (Some s) h = refl

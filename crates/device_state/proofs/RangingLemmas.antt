@@ -26,6 +26,7 @@ use Rattle.ctrl_settle.proofs.WellFormed.{fault_found, nothing_found}
 use Rattle.ctrl_handlers.specs.ClusterData.{ClusterData}
 use Rattle.ctrl_handlers.specs.Plan.{IsPlan, PlanData, calls_of, cluster_of, control, control_in, members, no_cluster}
 use Rattle.ctrl_handlers.proofs.ClusterLemmas.{cluster_of_member, cluster_of_within, none_of}
+use Rattle.ctrl_clusters.specs.ControlsData.{ControlsData, given_range}
 use Rattle.ctrl_clusters.specs.Ranges.{modified}
 use Rattle.ctrl_clusters.specs.Rows.{Values, row_of, value_at}
 use Rattle.ctrl_clusters.specs.Changes.{members_change}
@@ -39,6 +40,7 @@ use Rattle.device_history.specs.declared.limits.TheConstants.{MAX_STEPS}
 use Rattle.device_history.specs.Steps.{History, Past}
 use Rattle.device_history.specs.Ranges.{range_answer, ranges_after, ranges_now}
 use Rattle.device_history.specs.Refusals.{fault_of, is_full, refused}
+use Rattle.device_history.specs.Grabs.{grabbed}
 use Rattle.device_history.specs.Values.{now}
 use Rattle.device_history.specs.Words.{changes}
 use Rattle.device_history.specs.EventSteps.{events_after}
@@ -232,24 +234,27 @@ ranges_ranged plan older c changed ranges after is own set =
     set ∙ ap (λ (cs : List Control). modified cs c changed) own ∙ ap (modified (ranges_now plan older) c) is.its_own
 
 -- what is kept after a range change
-pub kept_range : (verdicts : Verdicts) (told : Words) (plan : PlanData) (steps steps' : History) (caches : Caches) (ranges : List Control) (values : Values) (b : BoardData) (events : EventsData) (words : List ℕ) (seat c : ℕ) (changed : Control)
+pub kept_range : (verdicts : Verdicts) (told : Words) (plan : PlanData) (steps steps' : History) (caches : Caches) (controls : ControlsData) (b : BoardData) (events : EventsData) (words : List ℕ) (seat c : ℕ) (changed : Control)
     → IsKept verdicts told plan steps caches → IsRanged plan (past steps) c changed → steps' ≡ steps ++ record { seat = seat; step = range_step c changed } ∷ []
-    → ranges ≡ modified caches.ranges c changed → values ≡ slice_set caches.values c (settled_anew changed (value_at caches.values c))
-    → AreNotified told plan (members_change plan caches.values values []) (λ k. row_of values (members plan k)) caches.words words
+    → controls ≡ given_range caches.controls c changed (settled_anew changed (value_at caches.controls.values c))
+    → AreNotified told plan (members_change plan caches.controls.values controls.values []) (λ k. row_of controls.values (members plan k)) caches.words words
     → ((fh : FhId) → events_of events fh.0 ≡ events_after verdicts plan (record { seat = seat; step = range_step c changed }) (past steps) fh (events_of caches.events fh.0))
-    → b ≡ board_of verdicts plan ranges caches.grabs values caches.board.queued
-    → IsKept verdicts told plan steps' (record caches { ranges = ranges; values = values; board = b; events = events; words = words })
-kept_range verdicts told plan steps steps' caches ranges values b events words seat c changed kept is s r v retold ev renewed =
-    kept_add verdicts told plan steps steps' caches (record caches { ranges = ranges; values = values; board = b; events = events; words = words }) (record { seat = seat; step = range_step c changed }) kept (range_room plan steps c changed is)
+    → b ≡ board_of verdicts plan controls.ranges controls.values controls.grabs caches.board.queued
+    → IsKept verdicts told plan steps' (record caches { controls = controls; board = b; events = events; words = words })
+kept_range verdicts told plan steps steps' caches controls b events words seat c changed kept is s given retold ev renewed =
+    kept_add verdicts told plan steps steps' caches (record caches { controls = controls; board = b; events = events; words = words }) (record { seat = seat; step = range_step c changed }) kept (range_room plan steps c changed is)
     (asks.ModifyRange c changed.minimum changed.maximum changed.step changed.default_value, ap fault_of is.accepted, refl) s
-    kept.file_handles kept.grabs ranges_are values_are kept.frames (words_between told plan caches.values values [] caches.words words kept.words retold) ev
-    (renewed ∙ board_same verdicts plan ranges_are kept.grabs values_are (ap (λ (x : BoardData). x.queued) kept.board))
+    kept.file_handles ranges_are values_are grabs_are kept.frames (words_between told plan caches.controls.values controls.values [] caches.words words kept.words retold) ev
+    (renewed ∙ board_same verdicts plan ranges_are values_are grabs_are (ap (λ (x : BoardData). x.queued) kept.board))
   where
-    ranges_are : ranges ≡ ranges_after (range_step c changed) (ranges_now plan (past steps))
-    ranges_are = ranges_ranged plan (past steps) c changed caches.ranges ranges is kept.ranges r
+    ranges_are : controls.ranges ≡ ranges_after (range_step c changed) (ranges_now plan (past steps))
+    ranges_are = ranges_ranged plan (past steps) c changed caches.controls.ranges controls.ranges is kept.ranges (ap (λ (m : ControlsData). m.ranges) given)
 
-    values_are : values ≡ values_then verdicts plan (past steps) (range_step c changed)
-    values_are = values_ranged verdicts plan (past steps) c changed caches.values values is kept.values v
+    values_are : controls.values ≡ values_then verdicts plan (past steps) (range_step c changed)
+    values_are = values_ranged verdicts plan (past steps) c changed caches.controls.values controls.values is kept.values (ap (λ (m : ControlsData). m.values) given)
+
+    grabs_are : controls.grabs ≡ grabbed plan (past steps)
+    grabs_are = ap (λ (m : ControlsData). m.grabs) given ∙ kept.grabs
 
 -- a range change that is accepted
 pub handles_range : (verdicts : Verdicts) (told : Words) (old between new : DeviceData) (work : Work) (seat c : ℕ) (low high : ℤ) (apart : ℕ) (default_value : ℤ) (changed : Control) → between ≡ record old { work = work } → work ≡ at_rest

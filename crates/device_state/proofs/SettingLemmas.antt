@@ -24,7 +24,7 @@ use Rattle.device_history.specs.Values.{now}
 use Rattle.device_history.specs.Refusals.{is_full, refused_at, fault_of}
 use Rattle.device_history.specs.Lists.{write_view, earlier_pairs, list_pairs, meant, opening_checks, pairs_step, which_or}
 use Rattle.device_history.specs.Answers.{MayAnswer, step_of}
-use Rattle.device_state.specs.Setting.{IsSettable}
+use Rattle.device_state.specs.Setting.{CanBeSet, IsSettable}
 use Rattle.device_history.proofs.ListLemmas.{accepted_free, set_limited, set_passes}
 
 -- an accepted set for which there is no memory
@@ -49,6 +49,18 @@ settable verdicts plan older fh which request list view touch plans opens read i
       room = room;
       accepted = set_limited verdicts plan older fh which request list touch.answers opens answered ∙ rw room refl;
     }
+
+-- whatever list it is of
+pub can_be_set : (verdicts : Verdicts) (plan : PlanData) (older : Past) (fh : FhId) (which : ℕ) (request : Option RequestId) (list : List ExtControl) (touch : TouchedData) → IsSettable verdicts plan older fh which request list touch
+    → CanBeSet verdicts plan older fh (meant (which_or (which_of which)) request) touch
+can_be_set verdicts plan older fh which request list touch sets = record {
+  plans = sets.plans;
+  known = sets.known;
+  judged = sets.judged;
+  free = sets.free;
+  room = sets.room;
+  follows = (asks.SetCtrls fh which request list, ap fault_of sets.accepted, ap (λ (pairs : List Pair). Some (pairs_step (meant (which_or (which_of which)) request) fh pairs)) (sym sets.own_pairs));
+}
 
 -- a set of present values lays its pairs alone
 pub own_judged : (verdicts : Verdicts) (plan : PlanData) (older : Past) (fh : FhId) (which : ℕ) (request : Option RequestId) (list : List ExtControl) (touch : TouchedData) → IsSettable verdicts plan older fh which request list touch

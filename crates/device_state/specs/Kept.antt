@@ -3,10 +3,9 @@ use Rattle.std.specs.Prelude.{◌≡◌, ℕ, ◌≤◌, List, length}
 use Rattle.history.specs.Past.{past}
 use Rattle.ctrl_types.specs.declared.ids.FhId.{FhId}
 use Rattle.ctrl_events.specs.Events.{EventsData, events_of}
-use Rattle.ctrl_settle.specs.Control.{Control}
-use Rattle.ctrl_handlers.specs.Plan.{IsPlan, PlanData}
+use Rattle.ctrl_handlers.specs.Plan.{IsFinished, PlanData}
 use Rattle.ctrl_calls.specs.Meanings.{Verdicts, Words}
-use Rattle.ctrl_clusters.specs.Rows.{Grabs, Values}
+use Rattle.ctrl_clusters.specs.ControlsData.{ControlsData}
 use Rattle.device_history.specs.declared.limits.TheConstants.{MAX_STEPS}
 use Rattle.device_history.specs.Steps.{History}
 use Rattle.device_history.specs.Handles.{opened}
@@ -25,9 +24,8 @@ use Rattle.device_history.specs.Legal.{IsLegal}
 pub record Caches : Type 0 where
   -- the open file handles, each with its handler
   pub file_handles : List (ℕ × ℕ)
-  pub grabs : Grabs
-  pub ranges : List Control
-  pub values : Values
+  -- the present ranges, values and grabs
+  pub controls : ControlsData
   -- the requests and the queue
   pub frames : FramesData
   -- the queued frames, with what they will have
@@ -40,14 +38,14 @@ pub record Caches : Type 0 where
 -- The steps came about and are not more than are kept; each part is what they make of it. The words alone aren't determined by them:
 -- each cluster has one that it may have been told of its row.
 pub record IsKept (verdicts : Verdicts) (told : Words) (plan : PlanData) (steps : History) (caches : Caches) : Type 0 where
-  pub plans : IsPlan plan
+  pub plans : IsFinished plan
   pub legal : IsLegal verdicts plan (past steps)
   pub few : length steps ≤ MAX_STEPS
   pub file_handles : caches.file_handles ≡ opened (past steps)
-  pub grabs : caches.grabs ≡ grabbed plan (past steps)
-  pub ranges : caches.ranges ≡ ranges_now plan (past steps)
-  pub values : caches.values ≡ now verdicts plan (past steps)
+  pub ranges : caches.controls.ranges ≡ ranges_now plan (past steps)
+  pub values : caches.controls.values ≡ now verdicts plan (past steps)
+  pub grabs : caches.controls.grabs ≡ grabbed plan (past steps)
   pub frames : caches.frames ≡ frames verdicts plan (past steps)
   pub board : caches.board ≡ board verdicts plan (past steps)
   pub events : (fh : FhId) → AreEvents verdicts plan (past steps) fh (events_of caches.events fh.0)
-  pub words : HaveWords told plan caches.values caches.words
+  pub words : HaveWords told plan caches.controls.values caches.words

@@ -19,7 +19,8 @@ use Rattle.ctrl_forecast.specs.Forecasts.{named_by_frames}
 use Rattle.device_history.specs.Forecasts.{queued_frames}
 use Rattle.device_history.specs.Values.{now}
 use Rattle.device_history.specs.Refusals.{is_full}
-use Rattle.device_history.specs.Lists.{earlier_pairs, list_pairs, meant, set_list_answer, which_or}
+use Rattle.device_history.specs.Legal.{MayFollow}
+use Rattle.device_history.specs.Lists.{earlier_pairs, list_pairs, meant, pairs_step, set_list_answer, which_or}
 use Rattle.device_state.specs.Device.{DeviceData, with_step}
 use Rattle.ctrl_clusters.specs.NewRows.{clusters_of, row_or_empty}
 use Rattle.ctrl_clusters.specs.Changes.{cluster_changes}
@@ -35,6 +36,15 @@ pub record IsSettable (verdicts : Verdicts) (plan : PlanData) (older : Past) (fh
   pub free : list_any (λ p. is_grabbed (grabbed plan older) p.control) touch.pairs ≡ false
   pub room : is_full older ≡ false
   pub accepted : set_list_answer verdicts plan older fh which request list ≡ Ok (Controls touch.answers)
+
+-- What makes of it that its rows can be written, or its pairs stored in the request that it speaks of: its step may follow, whatever list it is of.
+pub record CanBeSet (verdicts : Verdicts) (plan : PlanData) (older : Past) (fh : FhId) (request : Option RequestId) (touch : TouchedData) : Type 0 where
+  pub plans : IsPlan plan
+  pub known : All (λ p. p.control < length plan.controls) touch.pairs
+  pub judged : AreJudged verdicts plan (ranges_now plan older) (now verdicts plan older) (earlier_pairs plan older request ++ touch.pairs) touch.pairs touch.rows
+  pub free : list_any (λ p. is_grabbed (grabbed plan older) p.control) touch.pairs ≡ false
+  pub room : is_full older ≡ false
+  pub follows : MayFollow verdicts plan older (pairs_step request fh touch.pairs)
 
 -- What setting it does: it adds its step, and each cluster is told its row where the row changes a member.
 pub record SetsAll (verdicts : Verdicts) (told : Words) (old new : DeviceData) (seat : ℕ) (fh : FhId) (touch : TouchedData) : Type 0 where

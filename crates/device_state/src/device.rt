@@ -4,7 +4,7 @@ ghost use Rattle.ctrl_types.specs.declared.errno.Errno.TheVariants.{ENOMEM};
 ghost use Rattle.device_history.specs.declared.ask.Ask.TheVariants as asks;
 ghost use Rattle.device_history.specs.declared.ask.Reply.TheVariants as replies;
 ghost use Rattle.device_history.specs.declared.ask.Step.TheVariants as steps;
-ghost use Rattle.ctrl_clusters.specs.Rows.{AreControlsOf, is_grabbed};
+ghost use Rattle.ctrl_clusters.specs.Rows.{is_grabbed};
 ghost use Rattle.device_history.specs.Ranges.{ranges_now};
 ghost use Rattle.device_history.specs.Grabs.{grabbed, grab_answer};
 ghost use Rattle.device_history.specs.Flags.{flags_now};
@@ -28,11 +28,10 @@ mod ranges;
 mod requests;
 
 use ctrl_calls::{Driver, Work};
-use ctrl_clusters::{Ranges, default_values, first_words, flags_under, no_grabs};
+use ctrl_clusters::{Controls, Moment, first_words, flags_under};
 use ctrl_events::Events;
 use ctrl_forecast::Board;
 use ctrl_handlers::Plan;
-use ctrl_raises::Moment;
 use ctrl_settle::Ctrl;
 use ctrl_types::{CtrlId, CtrlValue, Errno, Fault, FhId, Flags, RequestId};
 use device_history::{Ask, CtrlInfo, MAX_FILE_HANDLES, MAX_STEPS, Reply, Step};
@@ -52,12 +51,8 @@ pub struct Device<D: Driver> {
     plan: Plan<D>,
     // the open file handles, each with its handler, in the order of their opening
     file_handles: IndexMap<u32, u32>,
-    // whether a control is grabbed, by control
-    grabs: Vec<bool>,
-    // the present ranges, by control
-    ranges: Ranges,
-    // the present values, by control
-    values: Vec<CtrlValue>,
+    // the present ranges, values and grabs
+    controls: Controls,
     // the media requests, and the queue of frames
     frames: Frames,
     // the queued frames, with what they will have
@@ -80,7 +75,7 @@ impl<D: Driver> Model for Device<D> {
 
     ghost view = { λ d. record { plan = d.plan; steps = d.steps.items; words = d.words.items; work = d.work } };
 
-    ghost invariant = { λ d. IsKept D.verdict D.told d.plan d.steps.items (record { file_handles = d.file_handles.entries; grabs = d.grabs.items; ranges = d.ranges; values = d.values.items; frames = d.frames; board = d.board; events = d.events; words = d.words.items }) };
+    ghost invariant = { λ d. IsKept D.verdict D.told d.plan d.steps.items (record { file_handles = d.file_handles.entries; controls = d.controls; frames = d.frames; board = d.board; events = d.events; words = d.words.items }) };
 }
 
 impl<D: Driver> Drop for Device<D> {
@@ -88,9 +83,7 @@ impl<D: Driver> Drop for Device<D> {
         let Device {
             plan: _,
             file_handles: _,
-            grabs: _,
-            ranges: _,
-            values: _,
+            controls: _,
             frames: _,
             board: _,
             events: _,
@@ -114,28 +107,20 @@ impl<D: Driver> Device<D> {
         ensures ok { IfOk result (λ d. (d.plan ≡ plan) × (d.steps ≡ []) × HaveWords D.told plan (defaults plan) d.words × (d.work ≡ record { asked = 0; told = 0 })) }
         ensures err { IfErr result (λ e. (e.0 ≡ plan) × (e.1 ≡ ENOMEM)) }
     {
-        let Ok(values) = default_values(alloc, plan.controls()) else {
-            return Err((plan, Errno::ENOMEM));
-        };
-        let Ok(grabs) = no_grabs(alloc, plan.controls()) else {
-            return Err((plan, Errno::ENOMEM));
-        };
-        let Ok(ranges) = Ranges::of_plan(alloc, &plan) else {
+        let Ok(controls) = Controls::of_plan(alloc, &plan) else {
             return Err((plan, Errno::ENOMEM));
         };
         let Ok(frames) = Frames::new(alloc, plan.control_count()) else {
             return Err((plan, Errno::ENOMEM));
         };
         let mut told = Work::new();
-        let Ok(words) = first_words(alloc, &plan, values.as_slice(), &mut told) else {
+        let Ok(words) = first_words(alloc, &controls.at(&plan), &mut told) else {
             return Err((plan, Errno::ENOMEM));
         };
         Ok(Device {
             plan,
             file_handles: IndexMap::new(alloc),
-            grabs,
-            ranges,
-            values,
+            controls,
             frames,
             board: Board::empty(alloc),
             events: Events::new(alloc),
@@ -172,7 +157,7 @@ impl<D: Driver> Device<D> {
         ensures values { result.now ≡ now D.verdict self.now.plan (past self.now.steps) }
         ensures long { length result.now ≡ length self.now.plan.controls }
     {
-        self.values.as_slice()
+        self.controls.values()
     }
 
     /// A control with its present range, for a driver's own use (Linux driver API, `v4l2_ctrl_modify_range`): its bounds, step and default, as `query` tells
@@ -183,7 +168,7 @@ impl<D: Driver> Device<D> {
         requires { control < length self.now.plan.controls }
         ensures { result.now ≡ control_in (ranges_now self.now.plan (past self.now.steps)) control }
     {
-        self.present_ranges().range(control)
+        self.at().ranges.range(control)
     }
 
     /// The present flags of a control, for a driver's own use (Linux userspace API, "Control Flags"): those of the plan, GRABBED
@@ -194,19 +179,18 @@ impl<D: Driver> Device<D> {
         requires { control < length self.now.plan.controls }
         ensures { result ≡ flags_now D.verdict self.now.plan (past self.now.steps) control }
     {
-        flags_under(&self.plan, self.values(), self.grabs(), control)
+        flags_under(&self.at(), control)
     }
 
     /// Whether a control is grabbed, for a driver's own use (Linux driver API, `v4l2_ctrl_grab`): its last accepted grab holds
     /// it. It takes no memory.
     ///
     /// - `control`: the control's number, below the number of the plan's controls.
-    #[tactic(auto, using(device_history::proofs::PresentLemmas::length_grabbed))]
     pub fn is_grabbed(&self, control: u32) -> bool
         requires { control < length self.now.plan.controls }
         ensures { result ≡ is_grabbed (grabbed self.now.plan (past self.now.steps)) control }
     {
-        self.grabs[control as usize]
+        self.at().grabs[control as usize]
     }
 
     /// The number of the handler that a file handle is open on, for a driver's own use (of this project); none where it isn't
@@ -235,10 +219,7 @@ impl<D: Driver> Device<D> {
         ensures { IsTrue result ↔ Agrees D.verdict self.now.plan (past self.now.steps) scratch.now }
     {
         scratch.has_parts(
-            &self.plan,
-            &self.ranges,
-            self.values(),
-            self.grabs(),
+            &self.at(),
             &self.frames,
             &self.board,
             &self.file_handles,
@@ -368,11 +349,7 @@ impl<D: Driver> Device<D> {
                 self.enter(seat, ask, refusal, Step::Queue { request }, Reply::Done)
             }
             Ask::Begin => self.begin(seat),
-            Ask::Complete => {
-                let refusal = self.complete_refusal();
-                let request = self.ended();
-                self.enter(seat, ask, refusal, Step::Complete { request }, Reply::Done)
-            }
+            Ask::Complete => self.complete(seat),
             Ask::Cancel { request } => {
                 let request = *request;
                 let refusal = self.cancel_refusal(request);
@@ -389,13 +366,7 @@ impl<D: Driver> Device<D> {
                 let refusal = self.clear_refusal(request);
                 self.enter(seat, ask, refusal, Step::Free { request }, Reply::Done)
             }
-            Ask::Subscribe { fh, id, flags } => {
-                let (fh, id, flags) = (*fh, *id, *flags);
-                let refusal = self.subscribe_refusal(fh, id);
-                let control = self.shown(fh, id).unwrap_or(0);
-                let step = Step::Subscribe { fh, control, flags };
-                self.enter(seat, ask, refusal, step, Reply::Done)
-            }
+            Ask::Subscribe { fh, id, flags } => self.subscribe(seat, *fh, *id, *flags),
             Ask::Unsubscribe { fh, id } => {
                 let (fh, id) = (*fh, *id);
                 let refusal = self.unsubscribe_refusal(fh);
@@ -600,25 +571,14 @@ impl<D: Driver> Device<D> {
         ensures err { OnErr result (self.new ≡ self.old) }
     {
         self.steps.reserve(1)?;
-        let mut grabs = copied_grabs(self.alloc, self.grabs.as_slice())?;
+        let mut grabs = copied_grabs(self.alloc, self.controls.grabs())?;
         grabs[control as usize] = on;
-        self.board.renew(
-            &self.plan,
-            &self.ranges,
-            self.values.as_slice(),
-            grabs.as_slice(),
-            &[self.plan.cluster_of(control)],
-            &mut self.work,
-        );
-        raise_step(
-            &self.plan,
-            &Moment::new(&self.ranges, self.values.as_slice(), self.grabs.as_slice()),
-            &Moment::new(&self.ranges, self.values.as_slice(), grabs.as_slice()),
-            &[],
-            None,
-            &mut self.events,
-        );
-        self.grabs = grabs;
+        let change = self.controls.to_grabs(&self.plan, grabs.as_slice());
+        let cluster = self.plan.cluster_of(control);
+        self.board
+            .renew(&change.after(), &[cluster], &mut self.work);
+        raise_step(&change, &[], None, &mut self.events);
+        self.controls.grab(control, on);
         self.steps.push_reserved(Entry {
             seat,
             step: Step::Grab { control, on },
@@ -642,21 +602,14 @@ impl<D: Driver> Device<D> {
         self.plan.find(handler, id).ok()
     }
 
-    // The present ranges, which are of the plan's controls.
-    fn present_ranges(&self) -> &Ranges
-        ensures ranges { result.now ≡ ranges_now self.now.plan (past self.now.steps) }
-        ensures controls { AreControlsOf self.now.plan result.now }
+    // The present moment.
+    fn at(&self) -> Moment<'_, D>
+        ensures plan { result.plan.now ≡ self.now.plan }
+        ensures ranges { result.ranges.now ≡ ranges_now self.now.plan (past self.now.steps) }
+        ensures values { result.values.now ≡ now D.verdict self.now.plan (past self.now.steps) }
+        ensures grabs { result.grabs.now ≡ grabbed self.now.plan (past self.now.steps) }
     {
-        &self.ranges
-    }
-
-    // Whether each control is grabbed.
-    #[tactic(auto, using(device_history::proofs::PresentLemmas::length_grabbed))]
-    fn grabs(&self) -> &[bool]
-        ensures grabs { result.now ≡ grabbed self.now.plan (past self.now.steps) }
-        ensures long { length result.now ≡ length self.now.plan.controls }
-    {
-        self.grabs.as_slice()
+        self.controls.at(&self.plan)
     }
 
     // What the control that is shown to a file handle under an id is like.

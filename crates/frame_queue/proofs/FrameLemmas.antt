@@ -1,5 +1,5 @@
 -- The queue has exactly the queued requests, and the running one runs: each call keeps it so.
-use Rattle.std.proofs.Common.{◌≡◌, ◌≢◌, ℕ, ◌∙◌, ◌||◌, Bool, true, false, not, cond, inl, inr, List, [], ◌∷◌, ◌++◌, map, filter, Option, None, Some, is_some, Result, Ok, Err, OnOk, IfErr, nat_eq, eq-eqb, refl, sym, ap, subst, slice_get, remove, if◌then◌else◌}
+use Rattle.std.proofs.Common.{◌≡◌, ◌≢◌, ℕ, ◌∙◌, ◌||◌, Bool, true, false, not, cond, inl, inr, List, [], ◌∷◌, ◌++◌, map, filter, Option, None, Some, is_some, nat_eq, eq-eqb, refl, sym, ap, subst, slice_get, remove, if◌then◌else◌}
 use Rattle.std.specs.List.{list_any}
 use Rattle.std.specs.Option.{option_map, option_or, is_none}
 use Rattle.std.proofs.lemmas.Bool.{or_from, or_parts}
@@ -7,16 +7,15 @@ use Rattle.std.proofs.lemmas.Bool.Decides.{eqb_tells}
 use Rattle.std.proofs.lemmas.List.Folds.{list_any-append}
 use Rattle.std.proofs.lemmas.Map.Views.{any-filter_same}
 use Rattle.ctrl_types.specs.declared.value.CtrlValue.{CtrlValue}
-use Rattle.ctrl_types.specs.declared.errno.Errno.{Errno}
 use Rattle.ctrl_types.specs.declared.ids.Pair.{Pair}
 use Rattle.ctrl_types.specs.declared.errno.Errno.TheVariants.{EBUSY, EINVAL, ENOENT}
 use Rattle.req_book.specs.declared.state.RequestState.{RequestState}
 use Rattle.req_book.specs.declared.state.RequestState.TheVariants.{Idle, Queued, Running, Complete}
 use Rattle.req_book.specs.Requests.{RequestData, RequestsData, HaveOwnIds, find, with_request, with_changed, queued, begun, completed, cleared, new_request, without, is_pending, is_number}
-use Rattle.req_book.specs.Refusals.{queue_refusal, clear_refusal, unless}
+use Rattle.req_book.specs.Refusals.{queue_refusal, clear_refusal}
 use Rattle.req_book.proofs.ObjectLemmas.{Tells}
 use Rattle.req_book.proofs.FindLemmas.{find_added, find_changed, find_without}
-use Rattle.frame_queue.specs.Frames.{FramesData, QueueFitsRequests, AreOnce, is_in, is_queued, is_running, queued_last, cancelled, cancel_refusal, running_done, after_complete, ended_request, after_off, with_requests}
+use Rattle.frame_queue.specs.Frames.{FramesData, QueueFitsRequests, AreOnce, is_in, is_queued, is_running, queued_last, cancelled, cancel_refusal, running_done, after_complete, ended_request, after_off}
 
 clash : {X : Type 0} → true ≡ false → X
 clash h = cc
@@ -400,7 +399,7 @@ none_ends values (r ∷ rs) own none =
     further id (inr other) = rw other.0 at (none id)
 
 -- a change that keeps the ids keeps them apart
-own_changed : (rs : List RequestData) (id : ℕ) (f : RequestData → RequestData) → ((r : RequestData) → (f r).id ≡ r.id) → HaveOwnIds rs → HaveOwnIds (with_request id f rs)
+pub own_changed : (rs : List RequestData) (id : ℕ) (f : RequestData → RequestData) → ((r : RequestData) → (f r).id ≡ r.id) → HaveOwnIds rs → HaveOwnIds (with_request id f rs)
 own_changed [] id f keeps own = tt
 own_changed (r ∷ rs) id f keeps own = by (nat_eq id r.id) (own_changed rs id f keeps own.1)
   where
@@ -411,6 +410,31 @@ own_changed (r ∷ rs) id f keeps own = by (nat_eq id r.id) (own_changed rs id f
     by : (b : Bool) → HaveOwnIds (with_request id f rs) → HaveOwnIds (cond b (f r ∷ rs) (r ∷ with_request id f rs))
     by true rest = (ap (find rs) (keeps r) ∙ own.0, own.1)
     by false rest = (find_changed rs id f r.id keeps ∙ none (nat_eq id r.id) (find rs r.id) own.0, rest)
+
+-- so does a request with an id that none has
+pub own_added : (rs : List RequestData) (id : ℕ) → HaveOwnIds rs → find rs id ≡ None → HaveOwnIds (rs ++ new_request id ∷ [])
+own_added [] id own none = (refl, tt)
+own_added (r ∷ rs) id own none = by (eqb_tells id r.id) none (own_added rs id own.1)
+  where
+    found : Some r ≡ None → ⊥
+    found h = cc
+
+    by : Tells id r.id → cond (nat_eq id r.id) (Some r) (find rs id) ≡ None → (find rs id ≡ None → HaveOwnIds (rs ++ new_request id ∷ [])) → HaveOwnIds (r ∷ rs ++ new_request id ∷ [])
+    by (inl same) none rest = absurd (found (rw same.0 at none))
+    by (inr other) none rest = (find_added rs (new_request id) r.id ∙ rw (own.0, apart r.id id other.1) refl, rest (rw other.0 at none))
+
+-- and one that is let go
+pub own_without : (rs : List RequestData) (id : ℕ) → HaveOwnIds rs → HaveOwnIds (without id rs)
+own_without [] id own = tt
+own_without (r ∷ rs) id own = by (nat_eq id r.id) (own_without rs id own.1)
+  where
+    none : (b : Bool) (o : Option RequestData) → o ≡ None → cond b None o ≡ None
+    none true o is = refl
+    none false o is = is
+
+    by : (b : Bool) → HaveOwnIds (without id rs) → HaveOwnIds (cond (not b) (r ∷ without id rs) (without id rs))
+    by true rest = rest
+    by false rest = (find_without rs id r.id ∙ none (nat_eq id r.id) (find rs r.id) own.0, rest)
 
 -- all that wait were completed one after another
 queue_ended : (values : List CtrlValue) (requests : RequestsData) (ids : List ℕ) → QueueFitsRequests (record { requests = requests; queue = ids; running = None }) → HaveOwnIds requests.all
@@ -505,14 +529,3 @@ off_kept values f = record {
             state : (b : Bool) → is_pending r.state ≡ b → test (cond b (completed values r) r).state ≡ false
             state true is = done
             state false is = others r.state is
-
--- a call that only its refusal can stop keeps the queue, refused or not
-pub unless_kept : (old : FramesData) (refusal : Option Errno) (new : RequestsData) → QueueFitsRequests old → (refusal ≡ None → QueueFitsRequests (with_requests old new)) → QueueFitsRequests (with_requests old (unless refusal old.requests new))
-unless_kept old None new kept changes = changes refl
-unless_kept old (Some errno) new kept changes = kept
-
--- a call that may want memory as well: accepted, it changes the requests; refused, it leaves them
-pub either_kept : (old : FramesData) (requests new : RequestsData) (P : Type 0) (R : Errno → Type 0) (r : Result (Unit {0}) Errno) → QueueFitsRequests old → OnOk r (P × (requests ≡ new)) → IfErr r (λ errno. R errno × (requests ≡ old.requests)) → (P → QueueFitsRequests (with_requests old new))
-    → QueueFitsRequests (with_requests old requests)
-either_kept old requests new P R (Ok done) kept ok err changes = subst (λ x. QueueFitsRequests (with_requests old x)) (sym ok.1) (changes ok.0)
-either_kept old requests new P R (Err errno) kept ok err changes = subst (λ x. QueueFitsRequests (with_requests old x)) (sym err.1) kept

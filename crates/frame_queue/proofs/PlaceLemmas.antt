@@ -1,17 +1,17 @@
 -- The queue has a place for each request that there can be: each call keeps it so.
-use Rattle.std.proofs.Common.{◌≡◌, ℕ, suc, ◌+◌, ◌<◌, ◌≤◌, ◌||◌, Bool, true, false, not, cond, inl, inr, List, [], ◌∷◌, ◌++◌, length, Option, None, Some, is_some, Result, Ok, Err, OnOk, IfErr, nat_eq, nat_le, eq-eqb, refl, sym, ap, ◌∙◌, subst, arith, length-append, if◌then◌else◌}
+use Rattle.std.proofs.Common.{◌≡◌, ℕ, suc, ◌+◌, ◌<◌, ◌≤◌, ◌||◌, Bool, true, false, not, cond, inl, inr, List, [], ◌∷◌, ◌++◌, length, Option, None, Some, is_some, Result, Ok, Err, OnOk, OnErr, nat_eq, nat_le, eq-eqb, refl, sym, ap, ◌∙◌, subst, arith, length-append, if◌then◌else◌}
 use Rattle.std.specs.List.{list_any}
+use Rattle.std.specs.declared.alloc.AllocError.{AllocError}
 use Rattle.std.proofs.lemmas.Bool.Decides.{eqb_tells, nat_tests}
-use Rattle.ctrl_types.specs.declared.errno.Errno.{Errno}
 use Rattle.ctrl_types.specs.declared.errno.Errno.TheVariants.{ENOSPC}
 use Rattle.req_book.specs.declared.limits.TheConstants.{MAX_REQUESTS}
-use Rattle.req_book.specs.Requests.{RequestData, RequestsData, with_changed, find, new_request, queued, with_request, without}
-use Rattle.req_book.specs.Refusals.{alloc_refusal, queue_refusal, unless}
+use Rattle.req_book.specs.Requests.{RequestData, RequestsData, HaveOwnIds, with_changed, find, new_request, queued, with_request, without}
+use Rattle.req_book.specs.Refusals.{alloc_refusal, queue_refusal}
 use Rattle.req_book.proofs.ObjectLemmas.{Tells}
 use Rattle.req_book.proofs.FindLemmas.{find_without}
 use Rattle.frame_queue.specs.Frames.{FramesData, QueueFitsRequests, AreOnce, is_in, is_queued, queued_last, with_requests}
 use Rattle.frame_queue.specs.Places.{HasQueueRoom}
-use Rattle.frame_queue.proofs.FrameLemmas.{either_kept, queued_kept, unless_kept}
+use Rattle.frame_queue.proofs.FrameLemmas.{own_changed, queued_kept}
 
 clash : {X : Type 0} → true ≡ false → X
 clash h = cc
@@ -85,23 +85,15 @@ one_fits old room id kept passes =
     let few = waiting_few (queued_last old id) (queued_kept old id kept.frames passes) in
     omega (arith, few, length-append old.queue (id ∷ []), many_changed old.requests.all id (queued old.requests.controls), kept.few)
 
--- a call that only its refusal can stop keeps the places, refused or not
-pub unless_places : (old : FramesData) (room : ℕ) (refusal : Option Errno) (new : RequestsData) → HasQueueRoom old room → (refusal ≡ None → QueueFitsRequests (with_requests old new)) → length new.all ≤ length old.requests.all
-    → HasQueueRoom (with_requests old (unless refusal old.requests new)) room
-unless_places old room refusal new kept changes many = record { frames = unless_kept old refusal new kept.frames changes; few = by refusal; fits = kept.fits }
-  where
-    by : (o : Option Errno) → length (unless o old.requests new).all ≤ MAX_REQUESTS
-    by None = omega (arith, many, kept.few)
-    by (Some errno) = kept.few
+-- a change of a request leaves each its own id
+pub own_after : (old new : RequestsData) (id : ℕ) (f : RequestData → RequestData) → ((r : RequestData) → (f r).id ≡ r.id) → new ≡ with_changed old id f → HaveOwnIds old.all → HaveOwnIds new.all
+own_after old new id f keeps is own = subst (λ (r : RequestsData). HaveOwnIds r.all) (sym is) (own_changed old.all id f keeps own)
 
--- a call that may want memory as well
-pub either_places : (old : FramesData) (room : ℕ) (requests new : RequestsData) (P : Type 0) (R : Errno → Type 0) (r : Result (Unit {0}) Errno) → HasQueueRoom old room → OnOk r (P × (requests ≡ new)) → IfErr r (λ errno. R errno × (requests ≡ old.requests))
-    → (P → QueueFitsRequests (with_requests old new)) → (P → length new.all ≤ MAX_REQUESTS) → HasQueueRoom (with_requests old requests) room
-either_places old room requests new P R r kept ok err changes many = record { frames = either_kept old requests new P R r kept.frames ok err changes; few = by r ok err; fits = kept.fits }
-  where
-    by : (r : Result (Unit {0}) Errno) → OnOk r (P × (requests ≡ new)) → IfErr r (λ errno. R errno × (requests ≡ old.requests)) → length requests.all ≤ MAX_REQUESTS
-    by (Ok done) ok err = subst (λ (x : RequestsData). length x.all ≤ MAX_REQUESTS) (sym ok.1) (many ok.0)
-    by (Err errno) ok err = subst (λ (x : RequestsData). length x.all ≤ MAX_REQUESTS) (sym err.1) kept.few
+-- a call that may want memory: where it made its change, that kept the places, and else it left the requests
+pub either_places : (old : FramesData) (room : ℕ) (requests new : RequestsData) (r : Result (Unit {0}) AllocError) → HasQueueRoom old room → HasQueueRoom (with_requests old new) room → OnOk r (requests ≡ new) → OnErr r (requests ≡ old.requests)
+    → HasQueueRoom (with_requests old requests) room
+either_places old room requests new (Ok done) kept made ok err = subst (λ (x : RequestsData). HasQueueRoom (with_requests old x) room) (sym ok) made
+either_places old room requests new (Err error) kept made ok err = subst (λ (x : RequestsData). HasQueueRoom (with_requests old x) room) (sym err) kept
 
 -- a request that is made is one of those that there can be
 pub made_few : (rs : List RequestData) (id : ℕ) → alloc_refusal rs ≡ None → length (rs ++ new_request id ∷ []) ≤ MAX_REQUESTS

@@ -2,6 +2,7 @@
 use Rattle.std.specs.Prelude.{◌≡◌, ℕ, Bool, true, false, not, List, [], ◌∷◌, ◌++◌, map, filter, Option, None, Some, is_some, Result, Ok, Err, nat_eq, if◌then◌else◌, unwrap_or}
 use Rattle.std.specs.List.{list_any}
 use Rattle.std.specs.Option.{is_none}
+use Rattle.std.specs.Result.{result_err}
 use Rattle.ctrl_types.specs.declared.value.CtrlValue.{CtrlValue}
 use Rattle.ctrl_types.specs.declared.errno.Errno.{Errno}
 use Rattle.ctrl_types.specs.declared.errno.Errno.TheVariants.{EBUSY, EINVAL, ENOENT}
@@ -67,6 +68,10 @@ first_waiting rs (id ∷ ids) = Ok (id, buffer_number (find rs id))
 -- What a begin answers: EBUSY where one runs, ENOENT where none waits; else the first that waits, with its buffer.
 abbrev pub begin_answer : FramesData → Result (ℕ × ℕ) Errno
 begin_answer f = if is_some f.running then Err EBUSY else first_waiting f.requests.all f.queue
+
+-- why no frame is begun: one runs, or none waits
+abbrev pub begin_refusal : FramesData → Option Errno
+begin_refusal f = result_err (begin_answer f)
 
 -- what it leaves: the first that waits runs, and its controls got these values
 abbrev pub first_begun : List Pair → RequestsData → List ℕ → FramesData

@@ -1,15 +1,15 @@
-ghost use Rattle.std.specs.Prelude.{◌≡◌, ◌↔◌, IsTrue, ◌++◌, ◌<◌, ◌∷◌, [], length, None, Some, Ok, Err, true, IfErr, IfOk, IfSome, OnOk, MatchResult, slice_get, is_some, ℕ, remove, filter, not, nat_eq, option_copied, vec_capacity};
-ghost use Rattle.std.specs.Option.{option_map, ok_or};
+ghost use Rattle.std.specs.Prelude.{◌≡◌, ◌↔◌, IsTrue, ◌++◌, ◌<◌, ◌∷◌, [], length, None, Some, Ok, Err, true, IfErr, IfOk, IsOk, IfSome, OnErr, OnOk, MatchResult, slice_get, is_some, ℕ, remove, filter, not, nat_eq, option_copied, vec_capacity};
+ghost use Rattle.std.specs.Option.{option_map};
 ghost use Rattle.std.specs.List.{All};
-ghost use Rattle.req_book.specs.Requests.{RequestData, find, with_changed, completed, with_pairs, with_buffer, cleared, without, new_request};
+ghost use Rattle.req_book.specs.Requests.{HaveOwnIds, RequestData, buffer_in, find, with_changed, completed, with_pairs, with_buffer, cleared, without, new_request};
 ghost use Rattle.req_book.specs.Refusals.{alloc_refusal, store_refusal, buffer_refusal, queue_refusal, clear_refusal, state_answer, buffer_answer, asked_answer, snapshot_answer, value_answer, done_unless, unless, IsRefusedBy};
 ghost use Rattle.ctrl_types.specs.declared.errno.Errno.TheVariants.{ENOENT, ENOMEM};
-ghost use Rattle.frame_queue.specs.Frames.{is_queued, with_requests, queued_last, begin_answer, after_begin, first_waiting, buffer_number, first_begun, complete_refusal, after_complete, cancel_refusal, cancelled, running_done, unless_refused, after_off};
+ghost use Rattle.frame_queue.specs.Frames.{QueueFitsRequests, is_queued, with_requests, queued_last, begin_answer, begin_refusal, after_begin, buffer_number, first_begun, complete_refusal, after_complete, cancel_refusal, cancelled, unless_refused, after_off};
 ghost use Rattle.frame_queue.specs.Like.{IsLike};
 
 use ctrl_types::{CtrlValue, Errno, Pair, RequestId};
-use req_book::{MAX_REQUESTS, RequestState, Requests};
-use std::alloc::Global;
+use req_book::{FrameRoom, MAX_REQUESTS, RequestState, Requests};
+use std::alloc::{AllocError, Global};
 use std::marker::Model;
 
 /// The media requests of a device, and the queue of its frames. Contracts see the requests, the queue and the request that runs. The checks
@@ -36,7 +36,7 @@ impl Model for Frames {
 impl Frames {
     /// No request is there, and there is room for 64 in the queue (of this project).
     ///
-    /// - `alloc`: where this call, `alloc`, `store` and `queue` take their memory.
+    /// - `alloc`: where this call, `alloc`, `store` and `reserve` take their memory.
     /// - `controls`: the number of the device's controls, any `u32`; those that are stored have numbers below it.
     ///
     /// Refused by check 34 (ENOMEM, 12).
@@ -75,6 +75,7 @@ impl Frames {
     /// - `place`: any place, from 0 in the order of queueing.
     pub fn queued(&self, place: usize) -> Option<RequestId>
         ensures place { option_map (λ id. id.0) result ≡ slice_get self.now.queue place }
+        ensures holds { IfSome result (λ id. is_some (buffer_in (find self.now.requests.all id.0)) ≡ true) }
         ensures buffer { (id : ℕ) (r : RequestData) → find self.now.requests.all id ≡ Some r → is_queued r.state ≡ true → is_some r.buffer ≡ true }
     {
         match self.queue.get(place) {
@@ -100,22 +101,61 @@ impl Frames {
         }
     }
 
+    /// Room for what the frame of a request will have, which `queue` takes (of this project). It changes nothing. The error is that a growth was
+    /// refused.
+    pub fn reserve(&self) -> Result<FrameRoom, AllocError>
+        ensures { IfOk result (λ room. room ≡ self.now.requests.controls) }
+    {
+        self.requests.reserve()
+    }
+
+    /// Has a request wait for its frame, the last (Linux userspace API, "ioctl MEDIA_REQUEST_IOC_QUEUE").
+    ///
+    /// - `id`: a request; the caller owes that `queue_refusal` doesn't refuse it.
+    /// - `room`: room for what its frame will have; the caller owes one for as many controls as there are, as `reserve` makes it.
+    ///
+    /// It takes no memory.
+    pub fn queue(&mut self, id: RequestId, room: FrameRoom)
+        requires passes { queue_refusal (find self.old.requests.all id.0) ≡ None }
+        requires room { room ≡ self.old.requests.controls }
+        ensures { self.new ≡ queued_last self.old id.0 }
+    {
+        self.requests.mark_queued(id, room);
+        self.queue.push_reserved(id.0);
+    }
+
     /// Has a request wait for its frame, the last (Linux userspace API, "ioctl MEDIA_REQUEST_IOC_QUEUE"), and makes room for what its frame will have;
     /// its place in the queue takes no memory.
     ///
     /// - `id`: any request, there or not.
     ///
     /// Refused by check 19 (EINVAL, 22), 20 (EBUSY, 16), 23 (ENOENT, 2) or 34 (ENOMEM, 12), which changes nothing.
-    pub fn queue(&mut self, id: RequestId) -> Result<(), Errno>
+    pub fn try_queue(&mut self, id: RequestId) -> Result<(), Errno>
         ensures ok { OnOk result ((queue_refusal (find self.old.requests.all id.0) ≡ None) × (self.new ≡ queued_last self.old id.0)) }
         ensures err { IfErr result (λ errno. IsRefusedBy (queue_refusal (find self.old.requests.all id.0)) errno × (self.new ≡ self.old)) }
     {
-        match self.requests.mark_queued(id) {
-            Ok(()) => {
-                self.queue.push_reserved(id.0);
-                Ok(())
-            }
-            Err(errno) => Err(errno),
+        match self.queue_refusal(id) {
+            Some(errno) => Err(errno),
+            None => match self.reserve() {
+                Ok(room) => {
+                    self.queue(id, room);
+                    Ok(())
+                }
+                Err(_) => Err(Errno::ENOMEM),
+            },
+        }
+    }
+
+    /// Why no frame is begun (of this project): check 24 (EBUSY, 16) or 25 (ENOENT, 2); none where nothing refuses it. It takes no memory.
+    pub fn begin_refusal(&self) -> Option<Errno>
+        ensures { result ≡ begin_refusal self.now }
+    {
+        if self.running.is_some() {
+            Some(Errno::EBUSY)
+        } else if self.queue.is_empty() {
+            Some(Errno::ENOENT)
+        } else {
+            None
         }
     }
 
@@ -125,41 +165,43 @@ impl Frames {
     /// - `applied`: the values after the begin of the controls that the request asks for and whose cluster isn't refused; the last pair of a control
     ///   counts, and one that names no control doesn't.
     ///
+    /// The caller owes that `begin_refusal` doesn't refuse it. It takes no memory.
+    pub fn begin(&mut self, applied: &[Pair]) -> (RequestId, u32)
+        requires { begin_refusal self.old ≡ None }
+        ensures answer { begin_answer self.old ≡ Ok (result.0.0, result.1) }
+        ensures frames { self.new ≡ after_begin self.old applied.now }
+    {
+        let id = self.first();
+        let number = self.number_of(RequestId(id));
+        self.begin_first(id, applied);
+        (RequestId(id), number)
+    }
+
+    /// Has the frame of the first request that waits be made, in which controls get these values, and answers the request and the number of
+    /// its buffer (Linux userspace API, "Request API": requests run in the order of queueing; begins as calls are of this project).
+    ///
+    /// - `applied`: the values after the begin of the controls that the request asks for and whose cluster isn't refused; the last pair of a control
+    ///   counts, and one that names no control doesn't.
+    ///
     /// Refused by check 24 (EBUSY, 16) or 25 (ENOENT, 2), which changes nothing. It takes no memory.
-    pub fn begin(&mut self, applied: &[Pair]) -> Result<(RequestId, u32), Errno>
+    pub fn try_begin(&mut self, applied: &[Pair]) -> Result<(RequestId, u32), Errno>
         ensures answer { MatchResult result (λ a. begin_answer self.old ≡ Ok (a.0.0, a.1)) (λ errno. begin_answer self.old ≡ Err errno) }
         ensures frames { self.new ≡ after_begin self.old applied.now }
     {
-        if self.running.is_some() {
-            return Err(Errno::EBUSY);
-        }
-        match self.first() {
-            Some((id, number)) => {
-                self.begin_first(id, applied);
-                Ok((RequestId(id), number))
-            }
-            None => Err(Errno::ENOENT),
+        match self.begin_refusal() {
+            Some(errno) => Err(errno),
+            None => Ok(self.begin(applied)),
         }
     }
 
-    // The first request that waits, with the number of its buffer.
-    fn first(&self) -> Option<(u32, u32)>
-        ensures { first_waiting self.now.requests.all self.now.queue ≡ ok_or result ENOENT }
+    // The first request that waits. The caller owes that a frame can begin.
+    fn first(&self) -> u32
+        requires { begin_refusal self.now ≡ None }
+        ensures idle { self.now.running ≡ None }
+        ensures first { slice_get self.now.queue 0 ≡ Some result }
+        ensures buffer { is_some (buffer_in (find self.now.requests.all result)) ≡ true }
     {
-        match self.queue.first() {
-            Some(id) => Some((*id, self.number_of(*id))),
-            None => None,
-        }
-    }
-
-    // The number of a request's buffer.
-    fn number_of(&self, id: u32) -> u32
-        ensures { result ≡ buffer_number (find self.now.requests.all id) }
-    {
-        match self.requests.buffer_of(RequestId(id)) {
-            Ok(Some(number)) => number,
-            _ => 0,
-        }
+        self.queue[0]
     }
 
     // Has the frame of the first request that waits be made.
@@ -173,34 +215,62 @@ impl Frames {
         self.requests.mark_running(RequestId(id), applied);
     }
 
+    /// Why no frame is ended (of this project): check 26 (ENOENT, 2); none where nothing refuses it. It takes no memory.
+    pub fn complete_refusal(&self) -> Option<Errno>
+        ensures { result ≡ complete_refusal self.now }
+    {
+        match self.running {
+            Some(_) => None,
+            None => Some(Errno::ENOENT),
+        }
+    }
+
+    /// Ends the frame that is being made (Linux userspace API, "Request API"; ends as calls are of this project): its request is complete, whose snapshot
+    /// has the values that it got at its begin, and else these.
+    ///
+    /// - `values`: the present values; the caller owes one for each control, in the order of their numbers.
+    ///
+    /// The caller owes that `complete_refusal` doesn't refuse it. It takes no memory.
+    pub fn complete(&mut self, values: &[CtrlValue])
+        requires values { length values.now ≡ self.old.requests.controls }
+        requires runs { complete_refusal self.old ≡ None }
+        ensures { self.new ≡ after_complete self.old values.now }
+    {
+        let id = self.running.unwrap();
+        self.running = None;
+        self.requests.mark_complete(RequestId(id), values);
+    }
+
     /// Ends the frame that is being made (Linux userspace API, "Request API"; ends as calls are of this project): its request is complete, whose snapshot
     /// has the values that it got at its begin, and else these.
     ///
     /// - `values`: the present values; the caller owes one for each control, in the order of their numbers.
     ///
     /// Refused by check 26 (ENOENT, 2), which changes nothing. It takes no memory.
-    pub fn complete(&mut self, values: &[CtrlValue]) -> Result<(), Errno>
+    pub fn try_complete(&mut self, values: &[CtrlValue]) -> Result<(), Errno>
         requires { length values.now ≡ self.old.requests.controls }
         ensures answer { result ≡ done_unless (complete_refusal self.old) }
         ensures frames { self.new ≡ after_complete self.old values.now }
     {
-        match self.running {
-            Some(id) => {
-                self.complete_one(id, values);
+        match self.complete_refusal() {
+            Some(errno) => Err(errno),
+            None => {
+                self.complete(values);
                 Ok(())
             }
-            None => Err(Errno::ENOENT),
         }
     }
 
-    // Ends the frame that is being made.
-    fn complete_one(&mut self, id: u32, values: &[CtrlValue])
-        requires values { length values.now ≡ self.old.requests.controls }
-        requires running { self.old.running ≡ Some id }
-        ensures { self.new ≡ running_done values.now self.old.requests self.old.queue (Some id) }
+    // Ends the frame that is being made, where one is. What is always so of the queue and of the ids is said here, too.
+    fn complete_running(&mut self, values: &[CtrlValue])
+        requires { length values.now ≡ self.old.requests.controls }
+        ensures frames { self.new ≡ after_complete self.old values.now }
+        ensures queue { QueueFitsRequests self.old }
+        ensures ids { HaveOwnIds self.old.requests.all }
     {
-        self.running = None;
-        self.requests.mark_complete(RequestId(id), values);
+        if self.running.is_some() {
+            self.complete(values);
+        }
     }
 
     /// Why a request isn't taken from the queue (of this project): check 19 (EINVAL, 22), 27 (EBUSY, 16) or 28 (EINVAL, 22); none where nothing refuses
@@ -220,11 +290,27 @@ impl Frames {
     /// Takes a request from the queue (of this project; `VIDIOC_STREAMOFF` does it to all): it is complete, without having run, and its
     /// snapshot has these values.
     ///
+    /// - `id`: a request; the caller owes that `cancel_refusal` doesn't refuse it.
+    /// - `values`: the present values; the caller owes one for each control, in the order of their numbers.
+    ///
+    /// It takes no memory.
+    pub fn cancel(&mut self, id: RequestId, values: &[CtrlValue])
+        requires values { length values.now ≡ self.old.requests.controls }
+        requires waits { cancel_refusal (find self.old.requests.all id.0) ≡ None }
+        ensures { self.new ≡ cancelled self.old id.0 values.now }
+    {
+        leave(&mut self.queue, id.0);
+        self.requests.mark_complete(id, values);
+    }
+
+    /// Takes a request from the queue (of this project; `VIDIOC_STREAMOFF` does it to all): it is complete, without having run, and its
+    /// snapshot has these values.
+    ///
     /// - `id`: any request, there or not.
     /// - `values`: the present values; the caller owes one for each control, in the order of their numbers.
     ///
     /// Refused by check 19 (EINVAL, 22), 27 (EBUSY, 16) or 28 (EINVAL, 22), which changes nothing. It takes no memory.
-    pub fn cancel(&mut self, id: RequestId, values: &[CtrlValue]) -> Result<(), Errno>
+    pub fn try_cancel(&mut self, id: RequestId, values: &[CtrlValue]) -> Result<(), Errno>
         requires { length values.now ≡ self.old.requests.controls }
         ensures answer { result ≡ done_unless (cancel_refusal (find self.old.requests.all id.0)) }
         ensures frames { self.new ≡ unless_refused (cancel_refusal (find self.old.requests.all id.0)) self.old (cancelled self.old id.0 values.now) }
@@ -232,20 +318,10 @@ impl Frames {
         match self.cancel_refusal(id) {
             Some(errno) => Err(errno),
             None => {
-                self.cancel_one(id.0, values);
+                self.cancel(id, values);
                 Ok(())
             }
         }
-    }
-
-    // Takes a request that waits from the queue.
-    fn cancel_one(&mut self, id: u32, values: &[CtrlValue])
-        requires values { length values.now ≡ self.old.requests.controls }
-        requires waits { cancel_refusal (find self.old.requests.all id) ≡ None }
-        ensures { self.new ≡ cancelled self.old id values.now }
-    {
-        leave(&mut self.queue, id);
-        self.requests.mark_complete(RequestId(id), values);
     }
 
     /// Stops the stream (Linux userspace API, "ioctl VIDIOC_STREAMON, VIDIOC_STREAMOFF"): the request whose frame is being made and all that
@@ -258,9 +334,7 @@ impl Frames {
         requires { length values.now ≡ self.old.requests.controls }
         ensures { self.new ≡ after_off self.old values.now }
     {
-        // no two requests have an id in common, as the contract of `count` says
-        let _count = self.requests.count();
-        let _ = self.complete(values);
+        self.complete_running(values);
         while let Some(id) = self.next_waiting() {
             self.end_first(id, values);
         }
@@ -326,6 +400,27 @@ impl Frames {
         self.requests.asked(id)
     }
 
+    /// What a request asks for, as `asked` answers it (Linux userspace API, "Request API"). It takes no memory.
+    ///
+    /// - `id`: a request; the caller owes that it is there.
+    pub fn pairs_of(&self, id: RequestId) -> &[Pair]
+        requires { is_some (find self.now.requests.all id.0) ≡ true }
+        ensures { asked_answer (find self.now.requests.all id.0) ≡ Ok result.now }
+    {
+        self.requests.pairs_of(id)
+    }
+
+    /// The number of a request's buffer (Linux userspace API, "Request API"; that it has one is of this project). It takes no memory.
+    ///
+    /// - `id`: a request; the caller owes that it is there, and was given a buffer.
+    pub fn number_of(&self, id: RequestId) -> u32
+        requires { is_some (buffer_in (find self.now.requests.all id.0)) ≡ true }
+        ensures held { buffer_in (find self.now.requests.all id.0) ≡ Some result }
+        ensures number { result ≡ buffer_number (find self.now.requests.all id.0) }
+    {
+        self.requests.number_of(id)
+    }
+
     /// The value of a control that the frame of a complete request had (Linux userspace API, "Request API": its controls are read once it is complete):
     /// of one that its begin applied that value, of any other the value in force at the completion.
     ///
@@ -347,6 +442,17 @@ impl Frames {
         ensures { MatchResult result (λ values. snapshot_answer (find self.now.requests.all id.0) ≡ Ok values.now) (λ errno. snapshot_answer (find self.now.requests.all id.0) ≡ Err errno) }
     {
         self.requests.snapshot_values(id)
+    }
+
+    /// The value of each control that the frame of a request had, as `snapshot_values` answers them (Linux userspace API, "Request API"). It takes no
+    /// memory.
+    ///
+    /// - `id`: a request; the caller owes that it is there and complete.
+    pub fn snapshot_of(&self, id: RequestId) -> &[CtrlValue]
+        requires { IsOk (snapshot_answer (find self.now.requests.all id.0)) }
+        ensures { snapshot_answer (find self.now.requests.all id.0) ≡ Ok result.now }
+    {
+        self.requests.snapshot_of(id)
     }
 
     /// Why no further request is made: check 18 (ENOSPC, 28), the limit of 64 (of this project); none where nothing but want of memory refuses it. It
@@ -400,15 +506,51 @@ impl Frames {
 
     /// Makes a request, the last: idle, without a buffer, and with nothing asked (Linux userspace API, "ioctl MEDIA_IOC_REQUEST_ALLOC").
     ///
+    /// - `id`: its number; the caller owes one that no request has, and that `alloc_refusal` doesn't refuse it.
+    ///
+    /// The error is that a growth was refused; nothing is changed then.
+    pub fn alloc(&mut self, id: RequestId) -> Result<(), AllocError>
+        requires unused { find self.old.requests.all id.0 ≡ None }
+        requires passes { alloc_refusal self.old.requests.all ≡ None }
+        ensures ok { OnOk result (self.new ≡ with_requests self.old (record self.old.requests { all = self.old.requests.all ++ new_request id.0 ∷ [] })) }
+        ensures err { OnErr result (self.new ≡ self.old) }
+    {
+        self.requests.alloc(id)
+    }
+
+    /// Makes a request, the last: idle, without a buffer, and with nothing asked (Linux userspace API, "ioctl MEDIA_IOC_REQUEST_ALLOC").
+    ///
     /// - `id`: its number; the caller owes one that no request has.
     ///
     /// Refused by check 18 (ENOSPC, 28) or 34 (ENOMEM, 12), which changes nothing.
-    pub fn alloc(&mut self, id: RequestId) -> Result<(), Errno>
+    pub fn try_alloc(&mut self, id: RequestId) -> Result<(), Errno>
         requires { find self.old.requests.all id.0 ≡ None }
         ensures ok { OnOk result ((alloc_refusal self.old.requests.all ≡ None) × (self.new ≡ with_requests self.old (record self.old.requests { all = self.old.requests.all ++ new_request id.0 ∷ [] }))) }
         ensures err { IfErr result (λ errno. IsRefusedBy (alloc_refusal self.old.requests.all) errno × (self.new ≡ self.old)) }
     {
-        self.requests.alloc(id)
+        match self.alloc_refusal() {
+            Some(errno) => Err(errno),
+            None => match self.alloc(id) {
+                Ok(()) => Ok(()),
+                Err(_) => Err(Errno::ENOMEM),
+            },
+        }
+    }
+
+    /// Stores values that a request asks for (Linux userspace API, "Request API"; `VIDIOC_S_EXT_CTRLS` with `V4L2_CTRL_WHICH_REQUEST_VAL`): of each
+    /// control the last stored pair counts.
+    ///
+    /// - `id`: a request; the caller owes that `store_refusal` doesn't refuse it.
+    /// - `pairs`: any number, a control any number of times; the caller owes numbers of controls.
+    ///
+    /// The error is that a growth was refused; nothing is changed then.
+    pub fn store(&mut self, id: RequestId, pairs: &[Pair]) -> Result<(), AllocError>
+        requires known { All (λ p. p.control < self.old.requests.controls) pairs.now }
+        requires passes { store_refusal (find self.old.requests.all id.0) ≡ None }
+        ensures ok { OnOk result (self.new ≡ with_requests self.old (with_changed self.old.requests id.0 (with_pairs self.old.requests.controls pairs.now))) }
+        ensures err { OnErr result (self.new ≡ self.old) }
+    {
+        self.requests.store(id, pairs)
     }
 
     /// Stores values that a request asks for (Linux userspace API, "Request API"; `VIDIOC_S_EXT_CTRLS` with `V4L2_CTRL_WHICH_REQUEST_VAL`): of each
@@ -418,12 +560,31 @@ impl Frames {
     /// - `pairs`: any number, a control any number of times; the caller owes numbers of controls.
     ///
     /// Refused by check 19 (EINVAL, 22), 20 (EBUSY, 16) or 34 (ENOMEM, 12), which changes nothing.
-    pub fn store(&mut self, id: RequestId, pairs: &[Pair]) -> Result<(), Errno>
+    pub fn try_store(&mut self, id: RequestId, pairs: &[Pair]) -> Result<(), Errno>
         requires { All (λ p. p.control < self.old.requests.controls) pairs.now }
         ensures ok { OnOk result ((store_refusal (find self.old.requests.all id.0) ≡ None) × (self.new ≡ with_requests self.old (with_changed self.old.requests id.0 (with_pairs self.old.requests.controls pairs.now)))) }
         ensures err { IfErr result (λ errno. IsRefusedBy (store_refusal (find self.old.requests.all id.0)) errno × (self.new ≡ self.old)) }
     {
-        self.requests.store(id, pairs)
+        match self.store_refusal(id) {
+            Some(errno) => Err(errno),
+            None => match self.store(id, pairs) {
+                Ok(()) => Ok(()),
+                Err(_) => Err(Errno::ENOMEM),
+            },
+        }
+    }
+
+    /// Gives a request the buffer with a number (Linux userspace API, "Request API"; `VIDIOC_QBUF` with `request_fd`; that it has one, and that no two
+    /// hold a number, is of this project).
+    ///
+    /// - `id`, `number`: a request and a number; the caller owes that `buffer_refusal` doesn't refuse them.
+    ///
+    /// It takes no memory.
+    pub fn add_buffer(&mut self, id: RequestId, number: u32)
+        requires { buffer_refusal self.old.requests.all number (find self.old.requests.all id.0) ≡ None }
+        ensures { self.new ≡ with_requests self.old (with_changed self.old.requests id.0 (with_buffer number)) }
+    {
+        self.requests.add_buffer(id, number);
     }
 
     /// Gives a request the buffer with a number (Linux userspace API, "Request API"; `VIDIOC_QBUF` with `request_fd`; that it has one, and that no two
@@ -433,11 +594,30 @@ impl Frames {
     /// - `number`: any number.
     ///
     /// Refused by check 19 (EINVAL, 22), or one of 20 to 22 (EBUSY, 16), which changes nothing. It takes no memory.
-    pub fn add_buffer(&mut self, id: RequestId, number: u32) -> Result<(), Errno>
+    pub fn try_add_buffer(&mut self, id: RequestId, number: u32) -> Result<(), Errno>
         ensures answer { result ≡ done_unless (buffer_refusal self.old.requests.all number (find self.old.requests.all id.0)) }
         ensures frames { self.new ≡ with_requests self.old (unless (buffer_refusal self.old.requests.all number (find self.old.requests.all id.0)) self.old.requests (with_changed self.old.requests id.0 (with_buffer number))) }
     {
-        self.requests.add_buffer(id, number)
+        match self.buffer_refusal(id, number) {
+            Some(errno) => Err(errno),
+            None => {
+                self.add_buffer(id, number);
+                Ok(())
+            }
+        }
+    }
+
+    /// Makes a request as new (Linux userspace API, "ioctl MEDIA_REQUEST_IOC_REINIT"): idle, without a buffer, and with nothing asked; it keeps its place
+    /// among the others.
+    ///
+    /// - `id`: a request; the caller owes that `clear_refusal` doesn't refuse it.
+    ///
+    /// It takes no memory.
+    pub fn reinit(&mut self, id: RequestId)
+        requires { clear_refusal (find self.old.requests.all id.0) ≡ None }
+        ensures { self.new ≡ with_requests self.old (with_changed self.old.requests id.0 cleared) }
+    {
+        self.requests.reinit(id);
     }
 
     /// Makes a request as new (Linux userspace API, "ioctl MEDIA_REQUEST_IOC_REINIT"): idle, without a buffer, and with nothing asked; it keeps its place
@@ -446,11 +626,29 @@ impl Frames {
     /// - `id`: any request, there or not.
     ///
     /// Refused by check 19 (EINVAL, 22) or 29 (EBUSY, 16), which changes nothing. It takes no memory.
-    pub fn reinit(&mut self, id: RequestId) -> Result<(), Errno>
+    pub fn try_reinit(&mut self, id: RequestId) -> Result<(), Errno>
         ensures answer { result ≡ done_unless (clear_refusal (find self.old.requests.all id.0)) }
         ensures frames { self.new ≡ with_requests self.old (unless (clear_refusal (find self.old.requests.all id.0)) self.old.requests (with_changed self.old.requests id.0 cleared)) }
     {
-        self.requests.reinit(id)
+        match self.clear_refusal(id) {
+            Some(errno) => Err(errno),
+            None => {
+                self.reinit(id);
+                Ok(())
+            }
+        }
+    }
+
+    /// Lets a request go: its id names nothing then (Linux userspace API, "request close()"; that a queued or running one is refused is of this project).
+    ///
+    /// - `id`: a request; the caller owes that `clear_refusal` doesn't refuse it.
+    ///
+    /// It takes no memory.
+    pub fn free(&mut self, id: RequestId)
+        requires { clear_refusal (find self.old.requests.all id.0) ≡ None }
+        ensures { self.new ≡ with_requests self.old (record self.old.requests { all = without id.0 self.old.requests.all }) }
+    {
+        self.requests.free(id);
     }
 
     /// Lets a request go: its id names nothing then (Linux userspace API, "request close()"; that a queued or running one is refused is of this project).
@@ -458,11 +656,17 @@ impl Frames {
     /// - `id`: any request, there or not.
     ///
     /// Refused by check 19 (EINVAL, 22) or 29 (EBUSY, 16), which changes nothing. It takes no memory.
-    pub fn free(&mut self, id: RequestId) -> Result<(), Errno>
+    pub fn try_free(&mut self, id: RequestId) -> Result<(), Errno>
         ensures answer { result ≡ done_unless (clear_refusal (find self.old.requests.all id.0)) }
         ensures frames { self.new ≡ with_requests self.old (unless (clear_refusal (find self.old.requests.all id.0)) self.old.requests (record self.old.requests { all = without id.0 self.old.requests.all })) }
     {
-        self.requests.free(id)
+        match self.clear_refusal(id) {
+            Some(errno) => Err(errno),
+            None => {
+                self.free(id);
+                Ok(())
+            }
+        }
     }
 }
 

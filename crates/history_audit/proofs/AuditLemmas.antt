@@ -1,6 +1,5 @@
 -- What each try to replay an entry says of the whole history.
-use Rattle.std.proofs.Common.{◌≡◌, ℕ, suc, zero, ◌+◌, ◌<◌, ◌≤◌, true, false, [], ◌∷◌, length, take, get_or, slice_get, Some, Result, Ok, Err, IfOk, Bool, refl, ap, sym, ◌∙◌, subst, arith}
-use Rattle.std.specs.declared.alloc.AllocError.{AllocError}
+use Rattle.std.proofs.Common.{◌≡◌, ℕ, suc, zero, ◌+◌, ◌<◌, ◌≤◌, true, false, [], ◌∷◌, length, take, get_or, slice_get, Some, Result, Ok, Err, IfOk, OnErr, Bool, refl, ap, sym, ◌∙◌, subst, arith}
 use Rattle.std.proofs.lemmas.List.{take_all}
 use Rattle.std.proofs.lemmas.Option.{slice_get_read}
 use Rattle.history.specs.declared.entry.Entry.{Entry}
@@ -10,20 +9,17 @@ use Rattle.ctrl_handlers.specs.Plan.{PlanData}
 use Rattle.device_history.specs.declared.ask.Step.{Step}
 use Rattle.device_history.specs.Steps.{History}
 use Rattle.device_history.specs.Legal.{IsLegal}
+use Rattle.device_history.proofs.PastLemmas.{legal_add}
 use Rattle.history_audit.specs.Fault.{StopsAt}
 use Rattle.history_audit.specs.Replay.{IsNextEntry, ReplayData, Replayed}
 use Rattle.history_audit.specs.Scratch.{ScratchData, scratch}
-use Rattle.history_audit.proofs.MadeLemmas.{replayed_next, taken_many}
+use Rattle.history_audit.proofs.MadeLemmas.{at, behind_next, taken_many}
 
 -- an entry stands at each place
 stands : (xs : History) (n : ℕ) → n < length xs → (e : Entry Step) × (slice_get xs n ≡ Some e)
 stands [] n h = absurd (omega (arith, h))
 stands (x ∷ xs) zero h = (x, refl)
 stands (x ∷ xs) (suc n) h = stands xs n (omega (arith, h))
-
--- so many steps of a history were replayed
-abbrev pub at : PlanData → History → ℕ → ReplayData
-at plan all n = record { plan = plan; steps = take n all; all = all }
 
 -- the entry that stands behind them is the next one
 next_at : (plan : PlanData) (all : History) (n : ℕ) (e : Entry Step) → n ≤ length all → slice_get all n ≡ Some e → IsNextEntry (at plan all n) e
@@ -38,14 +34,14 @@ next_read plan all n e within more is =
     let less : n < length all = more_stand all n within more in
     next_at plan all n e within (slice_get_read all (length all) n e refl less is)
 
--- it alone is
-pub replayed_each : (verdicts : Verdicts) (old new : ReplayData) (e : Entry Step) (done : Result Bool AllocError) → IsNextEntry old e → IfOk done (λ is. Replayed verdicts old new e is)
-    → IfOk done (λ is. (other : Entry Step) → IsNextEntry old other → Replayed verdicts old new other is)
-replayed_each verdicts old new e (Ok is) here does = λ other there. subst (λ (x : Entry Step). Replayed verdicts old new x is) (same e other (sym here ∙ there)) does
-  where
-    same : (a b : Entry Step) → Some a ≡ Some b → a ≡ b
-    same a b h = cc
-replayed_each verdicts old new e (Err err) here does = does
+-- the steps stay legal, whatever comes of the next one
+pub legal_next : {E : Type 0} (verdicts : Verdicts) (old new : ReplayData) (e : Entry Step) (done : Result Bool E) → IsLegal verdicts old.plan (past old.steps) → IsNextEntry old e
+    → IfOk done (λ is. (e : Entry Step) → IsNextEntry old e → Replayed verdicts old new e is) → OnErr done (new ≡ old) → IsLegal verdicts new.plan (past new.steps)
+legal_next verdicts old new e (Ok true) legal here does kept =
+    let replayed = does e here in
+    subst (λ (r : ReplayData). IsLegal verdicts r.plan (past r.steps)) (sym replayed.1) (legal_add verdicts old.plan old.steps e legal replayed.0)
+legal_next verdicts old new e (Ok false) legal here does kept = subst (λ (r : ReplayData). IsLegal verdicts r.plan (past r.steps)) (sym (does e here).1) legal
+legal_next verdicts old new e (Err err) legal here does kept = subst (λ (r : ReplayData). IsLegal verdicts r.plan (past r.steps)) (sym kept) legal
 
 -- one more was replayed
 pub audit_next : (verdicts : Verdicts) (plan : PlanData) (all : History) (old new : ReplayData) (n : ℕ) → old ≡ at plan all n → n < length all
@@ -54,7 +50,7 @@ audit_next verdicts plan all old new n is h replays =
     let s = stands all n h in
     let here : IsNextEntry (at plan all n) s.0 = next_at plan all n s.0 (omega (arith, h)) s.1 in
     let does : Replayed verdicts (at plan all n) new s.0 true = subst (λ (r : ReplayData). Replayed verdicts r new s.0 true) is (replays s.0 (subst (λ (r : ReplayData). IsNextEntry r s.0) (sym is) here)) in
-    does.1 ∙ ap (λ (steps : History). (let d : ReplayData = record { plan = plan; steps = steps; all = all } in d)) (sym (replayed_next all n s.0 (omega (arith, h)) here).0)
+    does.1 ∙ sym (behind_next plan all n (omega (arith, h)) s.0 here)
 
 -- the next one may not follow
 pub audit_stops : (verdicts : Verdicts) (plan : PlanData) (all : History) (old new : ReplayData) (n : ℕ) → old ≡ at plan all n → n < length all

@@ -1,10 +1,10 @@
 -- Whether a step that gives no pairs may follow is read off the parts.
-use Rattle.std.proofs.Common.{◌≡◌, ℕ, ℤ, ◌<◌, Bool, true, false, not, ◌&&◌, nat_le, nat_lt, if◌then◌else◌, cond, List, [], ◌∷◌, length, Option, None, Some, is_some, Result, Ok, Err, IsOk, is_ok, refl, ap, sym, ◌∙◌, subst, arith}
+use Rattle.std.proofs.Common.{◌≡◌, ℕ, ℤ, ◌<◌, ◌≤◌, Bool, true, false, not, ◌&&◌, nat_le, nat_lt, if◌then◌else◌, cond, List, [], ◌∷◌, length, Option, None, Some, is_some, Ok, Err, IsOk, refl, ap, sym, ◌∙◌, arith}
 use Rattle.std.proofs.lemmas.Bool.Decides.{nat_tests}
 use Rattle.ctrl_types.specs.declared.errno.Errno.{Errno}
 use Rattle.ctrl_types.specs.declared.errno.Errno.TheVariants.{EBADF, EINVAL, ENOSPC, ERANGE}
 use Rattle.ctrl_calls.specs.Meanings.{Verdicts}
-use Rattle.ctrl_settle.specs.Control.{Control}
+use Rattle.ctrl_settle.specs.Control.{Control, with_range}
 use Rattle.ctrl_settle.specs.Faults.{IsWellFormed}
 use Rattle.ctrl_settle.specs.declared.fault.CtrlFault.{CtrlFault}
 use Rattle.ctrl_settle.proofs.WellFormed.{nothing_found, well_formed_where_none}
@@ -45,7 +45,7 @@ use Rattle.device_history.specs.EventAnswers.{first_control, subscribe_refusal, 
 use Rattle.device_history.specs.Events.{happened, pending}
 use Rattle.device_history.specs.Lists.{handler_or}
 use Rattle.device_history.proofs.FreeIdLemmas.{free_unshown}
-use Rattle.history_audit.specs.Replay.{gives_pairs}
+use Rattle.history_audit.specs.Replay.{is_judged}
 use Rattle.history_audit.specs.Changing.{StoresKnown, fits_parts, lacks}
 use Rattle.device_history.proofs.EventLemmas.{subscribes_known}
 use Rattle.step_effects.specs.Leaving.{NamesKnown}
@@ -183,7 +183,7 @@ takes_back past fh [] h = cc
 takes_back past fh (w ∷ ws) h = (free_back _ past _ h).0
 
 -- where the parts fit, the step may follow
-pub fits_may : (verdicts : Verdicts) (plan : PlanData) (past : Past) (step : Step) → gives_pairs step ≡ false → is_full past ≡ false → fits_parts verdicts plan past step ≡ true → MayFollow verdicts plan past step
+pub fits_may : (verdicts : Verdicts) (plan : PlanData) (past : Past) (step : Step) → is_judged step ≡ false → is_full past ≡ false → fits_parts verdicts plan past step ≡ true → MayFollow verdicts plan past step
 fits_may verdicts plan past (steps.OpenFh handler) plain room h =
     let parts = both (nat_lt handler (length plan.handlers)) (not (are_all_open past)) h in
     (asks.OpenFh handler, thrice (nat_le (length plan.handlers) handler) (are_all_open past) (is_full past) EINVAL ENOSPC ENOSPC (Fh (record { 0 = length past })) (below handler (length plan.handlers) parts.0) (is_not (are_all_open past) parts.1) room, refl)
@@ -196,15 +196,7 @@ fits_may verdicts plan past (steps.Grab c on) plain room h = (asks.Grab c on, tw
   where
     below : (a b : ℕ) → nat_lt a b ≡ true → nat_le b a ≡ false
     below a b h = grind (arith, nat_tests, h)
-fits_may verdicts plan past (steps.ModifyRange c low high apart default_value) plain room h =
-    let parts = both (nat_lt c (length plan.controls)) (lacks (first_fault (control_with_range (ranges_now plan past) c low high apart default_value))) h in (
-      asks.ModifyRange c low high apart default_value,
-      thrice (nat_le (length plan.controls) c) (is_some (first_fault (control_with_range (ranges_now plan past) c low high apart default_value))) (is_full past) EINVAL ERANGE ENOSPC Done (below c (length plan.controls) parts.0) (is_not (is_some (first_fault (control_with_range (ranges_now plan past) c low high apart default_value))) parts.1) room,
-      refl,
-    )
-  where
-    below : (a b : ℕ) → nat_lt a b ≡ true → nat_le b a ≡ false
-    below a b h = grind (arith, nat_tests, h)
+fits_may verdicts plan past (steps.ModifyRange c low high apart default_value) plain room h = cc
 fits_may verdicts plan past steps.Alloc plain room h = (asks.Alloc, free _ past _ (none_is _ h) room, refl)
 fits_may verdicts plan past (steps.Store r pairs) plain room h = cc
 fits_may verdicts plan past (steps.Buffer r number) plain room h = (asks.AddBuffer r number, free _ past _ (none_is _ h) room, refl)
@@ -234,7 +226,7 @@ fits_may verdicts plan past (steps.Take fh c) plain room h =
     (asks.Take fh, takes_free past fh (pending verdicts plan past fh) c (waits_open verdicts plan past fh c is) room is, ap (option_map (λ d. steps.Take fh d)) is)
 
 -- and a step that may follow finds the parts so
-pub may_fits : (verdicts : Verdicts) (plan : PlanData) (past : Past) (step : Step) → gives_pairs step ≡ false → MayFollow verdicts plan past step → (is_full past ≡ false) × (fits_parts verdicts plan past step ≡ true)
+pub may_fits : (verdicts : Verdicts) (plan : PlanData) (past : Past) (step : Step) → is_judged step ≡ false → MayFollow verdicts plan past step → (is_full past ≡ false) × (fits_parts verdicts plan past step ≡ true)
 may_fits verdicts plan past step plain may = by step plain (may_decided verdicts plan past step may).0 (may_decided verdicts plan past step may).1 (fits verdicts plan past step may)
   where
     above : (a b : ℕ) → nat_le b a ≡ false → nat_lt a b ≡ true
@@ -251,7 +243,7 @@ may_fits verdicts plan past step plain may = by step plain (may_decided verdicts
         each true k = refl
         each false k = cc
 
-    by : (step : Step) → gives_pairs step ≡ false → refusal verdicts plan past (ask_by plan past step) ≡ None → step_of verdicts plan past (ask_by plan past step) ≡ Some step → FitsFrames verdicts plan past step
+    by : (step : Step) → is_judged step ≡ false → refusal verdicts plan past (ask_by plan past step) ≡ None → step_of verdicts plan past (ask_by plan past step) ≡ Some step → FitsFrames verdicts plan past step
         → (is_full past ≡ false) × (fits_parts verdicts plan past step ≡ true)
     by (steps.OpenFh handler) plain h adds fit =
         let parts = thrice_back (nat_le (length plan.handlers) handler) (are_all_open past) (is_full past) EINVAL ENOSPC ENOSPC (Fh (record { 0 = length past })) h in
@@ -259,9 +251,7 @@ may_fits verdicts plan past step plain may = by step plain (may_decided verdicts
     by (steps.CloseFh fh) plain h adds fit = let parts = closes_back (is_some (handler_of past fh)) (is_full past) ENOSPC EBADF Done h in (parts.1, parts.0)
     by (steps.Set fh pairs) plain h adds fit = cc
     by (steps.Grab c on) plain h adds fit = let parts = twice_back (nat_le (length plan.controls) c) (is_full past) EINVAL ENOSPC Done h in (parts.1, above c (length plan.controls) parts.0)
-    by (steps.ModifyRange c low high apart default_value) plain h adds fit =
-        let parts = thrice_back (nat_le (length plan.controls) c) (is_some (first_fault (control_with_range (ranges_now plan past) c low high apart default_value))) (is_full past) EINVAL ERANGE ENOSPC Done h in
-        (parts.2, joined (nat_lt c (length plan.controls)) (lacks (first_fault (control_with_range (ranges_now plan past) c low high apart default_value))) (above c (length plan.controls) parts.0) (ap not parts.1))
+    by (steps.ModifyRange c low high apart default_value) plain h adds fit = cc
     by steps.Alloc plain h adds fit = free_back _ past _ h
     by (steps.Store r pairs) plain h adds fit = cc
     by (steps.Buffer r number) plain h adds fit = free_back _ past _ h
@@ -282,31 +272,53 @@ may_fits verdicts plan past step plain may = by step plain (may_decided verdicts
     by (steps.Unsubscribe fh None) plain h adds fit = ((free_back _ past _ h).0, is_open None fh (free_back _ past _ h).1)
     by (steps.Take fh c) plain h adds fit = (takes_back past fh (pending verdicts plan past fh) h, found {f = λ d. steps.Take fh d} (first_control (pending verdicts plan past fh)) c (λ d same. cc) adds)
 
--- a range is taken exactly where nothing is wrong with the control that has it
-pub range_taken : {X E : Type 0} (answer : Result X E) (ctrl : Control) → (IsOk answer → IsWellFormed ctrl) → (IsWellFormed ctrl → IsOk answer) → is_ok answer ≡ lacks (first_fault ctrl)
-range_taken (Ok x) ctrl sound whole = rw (nothing_found ctrl (sound refl)) refl
-range_taken {X = X} {E = E} (Err e) ctrl sound whole = by (first_fault ctrl) refl
-  where
-    by : (o : Option CtrlFault) → first_fault ctrl ≡ o → false ≡ lacks o
-    by None none = absurd (differ (whole (well_formed_where_none ctrl none)))
-      where
-        differ : IsOk {T = X} {E = E} (Err e) → ⊥
-        differ h = cc
-    by (Some f) found = refl
+-- a control that is given another range, with the numbers as they were given
+pub given_own : (ctrl own : Control) (low low' high high' : ℤ) (apart : ℕ) (usual usual' : ℤ) → low' ≡ low → high' ≡ high → usual' ≡ usual → ctrl ≡ own → with_range ctrl low' high' apart usual' ≡ with_range own low high apart usual
+given_own ctrl own low low' high high' apart usual usual' l h u is = λ i. with_range (is i) (l i) (h i) apart (u i)
 
--- a control that is given another range is there, and takes it
-pub range_known : (verdicts : Verdicts) (plan : PlanData) (past : Past) (c : ℕ) (low high : ℤ) (apart : ℕ) (default_value : ℤ) → MayFollow verdicts plan past (steps.ModifyRange c low high apart default_value)
-    → (c < length plan.controls) × (first_fault (control_with_range (ranges_now plan past) c low high apart default_value) ≡ None)
-range_known verdicts plan past c low high apart default_value may =
-    let parts = both (nat_lt c (length plan.controls)) (lacks (first_fault (control_with_range (ranges_now plan past) c low high apart default_value))) (may_fits verdicts plan past (steps.ModifyRange c low high apart default_value) refl may).1 in
-    (below c (length plan.controls) parts.0, none (first_fault (control_with_range (ranges_now plan past) c low high apart default_value)) parts.1)
+-- a range change may follow where a further step is kept, its control is there, and nothing is wrong with the range
+pub range_follows : (verdicts : Verdicts) (plan : PlanData) (past : Past) (c : ℕ) (low high : ℤ) (apart : ℕ) (default_value : ℤ) (ctrl : Control) → is_full past ≡ false → c < length plan.controls
+    → ctrl ≡ control_with_range (ranges_now plan past) c low high apart default_value → IsWellFormed ctrl → MayFollow verdicts plan past (steps.ModifyRange c low high apart default_value)
+range_follows verdicts plan past c low high apart default_value ctrl room there is whole =
+    let given : Control = control_with_range (ranges_now plan past) c low high apart default_value in (
+      asks.ModifyRange c low high apart default_value,
+      thrice (nat_le (length plan.controls) c) (is_some (first_fault given)) (is_full past) EINVAL ERANGE ENOSPC Done (above c (length plan.controls) there) (ap (λ (x : Control). is_some (first_fault x)) (sym is) ∙ ap (λ (o : Option CtrlFault). is_some o) (nothing_found ctrl whole)) room,
+      refl,
+    )
   where
-    none : (o : Option CtrlFault) → lacks o ≡ true → o ≡ None
-    none None h = refl
-    none (Some f) h = cc
+    above : (a b : ℕ) → a < b → nat_le b a ≡ false
+    above a b h = grind (arith, nat_tests, h)
 
-    below : (a b : ℕ) → nat_lt a b ≡ true → a < b
+-- what a range change that may follow finds
+pub range_needs : (verdicts : Verdicts) (plan : PlanData) (past : Past) (c : ℕ) (low high : ℤ) (apart : ℕ) (default_value : ℤ) → MayFollow verdicts plan past (steps.ModifyRange c low high apart default_value)
+    → (is_full past ≡ false) × (c < length plan.controls) × (first_fault (control_with_range (ranges_now plan past) c low high apart default_value) ≡ None)
+range_needs verdicts plan past c low high apart default_value may =
+    let parts = thrice_back (nat_le (length plan.controls) c) (is_some (first_fault (control_with_range (ranges_now plan past) c low high apart default_value))) (is_full past) EINVAL ERANGE ENOSPC Done
+    (may_decided verdicts plan past (steps.ModifyRange c low high apart default_value) may).0 in
+    (parts.2, below c (length plan.controls) parts.0, nothing (first_fault (control_with_range (ranges_now plan past) c low high apart default_value)) parts.1)
+  where
+    below : (a b : ℕ) → nat_le b a ≡ false → a < b
     below a b h = grind (arith, nat_tests, h)
+
+    nothing : (o : Option CtrlFault) → is_some o ≡ false → o ≡ None
+    nothing None h = refl
+    nothing (Some f) h = cc
+
+-- it may not where no further step is kept, where its control isn't there, and where this doesn't take the range
+pub range_full : (verdicts : Verdicts) (plan : PlanData) (past : Past) (c : ℕ) (low high : ℤ) (apart : ℕ) (default_value : ℤ) → is_full past ≡ true → MayFollow verdicts plan past (steps.ModifyRange c low high apart default_value) → ⊥
+range_full verdicts plan past c low high apart default_value full may =
+    let room = (range_needs verdicts plan past c low high apart default_value may).0 in cc
+
+pub range_beyond : (verdicts : Verdicts) (plan : PlanData) (past : Past) (c : ℕ) (low high : ℤ) (apart : ℕ) (default_value : ℤ) → length plan.controls ≤ c → MayFollow verdicts plan past (steps.ModifyRange c low high apart default_value) → ⊥
+range_beyond verdicts plan past c low high apart default_value beyond may = omega (arith, beyond, (range_needs verdicts plan past c low high apart default_value may).1)
+
+pub range_refused : {E : Type 0} (verdicts : Verdicts) (plan : PlanData) (past : Past) (c : ℕ) (low high : ℤ) (apart : ℕ) (default_value : ℤ) (ctrl : Control) (e : E) → ctrl ≡ control_with_range (ranges_now plan past) c low high apart default_value
+    → (IsWellFormed ctrl → IsOk {T = Control} (Err e)) → MayFollow verdicts plan past (steps.ModifyRange c low high apart default_value) → ⊥
+range_refused {E = E} verdicts plan past c low high apart default_value ctrl e is takes may =
+    differ (takes (well_formed_where_none ctrl (ap (λ (x : Control). first_fault x) is ∙ (range_needs verdicts plan past c low high apart default_value may).2)))
+  where
+    differ : IsOk {T = Control} {E = E} (Err e) → ⊥
+    differ h = cc
 
 -- a control that is grabbed is there
 pub grab_known : (verdicts : Verdicts) (plan : PlanData) (past : Past) (c : ℕ) (on : Bool) → MayFollow verdicts plan past (steps.Grab c on) → c < length plan.controls
@@ -323,16 +335,15 @@ none_read (Some e) true h = cc
 none_read (Some e) false h = refl
 
 -- what is read says whether the step may follow
-pub full_not : (verdicts : Verdicts) (plan : PlanData) (past : Past) (step : Step) → gives_pairs step ≡ false → is_full past ≡ true → MayFollow verdicts plan past step → ⊥
+pub full_not : (verdicts : Verdicts) (plan : PlanData) (past : Past) (step : Step) → is_judged step ≡ false → is_full past ≡ true → MayFollow verdicts plan past step → ⊥
 full_not verdicts plan past step plain full may = clash (sym full ∙ (may_fits verdicts plan past step plain may).0)
   where
     clash : true ≡ false → ⊥
     clash h = cc
 
 -- a request whose frame begins is there
-pub begin_there : (verdicts : Verdicts) (plan : PlanData) (past : Past) (step : Step) (r : RequestId) → step ≡ steps.Begin r → MayFollow verdicts plan past step → is_some (state past r.0) ≡ true
-begin_there verdicts plan past step r is may =
-    ap is_some (first_queued past r.0 (fits verdicts plan past (steps.Begin r) (subst (λ (s : Step). MayFollow verdicts plan past s) is may)).1)
+pub begin_there : (verdicts : Verdicts) (plan : PlanData) (past : Past) (r : RequestId) → MayFollow verdicts plan past (steps.Begin r) → is_some (state past r.0) ≡ true
+begin_there verdicts plan past r may = ap is_some (first_queued past r.0 (fits verdicts plan past (steps.Begin r) may).1)
 
 -- the controls that a step names are there, where those that it stores are
 pub names_known : (verdicts : Verdicts) (plan : PlanData) (past : Past) (step : Step) → IsPlan plan → MayFollow verdicts plan past step → StoresKnown (length plan.controls) step → NamesKnown (length plan.controls) step

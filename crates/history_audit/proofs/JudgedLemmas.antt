@@ -1,6 +1,5 @@
 -- What the judgement of a list says of a set and of a store.
-use Rattle.std.proofs.Common.{◌≡◌, ℕ, ◌<◌, ◌↔◌, true, false, List, [], length, Option, None, Some, is_some, Result, Ok, Err, IfOk, IsTrue, MatchOption, refl, ap, sym, ◌∙◌, subst}
-use Rattle.std.specs.List.{All}
+use Rattle.std.proofs.Common.{◌≡◌, ℕ, ◌↔◌, true, false, List, [], Option, None, Some, is_some, Result, Ok, Err, IfOk, IsTrue, MatchOption, refl, ap, sym, ◌∙◌, subst}
 use Rattle.std.specs.Option.{option_map}
 use Rattle.ctrl_types.specs.declared.errno.Errno.{Errno}
 use Rattle.ctrl_types.specs.declared.ids.ExtControl.{ExtControl}
@@ -16,6 +15,7 @@ use Rattle.ctrl_clusters.specs.Rows.{Grabs, Values}
 use Rattle.req_book.specs.Refusals.{store_refusal}
 use Rattle.ctrl_lists.specs.Answers.{set_answer}
 use Rattle.ctrl_lists.specs.Touched.{IsTouched, TouchedData}
+use Rattle.ctrl_lists.specs.Lists.{ListData}
 use Rattle.ctrl_lists.specs.View.{ViewData}
 use Rattle.device_history.specs.declared.ask.Step.TheVariants as steps
 use Rattle.device_history.specs.Ranges.{ranges_now}
@@ -93,34 +93,25 @@ store_judged verdicts plan past r handler pairs touched is room idle judged = by
         let same : handler ≡ k.1 = cc in
         own k touched e (subst (λ (n : ℕ). Judged verdicts plan (view_of verdicts plan past n Request (asked plan past r.0)) pairs touched) same judged)
 
--- the pairs of a list that can be set are of controls that are there
-pub judged_known : (verdicts : Verdicts) (plan : PlanData) (view : ViewData) (pairs : List Pair) (touched : Option TouchedData) → Judged verdicts plan view pairs touched → IsTrue (is_some touched) → All (λ p. p.control < length plan.controls) pairs
-judged_known verdicts plan view pairs None judged some = cc
-judged_known verdicts plan view pairs (Some touch) sets some = subst (λ (ps : List Pair). All (λ p. p.control < length plan.controls) ps) sets.own_pairs sets.touches.known
-
 -- what a list is judged against
-pub seen : (verdicts : Verdicts) (plan : PlanData) (past : Past) (handler : ℕ) (which : Which) (controls : List Control) (values : Values) (grabs : Grabs) (asked_before : List Pair) (view : ViewData)
-    → ◌≡◌ {A = ViewData} view (record { handler = handler; which = which; ranges = controls; values = values; grabs = grabs; asked = asked_before }) → controls ≡ ranges_now plan past → values ≡ now verdicts plan past → grabs ≡ grabbed plan past
-    → view ≡ view_of verdicts plan past handler which asked_before
-seen verdicts plan past handler which controls values grabs asked_before view is cs vs gs = is ∙ rw (cs, vs, gs) refl
+pub seen : (verdicts : Verdicts) (plan own : PlanData) (past : Past) (handler : ℕ) (which : Which) (controls : List Control) (values : Values) (grabs : Grabs) (asked_before : List Pair) (view : ListData)
+    → ◌≡◌ {A = ListData} view (record { plan = own; parts = record { handler = handler; which = which; ranges = controls; values = values; grabs = grabs; asked = asked_before } })
+    → own ≡ plan → controls ≡ ranges_now plan past → values ≡ now verdicts plan past → grabs ≡ grabbed plan past → ◌≡◌ {A = ListData} view (record { plan = plan; parts = view_of verdicts plan past handler which asked_before })
+seen verdicts plan own past handler which controls values grabs asked_before view is p cs vs gs = is ∙ (λ i. let l : ListData = record { plan = p i; parts = record { handler = handler; which = which; ranges = cs i; values = vs i; grabs = gs i; asked = asked_before } } in l)
 
 -- a list that is set, with the pairs' own controls
-pub is_set : (verdicts : Verdicts) (plan : PlanData) (view to : ViewData) (list : List ExtControl) (pairs : List Pair) (touch : TouchedData) → view ≡ to → list ≡ entries_of plan pairs
-    → set_answer verdicts plan view list ≡ Ok touch.answers → IsTouched verdicts plan view list touch → touch.pairs ≡ pairs → IsSet verdicts plan to pairs touch
-is_set verdicts plan view to list pairs touch at is accepted touches own =
-    subst (λ (v : ViewData). IsSet verdicts plan v pairs touch) at (record {
-      accepted = subst (λ (l : List ExtControl). set_answer verdicts plan view l ≡ Ok touch.answers) is accepted;
-      touches = subst (λ (l : List ExtControl). IsTouched verdicts plan view l touch) is touches;
-      own_pairs = own;
-    })
+pub is_set : (verdicts : Verdicts) (plan : PlanData) (view : ListData) (to : ViewData) (list : List ExtControl) (pairs : List Pair) (touch : TouchedData) → ◌≡◌ {A = ListData} view (record { plan = plan; parts = to }) → list ≡ entries_of plan pairs
+    → set_answer verdicts view.plan view.parts list ≡ Ok touch.answers → IsTouched verdicts view.plan view.parts list touch → touch.pairs ≡ pairs → IsSet verdicts plan to pairs touch
+is_set verdicts plan view to list pairs touch at is accepted touches own = record {
+  accepted = subst (λ (l : List ExtControl). set_answer verdicts plan to l ≡ Ok touch.answers) is (subst (λ (v : ListData). set_answer verdicts v.plan v.parts list ≡ Ok touch.answers) at accepted);
+  touches = subst (λ (l : List ExtControl). IsTouched verdicts plan to l touch) is (subst (λ (v : ListData). IsTouched verdicts v.plan v.parts list touch) at touches);
+  own_pairs = own;
+}
 
 -- a list that names other controls isn't the pairs' own
-pub is_other : (verdicts : Verdicts) (plan : PlanData) (view to : ViewData) (list : List ExtControl) (pairs : List Pair) (touch : TouchedData) → view ≡ to → list ≡ entries_of plan pairs
-    → IsTouched verdicts plan view list touch → (touch.pairs ≡ pairs → ⊥) → IsUnset verdicts plan to pairs
-is_other verdicts plan view to list pairs touch at is touches other = subst (λ (v : ViewData). IsUnset verdicts plan v pairs) at unset
-  where
-    own : IsTouched verdicts plan view (entries_of plan pairs) touch
-    own = subst (λ (l : List ExtControl). IsTouched verdicts plan view l touch) is touches
-
-    unset : IsUnset verdicts plan view pairs
-    unset = λ answers accepted names. other (own.own_pairs ∙ names)
+pub is_other : (verdicts : Verdicts) (plan : PlanData) (view : ListData) (to : ViewData) (list : List ExtControl) (pairs : List Pair) (touch : TouchedData) → ◌≡◌ {A = ListData} view (record { plan = plan; parts = to }) → list ≡ entries_of plan pairs
+    → IsTouched verdicts view.plan view.parts list touch → (touch.pairs ≡ pairs → ⊥) → IsUnset verdicts plan to pairs
+is_other verdicts plan view to list pairs touch at is touches other =
+    let own : IsTouched verdicts plan to (entries_of plan pairs) touch =
+    subst (λ (l : List ExtControl). IsTouched verdicts plan to l touch) is (subst (λ (v : ListData). IsTouched verdicts v.plan v.parts list touch) at touches) in
+    λ answers accepted names. other (own.own_pairs ∙ names)

@@ -1,16 +1,15 @@
--- What is read of the requests and the queue.
-use Rattle.std.proofs.Common.{◌≡◌, ℕ, suc, zero, ◌<◌, Bool, true, false, cond, List, [], ◌∷◌, length, filter, is_some, slice_get, Option, None, Some, Ok, Err, refl, sym, subst, arith}
+-- What is read of the requests.
+use Rattle.std.proofs.Common.{◌≡◌, ℕ, true, List, is_some, unwrap_or, Option, None, Some, IfSome, Ok, refl, ap, sym}
 use Rattle.std.specs.Option.{option_map}
-use Rattle.ctrl_types.specs.declared.errno.Errno.{Errno}
 use Rattle.ctrl_types.specs.declared.ids.Pair.{Pair}
+use Rattle.ctrl_types.specs.declared.ids.RequestId.{RequestId}
 use Rattle.ctrl_calls.specs.Meanings.{Verdicts}
 use Rattle.ctrl_handlers.specs.Plan.{PlanData}
 use Rattle.req_book.specs.Refusals as book
+use Rattle.req_book.specs.Requests.{RequestData, buffer_in}
 use Rattle.req_book.specs.declared.state.RequestState.{RequestState}
-use Rattle.frame_queue.specs.Frames.{is_queued}
 use Rattle.device_history.specs.Steps.{Past}
-use Rattle.device_history.specs.Requests.{asked, buffer, is_there, state}
-use Rattle.device_history.specs.Frames.{ever_queued, queue}
+use Rattle.device_history.specs.Requests.{asked, buffer, state}
 use Rattle.device_history.specs.Snapshots.{request, request_in}
 
 -- what a request asks for that is there
@@ -22,14 +21,6 @@ asked_is verdicts plan older r pairs is = by (state older r) is
     by None h = cc
     by (Some s) h = cc
 
-pub asked_there : (verdicts : Verdicts) (plan : PlanData) (older : Past) (r : ℕ) (errno : Errno) → is_some (state older r) ≡ true → book.asked_answer (request verdicts plan older r) ≡ Err errno → ⊥
-unfolding request
-asked_there verdicts plan older r errno there is = by (state older r) there is
-  where
-    by : (o : Option RequestState) → is_some o ≡ true → book.asked_answer (option_map (request_in verdicts plan older r) o) ≡ Err errno → ⊥
-    by None h e = cc
-    by (Some s) h e = cc
-
 -- a request that doesn't refuse pairs is there
 pub store_there : (verdicts : Verdicts) (plan : PlanData) (older : Past) (r : ℕ) → book.store_refusal (request verdicts plan older r) ≡ None → is_some (state older r) ≡ true
 unfolding request
@@ -39,46 +30,35 @@ store_there verdicts plan older r idle = by (state older r) idle
     by None h = cc
     by (Some s) h = refl
 
--- what is left of numbers passes the test
-kept_at : (test : ℕ → Bool) (ids : List ℕ) (i r : ℕ) → slice_get (filter test ids) i ≡ Some r → test r ≡ true
-kept_at test [] i r h = cc
-kept_at test (k ∷ ids) i r h = by (test k) refl i h (λ j. kept_at test ids j r)
+-- a request that is there is kept
+pub held : (verdicts : Verdicts) (plan : PlanData) (older : Past) (r : ℕ) → is_some (state older r) ≡ true → is_some (request verdicts plan older r) ≡ true
+unfolding request
+held verdicts plan older r there = by (state older r) there
   where
-    same : (a b : ℕ) → Some a ≡ Some b → a ≡ b
-    same a b h = cc
-
-    by : (b : Bool) → test k ≡ b → (i : ℕ) → slice_get (cond b (k ∷ filter test ids) (filter test ids)) i ≡ Some r → ((j : ℕ) → slice_get (filter test ids) j ≡ Some r → test r ≡ true) → test r ≡ true
-    by true is zero h rest = subst (λ (j : ℕ). test j ≡ true) (same k r h) is
-    by true is (suc i) h rest = rest i h
-    by false is i h rest = rest i h
-
--- what is queued is there
-pub queued_there : (older : Past) (i r : ℕ) → Some r ≡ slice_get (queue older) i → is_some (state older r) ≡ true
-queued_there older i r h = by (state older r) (kept_at (λ j. is_there is_queued (state older j)) (ever_queued older) i r (sym h))
-  where
-    by : (o : Option RequestState) → is_there is_queued o ≡ true → is_some o ≡ true
+    by : (o : Option RequestState) → is_some o ≡ true → is_some (option_map (request_in verdicts plan older r) o) ≡ true
     by None h = cc
     by (Some s) h = refl
 
--- the buffer that was read of a request that is there
-pub buffer_is : (verdicts : Verdicts) (plan : PlanData) (older : Past) (r : ℕ) (read : Option ℕ) → Ok read ≡ book.buffer_answer (request verdicts plan older r) → read ≡ buffer older r
+-- a request that holds a buffer is there
+pub buffer_there : (verdicts : Verdicts) (plan : PlanData) (older : Past) (r : ℕ) → is_some (buffer_in (request verdicts plan older r)) ≡ true → is_some (state older r) ≡ true
 unfolding request
-buffer_is verdicts plan older r read is = by (state older r) is
+buffer_there verdicts plan older r holds = by (state older r) holds
   where
-    by : (o : Option RequestState) → Ok read ≡ book.buffer_answer (option_map (request_in verdicts plan older r) o) → read ≡ buffer older r
+    by : (o : Option RequestState) → is_some (buffer_in (option_map (request_in verdicts plan older r) o)) ≡ true → is_some o ≡ true
     by None h = cc
-    by (Some s) h = cc
+    by (Some s) h = refl
 
-pub buffer_there : (verdicts : Verdicts) (plan : PlanData) (older : Past) (r : ℕ) (errno : Errno) → is_some (state older r) ≡ true → Err errno ≡ book.buffer_answer (request verdicts plan older r) → ⊥
+-- and its number is that of the history
+pub buffer_is : (verdicts : Verdicts) (plan : PlanData) (older : Past) (r n : ℕ) → buffer_in (request verdicts plan older r) ≡ Some n → n ≡ unwrap_or (buffer older r) 0
 unfolding request
-buffer_there verdicts plan older r errno there is = by (state older r) there is
+buffer_is verdicts plan older r n is = by (state older r) is
   where
-    by : (o : Option RequestState) → is_some o ≡ true → Err errno ≡ book.buffer_answer (option_map (request_in verdicts plan older r) o) → ⊥
-    by None h e = cc
-    by (Some s) h e = cc
+    by : (o : Option RequestState) → buffer_in (option_map (request_in verdicts plan older r) o) ≡ Some n → n ≡ unwrap_or (buffer older r) 0
+    by None h = cc
+    by (Some s) h = sym (ap (λ (b : Option ℕ). unwrap_or b 0) h)
 
--- something stands at each place of a list
-pub none_within : {A : Type 0} (xs : List A) (i : ℕ) → i < length xs → slice_get xs i ≡ None → ⊥
-none_within [] i lt h = omega (arith, lt)
-none_within (x ∷ xs) zero lt h = cc
-none_within (x ∷ xs) (suc i) lt h = none_within xs i (omega (arith, lt)) h
+-- what is queued holds a buffer, as it is kept
+pub queued_holds : (verdicts : Verdicts) (plan : PlanData) (older : Past) (kept : ℕ → Option RequestData) (o : Option RequestId) → ((r : ℕ) → kept r ≡ request verdicts plan older r)
+    → IfSome o (λ id. is_some (buffer_in (kept id.0)) ≡ true) → IfSome o (λ id. is_some (buffer_in (request verdicts plan older id.0)) ≡ true)
+queued_holds verdicts plan older kept None own h = tt
+queued_holds verdicts plan older kept (Some id) own h = rw own at h

@@ -1,17 +1,15 @@
 -- Which steps fit what is kept (of this project).
-use Rattle.std.specs.Prelude.{ℕ, ℤ, ◌<◌, Bool, true, false, not, ◌&&◌, nat_lt, length, Option, None, Some, is_some}
+use Rattle.std.specs.Prelude.{ℕ, ◌<◌, Bool, true, false, not, ◌&&◌, nat_lt, length, Option, None, Some, is_some}
 use Rattle.std.specs.List.{All}
 use Rattle.req_book.specs.Requests.{is_number}
 use Rattle.req_book.specs.Refusals.{alloc_refusal, buffer_refusal, queue_refusal, clear_refusal}
 use Rattle.frame_queue.specs.Frames.{cancel_refusal}
 use Rattle.ctrl_calls.specs.Meanings.{Verdicts}
 use Rattle.ctrl_types.specs.declared.ids.FhId.{FhId}
-use Rattle.ctrl_settle.specs.FirstFault.{first_fault}
 use Rattle.ctrl_handlers.specs.Plan.{PlanData, control}
 use Rattle.device_history.specs.declared.ask.Step.{Step}
 use Rattle.device_history.specs.declared.ask.Step.TheVariants as steps
 use Rattle.device_history.specs.Steps.{Past}
-use Rattle.device_history.specs.Ranges.{control_with_range, ranges_now}
 use Rattle.device_history.specs.Handles.{are_all_open, handler_of, shown}
 use Rattle.device_history.specs.Events.{pending}
 use Rattle.device_history.specs.EventAnswers.{first_control}
@@ -26,17 +24,12 @@ lacks o = not (is_some o)
 abbrev pub shows_it : PlanData → Past → FhId → ℕ → Bool
 shows_it plan past fh c = is_number (shown plan past fh (control plan c).id) c
 
--- a control is there, and has no fault with a range
-abbrev pub takes_range : PlanData → Past → ℕ → ℤ → ℤ → ℕ → ℤ → Bool
-takes_range plan past c low high apart default_value = nat_lt c (length plan.controls) && lacks (first_fault (control_with_range (ranges_now plan past) c low high apart default_value))
-
--- Of the code: what a replay tests of a step that gives no pairs, where a further step is kept; that this is whether the step may follow is said at
+-- Of the code: what a replay tests of a step that gives neither pairs nor a range, where a further step is kept; that this is whether the step may follow is said at
 -- `Replay::fits`.
 abbrev pub fits_parts : Verdicts → PlanData → Past → Step → Bool
 fits_parts verdicts plan past (steps.OpenFh handler) = nat_lt handler (length plan.handlers) && not (are_all_open past)
 fits_parts verdicts plan past (steps.CloseFh fh) = is_some (handler_of past fh)
 fits_parts verdicts plan past (steps.Grab c on) = nat_lt c (length plan.controls)
-fits_parts verdicts plan past (steps.ModifyRange c low high apart default_value) = takes_range plan past c low high apart default_value
 fits_parts verdicts plan past steps.Alloc = lacks (alloc_refusal (requests verdicts plan past))
 fits_parts verdicts plan past (steps.Buffer r number) = lacks (buffer_refusal (requests verdicts plan past) number (request verdicts plan past r.0))
 fits_parts verdicts plan past (steps.Queue r) = lacks (queue_refusal (request verdicts plan past r.0))

@@ -1,13 +1,13 @@
 -- A replay: a history whose first steps were replayed, and what they made of the parts of a device (of this project).
 use Rattle.std.specs.Prelude.{◌≡◌, ℕ, ◌≤◌, Bool, true, false, List, [], ◌∷◌, ◌++◌, length, take, Some, slice_get}
+use Rattle.std.specs.Option.{option_map}
 use Rattle.history.specs.declared.entry.Entry.{Entry}
 use Rattle.history.specs.Past.{past}
 use Rattle.ctrl_calls.specs.Meanings.{Verdicts}
 use Rattle.ctrl_types.specs.declared.ids.FhId.{FhId}
 use Rattle.ctrl_events.specs.Events.{EventsData, events_of}
-use Rattle.ctrl_settle.specs.Control.{Control}
 use Rattle.ctrl_handlers.specs.Plan.{IsPlan, PlanData}
-use Rattle.ctrl_clusters.specs.Rows.{Grabs, Values}
+use Rattle.ctrl_clusters.specs.ControlsData.{ControlsData}
 use Rattle.frame_queue.specs.Frames.{FramesData}
 use Rattle.device_history.specs.declared.ask.Step.{Step}
 use Rattle.device_history.specs.declared.ask.Step.TheVariants as steps
@@ -31,6 +31,10 @@ pub record ReplayData : Type 0 where
 abbrev pub IsNextEntry : ReplayData → Entry Step → Type 0
 IsNextEntry replay e = slice_get replay.all (length replay.steps) ≡ Some e
 
+-- the next entry that is to be replayed has this step
+abbrev pub IsNextStep : ReplayData → Step → Type 0
+IsNextStep replay step = option_map (λ e. e.step) (slice_get replay.all (length replay.steps)) ≡ Some step
+
 -- the replay behind one more entry
 abbrev pub with_next : ReplayData → Entry Step → ReplayData
 with_next replay e = record replay { steps = replay.steps ++ e ∷ [] }
@@ -44,9 +48,7 @@ Replayed verdicts old new e false = (MayFollow verdicts old.plan (past old.steps
 pub record Parts : Type 0 where
   -- the open file handles, each with its handler
   pub file_handles : List (ℕ × ℕ)
-  pub grabs : Grabs
-  pub ranges : List Control
-  pub values : Values
+  pub controls : ControlsData
   -- the requests and the queue
   pub frames : FramesData
   -- the events of file handles
@@ -56,9 +58,9 @@ pub record Parts : Type 0 where
 pub record HaveComeAbout (verdicts : Verdicts) (plan : PlanData) (steps : History) (parts : Parts) : Type 0 where
   pub legal : IsLegal verdicts plan (past steps)
   pub file_handles : parts.file_handles ≡ opened (past steps)
-  pub grabs : parts.grabs ≡ grabbed plan (past steps)
-  pub ranges : parts.ranges ≡ ranges_now plan (past steps)
-  pub values : parts.values ≡ now verdicts plan (past steps)
+  pub ranges : parts.controls.ranges ≡ ranges_now plan (past steps)
+  pub values : parts.controls.values ≡ now verdicts plan (past steps)
+  pub grabs : parts.controls.grabs ≡ grabbed plan (past steps)
   pub frames : parts.frames ≡ frames verdicts plan (past steps)
   pub events : (fh : FhId) → AreEvents verdicts plan (past steps) fh (events_of parts.events fh.0)
 
@@ -69,8 +71,9 @@ pub record IsReplay (verdicts : Verdicts) (plan : PlanData) (all : History) (cou
   pub few : count ≤ MAX_STEPS
   pub made : HaveComeAbout verdicts plan (take count all) parts
 
--- a step that lays a list of pairs that was given with it
-abbrev pub gives_pairs : Step → Bool
-gives_pairs (steps.Set fh pairs) = true
-gives_pairs (steps.Store r pairs) = true
-gives_pairs _ = false
+-- a step that is replayed where what it gives the controls was judged: the pairs of a set and of a store, and the range of a range change
+abbrev pub is_judged : Step → Bool
+is_judged (steps.Set fh pairs) = true
+is_judged (steps.Store r pairs) = true
+is_judged (steps.ModifyRange c low high apart default_value) = true
+is_judged _ = false

@@ -8,6 +8,7 @@ use Rattle.ctrl_settle.specs.Control.{Control}
 use Rattle.ctrl_handlers.specs.Plan.{PlanData}
 use Rattle.ctrl_events.specs.declared.event.Waiting.{Waiting}
 use Rattle.ctrl_events.specs.Events.{EventsData, FileEvents, events_of}
+use Rattle.ctrl_clusters.specs.ControlsData.{ControlsData}
 use Rattle.ctrl_clusters.specs.PresentFlags.{flags_under}
 use Rattle.ctrl_clusters.specs.Rows.{Grabs, Values}
 use Rattle.ctrl_forecast.specs.declared.board.Forecast.{Forecast}
@@ -79,10 +80,10 @@ scratch verdicts plan past = record {
 
 -- Controls with their ranges, values, the flags that these have with grabs, requests with their queue, what the queued frames will have, and the events of some file handles,
 -- each with its handler, are those of a scratch; what a begin applied doesn't count.
-pub record HasParts (s : ScratchData) (plan : PlanData) (controls : List Control) (present : Values) (grabs : Grabs) (requests : FramesData) (rows : List Forecast) (handles : List (ℕ × ℕ)) (kept : EventsData) : Type 0 where
-  pub ranges : s.ranges ≡ controls
-  pub values : s.values ≡ present
-  pub flags : s.flags ≡ flags_of_all plan present grabs
+pub record HasParts (s : ScratchData) (plan : PlanData) (controls : ControlsData) (requests : FramesData) (rows : List Forecast) (handles : List (ℕ × ℕ)) (kept : EventsData) : Type 0 where
+  pub ranges : s.ranges ≡ controls.ranges
+  pub values : s.values ≡ controls.values
+  pub flags : s.flags ≡ flags_of_all plan controls.values controls.grabs
   pub frames : IsLike s.frames requests
   pub forecasts : s.forecasts ≡ rows
   pub events : s.events ≡ open_events kept handles

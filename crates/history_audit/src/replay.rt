@@ -2,14 +2,13 @@ ghost use Rattle.std.specs.Prelude.{◌≡◌, ◌<◌, false, [], length, IfOk,
 ghost use Rattle.history.specs.Past.{past};
 ghost use Rattle.history.specs.declared.entry.Entry.{Entry as EntryOf};
 ghost use Rattle.device_history.specs.declared.ask.Step.{Step as StepOf};
-ghost use Rattle.ctrl_clusters.specs.Rows.{AreControlsOf};
 ghost use Rattle.device_history.specs.Ranges.{ranges_now};
 ghost use Rattle.device_history.specs.Grabs.{grabbed};
 ghost use Rattle.device_history.specs.Handles.{handler_of};
 ghost use Rattle.device_history.specs.Legal.{IsLegal};
 ghost use Rattle.device_history.specs.Refusals.{is_full};
 ghost use Rattle.device_history.specs.Values.{now};
-ghost use Rattle.history_audit.specs.Replay.{IsNextEntry, Replayed, gives_pairs};
+ghost use Rattle.history_audit.specs.Replay.{IsNextEntry, IsNextStep, Replayed, is_judged};
 ghost use Rattle.history_audit.specs.Scratch.{scratch};
 
 mod begins;
@@ -21,10 +20,10 @@ mod plain;
 
 use crate::scratch::Scratch;
 use ctrl_calls::Driver;
-use ctrl_clusters::{Ranges, default_values, no_grabs};
+use ctrl_clusters::{Controls, Moment};
 use ctrl_events::Events;
 use ctrl_handlers::Plan;
-use ctrl_types::{CtrlValue, FhId};
+use ctrl_types::FhId;
 use device_history::{MAX_STEPS, Step};
 use frame_queue::Frames;
 use history::Entry;
@@ -33,7 +32,7 @@ use std::alloc::{AllocError, Global};
 use std::marker::Model;
 
 /// A history that is replayed, step by step, and what its first steps made of a device. Contracts see it as the plan, the steps that were
-/// replayed, and all that there are: open file handles, grabs, ranges, values, requests and their queue are what the replayed steps make of them,
+/// replayed, and all that there are: open file handles, ranges, values, grabs, requests and their queue are what the replayed steps make of them,
 /// at every moment.
 pub struct Replay<'a, D: Driver> {
     plan: &'a Plan<D>,
@@ -42,12 +41,8 @@ pub struct Replay<'a, D: Driver> {
     count: usize,
     // the open file handles, each with its handler, in the order of their opening
     file_handles: IndexMap<u32, u32>,
-    // whether a control is grabbed, by control
-    grabs: Vec<bool>,
-    // the present ranges, by control
-    ranges: Ranges,
-    // the present values, by control
-    values: Vec<CtrlValue>,
+    // the present ranges, values and grabs
+    controls: Controls,
     // the media requests, and the queue of frames
     frames: Frames,
     // the events of file handles
@@ -65,7 +60,7 @@ impl<'a, D: Driver> Model for Replay<'a, D> {
 
     ghost view = { λ r. record { plan = r.plan.now; steps = take r.count r.steps.now; all = r.steps.now } };
 
-    ghost invariant = { λ r. IsReplay D.verdict r.plan.now r.steps.now r.count (record { file_handles = r.file_handles.entries; grabs = r.grabs.items; ranges = r.ranges; values = r.values.items; frames = r.frames; events = r.events }) };
+    ghost invariant = { λ r. IsReplay D.verdict r.plan.now r.steps.now r.count (record { file_handles = r.file_handles.entries; controls = r.controls; frames = r.frames; events = r.events }) };
 }
 
 impl<'a, D: Driver> Drop for Replay<'a, D> {
@@ -75,9 +70,7 @@ impl<'a, D: Driver> Drop for Replay<'a, D> {
             steps: _,
             count: _,
             file_handles: _,
-            grabs: _,
-            ranges: _,
-            values: _,
+            controls: _,
             frames: _,
             events: _,
             alloc: _,
@@ -100,10 +93,8 @@ impl<'a, D: Driver> Replay<'a, D> {
     ) -> Result<Replay<'a, D>, AllocError>
         ensures { IfOk result (λ r. r ≡ record { plan = plan.now; steps = []; all = steps.now }) }
     {
-        let ranges = Ranges::of_plan(alloc, plan)?;
-        let values = default_values(alloc, plan.controls())?;
-        let grabs = no_grabs(alloc, plan.controls())?;
-        let Ok(frames) = Frames::new(alloc, plan.control_count()) else {
+        let controls = Controls::of_plan(alloc, plan)?;
+        let Ok(frames) = Frames::new(alloc, plan.controls().len() as u32) else {
             return Err(AllocError);
         };
         Ok(Replay {
@@ -111,9 +102,7 @@ impl<'a, D: Driver> Replay<'a, D> {
             steps,
             count: 0,
             file_handles: IndexMap::new(alloc),
-            grabs,
-            ranges,
-            values,
+            controls,
             frames,
             events: Events::new(alloc),
             alloc,
@@ -138,48 +127,45 @@ impl<'a, D: Driver> Replay<'a, D> {
         ensures legal { IsLegal D.verdict self.new.plan (past self.new.steps) }
     {
         let all = self.steps;
-        let done = self.replay(&all[self.count]);
-        // the steps are legal, as the contract of `plan` says
-        let _plan = self.plan();
-        done
+        self.replay(&all[self.count].step)
     }
 
-    // Replays an entry, which is the next one.
-    fn replay(&mut self, entry: &Entry<Step>) -> Result<bool, AllocError>
-        requires { IsNextEntry self.old entry.now }
-        ensures ok { IfOk result (λ is. Replayed D.verdict self.old self.new entry.now is) }
+    // Replays a step, which is the next one.
+    fn replay(&mut self, step: &Step) -> Result<bool, AllocError>
+        requires { IsNextStep self.old step.now }
+        ensures ok { IfOk result (λ is. (e : EntryOf StepOf) → IsNextEntry self.old e → Replayed D.verdict self.old self.new e is) }
         ensures err { OnErr result (self.new ≡ self.old) }
     {
-        match &entry.step {
-            Step::Set { fh, pairs } => self.set(entry, *fh, pairs.as_slice()),
-            Step::Store { request, pairs } => self.store(entry, *request, pairs.as_slice()),
-            _ => self.replay_plain(entry),
-        }
-    }
-
-    // Replays an entry whose step gives no pairs.
-    fn replay_plain(&mut self, entry: &Entry<Step>) -> Result<bool, AllocError>
-        requires next { IsNextEntry self.old entry.now }
-        requires plain { gives_pairs entry.now.step ≡ false }
-        ensures ok { IfOk result (λ is. Replayed D.verdict self.old self.new entry.now is) }
-        ensures err { OnErr result (self.new ≡ self.old) }
-    {
-        if !self.fits(&entry.step) {
-            return Ok(false);
-        }
-        match &entry.step {
-            Step::OpenFh { handler } => self.open(entry, *handler)?,
-            Step::CloseFh { fh } => self.close(entry, *fh),
-            Step::Grab { control, on } => self.grab(entry, *control, *on)?,
+        match step {
+            Step::Set { fh, pairs } => self.set(*fh, pairs.as_slice()),
+            Step::Store { request, pairs } => self.store(step, *request, pairs.as_slice()),
             Step::ModifyRange {
                 control,
                 min,
                 max,
-                step,
+                step: apart,
                 default_value,
-            } => self.modify(entry, *control, *min, *max, *step, *default_value),
-            Step::Begin { request } => self.begin(entry, *request)?,
-            _ => self.change(entry)?,
+            } => Ok(self.modify(*control, *min, *max, *apart, *default_value)),
+            _ => self.replay_plain(step),
+        }
+    }
+
+    // Replays a step that gives neither pairs nor a range.
+    fn replay_plain(&mut self, step: &Step) -> Result<bool, AllocError>
+        requires next { IsNextStep self.old step.now }
+        requires plain { is_judged step.now ≡ false }
+        ensures ok { IfOk result (λ is. (e : EntryOf StepOf) → IsNextEntry self.old e → Replayed D.verdict self.old self.new e is) }
+        ensures err { OnErr result (self.new ≡ self.old) }
+    {
+        if !self.fits(step) {
+            return Ok(false);
+        }
+        match step {
+            Step::OpenFh { handler } => self.open(*handler)?,
+            Step::CloseFh { fh } => self.close(*fh),
+            Step::Grab { control, on } => self.grab(*control, *on)?,
+            Step::Begin { request } => self.begin(*request)?,
+            _ => self.change(step)?,
         }
         Ok(true)
     }
@@ -198,56 +184,22 @@ impl<'a, D: Driver> Replay<'a, D> {
             steps: _,
             count: _,
             file_handles,
-            grabs: _,
-            ranges,
-            values,
+            controls,
             frames,
             events,
             alloc: _,
         } = self;
-        Ok(Scratch::of(
-            ranges,
-            values,
-            flags,
-            frames,
-            forecasts,
-            file_handles,
-            events,
-        ))
+        Ok(Scratch::of(controls, flags, frames, forecasts, file_handles, events))
     }
 
-    // What the device is built of. The steps so far are legal.
-    fn plan(&self) -> &'a Plan<D>
-        ensures plan { result.now ≡ self.now.plan }
-        ensures legal { IsLegal D.verdict self.now.plan (past self.now.steps) }
+    // The present moment.
+    fn at(&self) -> Moment<'_, D>
+        ensures plan { result.plan.now ≡ self.now.plan }
+        ensures ranges { result.ranges.now ≡ ranges_now self.now.plan (past self.now.steps) }
+        ensures values { result.values.now ≡ now D.verdict self.now.plan (past self.now.steps) }
+        ensures grabs { result.grabs.now ≡ grabbed self.now.plan (past self.now.steps) }
     {
-        self.plan
-    }
-
-    // The present ranges, which are of the plan's controls.
-    fn present_ranges(&self) -> &Ranges
-        ensures ranges { result.now ≡ ranges_now self.now.plan (past self.now.steps) }
-        ensures controls { AreControlsOf self.now.plan result.now }
-    {
-        &self.ranges
-    }
-
-    // The present values.
-    #[tactic(auto, using(device_history::proofs::PresentLemmas::length_now))]
-    fn values(&self) -> &[CtrlValue]
-        ensures values { result.now ≡ now D.verdict self.now.plan (past self.now.steps) }
-        ensures long { length result.now ≡ length self.now.plan.controls }
-    {
-        self.values.as_slice()
-    }
-
-    // Whether each control is grabbed.
-    #[tactic(auto, using(device_history::proofs::PresentLemmas::length_grabbed))]
-    fn grabs(&self) -> &[bool]
-        ensures grabs { result.now ≡ grabbed self.now.plan (past self.now.steps) }
-        ensures long { length result.now ≡ length self.now.plan.controls }
-    {
-        self.grabs.as_slice()
+        self.controls.at(self.plan)
     }
 
     // The handler of a file handle, if it is open.

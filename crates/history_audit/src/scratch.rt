@@ -1,13 +1,13 @@
 ghost use Rattle.std.specs.Prelude.{◌≡◌, ◌<◌, ◌↔◌, IsTrue, length, slice_get};
 ghost use Rattle.std.specs.Option.{option_and_then, option_map_or};
+ghost use Rattle.ctrl_clusters.specs.Moments.{parts};
 ghost use Rattle.ctrl_events.specs.Events.{event_at};
 ghost use Rattle.history_audit.specs.Scratch.{HasParts, events_for, flags_of_all, open_events};
 
 use ctrl_calls::Driver;
-use ctrl_clusters::{Ranges, flags_under};
+use ctrl_clusters::{Controls, Moment, Ranges, flags_under};
 use ctrl_events::{Event, Events};
 use ctrl_forecast::Board;
-use ctrl_handlers::Plan;
 use ctrl_types::{CtrlValue, FhId, Flags};
 use frame_queue::Frames;
 use indexmap::IndexMap;
@@ -18,10 +18,8 @@ use std::marker::Model;
 /// for it and the number of its next event.
 #[derive(Drop)]
 pub struct Scratch {
-    // by control
-    ranges: Ranges,
-    // by control
-    values: Vec<CtrlValue>,
+    // the present ranges and values; the grabs are seen in the flags alone
+    controls: Controls,
     // by control
     flags: Vec<Flags>,
     frames: Frames,
@@ -37,25 +35,23 @@ impl Model for Scratch {
 
     ghost Value = { ScratchData };
 
-    ghost view = { λ s. record { ranges = s.ranges; values = s.values.items; flags = s.flags.items; frames = s.frames; forecasts = s.forecasts.forecasts; events = open_events s.events s.file_handles.entries } };
+    ghost view = { λ s. record { ranges = s.controls.ranges; values = s.controls.values; flags = s.flags.items; frames = s.frames; forecasts = s.forecasts.forecasts; events = open_events s.events s.file_handles.entries } };
 }
 
 impl Scratch {
     // These parts.
     pub(crate) fn of(
-        ranges: Ranges,
-        values: Vec<CtrlValue>,
+        controls: Controls,
         flags: Vec<Flags>,
         frames: Frames,
         forecasts: Board,
         file_handles: IndexMap<u32, u32>,
         events: Events,
     ) -> Scratch
-        ensures { result ≡ record { ranges = ranges; values = values.items; flags = flags.items; frames = frames; forecasts = forecasts.forecasts; events = open_events events file_handles.entries } }
+        ensures { result ≡ record { ranges = controls.ranges; values = controls.values; flags = flags.items; frames = frames; forecasts = forecasts.forecasts; events = open_events events file_handles.entries } }
     {
         Scratch {
-            ranges,
-            values,
+            controls,
             flags,
             frames,
             forecasts,
@@ -68,14 +64,14 @@ impl Scratch {
     pub fn ranges(&self) -> &Ranges
         ensures { result.now ≡ self.now.ranges }
     {
-        &self.ranges
+        self.controls.ranges()
     }
 
     /// The present values, one for each control, in the order of the plan's numbers. It takes no memory.
     pub fn values(&self) -> &[CtrlValue]
         ensures { result.now ≡ self.now.values }
     {
-        self.values.as_slice()
+        self.controls.values()
     }
 
     /// The present flags, likewise. It takes no memory.
@@ -124,36 +120,28 @@ impl Scratch {
     /// these open file handles with the same events that wait, in the same order, and the same numbers of their next events. What a begin applied of a
     /// request, subscriptions, and the handlers of file handles are left out. It takes no memory and asks nobody.
     ///
-    /// - `plan`: what the device is built of.
-    /// - `ranges`: the ranges of its controls.
-    /// - `values`, `grabs`: a value, and whether it is grabbed, for each control in the order of their numbers; the caller owes exactly as
-    ///   many.
+    /// - `at`: what the device is built of, and the ranges, the values and the grabs of its controls.
     /// - `frames`: the requests, their queue, and the one whose frame is being made.
     /// - `board`: what the queued frames will have.
     /// - `file_handles`: the open file handles, each with its handler, in the order of their opening.
     /// - `events`: the events of file handles, of these and any others.
     pub fn has_parts<D: Driver>(
         &self,
-        plan: &Plan<D>,
-        ranges: &Ranges,
-        values: &[CtrlValue],
-        grabs: &[bool],
+        at: &Moment<D>,
         frames: &Frames,
         board: &Board,
         file_handles: &IndexMap<u32, u32>,
         events: &Events,
     ) -> bool
-        requires values { length values.now ≡ length plan.now.controls }
-        requires grabs { length grabs.now ≡ length plan.now.controls }
-        ensures { IsTrue result ↔ HasParts self.now plan.now ranges.now values.now grabs.now frames.now board.now.forecasts file_handles.now.entries events.now }
+        ensures { IsTrue result ↔ HasParts self.now at.now.plan.now (parts at.now) frames.now board.now.forecasts file_handles.now.entries events.now }
     {
-        if !self.ranges().is_like(ranges) {
+        if !self.ranges().is_like(at.ranges) {
             return false;
         }
-        if !are_values(self.values(), values) {
+        if !are_values(self.values(), at.values) {
             return false;
         }
-        if !are_flags(plan, values, grabs, self.flags()) {
+        if !are_flags(at, self.flags()) {
             return false;
         }
         if !self.frames().is_like(frames) {
@@ -180,26 +168,16 @@ fn are_values(own: &[CtrlValue], values: &[CtrlValue]) -> bool
     own == values
 }
 
-// Whether these are the flags of each control under values and grabs.
-fn are_flags<D: Driver>(
-    plan: &Plan<D>,
-    values: &[CtrlValue],
-    grabs: &[bool],
-    flags: &[Flags],
-) -> bool
-    requires values { length values.now ≡ length plan.now.controls }
-    requires grabs { length grabs.now ≡ length plan.now.controls }
-    ensures { IsTrue result ↔ flags.now ≡ flags_of_all plan.now values.now grabs.now }
+// Whether these are the flags of each control at a moment.
+fn are_flags<D: Driver>(at: &Moment<D>, flags: &[Flags]) -> bool
+    ensures { IsTrue result ↔ flags.now ≡ flags_of_all at.now.plan.now at.now.values.now at.now.grabs.now }
 {
-    let count = plan.control_count();
+    let count = at.plan.control_count();
     if flags.len() != count as usize {
         return false;
     }
     for control in 0..count {
-        if !are_equal(
-            flags[control as usize],
-            flags_under(plan, values, grabs, control),
-        ) {
+        if !are_equal(flags[control as usize], flags_under(at, control)) {
             return false;
         }
     }

@@ -1,2 +1,1 @@
 pub mod Verdicts
-pub mod Kept

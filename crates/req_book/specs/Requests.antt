@@ -33,6 +33,11 @@ abbrev pub find : List RequestData → ℕ → Option RequestData
 find [] id = None
 find (r ∷ rs) id = if nat_eq id r.id then Some r else find rs id
 
+-- the number of the buffer of a request, where it is there and has one
+abbrev pub buffer_in : Option RequestData → Option ℕ
+buffer_in None = None
+buffer_in (Some r) = r.buffer
+
 -- No two requests have an id in common: behind each of them none is found under its id.
 abbrev pub HaveOwnIds : List RequestData → Type 0
 HaveOwnIds [] = Unit {0}

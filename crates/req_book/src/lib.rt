@@ -7,9 +7,11 @@ mod limits;
 mod object;
 mod objects;
 mod requests;
+mod room;
 mod settings;
 mod state;
 
 pub use limits::MAX_REQUESTS;
 pub use requests::Requests;
+pub use room::FrameRoom;
 pub use state::RequestState;

@@ -1,4 +1,4 @@
-ghost use Rattle.std.specs.Prelude.{◌≡◌, ◌↔◌, IsTrue, ℕ, ◌<◌, slice_get, OnOk, OnErr, IfSome, option_copied, length, replicate, true, ◌++◌, ◌∷◌, [], None};
+ghost use Rattle.std.specs.Prelude.{◌≡◌, is_some, ◌↔◌, IsTrue, ℕ, ◌<◌, slice_get, OnOk, OnErr, IfSome, option_copied, length, replicate, true, ◌++◌, ◌∷◌, [], None};
 ghost use Rattle.std.specs.Option.{option_map};
 ghost use Rattle.req_book.specs.Requests.{HaveOwnIds, find, with_changed, asking, with_pairs, with_buffer, cleared, queued, begun, completed, is_pending, is_number_held, without, new_request};
 ghost use Rattle.std.specs.List.{list_any};
@@ -141,21 +141,18 @@ impl Objects {
         self.ids.reserve(1)?;
         self.slots.reserve(1)?;
         let key = self.slots.insert_reserved(Object::new(alloc));
-        match self.ids.insert(id, key) {
-            Ok(_) => Ok(()),
-            Err(_) => Err(AllocError),
-        }
+        let _ = self.ids.insert(id, key).unwrap();
+        Ok(())
     }
 
-    /// Stores pairs in a request behind those that it has. The error is that a growth was refused.
+    /// Stores pairs in a request behind those that it has. The caller owes that it is there. The error is that a growth was refused.
     pub(crate) fn store(&mut self, alloc: Global, id: u32, more: &[Pair]) -> Result<(), AllocError>
+        requires { is_some (find self.old.all id) ≡ true }
         ensures ok { OnOk result (self.new ≡ with_changed self.old id (with_pairs self.old.controls more.now)) }
         ensures err { OnErr result (self.new ≡ self.old) }
     {
-        let pairs = match self.get(id) {
-            Some(object) => latest(alloc, self.controls, object.pairs.as_slice(), more)?,
-            None => return Ok(()),
-        };
+        let object = self.get(id).unwrap();
+        let pairs = latest(alloc, self.controls, object.pairs.as_slice(), more)?;
         self.set_pairs(id, pairs);
         Ok(())
     }

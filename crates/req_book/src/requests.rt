@@ -1,16 +1,17 @@
-ghost use Rattle.std.specs.Prelude.{◌≡◌, ◌↔◌, IsTrue, ◌++◌, ◌<◌, ◌∷◌, [], length, None, Ok, Err, true, IfErr, IfSome, OnOk, MatchResult};
+ghost use Rattle.std.specs.Prelude.{◌≡◌, ◌↔◌, IsTrue, ◌++◌, ◌<◌, ◌∷◌, [], length, None, Ok, Err, true, IfErr, IfSome, OnErr, OnOk, MatchResult, is_some, IfOk, IsOk, Some};
 ghost use Rattle.std.specs.List.{All};
 ghost use Rattle.req_book.specs.declared.state.RequestState.TheVariants as states;
-ghost use Rattle.req_book.specs.Requests.{HaveOwnIds, find, with_changed, with_pairs, with_buffer, cleared, queued, begun, completed, is_pending, is_number_held, without, new_request};
+ghost use Rattle.req_book.specs.Requests.{HaveOwnIds, find, buffer_in, with_changed, with_pairs, with_buffer, cleared, queued, begun, completed, is_pending, is_number_held, without, new_request};
 ghost use Rattle.req_book.specs.Refusals.{alloc_refusal, store_refusal, buffer_refusal, queue_refusal, clear_refusal, state_answer, buffer_answer, asked_answer, snapshot_answer, value_answer, IsRefusedBy, done_unless, unless};
 ghost use Rattle.req_book.specs.Alike.{AreLike};
 
 use crate::limits::MAX_REQUESTS;
 use crate::objects::Objects;
+use crate::room::FrameRoom;
 use crate::settings::latest;
 use crate::state::RequestState;
 use ctrl_types::{CtrlValue, Errno, Pair, RequestId};
-use std::alloc::Global;
+use std::alloc::{AllocError, Global};
 use std::marker::Model;
 
 /// The media requests of a device (Linux userspace API, "Request API"). Contracts see each request's state, its buffer, what it asks for,
@@ -33,7 +34,7 @@ impl Model for Requests {
 impl Requests {
     /// No request is there (of this project: a media device is made without any). It takes no memory and refuses nothing.
     ///
-    /// - `alloc`: where `alloc`, `store` and `mark_queued` take theirs.
+    /// - `alloc`: where `alloc`, `store` and `reserve` take theirs.
     /// - `controls`: the number of the device's controls, any `u32`; those that are stored have numbers below it.
     pub fn new(alloc: Global, controls: u32) -> Requests
         ensures { result ≡ record { controls = controls; all = [] } }
@@ -116,6 +117,26 @@ impl Requests {
         }
     }
 
+    /// What a request asks for, as `asked` answers it (Linux userspace API, "Request API"). It takes no memory.
+    ///
+    /// - `id`: a request; the caller owes that it is there.
+    pub fn pairs_of(&self, id: RequestId) -> &[Pair]
+        requires { is_some (find self.now.all id.0) ≡ true }
+        ensures { asked_answer (find self.now.all id.0) ≡ Ok result.now }
+    {
+        self.objects.get(id.0).unwrap().pairs.as_slice()
+    }
+
+    /// The number of a request's buffer (Linux userspace API, "Request API"; that it has one is of this project). It takes no memory.
+    ///
+    /// - `id`: a request; the caller owes that it is there, and was given a buffer.
+    pub fn number_of(&self, id: RequestId) -> u32
+        requires { is_some (buffer_in (find self.now.all id.0)) ≡ true }
+        ensures { buffer_in (find self.now.all id.0) ≡ Some result }
+    {
+        self.objects.get(id.0).unwrap().buffer.unwrap()
+    }
+
     /// The value of each control that the frame of a complete request had, in the order of their numbers (Linux userspace API, "Request API": its
     /// controls are read once it is complete). Refused by check 19 (EINVAL, 22) or 30 (EACCES, 13). It takes no memory.
     ///
@@ -127,6 +148,17 @@ impl Requests {
             Some(object) => object.snapshot(),
             None => Err(Errno::EINVAL),
         }
+    }
+
+    /// The value of each control that the frame of a request had, as `snapshot_values` answers them (Linux userspace API, "Request API"). It takes no
+    /// memory.
+    ///
+    /// - `id`: a request; the caller owes that it is there and complete.
+    pub fn snapshot_of(&self, id: RequestId) -> &[CtrlValue]
+        requires { IsOk (snapshot_answer (find self.now.all id.0)) }
+        ensures { snapshot_answer (find self.now.all id.0) ≡ Ok result.now }
+    {
+        self.snapshot_values(id).unwrap()
     }
 
     /// Why no further request is made: check 18 (ENOSPC, 28), the limit of 64 (of this project); none where nothing but want of memory refuses it. It
@@ -212,17 +244,31 @@ impl Requests {
 
     /// Makes a request, the last: idle, without a buffer, and with nothing asked (Linux userspace API, "ioctl MEDIA_IOC_REQUEST_ALLOC").
     ///
+    /// - `id`: its number; the caller owes one that no request has, and that `alloc_refusal` doesn't refuse it.
+    ///
+    /// The error is that a growth was refused; nothing is changed then.
+    pub fn alloc(&mut self, id: RequestId) -> Result<(), AllocError>
+        requires unused { find self.old.all id.0 ≡ None }
+        requires passes { alloc_refusal self.old.all ≡ None }
+        ensures ok { OnOk result (self.new ≡ record self.old { all = self.old.all ++ new_request id.0 ∷ [] }) }
+        ensures err { OnErr result (self.new ≡ self.old) }
+    {
+        self.objects.add(self.alloc, id.0)
+    }
+
+    /// Makes a request, the last: idle, without a buffer, and with nothing asked (Linux userspace API, "ioctl MEDIA_IOC_REQUEST_ALLOC").
+    ///
     /// - `id`: its number; the caller owes one that no request has.
     ///
     /// Refused by check 18 (ENOSPC, 28) or 34 (ENOMEM, 12), which changes nothing.
-    pub fn alloc(&mut self, id: RequestId) -> Result<(), Errno>
+    pub fn try_alloc(&mut self, id: RequestId) -> Result<(), Errno>
         requires { find self.old.all id.0 ≡ None }
         ensures ok { OnOk result ((alloc_refusal self.old.all ≡ None) × (self.new ≡ record self.old { all = self.old.all ++ new_request id.0 ∷ [] })) }
         ensures err { IfErr result (λ errno. IsRefusedBy (alloc_refusal self.old.all) errno × (self.new ≡ self.old)) }
     {
         match self.alloc_refusal() {
             Some(errno) => Err(errno),
-            None => match self.objects.add(self.alloc, id.0) {
+            None => match self.alloc(id) {
                 Ok(()) => Ok(()),
                 Err(_) => Err(Errno::ENOMEM),
             },
@@ -232,18 +278,34 @@ impl Requests {
     /// Stores values that a request asks for (Linux userspace API, "Request API"; `VIDIOC_S_EXT_CTRLS` with `V4L2_CTRL_WHICH_REQUEST_VAL`): of each
     /// control the last stored pair counts.
     ///
+    /// - `id`: a request; the caller owes that `store_refusal` doesn't refuse it.
+    /// - `pairs`: any number, a control any number of times; the caller owes numbers of controls.
+    ///
+    /// The error is that a growth was refused; nothing is changed then.
+    pub fn store(&mut self, id: RequestId, pairs: &[Pair]) -> Result<(), AllocError>
+        requires known { All (λ p. p.control < self.old.controls) pairs.now }
+        requires passes { store_refusal (find self.old.all id.0) ≡ None }
+        ensures ok { OnOk result (self.new ≡ with_changed self.old id.0 (with_pairs self.old.controls pairs.now)) }
+        ensures err { OnErr result (self.new ≡ self.old) }
+    {
+        self.objects.store(self.alloc, id.0, pairs)
+    }
+
+    /// Stores values that a request asks for (Linux userspace API, "Request API"; `VIDIOC_S_EXT_CTRLS` with `V4L2_CTRL_WHICH_REQUEST_VAL`): of each
+    /// control the last stored pair counts.
+    ///
     /// - `id`: any request, there or not.
     /// - `pairs`: any number, a control any number of times; the caller owes numbers of controls.
     ///
     /// Refused by check 19 (EINVAL, 22), 20 (EBUSY, 16) or 34 (ENOMEM, 12), which changes nothing.
-    pub fn store(&mut self, id: RequestId, pairs: &[Pair]) -> Result<(), Errno>
+    pub fn try_store(&mut self, id: RequestId, pairs: &[Pair]) -> Result<(), Errno>
         requires { All (λ p. p.control < self.old.controls) pairs.now }
         ensures ok { OnOk result ((store_refusal (find self.old.all id.0) ≡ None) × (self.new ≡ with_changed self.old id.0 (with_pairs self.old.controls pairs.now))) }
         ensures err { IfErr result (λ errno. IsRefusedBy (store_refusal (find self.old.all id.0)) errno × (self.new ≡ self.old)) }
     {
         match self.store_refusal(id) {
             Some(errno) => Err(errno),
-            None => match self.objects.store(self.alloc, id.0, pairs) {
+            None => match self.store(id, pairs) {
                 Ok(()) => Ok(()),
                 Err(_) => Err(Errno::ENOMEM),
             },
@@ -253,18 +315,31 @@ impl Requests {
     /// Gives a request the buffer with a number (Linux userspace API, "Request API"; `VIDIOC_QBUF` with `request_fd`; that it has one, and that no two
     /// hold a number, is of this project).
     ///
+    /// - `id`, `number`: a request and a number; the caller owes that `buffer_refusal` doesn't refuse them.
+    ///
+    /// It takes no memory.
+    pub fn add_buffer(&mut self, id: RequestId, number: u32)
+        requires { buffer_refusal self.old.all number (find self.old.all id.0) ≡ None }
+        ensures { self.new ≡ with_changed self.old id.0 (with_buffer number) }
+    {
+        self.objects.set_buffer(id.0, number);
+    }
+
+    /// Gives a request the buffer with a number (Linux userspace API, "Request API"; `VIDIOC_QBUF` with `request_fd`; that it has one, and that no two
+    /// hold a number, is of this project).
+    ///
     /// - `id`: any request, there or not.
     /// - `number`: any number.
     ///
     /// Refused by check 19 (EINVAL, 22), or one of 20 to 22 (EBUSY, 16), which changes nothing. It takes no memory.
-    pub fn add_buffer(&mut self, id: RequestId, number: u32) -> Result<(), Errno>
+    pub fn try_add_buffer(&mut self, id: RequestId, number: u32) -> Result<(), Errno>
         ensures answer { result ≡ done_unless (buffer_refusal self.old.all number (find self.old.all id.0)) }
         ensures requests { self.new ≡ unless (buffer_refusal self.old.all number (find self.old.all id.0)) self.old (with_changed self.old id.0 (with_buffer number)) }
     {
         match self.buffer_refusal(id, number) {
             Some(errno) => Err(errno),
             None => {
-                self.objects.set_buffer(id.0, number);
+                self.add_buffer(id, number);
                 Ok(())
             }
         }
@@ -273,17 +348,30 @@ impl Requests {
     /// Makes a request as new (Linux userspace API, "ioctl MEDIA_REQUEST_IOC_REINIT"): idle, without a buffer, and with nothing asked; it keeps its place
     /// among the others.
     ///
+    /// - `id`: a request; the caller owes that `clear_refusal` doesn't refuse it.
+    ///
+    /// It takes no memory.
+    pub fn reinit(&mut self, id: RequestId)
+        requires { clear_refusal (find self.old.all id.0) ≡ None }
+        ensures { self.new ≡ with_changed self.old id.0 cleared }
+    {
+        self.objects.clear(id.0);
+    }
+
+    /// Makes a request as new (Linux userspace API, "ioctl MEDIA_REQUEST_IOC_REINIT"): idle, without a buffer, and with nothing asked; it keeps its place
+    /// among the others.
+    ///
     /// - `id`: any request, there or not.
     ///
     /// Refused by check 19 (EINVAL, 22) or 29 (EBUSY, 16), which changes nothing. It takes no memory.
-    pub fn reinit(&mut self, id: RequestId) -> Result<(), Errno>
+    pub fn try_reinit(&mut self, id: RequestId) -> Result<(), Errno>
         ensures answer { result ≡ done_unless (clear_refusal (find self.old.all id.0)) }
         ensures requests { self.new ≡ unless (clear_refusal (find self.old.all id.0)) self.old (with_changed self.old id.0 cleared) }
     {
         match self.clear_refusal(id) {
             Some(errno) => Err(errno),
             None => {
-                self.objects.clear(id.0);
+                self.reinit(id);
                 Ok(())
             }
         }
@@ -291,20 +379,55 @@ impl Requests {
 
     /// Lets a request go: its id names nothing then (Linux userspace API, "request close()"; that a queued or running one is refused is of this project).
     ///
+    /// - `id`: a request; the caller owes that `clear_refusal` doesn't refuse it.
+    ///
+    /// It takes no memory.
+    pub fn free(&mut self, id: RequestId)
+        requires { clear_refusal (find self.old.all id.0) ≡ None }
+        ensures { self.new ≡ record self.old { all = without id.0 self.old.all } }
+    {
+        self.objects.remove(id.0);
+    }
+
+    /// Lets a request go: its id names nothing then (Linux userspace API, "request close()"; that a queued or running one is refused is of this project).
+    ///
     /// - `id`: any request, there or not.
     ///
     /// Refused by check 19 (EINVAL, 22) or 29 (EBUSY, 16), which changes nothing. It takes no memory.
-    pub fn free(&mut self, id: RequestId) -> Result<(), Errno>
+    pub fn try_free(&mut self, id: RequestId) -> Result<(), Errno>
         ensures answer { result ≡ done_unless (clear_refusal (find self.old.all id.0)) }
         ensures requests { self.new ≡ unless (clear_refusal (find self.old.all id.0)) self.old (record self.old { all = without id.0 self.old.all }) }
     {
         match self.clear_refusal(id) {
             Some(errno) => Err(errno),
             None => {
-                self.objects.remove(id.0);
+                self.free(id);
                 Ok(())
             }
         }
+    }
+
+    /// Room for what the frame of a request will have, which `mark_queued` takes (of this project). It changes nothing. The error is that a growth was
+    /// refused.
+    pub fn reserve(&self) -> Result<FrameRoom, AllocError>
+        ensures { IfOk result (λ room. room ≡ self.now.controls) }
+    {
+        FrameRoom::new(self.alloc, self.objects.controls())
+    }
+
+    /// Marks a request as one that waits for its frame (Linux userspace API, "ioctl MEDIA_REQUEST_IOC_QUEUE"). For the queue of frames alone.
+    ///
+    /// - `id`: a request; the caller owes that `queue_refusal` doesn't refuse it.
+    /// - `room`: room for what its frame will have; the caller owes one for as many controls as there are, as `reserve` makes it.
+    ///
+    /// It takes no memory.
+    pub fn mark_queued(&mut self, id: RequestId, room: FrameRoom)
+        requires passes { queue_refusal (find self.old.all id.0) ≡ None }
+        requires room { room ≡ self.old.controls }
+        ensures { self.new ≡ with_changed self.old id.0 (queued self.old.controls) }
+    {
+        let (applied, values) = room.into_rows();
+        self.objects.enqueue(id.0, applied, values);
     }
 
     /// Marks a request as one that waits for its frame (Linux userspace API, "ioctl MEDIA_REQUEST_IOC_QUEUE"), and makes room for what its frame will
@@ -313,23 +436,19 @@ impl Requests {
     /// - `id`: any request, there or not.
     ///
     /// Refused by check 19 (EINVAL, 22), 20 (EBUSY, 16), 23 (ENOENT, 2) or 34 (ENOMEM, 12), which changes nothing.
-    pub fn mark_queued(&mut self, id: RequestId) -> Result<(), Errno>
+    pub fn try_mark_queued(&mut self, id: RequestId) -> Result<(), Errno>
         ensures ok { OnOk result ((queue_refusal (find self.old.all id.0) ≡ None) × (self.new ≡ with_changed self.old id.0 (queued self.old.controls))) }
         ensures err { IfErr result (λ errno. IsRefusedBy (queue_refusal (find self.old.all id.0)) errno × (self.new ≡ self.old)) }
     {
         match self.queue_refusal(id) {
             Some(errno) => Err(errno),
-            None => {
-                let controls = self.objects.controls() as usize;
-                let (Ok(applied), Ok(values)) = (
-                    vec![in self.alloc; None; controls],
-                    vec![in self.alloc; CtrlValue::Number(0); controls],
-                ) else {
-                    return Err(Errno::ENOMEM);
-                };
-                self.objects.enqueue(id.0, applied, values);
-                Ok(())
-            }
+            None => match self.reserve() {
+                Ok(room) => {
+                    self.mark_queued(id, room);
+                    Ok(())
+                }
+                Err(_) => Err(Errno::ENOMEM),
+            },
         }
     }
 

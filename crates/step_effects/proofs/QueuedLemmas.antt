@@ -1,13 +1,11 @@
 -- A frame that is taken out of those that are queued.
-use Rattle.std.proofs.Common.{◌≡◌, ℕ, suc, ◌≤◌, ◌+◌, Bool, true, false, not, cond, nat_eq, List, [], ◌∷◌, ◌++◌, length, map, filter, drop, None, Some, refl, ap, sym, subst, ◌∙◌, arith}
+use Rattle.std.proofs.Common.{◌≡◌, ℕ, suc, ◌+◌, Bool, true, false, not, cond, nat_eq, List, [], ◌∷◌, map, filter, drop, None, Some, refl, ap, sym, subst, ◌∙◌, arith}
 use Rattle.std.specs.List.{list_any, position_from, remove}
 use Rattle.std.proofs.lemmas.Bool.Decides.{nat_tests}
-use Rattle.std.proofs.lemmas.List.{drop_all}
-use Rattle.std.proofs.lemmas.List.Sums.{sum_by-cons}
 use Rattle.ctrl_handlers.specs.Plan.{PlanData}
 use Rattle.ctrl_handlers.proofs.ClusterLemmas.{or_false, or_false_right}
 use Rattle.ctrl_forecast.specs.Boards.{asked_at, named_clusters}
-use Rattle.ctrl_forecast.specs.Forecasts.{QueuedData, named_by_frames, naming_count}
+use Rattle.ctrl_forecast.specs.Forecasts.{QueuedData, named_by_frames}
 use Rattle.frame_queue.specs.Frames.{AreOnce}
 use Rattle.step_effects.specs.QueuedFrames.{named_behind}
 
@@ -56,17 +54,3 @@ one_found plan r i p (q ∷ queued) once found = by (nat_eq r q.request.0) refl 
         let behind = rest h in
         let next : suc (behind.0 + 1) ≡ suc behind.0 + 1 = omega arith in
         (suc behind.0, omega (arith, behind.1), rw is (ap (λ (qs : List QueuedData). q ∷ qs) behind.2), rw is (behind.3 ∙ ap (λ (n : ℕ). named_by_frames plan (drop n (q ∷ queued)) (named_clusters plan (asked_at queued behind.0))) next))
-
--- no frame names a cluster
-none_named : (plan : PlanData) (ks : List ℕ) → named_by_frames plan [] ks ≡ 0
-none_named plan [] = refl
-none_named plan (k ∷ ks) = omega (arith, sum_by-cons (naming_count plan []) k ks, none_named plan ks)
-
--- behind the last frame none is
-pub none_behind : (plan : PlanData) (queued : List QueuedData) (place : ℕ) (ks : List ℕ) → length queued ≤ place + 1 → named_by_frames plan (drop (place + 1) queued) ks ≡ 0
-none_behind plan queued place ks all = ap (λ (qs : List QueuedData). named_by_frames plan qs ks) (drop_all (place + 1) queued all) ∙ none_named plan ks
-
--- the last of some is taken again
-pub last_taken : (queued : List QueuedData) (q : QueuedData) → remove (queued ++ q ∷ []) (length queued) ≡ queued
-last_taken [] q = refl
-last_taken (p ∷ queued) q = ap (λ (qs : List QueuedData). p ∷ qs) (last_taken queued q)

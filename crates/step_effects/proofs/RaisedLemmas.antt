@@ -6,10 +6,11 @@ use Rattle.history.specs.declared.entry.Entry.{Entry}
 use Rattle.ctrl_types.specs.declared.ids.FhId.{FhId}
 use Rattle.ctrl_types.specs.declared.ids.Pair.{Pair}
 use Rattle.ctrl_calls.specs.Meanings.{Verdicts}
+use Rattle.ctrl_clusters.specs.ControlsData.{ControlsData}
 use Rattle.ctrl_events.specs.declared.event.Payload.{Payload}
 use Rattle.ctrl_events.specs.Events.{FileEvents, after_subscribe, only_at}
 use Rattle.ctrl_handlers.specs.Plan.{PlanData, control}
-use Rattle.ctrl_raises.specs.Raises.{MomentData, changed_between, initial_changes, needing_feedback, payload_at, raised_all}
+use Rattle.ctrl_raises.specs.Raises.{changed_between, initial_changes, needing_feedback, payload_at, raised_all}
 use Rattle.ctrl_types.specs.declared.sub_flags.SubFlags.{SubFlags}
 use Rattle.device_history.specs.declared.ask.Step.{Step}
 use Rattle.device_history.specs.declared.ask.Step.TheVariants as steps
@@ -26,12 +27,12 @@ use Rattle.step_effects.specs.Sources.{IsSourceOf}
 use Rattle.device_history.proofs.RangeLemmas.{ranges_more}
 
 -- the raises between two moments, where pairs were applied
-abbrev raised_between : PlanData → MomentData → MomentData → List Pair → Option FhId → ℕ → FileEvents → FileEvents
+abbrev raised_between : PlanData → ControlsData → ControlsData → List Pair → Option FhId → ℕ → FileEvents → FileEvents
 raised_between plan before after pairs from j f =
     raised_all (changed_between plan before after pairs) (payload_at plan after) (λ c. needing_feedback (option_map (λ fh. fh.0) from) pairs (changed_between plan before after pairs c) c) j (range_with_len 0 (length plan.controls)) f
 
 -- those of a step that raises what it changes
-pub raised_step : (verdicts : Verdicts) (plan : PlanData) (e : Entry Step) (older : Past) (before after : MomentData) (pairs : List Pair) (from : Option FhId) (fh : FhId) (f : FileEvents)
+pub raised_step : (verdicts : Verdicts) (plan : PlanData) (e : Entry Step) (older : Past) (before after : ControlsData) (pairs : List Pair) (from : Option FhId) (fh : FhId) (f : FileEvents)
     → AreAround verdicts plan e older before after → IsSourceOf verdicts plan older e.step pairs from
     → raised_all (changed_between plan before after pairs) (payload_at plan after) (λ c. needing_feedback (option_map (λ fh. fh.0) from) pairs (changed_between plan before after pairs c) c) fh.0 (range_with_len 0 (length plan.controls)) f
     ≡ events_after verdicts plan e older fh f
@@ -64,7 +65,7 @@ raised_step verdicts plan e older before after pairs from fh f around given = by
     by (steps.Take g c) is given = absurd given
 
 -- what a subscription makes of them
-pub subscribed_step : (verdicts : Verdicts) (plan : PlanData) (e : Entry Step) (older : Past) (at : MomentData) (g : FhId) (c : ℕ) (flags : SubFlags) (fh : FhId) (f : FileEvents)
+pub subscribed_step : (verdicts : Verdicts) (plan : PlanData) (e : Entry Step) (older : Past) (at : ControlsData) (g : FhId) (c : ℕ) (flags : SubFlags) (fh : FhId) (f : FileEvents)
     → e.step ≡ steps.Subscribe g c flags → at.ranges ≡ ranges_now plan older → at.values ≡ now verdicts plan older → at.grabs ≡ grabbed plan older
     → only_at g.0 (after_subscribe c flags (initial_changes (control plan c).flags) (payload_at plan at c)) fh.0 f ≡ events_after verdicts plan e older fh f
 subscribed_step verdicts plan e older at g c flags fh f is r v gs =

@@ -8,10 +8,11 @@ use Rattle.ctrl_calls.specs.Meanings.{Verdicts}
 use Rattle.ctrl_settle.specs.Control.{Control, with_range}
 use Rattle.ctrl_settle.specs.Settle.{settled_anew}
 use Rattle.ctrl_handlers.specs.Plan.{PlanData, control_in, no_control}
+use Rattle.ctrl_clusters.specs.ControlsData.{ControlsData}
 use Rattle.ctrl_clusters.specs.Ranges.{modified}
 use Rattle.ctrl_clusters.specs.Rows.{Grabs, Values, value_at}
 use Rattle.ctrl_events.specs.Events.{FileEvents}
-use Rattle.ctrl_raises.specs.Raises.{MomentData, before_range, changed_between, payload_at, raised_all}
+use Rattle.ctrl_raises.specs.Raises.{before_range, changed_between, payload_at, raised_all}
 use Rattle.device_history.specs.declared.ask.Step.{Step}
 use Rattle.device_history.specs.declared.ask.Step.TheVariants as steps
 use Rattle.device_history.specs.Steps.{Past}
@@ -31,7 +32,7 @@ set_back (a ∷ l) zero x d = refl
 set_back (a ∷ l) (suc c) x d = ap (λ (t : List _). a ∷ t) (set_back l c x d)
 
 -- the moment behind a range change
-abbrev pub moved : List Control → Values → Grabs → ℕ → Control → MomentData
+abbrev pub moved : List Control → Values → Grabs → ℕ → Control → ControlsData
 moved controls values grabs c changed = record { ranges = modified controls c changed; values = slice_set values c (settled_anew changed (value_at values c)); grabs = grabs }
 
 -- the moments before and after one

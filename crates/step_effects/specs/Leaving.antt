@@ -3,7 +3,7 @@
 use Rattle.std.specs.Prelude.{◌≡◌, ◌<◌, ℕ, Bool, true, false, None, Some}
 use Rattle.std.specs.List.{All}
 use Rattle.req_book.specs.Requests.{find}
-use Rattle.req_book.specs.Refusals.{buffer_refusal, queue_refusal, clear_refusal}
+use Rattle.req_book.specs.Refusals.{alloc_refusal, store_refusal, buffer_refusal, queue_refusal, clear_refusal}
 use Rattle.frame_queue.specs.Frames.{FramesData, cancel_refusal}
 use Rattle.device_history.specs.declared.ask.Step.{Step}
 use Rattle.device_history.specs.declared.ask.Step.TheVariants as steps
@@ -35,11 +35,11 @@ NamesKnown controls (steps.Store r pairs) = All (λ p. p.control < controls) pai
 NamesKnown controls (steps.Subscribe fh c flags) = c < controls
 NamesKnown controls _ = Unit {0}
 
--- What lets such a step change requests and a queue: nothing refuses it; the number of an allocation is new, and what is stored names
--- controls that are there.
+-- What lets such a step change requests and a queue: nothing refuses it; the number of an allocation is new, what is stored names controls that
+-- are there, and a frame that is ended is the one that is being made.
 abbrev pub FitsIn : ℕ → Step → FramesData → Type 0
-FitsIn n steps.Alloc f = find f.requests.all n ≡ None
-FitsIn n (steps.Store r pairs) f = All (λ p. p.control < f.requests.controls) pairs
+FitsIn n steps.Alloc f = (find f.requests.all n ≡ None) × (alloc_refusal f.requests.all ≡ None)
+FitsIn n (steps.Store r pairs) f = All (λ p. p.control < f.requests.controls) pairs × (store_refusal (find f.requests.all r.0) ≡ None)
 FitsIn n (steps.Buffer r number) f = buffer_refusal f.requests.all number (find f.requests.all r.0) ≡ None
 FitsIn n (steps.Queue r) f = queue_refusal (find f.requests.all r.0) ≡ None
 FitsIn n (steps.Complete r) f = f.running ≡ Some r.0

@@ -46,18 +46,18 @@ asks_at_most plan f (steps.Cancel r) queued = named_behind plan r.0 queued
 asks_at_most plan f _ queued = 0
 
 -- a count once a frame was queued behind others: those that laying it over what the last of them leaves asks
-abbrev pub counted_queueing : Verdicts → PlanData → List Control → Grabs → Values → QueuedData → List QueuedData → ℕ → ℕ
-counted_queueing verdicts plan controls grabs values frame queued count =
-    with_calls (asked_count plan controls (values_behind values (forecasts verdicts plan controls grabs values queued)) grabs frame.asked) count
+abbrev pub counted_queueing : Verdicts → PlanData → List Control → Values → Grabs → QueuedData → List QueuedData → ℕ → ℕ
+counted_queueing verdicts plan controls values grabs frame queued count =
+    with_calls (asked_count plan controls (values_behind values (forecasts verdicts plan controls values grabs queued)) grabs frame.asked) count
 
 -- a count once the frame at a place, where there is one, was taken out: those that renewing its clusters behind it asks
-abbrev pub counted_removing : Verdicts → PlanData → List Control → Grabs → Values → List QueuedData → Option ℕ → ℕ → ℕ
-counted_removing verdicts plan controls grabs values queued None count = count
-counted_removing verdicts plan controls grabs values queued (Some place) count =
-    with_calls (renewing_count verdicts plan controls grabs values (remove queued place) place (named_clusters plan (asked_at queued place))) count
+abbrev pub counted_removing : Verdicts → PlanData → List Control → Values → Grabs → List QueuedData → Option ℕ → ℕ → ℕ
+counted_removing verdicts plan controls values grabs queued None count = count
+counted_removing verdicts plan controls values grabs queued (Some place) count =
+    with_calls (renewing_count verdicts plan controls values grabs (remove queued place) place (named_clusters plan (asked_at queued place))) count
 
 -- What a count of the validators that were asked is once such a step has changed the queued frames: a queueing and a cancellation ask, and no other step.
-abbrev pub counted_after : Verdicts → PlanData → List Control → Grabs → Values → FramesData → Step → List QueuedData → ℕ → ℕ
-counted_after verdicts plan controls grabs values f (steps.Queue r) queued count = counted_queueing verdicts plan controls grabs values (frame_in f r.0) queued count
-counted_after verdicts plan controls grabs values f (steps.Cancel r) queued count = counted_removing verdicts plan controls grabs values queued (position (λ q. nat_eq r.0 q.request.0) queued) count
-counted_after verdicts plan controls grabs values f _ queued count = count
+abbrev pub counted_after : Verdicts → PlanData → List Control → Values → Grabs → FramesData → Step → List QueuedData → ℕ → ℕ
+counted_after verdicts plan controls values grabs f (steps.Queue r) queued count = counted_queueing verdicts plan controls values grabs (frame_in f r.0) queued count
+counted_after verdicts plan controls values grabs f (steps.Cancel r) queued count = counted_removing verdicts plan controls values grabs queued (position (λ q. nat_eq r.0 q.request.0) queued) count
+counted_after verdicts plan controls values grabs f _ queued count = count

@@ -4,6 +4,7 @@ ghost use Rattle.std.specs.Prelude.{◌≡◌, ◌≤◌, ◌+◌, ℕ, length};
 ghost use Rattle.history.specs.declared.entry.Entry.{Entry as EntryOf};
 ghost use Rattle.ctrl_calls.specs.Meanings.{Verdicts};
 ghost use Rattle.ctrl_types.specs.declared.ids.FhId.{FhId as FhIdOf};
+ghost use Rattle.ctrl_clusters.specs.Moments.{parts, parts_after};
 ghost use Rattle.ctrl_events.specs.Events.{events_of};
 ghost use Rattle.device_history.specs.declared.ask.Step.{Step as StepOf};
 ghost use Rattle.device_history.specs.Steps.{Past};
@@ -11,37 +12,28 @@ ghost use Rattle.device_history.specs.EventSteps.{AreAround, events_after};
 ghost use Rattle.step_effects.specs.Sources.{IsSourceOf};
 
 use ctrl_calls::Driver;
+use ctrl_clusters::Change;
 use ctrl_events::Events;
-use ctrl_handlers::Plan;
-use ctrl_raises::{Moment, raise_between};
+use ctrl_raises::raise_between;
 use ctrl_types::{FhId, Pair};
 
 /// Raises what a set, the begin of a frame, or a grab changes, as the history says of each file handle (Linux userspace API, "ioctl
 /// VIDIOC_DQEVENT"). It takes no memory and refuses nothing.
 ///
-/// - `plan`: what the device is built of.
-/// - `before`, `after`: the ranges, values and grabs before the step and after it; the caller owes one for each control.
+/// - `change`: the moments before the step and after it.
 /// - `pairs`: what was applied: the pairs of a set, those that the begin of a frame applies, or none of a grab.
 /// - `from`: the file handle whose set it is; none of a begin or a grab.
 /// - `events`: the events of file handles; the caller owes that the number of each one's next event is at most 4294967295 less the number of
 ///   controls.
 pub fn raise_step<D: Driver>(
-    plan: &Plan<D>,
-    before: &Moment,
-    after: &Moment,
+    change: &Change<D>,
     pairs: &[Pair],
     from: Option<FhId>,
     events: &mut Events,
 )
-    requires ranges_before { length before.now.ranges ≡ length plan.now.controls }
-    requires values_before { length before.now.values ≡ length plan.now.controls }
-    requires grabs_before { length before.now.grabs ≡ length plan.now.controls }
-    requires ranges { length after.now.ranges ≡ length plan.now.controls }
-    requires values { length after.now.values ≡ length plan.now.controls }
-    requires grabs { length after.now.grabs ≡ length plan.now.controls }
-    requires numbers { (j : ℕ) → (events_of events.old j).next + length plan.now.controls ≤ 4294967295 }
-    ensures { (verdicts : Verdicts) (e : EntryOf StepOf) (older : Past) → AreAround verdicts plan.now e older before.now after.now → IsSourceOf verdicts plan.now older e.step pairs.now from
-        → (fh : FhIdOf) → events_of events.new fh.0 ≡ events_after verdicts plan.now e older fh (events_of events.old fh.0) }
+    requires numbers { (j : ℕ) → (events_of events.old j).next + length change.now.before.plan.now.controls ≤ 4294967295 }
+    ensures { (verdicts : Verdicts) (e : EntryOf StepOf) (older : Past) → AreAround verdicts change.now.before.plan.now e older (parts change.now.before) (parts_after change.now) → IsSourceOf verdicts change.now.before.plan.now older e.step pairs.now from
+        → (fh : FhIdOf) → events_of events.new fh.0 ≡ events_after verdicts change.now.before.plan.now e older fh (events_of events.old fh.0) }
 {
-    raise_between(plan, before, after, pairs, from, events);
+    raise_between(change, pairs, from, events);
 }

@@ -16,11 +16,10 @@ ghost use Rattle.device_history.specs.FrameSteps.{frames_changed};
 ghost use Rattle.step_effects.specs.Leaving.{FitsIn, NamesKnown, leaves_controls};
 
 use ctrl_calls::Driver;
-use ctrl_clusters::Ranges;
+use ctrl_clusters::Moment;
 use ctrl_events::Events;
-use ctrl_handlers::Plan;
-use ctrl_raises::{Moment, initial_changes, payload_at};
-use ctrl_types::{CtrlValue, Errno, FhId, RequestId, SubFlags};
+use ctrl_raises::{initial_changes, payload_at};
+use ctrl_types::{CtrlValue, FhId, RequestId, SubFlags};
 use device_history::Step;
 use frame_queue::Frames;
 use std::alloc::AllocError;
@@ -28,8 +27,7 @@ use std::alloc::AllocError;
 /// Changes the requests, the queue and the events as a step does that leaves file handles, grabs, ranges and values (Linux userspace API, "Request API",
 /// "ioctl VIDIOC_SUBSCRIBE_EVENT, VIDIOC_UNSUBSCRIBE_EVENT", "ioctl VIDIOC_DQEVENT").
 ///
-/// - `plan`: what the device is built of.
-/// - `ranges`, `values`, `grabs`: the present ones; the caller owes one for each control.
+/// - `at`: the present moment.
 /// - `number`: the step's place in the history, which is the id of a request that it makes.
 /// - `step`: the step; the caller owes such a one, that nothing refuses.
 /// - `frames`: the requests, their queue, and the one whose frame is being made.
@@ -38,10 +36,7 @@ use std::alloc::AllocError;
 ///
 /// The error is that a growth was refused; nothing was changed then.
 pub fn change_requests_and_events<D: Driver>(
-    plan: &Plan<D>,
-    ranges: &Ranges,
-    values: &[CtrlValue],
-    grabs: &[bool],
+    at: &Moment<D>,
     number: u32,
     step: &Step,
     frames: &mut Frames,
@@ -49,23 +44,17 @@ pub fn change_requests_and_events<D: Driver>(
 ) -> Result<(), AllocError>
     requires leaves { leaves_controls step.now ≡ true }
     requires fits { FitsIn number step.now frames.old }
-    requires known { NamesKnown (length plan.now.controls) step.now }
-    requires ranges { length ranges.now ≡ length plan.now.controls }
-    requires values { length values.now ≡ length plan.now.controls }
-    requires grabs { length grabs.now ≡ length plan.now.controls }
-    requires frames { frames.old.requests.controls ≡ length plan.now.controls }
-    requires numbers { (j : ℕ) → (events_of events.old j).next + length plan.now.controls ≤ 4294967295 }
-    ensures frames { OnOk result (frames.new ≡ frames_changed values.now [] number step.now frames.old) }
-    ensures events { OnOk result ((verdicts : Verdicts) (e : EntryOf StepOf) (older : Past) → e.step ≡ step.now → ranges.now ≡ ranges_now plan.now older → values.now ≡ now verdicts plan.now older → grabs.now ≡ grabbed plan.now older
-        → (fh : FhIdOf) → events_of events.new fh.0 ≡ events_after verdicts plan.now e older fh (events_of events.old fh.0)) }
+    requires known { NamesKnown (length at.now.plan.now.controls) step.now }
+    requires frames { frames.old.requests.controls ≡ length at.now.plan.now.controls }
+    requires numbers { (j : ℕ) → (events_of events.old j).next + length at.now.plan.now.controls ≤ 4294967295 }
+    ensures frames { OnOk result (frames.new ≡ frames_changed at.now.values.now [] number step.now frames.old) }
+    ensures events { OnOk result ((verdicts : Verdicts) (e : EntryOf StepOf) (older : Past) → e.step ≡ step.now → at.now.ranges.now ≡ ranges_now at.now.plan.now older → at.now.values.now ≡ now verdicts at.now.plan.now older → at.now.grabs.now ≡ grabbed at.now.plan.now older
+        → (fh : FhIdOf) → events_of events.new fh.0 ≡ events_after verdicts at.now.plan.now e older fh (events_of events.old fh.0)) }
     ensures frames_kept { OnErr result (frames.new ≡ frames.old) }
     ensures events_kept { OnErr result (events.new ≡ events.old) }
 {
     match step {
-        Step::Subscribe { fh, control, flags } => {
-            let at = Moment::new(ranges, values, grabs);
-            subscribe(plan, &at, *fh, *control, *flags, events)
-        }
+        Step::Subscribe { fh, control, flags } => { subscribe(at, *fh, *control, *flags, events) }
         Step::Unsubscribe { fh, control } => {
             unsubscribe(events, *fh, *control);
             Ok(())
@@ -74,7 +63,7 @@ pub fn change_requests_and_events<D: Driver>(
             let _ = events.take(*fh);
             Ok(())
         }
-        _ => change_frames(frames, values, number, step),
+        _ => change_frames(frames, at.values, number, step),
     }
 }
 
@@ -90,37 +79,38 @@ fn change_frames(
     ensures ok { OnOk result (frames.new ≡ frames_changed values.now [] number step.now frames.old) }
     ensures err { OnErr result (frames.new ≡ frames.old) }
 {
-    match ask_frames(frames, values, number, step) {
-        Ok(()) => Ok(()),
-        Err(_) => Err(AllocError),
-    }
-}
-
-// The same, with the errno that the requests answer; a step that may follow the history is only refused where memory is wanting.
-fn ask_frames(
-    frames: &mut Frames,
-    values: &[CtrlValue],
-    number: u32,
-    step: &Step,
-) -> Result<(), Errno>
-    requires fits { FitsIn number step.now frames.old }
-    requires values { length values.now ≡ frames.old.requests.controls }
-    ensures ok { OnOk result (frames.new ≡ frames_changed values.now [] number step.now frames.old) }
-    ensures err { OnErr result (frames.new ≡ frames.old) }
-{
     match step {
         Step::Alloc => frames.alloc(RequestId(number)),
         Step::Store { request, pairs } => frames.store(*request, pairs.as_slice()),
-        Step::Buffer { request, buffer } => frames.add_buffer(*request, *buffer),
-        Step::Queue { request } => frames.queue(*request),
-        Step::Complete { .. } => frames.complete(values),
-        Step::Cancel { request } => frames.cancel(*request, values),
+        Step::Buffer { request, buffer } => {
+            frames.add_buffer(*request, *buffer);
+            Ok(())
+        }
+        Step::Queue { request } => {
+            let room = frames.reserve()?;
+            frames.queue(*request, room);
+            Ok(())
+        }
+        Step::Complete { .. } => {
+            frames.complete(values);
+            Ok(())
+        }
+        Step::Cancel { request } => {
+            frames.cancel(*request, values);
+            Ok(())
+        }
         Step::StreamOff => {
             frames.stream_off(values);
             Ok(())
         }
-        Step::Reinit { request } => frames.reinit(*request),
-        Step::Free { request } => frames.free(*request),
+        Step::Reinit { request } => {
+            frames.reinit(*request);
+            Ok(())
+        }
+        Step::Free { request } => {
+            frames.free(*request);
+            Ok(())
+        }
         Step::OpenFh { .. }
         | Step::CloseFh { .. }
         | Step::Set { .. }
@@ -135,24 +125,20 @@ fn ask_frames(
 
 // Subscribes a file handle to the events of a control.
 fn subscribe<D: Driver>(
-    plan: &Plan<D>,
-    at: &Moment,
+    at: &Moment<D>,
     fh: FhId,
     control: u32,
     flags: SubFlags,
     events: &mut Events,
 ) -> Result<(), AllocError>
-    requires known { control < length plan.now.controls }
-    requires ranges { length at.now.ranges ≡ length plan.now.controls }
-    requires values { length at.now.values ≡ length plan.now.controls }
-    requires grabs { length at.now.grabs ≡ length plan.now.controls }
+    requires known { control < length at.now.plan.now.controls }
     requires numbers { (events_of events.old fh.0).next < 4294967295 }
-    ensures ok { OnOk result ((verdicts : Verdicts) (e : EntryOf StepOf) (older : Past) → e.step ≡ steps.Subscribe fh control flags → at.now.ranges ≡ ranges_now plan.now older → at.now.values ≡ now verdicts plan.now older → at.now.grabs ≡ grabbed plan.now older
-        → (j : FhIdOf) → events_of events.new j.0 ≡ events_after verdicts plan.now e older j (events_of events.old j.0)) }
+    ensures ok { OnOk result ((verdicts : Verdicts) (e : EntryOf StepOf) (older : Past) → e.step ≡ steps.Subscribe fh control flags → at.now.ranges.now ≡ ranges_now at.now.plan.now older → at.now.values.now ≡ now verdicts at.now.plan.now older → at.now.grabs.now ≡ grabbed at.now.plan.now older
+        → (j : FhIdOf) → events_of events.new j.0 ≡ events_after verdicts at.now.plan.now e older j (events_of events.old j.0)) }
     ensures err { OnErr result (events.new ≡ events.old) }
 {
-    let payload = payload_at(plan, at, control);
-    let changes = initial_changes(plan, control);
+    let payload = payload_at(at, control);
+    let changes = initial_changes(at.plan, control);
     match events.subscribe(fh, control, flags, changes, &payload) {
         Ok(()) => Ok(()),
         Err(_) => Err(AllocError),

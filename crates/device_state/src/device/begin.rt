@@ -16,7 +16,6 @@ use super::{Device, plain, refused};
 use ctrl_calls::{Driver, Work};
 use ctrl_clusters::notify_between;
 use ctrl_forecast::{Forecast, applied};
-use ctrl_raises::Moment;
 use ctrl_types::{Errno, Fault, Pair, RequestId};
 use device_history::{Reply, Step};
 use history::Entry;
@@ -84,10 +83,7 @@ impl<D: Driver> Device<D> {
         requires { is_some (state (past self.now.steps) request.0) ≡ true }
         ensures { result.now ≡ asked_of self.now.plan (past self.now.steps) request.0 }
     {
-        match self.asked(request) {
-            Ok(pairs) => pairs,
-            Err(_) => &[],
-        }
+        self.frames.pairs_of(request)
     }
 
     // What the begin of the first frame in the queue applies.
@@ -96,9 +92,7 @@ impl<D: Driver> Device<D> {
         requires first { first_of (queue (past self.now.steps)) ≡ Some request.0 }
         ensures { IfOk result (λ pairs. pairs.items ≡ begun_pairs D.verdict self.now.plan (past self.now.steps) request.0) }
     {
-        let Some(row) = self.row(0) else {
-            return Ok(Vec::new(self.alloc));
-        };
+        let row = self.row(0).unwrap();
         let pairs = self.asked_by(request);
         applied(self.alloc, &self.plan, row.values, row.refused, pairs)
     }
@@ -113,36 +107,17 @@ impl<D: Driver> Device<D> {
     {
         self.steps.reserve(1)?;
         let Begun { request, applied } = begun;
-        let Some(row) = self.board.pop() else {
-            return Err(AllocError);
-        };
         let Forecast {
             request: _,
             buffer: _,
             values,
             refused,
-        } = row;
-        notify_between(
-            &self.plan,
-            self.values.as_slice(),
-            values.as_slice(),
-            applied.as_slice(),
-            &mut self.words,
-            &mut self.work,
-        );
-        raise_step(
-            &self.plan,
-            &Moment::new(&self.ranges, self.values.as_slice(), self.grabs.as_slice()),
-            &Moment::new(&self.ranges, values.as_slice(), self.grabs.as_slice()),
-            applied.as_slice(),
-            None,
-            &mut self.events,
-        );
-        self.values = values.into_vec();
-        let buffer = match self.frames.begin(applied.as_slice()) {
-            Ok((_, buffer)) => buffer,
-            Err(_) => 0,
-        };
+        } = self.board.begin();
+        let change = self.controls.to_values(&self.plan, values.as_slice());
+        notify_between(&change, applied.as_slice(), &mut self.words, &mut self.work);
+        raise_step(&change, applied.as_slice(), None, &mut self.events);
+        self.controls.replace_values(values.into_vec());
+        let (_, buffer) = self.frames.begin(applied.as_slice());
         self.steps.push_reserved(Entry {
             seat,
             step: Step::Begin { request },

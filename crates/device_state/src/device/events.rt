@@ -4,7 +4,7 @@ ghost use Rattle.std.specs.Prelude.{◌≡◌, None};
 ghost use Rattle.history.specs.Past.{past};
 ghost use Rattle.ctrl_events.specs.Events.{event_at};
 ghost use Rattle.device_history.specs.declared.ask.Ask.TheVariants as asks;
-ghost use Rattle.device_history.specs.EventAnswers.{subscribe_refusal, unless_open};
+ghost use Rattle.device_history.specs.EventAnswers.{unless_open};
 ghost use Rattle.ctrl_types.specs.declared.errno.Errno.TheVariants.{EBADF, ENOENT};
 ghost use Rattle.device_history.specs.Handles.{handler_of};
 ghost use Rattle.device_history.specs.Events.{next_sequence, pending};
@@ -79,16 +79,29 @@ impl<D: Driver> Device<D> {
         }
     }
 
-    // Why a file handle isn't subscribed.
-    pub(super) fn subscribe_refusal(&self, fh: FhId, id: CtrlId) -> Option<Errno>
-        ensures { result ≡ subscribe_refusal self.now.plan (past self.now.steps) fh id }
+    // Subscribes a file handle to the events of the control that is shown to it under an id.
+    pub(super) fn subscribe(
+        &mut self,
+        seat: u32,
+        fh: FhId,
+        id: CtrlId,
+        flags: SubFlags,
+    ) -> Result<Reply, Fault>
+        ensures { Handles D.verdict self.old self.new seat (asks.Subscribe fh id flags) result }
     {
-        if self.handler_of(fh).is_none() {
-            return Some(Errno::EBADF);
-        }
         match self.shown(fh, id) {
-            Some(_) => None,
-            None => Some(Errno::EINVAL),
+            Some(control) => {
+                let ask = Ask::Subscribe { fh, id, flags };
+                let step = Step::Subscribe { fh, control, flags };
+                self.enter(seat, &ask, None, step, Reply::Done)
+            }
+            None => {
+                self.work = Work::new();
+                match self.handler_of(fh) {
+                    Some(_) => refused(Errno::EINVAL),
+                    None => refused(Errno::EBADF),
+                }
+            }
         }
     }
 

@@ -1,11 +1,11 @@
 //! What a device answers lists of controls: gets, sets and tries.
 
-ghost use Rattle.std.specs.Prelude.{◌≡◌, ◌≢◌, ◌≤◌, ◌+◌, ℕ, true, false, length, Option, None, Some, Ok, Err, IfOk, IfErr, IfSome, OnOk, OnErr};
+ghost use Rattle.std.specs.Prelude.{◌≡◌, ◌≢◌, ◌<◌, ◌≤◌, ◌+◌, ℕ, true, false, length, Option, None, Some, Ok, Err, IfOk, IfErr, IfSome, OnOk, OnErr};
+ghost use Rattle.std.specs.List.{All};
 ghost use Rattle.history.specs.Past.{past};
 ghost use Rattle.ctrl_types.specs.Classes.{which_of};
 ghost use Rattle.ctrl_types.specs.declared.which.Which.TheVariants.{Defaults};
 ghost use Rattle.ctrl_clusters.specs.NewRows.{clusters_of};
-ghost use Rattle.ctrl_clusters.specs.Rows.{AreControlsOf};
 ghost use Rattle.ctrl_lists.specs.Checks.{first_refusal};
 ghost use Rattle.ctrl_lists.specs.Touched.{touched, judged_count, with_calls};
 ghost use Rattle.device_history.specs.declared.ask.Ask.TheVariants as asks;
@@ -13,17 +13,18 @@ ghost use Rattle.device_history.specs.Values.{now};
 ghost use Rattle.ctrl_clusters.specs.Notified.{HaveWords};
 ghost use Rattle.device_history.specs.declared.ask.Step.TheVariants as steps;
 ghost use Rattle.device_history.specs.Handles.{handler_of};
+ghost use Rattle.device_history.specs.Legal.{MayFollow};
+ghost use Rattle.device_history.specs.Refusals.{is_full};
 ghost use Rattle.device_history.specs.Lists.{earlier_pairs, handler_or, list_pairs, meant, opening_checks, read_view, request_refusal, through_refusal, values_read, which_or, write_view, writes_defaults};
 ghost use Rattle.device_history.specs.Snapshots.{request as request_of};
 ghost use Rattle.device_history.specs.Answers.{MayAnswer};
 ghost use Rattle.device_state.specs.Device.{Handles, list_most, list_touches, with_step};
-ghost use Rattle.device_state.specs.Setting.{IsSettable, SetsAll, SetsList};
+ghost use Rattle.device_state.specs.Setting.{CanBeSet, IsSettable, SetsAll, SetsList};
 
 use super::Device;
 use ctrl_calls::{Driver, Work};
-use ctrl_clusters::{notify_changed, write_rows};
+use ctrl_clusters::{Moment, notify_changed, write_rows};
 use ctrl_lists::{ControlList, Touched, View, plan_set, read_list, try_list};
-use ctrl_raises::Moment;
 use ctrl_types::{CtrlValue, Errno, Fault, FhId, Pair, RequestId, Which};
 use device_history::{PairList, Reply, Step};
 use history::Entry;
@@ -195,23 +196,21 @@ impl<D: Driver> Device<D> {
         fh: FhId,
         which: u32,
         request: Option<RequestId>,
-    ) -> Result<View<'_>, Errno>
+    ) -> Result<View<'_, D>, Errno>
         ensures passed { OnOk result (first_refusal (opening_checks D.verdict self.now.plan (past self.now.steps) fh which request false) ≡ None) }
         ensures err { IfErr result (λ errno. first_refusal (opening_checks D.verdict self.now.plan (past self.now.steps) fh which request false) ≡ Some (record { errno = errno; place = None })) }
-        ensures view { IfOk result (λ view. view ≡ read_view D.verdict self.now.plan (past self.now.steps) fh which request) }
-        ensures ranges { IfOk result (λ view. AreControlsOf self.now.plan view.ranges) }
-        ensures values { IfOk result (λ view. length view.values ≡ length self.now.plan.controls) }
-        ensures grabs { IfOk result (λ view. length view.grabs ≡ length self.now.plan.controls) }
+        ensures plan { IfOk result (λ view. view.plan ≡ self.now.plan) }
+        ensures view { IfOk result (λ view. view.parts ≡ read_view D.verdict self.now.plan (past self.now.steps) fh which request) }
     {
         let (handler, which) = self.open_list(fh, which, request, false)?;
-        Ok(View::new(
-            handler,
-            which,
-            self.present_ranges(),
-            self.values_read(meant(which, request)),
-            self.grabs(),
-            &[],
-        ))
+        let at = self.at();
+        let read = Moment {
+            plan: at.plan,
+            ranges: at.ranges,
+            values: self.values_read(meant(which, request)),
+            grabs: at.grabs,
+        };
+        Ok(View::new(handler, which, read, &[]))
     }
 
     // The values that a get reads: the snapshot of the request that it speaks of, which the caller owes to be complete, or the present ones.
@@ -221,10 +220,7 @@ impl<D: Driver> Device<D> {
         ensures long { length result.now ≡ length self.now.plan.controls }
     {
         match request {
-            Some(request) => match self.frames.snapshot_values(request) {
-                Ok(values) => values,
-                Err(_) => self.values(),
-            },
+            Some(request) => self.frames.snapshot_of(request),
             None => self.values(),
         }
     }
@@ -240,24 +236,16 @@ impl<D: Driver> Device<D> {
         fh: FhId,
         which: u32,
         request: Option<RequestId>,
-    ) -> Result<View<'_>, Errno>
+    ) -> Result<View<'_, D>, Errno>
         ensures passed { OnOk result (first_refusal (opening_checks D.verdict self.now.plan (past self.now.steps) fh which request true) ≡ None) }
         ensures err { IfErr result (λ errno. first_refusal (opening_checks D.verdict self.now.plan (past self.now.steps) fh which request true) ≡ Some (record { errno = errno; place = None })) }
-        ensures view { IfOk result (λ view. view ≡ write_view D.verdict self.now.plan (past self.now.steps) fh which request) }
-        ensures which { IfOk result (λ view. view.which ≢ Defaults) }
-        ensures ranges { IfOk result (λ view. AreControlsOf self.now.plan view.ranges) }
-        ensures values { IfOk result (λ view. length view.values ≡ length self.now.plan.controls) }
-        ensures grabs { IfOk result (λ view. length view.grabs ≡ length self.now.plan.controls) }
+        ensures plan { IfOk result (λ view. view.plan ≡ self.now.plan) }
+        ensures view { IfOk result (λ view. view.parts ≡ write_view D.verdict self.now.plan (past self.now.steps) fh which request) }
+        ensures which { IfOk result (λ view. view.parts.which ≢ Defaults) }
     {
         let (handler, which) = self.open_list(fh, which, request, true)?;
-        Ok(View::new(
-            handler,
-            which,
-            self.present_ranges(),
-            self.values(),
-            self.grabs(),
-            self.earlier_pairs(meant(which, request)),
-        ))
+        let earlier = self.earlier_pairs(meant(which, request));
+        Ok(View::new(handler, which, self.at(), earlier))
     }
 
     // The pairs that are laid before those of a list: what the request asks for that it speaks of, which the caller owes to be there.
@@ -266,10 +254,7 @@ impl<D: Driver> Device<D> {
         ensures { result.now ≡ earlier_pairs self.now.plan (past self.now.steps) request }
     {
         match request {
-            Some(request) => match self.asked(request) {
-                Ok(pairs) => pairs,
-                Err(_) => &[],
-            },
+            Some(request) => self.frames.pairs_of(request),
             None => &[],
         }
     }
@@ -288,10 +273,11 @@ impl<D: Driver> Device<D> {
             Ok(view) => view,
             Err(errno) => return Err(at(errno, list.len())),
         };
-        match read_list(self.alloc, &self.plan, &view, list) {
-            Ok(controls) => Ok(Reply::Controls(controls)),
-            Err(fault) => Err(fault),
-        }
+        let controls = match read_list(self.alloc, &view, list) {
+            Ok(controls) => controls,
+            Err(refusal) => return Err(refusal),
+        };
+        Ok(Reply::Controls(controls))
     }
 
     // Tries the controls of a list.
@@ -312,10 +298,11 @@ impl<D: Driver> Device<D> {
             Ok(view) => view,
             Err(errno) => return Err(at(errno, list.len())),
         };
-        match try_list(self.alloc, &self.plan, &view, list, work) {
-            Ok(touch) => Ok(Reply::Controls(touch.into_parts().0)),
-            Err(fault) => Err(fault),
-        }
+        let touch = match try_list(self.alloc, &view, list, work) {
+            Ok(touch) => touch,
+            Err(refusal) => return Err(refusal),
+        };
+        Ok(Reply::Controls(touch.into_parts().0))
     }
 
     // Sets the controls of a list.
@@ -336,7 +323,7 @@ impl<D: Driver> Device<D> {
             Ok(touch) => touch,
             Err(fault) => return Err(fault),
         };
-        match self.accept_set(seat, fh, which, request, list, touch) {
+        match self.accept_set(seat, fh, spoken(which, request), touch) {
             Ok(controls) => Ok(Reply::Controls(controls)),
             Err(_) => Err(at(Errno::ENOMEM, list.len())),
         }
@@ -361,16 +348,54 @@ impl<D: Driver> Device<D> {
             Ok(view) => view,
             Err(errno) => return Err(at(errno, list.len())),
         };
-        let touch = match plan_set(self.alloc, &self.plan, &view, list, work) {
+        let touch = match plan_set(self.alloc, &view, list, work) {
             Ok(touch) => touch,
             Err(refused) => return Err(refused),
         };
         if self.is_full() {
             return Err(at(Errno::ENOSPC, list.len()));
         }
-        // the plan is one, as the contract of `controls` says
-        let _plan = self.plan.controls();
         Ok(touch)
+    }
+
+    // Sets a list, or stores its pairs in the request that it speaks of, after the refusals. The error is that a growth was refused.
+    fn accept_set(
+        &mut self,
+        seat: u32,
+        fh: FhId,
+        stored: Option<RequestId>,
+        touch: Touched,
+    ) -> Result<ControlList, AllocError>
+        requires settable { CanBeSet D.verdict self.old.plan (past self.old.steps) fh stored touch }
+        requires fresh { self.old.work.told ≡ 0 }
+        ensures answers { IfOk result (λ controls. controls ≡ touch.answers) }
+        ensures ok { OnOk result (SetsList D.verdict D.told self.old self.new seat fh stored touch) }
+        ensures err { OnErr result (self.new ≡ self.old) }
+    {
+        match stored {
+            Some(request) => self.accept_store(seat, request, touch),
+            None => self.accept_list(seat, fh, touch),
+        }
+    }
+
+    // Stores the pairs of a list in a request, after the refusals. The error is that a growth was refused.
+    fn accept_store(
+        &mut self,
+        seat: u32,
+        request: RequestId,
+        touch: Touched,
+    ) -> Result<ControlList, AllocError>
+        requires follows { MayFollow D.verdict self.old.plan (past self.old.steps) (steps.Store request touch.pairs) }
+        requires known { All (λ p. p.control < length self.old.plan.controls) touch.pairs }
+        requires room { is_full (past self.old.steps) ≡ false }
+        ensures answers { IfOk result (λ controls. controls ≡ touch.answers) }
+        ensures ok { OnOk result (self.new ≡ with_step self.old seat (steps.Store request touch.pairs)) }
+        ensures err { OnErr result (self.new ≡ self.old) }
+    {
+        let (controls, pairs) = touch.into_parts();
+        let pairs = PairList::from_vec(pairs);
+        self.accept(seat, Step::Store { request, pairs })?;
+        Ok(controls)
     }
 
     // Gives the clusters that a list touches their rows, after the refusals. The error is that a growth was refused.
@@ -378,21 +403,17 @@ impl<D: Driver> Device<D> {
         &mut self,
         seat: u32,
         fh: FhId,
-        which: u32,
-        request: Option<RequestId>,
-        list: &ControlList,
         touch: Touched,
     ) -> Result<ControlList, AllocError>
-        requires settable { IsSettable D.verdict self.old.plan (past self.old.steps) fh which request list.now touch }
-        requires present { meant (which_or (which_of which)) request ≡ None }
+        requires settable { CanBeSet D.verdict self.old.plan (past self.old.steps) fh None touch }
         requires fresh { self.old.work.told ≡ 0 }
         ensures answers { IfOk result (λ controls. controls ≡ touch.answers) }
         ensures ok { OnOk result (SetsAll D.verdict D.told self.old self.new seat fh touch) }
         ensures err { OnErr result (self.new ≡ self.old) }
     {
-        let values = copied_values(self.alloc, self.values.as_slice())?;
+        let values = copied_values(self.alloc, self.controls.values())?;
         let clusters = clusters_of(self.alloc, touch.rows())?;
-        self.write_list(seat, fh, which, request, list, touch, values, clusters)
+        self.write_list(seat, fh, touch, values, clusters)
     }
 
     // The same, with a copy of the values and the numbers of the clusters that the list touches.
@@ -400,15 +421,11 @@ impl<D: Driver> Device<D> {
         &mut self,
         seat: u32,
         fh: FhId,
-        which: u32,
-        request: Option<RequestId>,
-        list: &ControlList,
         touch: Touched,
         mut values: Vec<CtrlValue>,
         clusters: Vec<u32>,
     ) -> Result<ControlList, AllocError>
-        requires settable { IsSettable D.verdict self.old.plan (past self.old.steps) fh which request list.now touch }
-        requires present { meant (which_or (which_of which)) request ≡ None }
+        requires settable { CanBeSet D.verdict self.old.plan (past self.old.steps) fh None touch }
         requires fresh { self.old.work.told ≡ 0 }
         requires copied { values.items ≡ now D.verdict self.old.plan (past self.old.steps) }
         requires clusters { clusters.items ≡ clusters_of touch.rows }
@@ -418,33 +435,20 @@ impl<D: Driver> Device<D> {
     {
         self.steps.reserve(1)?;
         notify_changed(
-            &self.plan,
-            self.values.as_slice(),
+            &self.controls.at(&self.plan),
             touch.pairs(),
             touch.new_rows(),
             &mut self.words,
             &mut self.work,
         );
         write_rows(&self.plan, &mut values, touch.rows());
+        let change = self.controls.to_values(&self.plan, values.as_slice());
         let mut work = Work::new();
-        self.board.renew(
-            &self.plan,
-            &self.ranges,
-            values.as_slice(),
-            self.grabs.as_slice(),
-            clusters.as_slice(),
-            &mut work,
-        );
+        self.board
+            .renew(&change.after(), clusters.as_slice(), &mut work);
         self.work.asked = self.work.asked.saturating_add(work.asked);
-        raise_step(
-            &self.plan,
-            &Moment::new(&self.ranges, self.values.as_slice(), self.grabs.as_slice()),
-            &Moment::new(&self.ranges, values.as_slice(), self.grabs.as_slice()),
-            touch.pairs(),
-            Some(fh),
-            &mut self.events,
-        );
-        self.values = values;
+        raise_step(&change, touch.pairs(), Some(fh), &mut self.events);
+        self.controls.replace_values(values);
         let (controls, pairs) = touch.into_parts();
         self.steps.push_reserved(Entry {
             seat,
@@ -453,57 +457,6 @@ impl<D: Driver> Device<D> {
                 pairs: PairList::from_vec(pairs),
             },
         });
-        Ok(controls)
-    }
-
-    // Sets a list, or stores its pairs in the request that it speaks of, after the refusals. The error is that a growth was refused.
-    fn accept_set(
-        &mut self,
-        seat: u32,
-        fh: FhId,
-        which: u32,
-        request: Option<RequestId>,
-        list: &ControlList,
-        touch: Touched,
-    ) -> Result<ControlList, AllocError>
-        requires settable { IsSettable D.verdict self.old.plan (past self.old.steps) fh which request list.now touch }
-        requires fresh { self.old.work.told ≡ 0 }
-        ensures answers { IfOk result (λ controls. controls ≡ touch.answers) }
-        ensures ok { OnOk result (SetsList D.verdict D.told self.old self.new seat fh (meant (which_or (which_of which)) request) touch) }
-        ensures err { OnErr result (self.new ≡ self.old) }
-    {
-        match spoken(which, request) {
-            Some(stored) => self.accept_store(seat, fh, which, request, stored, list, touch),
-            None => self.accept_list(seat, fh, which, request, list, touch),
-        }
-    }
-
-    // Stores the pairs of a list in a request, after the refusals. The error is that a growth was refused.
-    fn accept_store(
-        &mut self,
-        seat: u32,
-        fh: FhId,
-        which: u32,
-        request: Option<RequestId>,
-        stored: RequestId,
-        list: &ControlList,
-        touch: Touched,
-    ) -> Result<ControlList, AllocError>
-        requires settable { IsSettable D.verdict self.old.plan (past self.old.steps) fh which request list.now touch }
-        requires through { meant (which_or (which_of which)) request ≡ Some stored }
-        ensures answers { IfOk result (λ controls. controls ≡ touch.answers) }
-        ensures ok { OnOk result (self.new ≡ with_step self.old seat (steps.Store stored touch.pairs)) }
-        ensures err { OnErr result (self.new ≡ self.old) }
-    {
-        let (controls, pairs) = touch.into_parts();
-        let pairs = PairList::from_vec(pairs);
-        self.accept(
-            seat,
-            Step::Store {
-                request: stored,
-                pairs,
-            },
-        )?;
         Ok(controls)
     }
 }

@@ -76,30 +76,21 @@ impl<D: Driver> Device<D> {
         ensures err { OnErr result (self.new ≡ self.old) }
     {
         self.steps.reserve(1)?;
-        let before = self.values[control as usize];
+        let before = self.controls.value(control);
         change_range(
             &self.plan,
+            &mut self.controls,
             control,
             changed,
-            &mut self.ranges,
-            &mut self.values,
-            self.grabs.as_slice(),
             &mut self.events,
         );
         let cluster = self.plan.cluster_of(control);
-        self.board.renew(
-            &self.plan,
-            &self.ranges,
-            self.values.as_slice(),
-            self.grabs.as_slice(),
-            &[cluster],
-            &mut self.work,
-        );
+        let after = self.controls.at(&self.plan);
+        self.board.renew(&after, &[cluster], &mut self.work);
         notify_cluster(
-            &self.plan,
-            self.values.as_slice(),
+            &after,
             cluster,
-            !before.is_same(&self.values[control as usize]),
+            !before.is_same(&self.controls.value(control)),
             &mut self.words,
             &mut self.work,
         );

@@ -4,7 +4,8 @@ ghost use Rattle.std.specs.Prelude.{◌≡◌, ◌≤◌, ◌+◌, false, true, 
 ghost use Rattle.std.specs.Option.{option_map};
 ghost use Rattle.history.specs.Past.{past};
 ghost use Rattle.req_book.specs.Refusals.{alloc_refusal, store_refusal, buffer_refusal, queue_refusal, clear_refusal, state_answer, buffer_answer, asked_answer, value_answer};
-ghost use Rattle.frame_queue.specs.Frames.{complete_refusal, cancel_refusal};
+ghost use Rattle.frame_queue.specs.Frames.{cancel_refusal};
+ghost use Rattle.device_history.specs.declared.ask.Ask.TheVariants as asks;
 ghost use Rattle.device_history.specs.Frames.{queue, running};
 ghost use Rattle.device_history.specs.Legal.{MayFollow};
 ghost use Rattle.device_history.specs.Refusals.{is_full};
@@ -140,23 +141,19 @@ impl<D: Driver> Device<D> {
         self.frames.cancel_refusal(request)
     }
 
-    // Why no frame is ended.
-    pub(super) fn complete_refusal(&self) -> Option<Errno>
-        ensures { result ≡ complete_refusal (frames D.verdict self.now.plan (past self.now.steps)) }
+    // Ends the frame that is being made.
+    pub(super) fn complete(&mut self, seat: u32) -> Result<Reply, Fault>
+        ensures { Handles D.verdict self.old self.new seat asks.Complete result }
     {
         match self.frames.running() {
-            Some(_) => None,
-            None => Some(Errno::ENOENT),
-        }
-    }
-
-    // The request whose frame is being made, or any where none is.
-    pub(super) fn ended(&self) -> RequestId
-        ensures { complete_refusal (frames D.verdict self.now.plan (past self.now.steps)) ≡ None → running (past self.now.steps) ≡ Some result.0 }
-    {
-        match self.frames.running() {
-            Some(request) => request,
-            None => RequestId(0),
+            Some(request) => {
+                let step = Step::Complete { request };
+                self.enter(seat, &Ask::Complete, None, step, Reply::Done)
+            }
+            None => {
+                self.work = Work::new();
+                refused(Errno::ENOENT)
+            }
         }
     }
 
@@ -201,10 +198,7 @@ impl<D: Driver> Device<D> {
         self.steps.reserve(1)?;
         let mut work = Work::new();
         let changed = change_with_forecasts(
-            &self.plan,
-            &self.ranges,
-            self.values.as_slice(),
-            self.grabs.as_slice(),
+            &self.controls.at(&self.plan),
             number,
             &step,
             &mut self.frames,

@@ -1,36 +1,30 @@
 //! The begin of a frame.
 
-ghost use Rattle.std.specs.Prelude.{◌≡◌, true, false, is_some, IfOk, OnOk, OnErr};
+ghost use Rattle.std.specs.Prelude.{◌≡◌, true, false, is_some, length, IfOk, OnOk, OnErr};
 ghost use Rattle.history.specs.Past.{past};
+ghost use Rattle.history.specs.declared.entry.Entry.{Entry as EntryOf};
+ghost use Rattle.device_history.specs.declared.ask.Step.{Step as StepOf};
 ghost use Rattle.device_history.specs.declared.ask.Step.TheVariants as steps;
 ghost use Rattle.device_history.specs.Legal.{MayFollow};
 ghost use Rattle.device_history.specs.Refusals.{is_full};
 ghost use Rattle.device_history.specs.Requests.{asked as asked_of, state};
 ghost use Rattle.device_history.specs.Snapshots.{begun_pairs, begun_refused, begun_values};
-ghost use Rattle.history_audit.specs.Replay.{IsNextEntry, with_next};
+ghost use Rattle.history_audit.specs.Replay.{IsNextEntry, IsNextStep, with_next};
 
 use super::Replay;
 use ctrl_calls::{Driver, Work};
 use ctrl_forecast::{Overlaid, applied, overlay};
-use ctrl_raises::Moment;
 use ctrl_types::{Pair, RequestId};
-use device_history::Step;
-use history::Entry;
 use std::alloc::AllocError;
 use step_effects::raise_step;
 
 impl<'a, D: Driver> Replay<'a, D> {
     // Begins the frame of a request.
-    pub(super) fn begin(
-        &mut self,
-        entry: &Entry<Step>,
-        request: RequestId,
-    ) -> Result<(), AllocError>
-        requires next { IsNextEntry self.old entry.now }
-        requires step { entry.now.step ≡ steps.Begin request }
+    pub(super) fn begin(&mut self, request: RequestId) -> Result<(), AllocError>
+        requires next { IsNextStep self.old (steps.Begin request) }
         requires room { is_full (past self.old.steps) ≡ false }
-        requires follows { MayFollow D.verdict self.old.plan (past self.old.steps) entry.now.step }
-        ensures ok { OnOk result (self.new ≡ with_next self.old entry.now) }
+        requires follows { MayFollow D.verdict self.old.plan (past self.old.steps) (steps.Begin request) }
+        ensures ok { OnOk result ((e : EntryOf StepOf) → IsNextEntry self.old e → self.new ≡ with_next self.old e) }
         ensures err { OnErr result (self.new ≡ self.old) }
     {
         let overlaid = self.lay(request)?;
@@ -42,17 +36,10 @@ impl<'a, D: Driver> Replay<'a, D> {
             self.asked_by(request),
         )?;
         let Overlaid { values, refused: _ } = overlaid;
-        let values = values.into_vec();
-        raise_step(
-            self.plan,
-            &Moment::new(&self.ranges, self.values.as_slice(), self.grabs.as_slice()),
-            &Moment::new(&self.ranges, values.as_slice(), self.grabs.as_slice()),
-            given.as_slice(),
-            None,
-            &mut self.events,
-        );
-        let _ = self.frames.begin(given.as_slice());
-        self.values = values;
+        let change = self.controls.to_values(self.plan, values.as_slice());
+        raise_step(&change, given.as_slice(), None, &mut self.events);
+        self.controls.replace_values(values.into_vec());
+        self.frames.begin(given.as_slice());
         self.count += 1;
         Ok(())
     }
@@ -62,10 +49,7 @@ impl<'a, D: Driver> Replay<'a, D> {
         requires { is_some (state (past self.now.steps) request.0) ≡ true }
         ensures { result.now ≡ asked_of self.now.plan (past self.now.steps) request.0 }
     {
-        match self.frames.asked(request) {
-            Ok(pairs) => pairs,
-            Err(_) => &[],
-        }
+        self.frames.pairs_of(request)
     }
 
     // Lays what a request asks for, which the caller owes to be there, over the present values.
@@ -73,16 +57,9 @@ impl<'a, D: Driver> Replay<'a, D> {
         requires { is_some (state (past self.now.steps) request.0) ≡ true }
         ensures values { IfOk result (λ o. o.values ≡ begun_values D.verdict self.now.plan (past self.now.steps) request.0) }
         ensures refused { IfOk result (λ o. o.refused ≡ begun_refused D.verdict self.now.plan (past self.now.steps) request.0) }
+        ensures long { IfOk result (λ o. length o.values ≡ length self.now.plan.controls) }
     {
         let mut work = Work::new();
-        overlay(
-            self.alloc,
-            self.plan,
-            self.present_ranges(),
-            self.values(),
-            self.grabs(),
-            self.asked_by(request),
-            &mut work,
-        )
+        overlay(self.alloc, &self.at(), self.asked_by(request), &mut work)
     }
 }

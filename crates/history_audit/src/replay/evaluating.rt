@@ -1,10 +1,12 @@
 //! What is evaluated of the steps at the end: the flags, and what the queued frames will have.
 
-ghost use Rattle.std.specs.Prelude.{◌≡◌, ◌<◌, true, is_some, length, slice_index, unwrap_or, IfOk};
+ghost use Rattle.std.specs.Prelude.{◌≡◌, true, is_some, slice_get, IfOk, IfSome};
+ghost use Rattle.std.specs.Option.{option_map};
 ghost use Rattle.history.specs.Past.{past};
+ghost use Rattle.req_book.specs.Requests.{buffer_in};
 ghost use Rattle.device_history.specs.Forecasts.{forecast, queued_frame, queued_frames};
 ghost use Rattle.device_history.specs.Frames.{queue};
-ghost use Rattle.device_history.specs.Requests.{buffer, state};
+ghost use Rattle.device_history.specs.Snapshots.{request as request_of};
 ghost use Rattle.history_audit.specs.Scratch.{all_flags};
 
 use super::Replay;
@@ -19,10 +21,11 @@ impl<'a, D: Driver> Replay<'a, D> {
     pub(super) fn flags(&self) -> Result<Vec<Flags>, AllocError>
         ensures { IfOk result (λ all. all.items ≡ all_flags D.verdict self.now.plan (past self.now.steps)) }
     {
+        let at = self.at();
         let count = self.plan.control_count();
         let mut all = Vec::with_capacity(self.alloc, count as usize)?;
         for control in 0..count {
-            all.push_reserved(flags_under(self.plan, self.values(), self.grabs(), control));
+            all.push_reserved(flags_under(&at, control));
         }
         Ok(all)
     }
@@ -33,65 +36,37 @@ impl<'a, D: Driver> Replay<'a, D> {
     {
         let queued = self.queued_frames()?;
         let mut work = Work::new();
-        Board::compute(
-            self.alloc,
-            self.plan,
-            self.present_ranges(),
-            self.values(),
-            self.grabs(),
-            queued.as_slice(),
-            &mut work,
-        )
+        Board::compute(self.alloc, &self.at(), queued.as_slice(), &mut work)
     }
 
     // The queued frames, in the order of the queue.
     fn queued_frames(&self) -> Result<Vec<Queued<'_>>, AllocError>
         ensures { IfOk result (λ all. all.items ≡ queued_frames self.now.plan (past self.now.steps)) }
     {
-        let count = self.queued_count();
-        let mut all = Vec::with_capacity(self.alloc, count)?;
-        for place in 0..count {
-            all.push_reserved(self.queued_frame(place));
+        let mut all = Vec::with_capacity(self.alloc, self.frames.queue_len())?;
+        while let Some(request) = self.queued(all.len()) {
+            all.push_reserved(self.queued_frame(request));
         }
         Ok(all)
     }
 
-    // How many frames are queued.
-    fn queued_count(&self) -> usize
-        ensures { result ≡ length (queue (past self.now.steps)) }
+    // The request at a place of the queue, which holds a buffer; none where fewer wait.
+    fn queued(&self, place: usize) -> Option<RequestId>
+        ensures request { option_map (λ id. id.0) result ≡ slice_get (queue (past self.now.steps)) place }
+        ensures holds { IfSome result (λ id. is_some (buffer_in (request_of D.verdict self.now.plan (past self.now.steps) id.0)) ≡ true) }
     {
-        self.frames.queue_len()
+        self.frames.queued(place)
     }
 
-    // The queued frame at a place.
-    fn queued_frame(&self, place: usize) -> Queued<'_>
-        requires { place < length (queue (past self.now.steps)) }
-        ensures { result ≡ queued_frame self.now.plan (past self.now.steps) (slice_index (queue (past self.now.steps)) place) }
+    // The queued frame of a request, which the caller owes to be there and to hold a buffer.
+    fn queued_frame(&self, request: RequestId) -> Queued<'_>
+        requires { is_some (buffer_in (request_of D.verdict self.now.plan (past self.now.steps) request.0)) ≡ true }
+        ensures { result ≡ queued_frame self.now.plan (past self.now.steps) request.0 }
     {
-        let request = self.queued_request(place);
-        Queued::new(request, self.buffer_number(request), self.asked_by(request))
-    }
-
-    // The request at a place of the queue.
-    fn queued_request(&self, place: usize) -> RequestId
-        requires { place < length (queue (past self.now.steps)) }
-        ensures request { result.0 ≡ slice_index (queue (past self.now.steps)) place }
-        ensures there { is_some (state (past self.now.steps) result.0) ≡ true }
-    {
-        match self.frames.queued(place) {
-            Some(request) => request,
-            None => RequestId(0),
-        }
-    }
-
-    // The number of a request's buffer, or 0 where it has none; the caller owes one that is there.
-    fn buffer_number(&self, request: RequestId) -> u32
-        requires { is_some (state (past self.now.steps) request.0) ≡ true }
-        ensures { result ≡ unwrap_or (buffer (past self.now.steps) request.0) 0 }
-    {
-        match self.frames.buffer_of(request) {
-            Ok(number) => number.unwrap_or(0),
-            Err(_) => 0,
-        }
+        Queued::new(
+            request,
+            self.frames.number_of(request),
+            self.asked_by(request),
+        )
     }
 }

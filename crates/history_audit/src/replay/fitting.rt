@@ -1,22 +1,20 @@
-//! Whether a step that gives no pairs may follow.
+//! Whether a step that gives neither pairs nor a range may follow.
 
-ghost use Rattle.std.specs.Prelude.{◌≡◌, ◌<◌, ◌↔◌, false, length, IsTrue};
+ghost use Rattle.std.specs.Prelude.{◌≡◌, ◌↔◌, false, IsTrue};
 ghost use Rattle.history.specs.Past.{past};
 ghost use Rattle.device_history.specs.Legal.{MayFollow};
 ghost use Rattle.device_history.specs.Refusals.{is_full};
-ghost use Rattle.ctrl_settle.specs.FirstFault.{first_fault};
-ghost use Rattle.device_history.specs.Ranges.{control_with_range, ranges_now};
-ghost use Rattle.history_audit.specs.Changing.{fits_parts, lacks, takes_range};
-ghost use Rattle.history_audit.specs.Replay.{gives_pairs};
+ghost use Rattle.history_audit.specs.Changing.{fits_parts};
+ghost use Rattle.history_audit.specs.Replay.{is_judged};
 
 use super::Replay;
 use ctrl_calls::Driver;
 use device_history::{MAX_FILE_HANDLES, Step};
 
 impl<'a, D: Driver> Replay<'a, D> {
-    // Whether such a step may follow those that were replayed.
+    // Whether a step that gives neither pairs nor a range may follow those that were replayed.
     pub(super) fn fits(&self, step: &Step) -> bool
-        requires { gives_pairs step.now ≡ false }
+        requires { is_judged step.now ≡ false }
         ensures follows { IsTrue result ↔ MayFollow D.verdict self.now.plan (past self.now.steps) step.now }
         ensures room { IsTrue result → is_full (past self.now.steps) ≡ false }
     {
@@ -28,7 +26,7 @@ impl<'a, D: Driver> Replay<'a, D> {
 
     // Whether nothing refuses it but that no further step is kept.
     fn is_unrefused(&self, step: &Step) -> bool
-        requires { gives_pairs step.now ≡ false }
+        requires { is_judged step.now ≡ false }
         ensures { result ≡ fits_parts D.verdict self.now.plan (past self.now.steps) step.now }
     {
         match step {
@@ -37,13 +35,6 @@ impl<'a, D: Driver> Replay<'a, D> {
             }
             Step::CloseFh { fh } => self.handler_of(*fh).is_some(),
             Step::Grab { control, .. } => *control < self.plan.control_count(),
-            Step::ModifyRange {
-                control,
-                min,
-                max,
-                step,
-                default_value,
-            } => self.takes_range(*control, *min, *max, *step, *default_value),
             Step::Alloc => self.frames.alloc_refusal().is_none(),
             Step::Buffer { request, buffer } => {
                 self.frames.buffer_refusal(*request, *buffer).is_none()
@@ -64,26 +55,7 @@ impl<'a, D: Driver> Replay<'a, D> {
             } => self.shows(*fh, *control),
             Step::Unsubscribe { fh, control: None } => self.handler_of(*fh).is_some(),
             Step::Take { fh, control } => self.waits_first(*fh, *control),
-            Step::Set { .. } | Step::Store { .. } => false,
+            Step::Set { .. } | Step::Store { .. } | Step::ModifyRange { .. } => false,
         }
-    }
-
-    // Whether a control is there, and takes a range.
-    fn takes_range(&self, control: u32, min: i64, max: i64, apart: u64, default_value: i64) -> bool
-        ensures { result ≡ takes_range self.now.plan (past self.now.steps) control min max apart default_value }
-    {
-        if control >= self.plan.control_count() {
-            return false;
-        }
-        self.takes_known(control, min, max, apart, default_value)
-    }
-
-    // Whether a control, which the caller owes to be there, takes a range.
-    fn takes_known(&self, control: u32, min: i64, max: i64, apart: u64, default_value: i64) -> bool
-        requires { control < length self.now.plan.controls }
-        ensures { result ≡ lacks (first_fault (control_with_range (ranges_now self.now.plan (past self.now.steps)) control min max apart default_value)) }
-    {
-        let ctrl = self.present_ranges().range(control);
-        ctrl.with_range(min, max, apart, default_value).is_ok()
     }
 }

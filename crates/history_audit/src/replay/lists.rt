@@ -7,6 +7,8 @@ ghost use Rattle.history.specs.Past.{past};
 ghost use Rattle.ctrl_types.specs.declared.which.Which.TheVariants.{Defaults};
 ghost use Rattle.req_book.specs.Refusals.{store_refusal};
 ghost use Rattle.ctrl_lists.specs.declared.limits.TheConstants.{MAX_ENTRIES};
+ghost use Rattle.history.specs.declared.entry.Entry.{Entry as EntryOf};
+ghost use Rattle.device_history.specs.declared.ask.Step.{Step as StepOf};
 ghost use Rattle.device_history.specs.declared.ask.Step.TheVariants as steps;
 ghost use Rattle.device_history.specs.Asking.{entries_of, first_storer, shows_pair, shows_pairs};
 ghost use Rattle.device_history.specs.Handles.{opened};
@@ -15,37 +17,29 @@ ghost use Rattle.device_history.specs.Lists.{write_view};
 ghost use Rattle.device_history.specs.Refusals.{is_full};
 ghost use Rattle.device_history.specs.Snapshots.{request as request_of};
 ghost use Rattle.history_audit.specs.Judged.{IsSet, IsUnset, view_of};
-ghost use Rattle.history_audit.specs.Replay.{IsNextEntry, Replayed, with_next};
+ghost use Rattle.history_audit.specs.Replay.{IsNextEntry, IsNextStep, Replayed, with_next};
 
 use super::Replay;
 use bitflags::Flags as FlagSet;
 use ctrl_calls::{Driver, Work};
 use ctrl_clusters::write_rows;
 use ctrl_lists::{ControlList, MAX_ENTRIES, Touched, View, plan_set};
-use ctrl_raises::Moment;
 use ctrl_types::{Errno, ExtControl, FhId, Flags, Pair, RequestId, Which};
 use device_history::Step;
-use history::Entry;
 use std::alloc::AllocError;
 use step_effects::{copied_values, raise_step};
 
 impl<'a, D: Driver> Replay<'a, D> {
     // Replays a set.
-    pub(super) fn set(
-        &mut self,
-        entry: &Entry<Step>,
-        fh: FhId,
-        pairs: &[Pair],
-    ) -> Result<bool, AllocError>
-        requires next { IsNextEntry self.old entry.now }
-        requires step { entry.now.step ≡ steps.Set fh pairs.now }
-        ensures ok { IfOk result (λ is. Replayed D.verdict self.old self.new entry.now is) }
+    pub(super) fn set(&mut self, fh: FhId, pairs: &[Pair]) -> Result<bool, AllocError>
+        requires { IsNextStep self.old (steps.Set fh pairs.now) }
+        ensures ok { IfOk result (λ is. (e : EntryOf StepOf) → IsNextEntry self.old e → Replayed D.verdict self.old self.new e is) }
         ensures err { OnErr result (self.new ≡ self.old) }
     {
         let Some(touch) = self.touched_by_set(fh, pairs)? else {
             return Ok(false);
         };
-        self.write(entry, fh, &touch)?;
+        self.write(fh, &touch)?;
         Ok(true)
     }
 
@@ -64,26 +58,19 @@ impl<'a, D: Driver> Replay<'a, D> {
     }
 
     // Gives the clusters that a set touches their rows.
-    fn write(&mut self, entry: &Entry<Step>, fh: FhId, touch: &Touched) -> Result<(), AllocError>
-        requires next { IsNextEntry self.old entry.now }
-        requires step { entry.now.step ≡ steps.Set fh touch.now.pairs }
+    fn write(&mut self, fh: FhId, touch: &Touched) -> Result<(), AllocError>
+        requires next { IsNextStep self.old (steps.Set fh touch.now.pairs) }
         requires room { is_full (past self.old.steps) ≡ false }
-        requires follows { MayFollow D.verdict self.old.plan (past self.old.steps) entry.now.step }
+        requires follows { MayFollow D.verdict self.old.plan (past self.old.steps) (steps.Set fh touch.now.pairs) }
         requires touched { IsSet D.verdict self.old.plan (write_view D.verdict self.old.plan (past self.old.steps) fh 0 None) touch.now.pairs touch.now }
-        ensures ok { OnOk result (self.new ≡ with_next self.old entry.now) }
+        ensures ok { OnOk result ((e : EntryOf StepOf) → IsNextEntry self.old e → self.new ≡ with_next self.old e) }
         ensures err { OnErr result (self.new ≡ self.old) }
     {
-        let mut values = copied_values(self.alloc, self.values.as_slice())?;
+        let mut values = copied_values(self.alloc, self.controls.values())?;
         write_rows(self.plan, &mut values, touch.rows());
-        raise_step(
-            self.plan,
-            &Moment::new(&self.ranges, self.values.as_slice(), self.grabs.as_slice()),
-            &Moment::new(&self.ranges, values.as_slice(), self.grabs.as_slice()),
-            touch.pairs(),
-            Some(fh),
-            &mut self.events,
-        );
-        self.values = values;
+        let change = self.controls.to_values(self.plan, values.as_slice());
+        raise_step(&change, touch.pairs(), Some(fh), &mut self.events);
+        self.controls.replace_values(values);
         self.count += 1;
         Ok(())
     }
@@ -91,19 +78,19 @@ impl<'a, D: Driver> Replay<'a, D> {
     // Replays a store.
     pub(super) fn store(
         &mut self,
-        entry: &Entry<Step>,
+        step: &Step,
         request: RequestId,
         pairs: &[Pair],
     ) -> Result<bool, AllocError>
-        requires next { IsNextEntry self.old entry.now }
-        requires step { entry.now.step ≡ steps.Store request pairs.now }
-        ensures ok { IfOk result (λ is. Replayed D.verdict self.old self.new entry.now is) }
+        requires next { IsNextStep self.old step.now }
+        requires step { step.now ≡ steps.Store request pairs.now }
+        ensures ok { IfOk result (λ is. (e : EntryOf StepOf) → IsNextEntry self.old e → Replayed D.verdict self.old self.new e is) }
         ensures err { OnErr result (self.new ≡ self.old) }
     {
         if !self.is_storable(request, pairs)? {
             return Ok(false);
         }
-        self.change(entry)?;
+        self.change(step)?;
         Ok(true)
     }
 
@@ -176,21 +163,13 @@ impl<'a, D: Driver> Replay<'a, D> {
         ensures { IfOk result (λ touched. MatchOption touched (IsUnset D.verdict self.now.plan (view_of D.verdict self.now.plan (past self.now.steps) handler which asked.now) pairs.now)
             (λ touch. IsSet D.verdict self.now.plan (view_of D.verdict self.now.plan (past self.now.steps) handler which asked.now) pairs.now touch)) }
     {
-        // the plan is one, as the contract of `controls` says
-        let _plan = self.plan.controls();
+        let at = self.at();
         let Some(list) = self.entries(pairs)? else {
             return Ok(None);
         };
-        let view = View::new(
-            handler,
-            which,
-            self.present_ranges(),
-            self.values(),
-            self.grabs(),
-            asked,
-        );
+        let view = View::new(handler, which, at, asked);
         let mut work = Work::new();
-        match plan_set(self.alloc, self.plan, &view, &list, &mut work) {
+        match plan_set(self.alloc, &view, &list, &mut work) {
             Ok(touch) => {
                 if are_same(touch.pairs(), pairs) {
                     Ok(Some(touch))

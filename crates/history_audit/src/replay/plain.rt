@@ -1,31 +1,33 @@
-//! What steps make of file handles, grabs and ranges, and what they do that leave these and the values.
+//! What steps make of file handles, ranges and grabs, and what they do that leave these and the values.
 
-ghost use Rattle.std.specs.Prelude.{◌≡◌, true, false, length, OnOk, OnErr};
+ghost use Rattle.std.specs.Prelude.{◌≡◌, ◌<◌, ◌≤◌, true, false, length, MatchOption, OnOk, OnErr};
 ghost use Rattle.history.specs.Past.{past};
+ghost use Rattle.history.specs.declared.entry.Entry.{Entry as EntryOf};
+ghost use Rattle.device_history.specs.declared.ask.Step.{Step as StepOf};
 ghost use Rattle.device_history.specs.declared.ask.Step.TheVariants as steps;
+ghost use Rattle.ctrl_handlers.specs.Plan.{control_in};
 ghost use Rattle.device_history.specs.Legal.{MayFollow};
+ghost use Rattle.device_history.specs.Ranges.{ranges_now};
 ghost use Rattle.device_history.specs.Refusals.{is_full};
-ghost use Rattle.history_audit.specs.Replay.{IsNextEntry, with_next};
+ghost use Rattle.history_audit.specs.Replay.{IsNextEntry, IsNextStep, Replayed, with_next};
 ghost use Rattle.history_audit.specs.Changing.{StoresKnown};
 ghost use Rattle.step_effects.specs.Leaving.{leaves_controls};
 
 use super::Replay;
 use ctrl_calls::Driver;
-use ctrl_raises::Moment;
+use ctrl_settle::Ctrl;
 use ctrl_types::FhId;
 use device_history::Step;
-use history::Entry;
 use std::alloc::AllocError;
 use step_effects::{change_range, change_requests_and_events, copied_grabs, raise_step};
 
 impl<'a, D: Driver> Replay<'a, D> {
     // Opens a file handle.
-    pub(super) fn open(&mut self, entry: &Entry<Step>, handler: u32) -> Result<(), AllocError>
-        requires next { IsNextEntry self.old entry.now }
-        requires step { entry.now.step ≡ steps.OpenFh handler }
+    pub(super) fn open(&mut self, handler: u32) -> Result<(), AllocError>
+        requires next { IsNextStep self.old (steps.OpenFh handler) }
         requires room { is_full (past self.old.steps) ≡ false }
-        requires follows { MayFollow D.verdict self.old.plan (past self.old.steps) entry.now.step }
-        ensures ok { OnOk result (self.new ≡ with_next self.old entry.now) }
+        requires follows { MayFollow D.verdict self.old.plan (past self.old.steps) (steps.OpenFh handler) }
+        ensures ok { OnOk result ((e : EntryOf StepOf) → IsNextEntry self.old e → self.new ≡ with_next self.old e) }
         ensures err { OnErr result (self.new ≡ self.old) }
     {
         self.file_handles.insert(self.count as u32, handler)?;
@@ -34,12 +36,11 @@ impl<'a, D: Driver> Replay<'a, D> {
     }
 
     // Closes one.
-    pub(super) fn close(&mut self, entry: &Entry<Step>, fh: FhId)
-        requires next { IsNextEntry self.old entry.now }
-        requires step { entry.now.step ≡ steps.CloseFh fh }
+    pub(super) fn close(&mut self, fh: FhId)
+        requires next { IsNextStep self.old (steps.CloseFh fh) }
         requires room { is_full (past self.old.steps) ≡ false }
-        requires follows { MayFollow D.verdict self.old.plan (past self.old.steps) entry.now.step }
-        ensures { self.new ≡ with_next self.old entry.now }
+        requires follows { MayFollow D.verdict self.old.plan (past self.old.steps) (steps.CloseFh fh) }
+        ensures { (e : EntryOf StepOf) → IsNextEntry self.old e → self.new ≡ with_next self.old e }
     {
         self.file_handles.shift_remove(&fh.0);
         self.events.drop_fh(fh);
@@ -47,83 +48,79 @@ impl<'a, D: Driver> Replay<'a, D> {
     }
 
     // Grabs a control, or lets it go.
-    pub(super) fn grab(
-        &mut self,
-        entry: &Entry<Step>,
-        control: u32,
-        on: bool,
-    ) -> Result<(), AllocError>
-        requires next { IsNextEntry self.old entry.now }
-        requires step { entry.now.step ≡ steps.Grab control on }
+    pub(super) fn grab(&mut self, control: u32, on: bool) -> Result<(), AllocError>
+        requires next { IsNextStep self.old (steps.Grab control on) }
         requires room { is_full (past self.old.steps) ≡ false }
-        requires follows { MayFollow D.verdict self.old.plan (past self.old.steps) entry.now.step }
-        ensures ok { OnOk result (self.new ≡ with_next self.old entry.now) }
+        requires follows { MayFollow D.verdict self.old.plan (past self.old.steps) (steps.Grab control on) }
+        ensures ok { OnOk result ((e : EntryOf StepOf) → IsNextEntry self.old e → self.new ≡ with_next self.old e) }
         ensures err { OnErr result (self.new ≡ self.old) }
     {
-        let mut grabs = copied_grabs(self.alloc, self.grabs.as_slice())?;
+        let mut grabs = copied_grabs(self.alloc, self.controls.grabs())?;
         grabs[control as usize] = on;
-        raise_step(
-            self.plan,
-            &Moment::new(&self.ranges, self.values.as_slice(), self.grabs.as_slice()),
-            &Moment::new(&self.ranges, self.values.as_slice(), grabs.as_slice()),
-            &[],
-            None,
-            &mut self.events,
-        );
-        self.grabs = grabs;
+        let change = self.controls.to_grabs(self.plan, grabs.as_slice());
+        raise_step(&change, &[], None, &mut self.events);
+        self.controls.grab(control, on);
         self.count += 1;
         Ok(())
     }
 
-    // Gives a control another range.
+    // Replays a range change.
     pub(super) fn modify(
         &mut self,
-        entry: &Entry<Step>,
         control: u32,
         min: i64,
         max: i64,
         apart: u64,
         default_value: i64,
-    )
-        requires next { IsNextEntry self.old entry.now }
-        requires step { entry.now.step ≡ steps.ModifyRange control min max apart default_value }
-        requires room { is_full (past self.old.steps) ≡ false }
-        requires follows { MayFollow D.verdict self.old.plan (past self.old.steps) entry.now.step }
-        ensures { self.new ≡ with_next self.old entry.now }
+    ) -> bool
+        requires { IsNextStep self.old (steps.ModifyRange control min max apart default_value) }
+        ensures { (e : EntryOf StepOf) → IsNextEntry self.old e → Replayed D.verdict self.old self.new e result }
     {
-        let ctrl = *self.ranges.range(control);
-        if let Ok(changed) = ctrl.with_range(min, max, apart, default_value) {
-            change_range(
-                self.plan,
-                control,
-                changed,
-                &mut self.ranges,
-                &mut self.values,
-                self.grabs.as_slice(),
-                &mut self.events,
-            );
-            self.count += 1;
+        if self.is_full() {
+            return false;
         }
+        let Some(ctrl) = self.ranged(control) else {
+            return false;
+        };
+        let Ok(changed) = ctrl.with_range(min, max, apart, default_value) else {
+            return false;
+        };
+        change_range(
+            self.plan,
+            &mut self.controls,
+            control,
+            changed,
+            &mut self.events,
+        );
+        self.count += 1;
+        true
     }
 
-    // Makes a step that leaves file handles, grabs, ranges and values.
-    pub(super) fn change(&mut self, entry: &Entry<Step>) -> Result<(), AllocError>
-        requires next { IsNextEntry self.old entry.now }
-        requires leaves { leaves_controls entry.now.step ≡ true }
+    // A control with its present range; none where there is none of this number.
+    fn ranged(&self, control: u32) -> Option<&Ctrl>
+        ensures { MatchOption result (length self.now.plan.controls ≤ control) (λ ctrl. (control < length self.now.plan.controls) × (ctrl.now ≡ control_in (ranges_now self.now.plan (past self.now.steps)) control)) }
+    {
+        if control >= self.plan.control_count() {
+            return None;
+        }
+        Some(self.controls.range(control))
+    }
+
+    // Makes a step that leaves file handles, ranges, values and grabs.
+    pub(super) fn change(&mut self, step: &Step) -> Result<(), AllocError>
+        requires next { IsNextStep self.old step.now }
+        requires leaves { leaves_controls step.now ≡ true }
         requires room { is_full (past self.old.steps) ≡ false }
-        requires follows { MayFollow D.verdict self.old.plan (past self.old.steps) entry.now.step }
-        requires known { StoresKnown (length self.old.plan.controls) entry.now.step }
-        ensures ok { OnOk result (self.new ≡ with_next self.old entry.now) }
+        requires follows { MayFollow D.verdict self.old.plan (past self.old.steps) step.now }
+        requires known { StoresKnown (length self.old.plan.controls) step.now }
+        ensures ok { OnOk result ((e : EntryOf StepOf) → IsNextEntry self.old e → self.new ≡ with_next self.old e) }
         ensures err { OnErr result (self.new ≡ self.old) }
     {
         let number = self.count as u32;
         change_requests_and_events(
-            self.plan,
-            &self.ranges,
-            self.values.as_slice(),
-            self.grabs.as_slice(),
+            &self.controls.at(self.plan),
             number,
-            &entry.step,
+            step,
             &mut self.frames,
             &mut self.events,
         )?;

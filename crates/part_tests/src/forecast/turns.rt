@@ -1,51 +1,40 @@
 //! Turns that are drawn from a seed.
 
-ghost use Rattle.std.specs.Prelude.{◌<◌, length, OnOk};
-ghost use Rattle.part_tests.specs.Kept.{IsScene};
-
 use crate::forecast::dice::Dice;
-use crate::forecast::driver::Ordered;
 use crate::forecast::planning::plan_of;
 use crate::forecast::scene::Scene;
 use ctrl_calls::Work;
-use ctrl_handlers::Plan;
 use std::alloc::{AllocError, Global};
 use std::test::Fail;
 
-// Draws a change and makes it. The answer is whether no more validators were asked than may be.
-fn turn(
-    alloc: Global,
-    plan: &Plan<Ordered>,
-    scene: &mut Scene,
-    dice: &mut Dice,
-) -> Result<bool, AllocError>
-    requires controls { 0 < length plan.now.controls }
-    requires kept { IsScene plan.now scene.old.ranges scene.old.values.items scene.old.grabs.items scene.old.board }
-    ensures { OnOk result (IsScene plan.now scene.new.ranges scene.new.values.items scene.new.grabs.items scene.new.board) }
-{
-    let controls = plan.control_count();
+// Draws a change and makes it. The answer is whether there are controls, and no more validators were asked than may be.
+fn turn(alloc: Global, scene: &mut Scene<'_>, dice: &mut Dice) -> Result<bool, AllocError> {
+    let controls = scene.control_count();
+    if controls == 0 {
+        return Ok(false);
+    }
     let mut work = Work::new();
     let mut bound = 0;
     match dice.roll(12) {
         0..=4 if scene.len() < 6 => {
             let number = dice.roll(1000);
             let asked = dice.pairs(alloc, controls)?;
-            bound = scene.push(plan, number, asked, &mut work)?;
+            bound = scene.push(number, asked, &mut work)?;
         }
-        5 => scene.begin(plan),
-        6 | 7 => bound = scene.remove(plan, dice.roll(6), &mut work),
-        8 if dice.roll(4) == 0 => scene.clear(plan),
+        5 => scene.begin(),
+        6 | 7 => bound = scene.remove(dice.roll(6), &mut work),
+        8 if dice.roll(4) == 0 => scene.clear(),
         9 => {
             let control = dice.roll(controls);
             let maximum = i64::from(dice.roll(11));
-            bound = scene.narrow(plan, control, maximum, &mut work);
+            bound = scene.narrow(control, maximum, &mut work);
         }
         _ => {
             let control = dice.roll(controls);
             let value = dice.value();
             let other = dice.roll(controls);
             let is_grabbed = dice.roll(3) == 0;
-            bound = scene.change(plan, control, value, other, is_grabbed, &mut work);
+            bound = scene.change(control, value, other, is_grabbed, &mut work);
         }
     }
     Ok(work.asked <= bound)
@@ -54,13 +43,10 @@ fn turn(
 // Whether so many turns from a seed each leave the board as it is computed anew.
 fn is_kept(alloc: Global, seed: u64, turns: u32) -> Result<bool, Fail> {
     let plan = plan_of(alloc)?;
-    if plan.control_count() == 0 {
-        return Err(Fail::new("controls"));
-    }
     let mut scene = Scene::new(alloc, &plan)?;
     let mut dice = Dice(seed);
     for _ in 0..turns {
-        if !turn(alloc, &plan, &mut scene, &mut dice)? || !scene.is_twin(alloc, &plan)? {
+        if !turn(alloc, &mut scene, &mut dice)? || !scene.is_twin(alloc)? {
             return Ok(false);
         }
     }

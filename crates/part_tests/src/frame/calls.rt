@@ -47,18 +47,18 @@ pub(crate) fn answer(alloc: Global, frames: &mut Frames, call: Call) -> Result<u
             let pairs = made(alloc, pairs)?;
             store(frames, RequestId(id), pairs.as_slice())
         }
-        Call::Buffer(id, number) => done(frames.add_buffer(RequestId(id), number)),
-        Call::Queue(id) => done(frames.queue(RequestId(id))),
+        Call::Buffer(id, number) => done(frames.try_add_buffer(RequestId(id), number)),
+        Call::Queue(id) => done(frames.try_queue(RequestId(id))),
         Call::Begin(applied) => {
             let applied = made(alloc, applied)?;
-            let (_, number) = frames.begin(applied.as_slice())?;
+            let (_, number) = frames.try_begin(applied.as_slice())?;
             Ok(number)
         }
         Call::Complete(number) => complete(frames, number),
         Call::Cancel(id, number) => cancel(frames, RequestId(id), number),
         Call::Off(number) => stream_off(frames, number),
-        Call::Reinit(id) => done(frames.reinit(RequestId(id))),
-        Call::Free(id) => done(frames.free(RequestId(id))),
+        Call::Reinit(id) => done(frames.try_reinit(RequestId(id))),
+        Call::Free(id) => done(frames.try_free(RequestId(id))),
     }
 }
 
@@ -78,7 +78,7 @@ fn done(answer: Result<(), Errno>) -> Result<u32, Errno> {
 
 fn complete(frames: &mut Frames, number: i64) -> Result<u32, Errno> {
     if frames.controls() == CONTROLS {
-        done(frames.complete([CtrlValue::Number(number); 3].as_slice()))
+        done(frames.try_complete([CtrlValue::Number(number); 3].as_slice()))
     } else {
         Err(Errno::ERANGE)
     }
@@ -86,7 +86,7 @@ fn complete(frames: &mut Frames, number: i64) -> Result<u32, Errno> {
 
 fn cancel(frames: &mut Frames, id: RequestId, number: i64) -> Result<u32, Errno> {
     if frames.controls() == CONTROLS {
-        done(frames.cancel(id, [CtrlValue::Number(number); 3].as_slice()))
+        done(frames.try_cancel(id, [CtrlValue::Number(number); 3].as_slice()))
     } else {
         Err(Errno::ERANGE)
     }
@@ -104,14 +104,14 @@ fn stream_off(frames: &mut Frames, number: i64) -> Result<u32, Errno> {
 fn make(frames: &mut Frames, id: RequestId) -> Result<u32, Errno> {
     match frames.state_of(id) {
         Ok(_) => Err(Errno::ERANGE),
-        Err(_) => done(frames.alloc(id)),
+        Err(_) => done(frames.try_alloc(id)),
     }
 }
 
 fn store(frames: &mut Frames, id: RequestId, pairs: &[Pair]) -> Result<u32, Errno> {
     let controls = frames.controls();
     if pairs.iter().all(|pair| pair.control < controls) {
-        done(frames.store(id, pairs))
+        done(frames.try_store(id, pairs))
     } else {
         Err(Errno::ERANGE)
     }

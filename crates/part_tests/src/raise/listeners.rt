@@ -1,13 +1,13 @@
 //! File handles that are subscribed to the events of controls.
 
-ghost use Rattle.std.specs.Prelude.{ℕ, ◌≡◌, ◌<◌, ◌≤◌, length};
+ghost use Rattle.std.specs.Prelude.{ℕ, ◌<◌, ◌≤◌, length};
 ghost use Rattle.ctrl_events.specs.Events.{events_of};
 
 use crate::raise::planning::Silent;
 use bitflags::Flags as FlagSet;
+use ctrl_clusters::{Change, Moment};
 use ctrl_events::{Event, Events, Payload};
-use ctrl_handlers::Plan;
-use ctrl_raises::{Moment, raise_between, raise_range};
+use ctrl_raises::{raise_between, raise_range};
 use ctrl_settle::Ctrl;
 use ctrl_types::{Changes, CtrlId, CtrlValue, Errno, FhId, Flags, Kind, Pair, SubFlags};
 use std::alloc::Global;
@@ -86,46 +86,33 @@ impl Listeners {
     /// The events once what changes between two moments is raised.
     pub(crate) fn raised(
         self,
-        plan: &Plan<Silent>,
-        before: &Moment,
-        after: &Moment,
+        change: &Change<Silent>,
         pairs: &[Pair],
         from: Option<FhId>,
-    ) -> Result<Events, Fail>
-        requires ranges_before { length before.now.ranges ≡ length plan.now.controls }
-        requires values_before { length before.now.values ≡ length plan.now.controls }
-        requires grabs_before { length before.now.grabs ≡ length plan.now.controls }
-        requires ranges { length after.now.ranges ≡ length plan.now.controls }
-        requires values { length after.now.values ≡ length plan.now.controls }
-        requires grabs { length after.now.grabs ≡ length plan.now.controls }
-    {
-        if self.calls > MOST || plan.control_count() > MOST {
+    ) -> Result<Events, Fail> {
+        if self.calls > MOST || change.before.plan.control_count() > MOST {
             return Err(Fail::new("a few controls"));
         }
         let mut events = self.events;
-        raise_between(plan, before, after, pairs, from, &mut events);
+        raise_between(change, pairs, from, &mut events);
         Ok(events)
     }
 
     /// The events once what another range and another value of one control change is raised.
     pub(crate) fn range_raised(
         self,
-        plan: &Plan<Silent>,
-        after: &Moment,
+        after: &Moment<Silent>,
         control: u32,
         old: &Ctrl,
         old_value: &CtrlValue,
     ) -> Result<Events, Fail>
-        requires known { control < length plan.now.controls }
-        requires ranges { length after.now.ranges ≡ length plan.now.controls }
-        requires values { length after.now.values ≡ length plan.now.controls }
-        requires grabs { length after.now.grabs ≡ length plan.now.controls }
+        requires { control < length after.now.plan.now.controls }
     {
-        if self.calls > MOST || plan.control_count() > MOST {
+        if self.calls > MOST || after.plan.control_count() > MOST {
             return Err(Fail::new("a few controls"));
         }
         let mut events = self.events;
-        raise_range(plan, after, control, old, old_value, &mut events);
+        raise_range(after, control, old, old_value, &mut events);
         Ok(events)
     }
 }

@@ -1,14 +1,15 @@
 //! What is told of controls, and which are changed.
 
-ghost use Rattle.std.specs.Prelude.{◌≡◌, length};
+ghost use Rattle.ctrl_clusters.specs.Rows.{AreControlsOf};
 
+use crate::raise::changing::change;
 use crate::raise::planning::{FIRST, Silent, plan};
 use crate::values::{pairs_of, values_of};
 use bitflags::Flags as FlagSet;
-use ctrl_clusters::{Ranges, is_among, is_changed};
+use ctrl_clusters::{Controls, Moment, Ranges, is_among, is_changed};
 use ctrl_events::Payload;
 use ctrl_handlers::Plan;
-use ctrl_raises::{Moment, initial_changes, payload_at};
+use ctrl_raises::{initial_changes, payload_at};
 use ctrl_types::{CtrlId, CtrlValue, Flags, Kind};
 use std::alloc::Global;
 use std::test::Fail;
@@ -128,13 +129,19 @@ fn tells(
     control: u32,
     told: Told,
 ) -> bool
-    requires { length ranges.now ≡ length plan.now.controls }
+    requires { AreControlsOf plan.now ranges.now }
 {
-    let count = plan.control_count();
-    control < count
-        && values.len() == count as usize
-        && grabs.len() == count as usize
-        && payload_at(plan, &Moment::new(ranges, values, grabs), control) == payload(control, told)
+    let count = plan.controls().len();
+    if values.len() != count || grabs.len() != count || control as usize >= count {
+        return false;
+    }
+    let at = Moment {
+        plan,
+        ranges,
+        values,
+        grabs,
+    };
+    payload_at(&at, control) == payload(control, told)
 }
 
 #[test]
@@ -170,7 +177,7 @@ fn changes_at_once(rt: HostRuntime) -> Result<(), Fail> {
 }
 
 // Values before and after, the pairs and a control; whether it is changed, and whether it is among the pairs.
-type Change = (
+type Case = (
     &'static [i64],
     &'static [i64],
     &'static [(u32, i64)],
@@ -179,7 +186,7 @@ type Change = (
     bool,
 );
 
-const CHANGES: &[Change] = &[
+const CHANGES: &[Case] = &[
     (
         &[1, 50, 0, 30, 9],
         &[1, 50, 0, 32, 9],
@@ -226,22 +233,27 @@ const CHANGES: &[Change] = &[
     ),
 ];
 
-fn is_change(alloc: Global, plan: &Plan<Silent>, change: Change) -> Result<bool, Fail> {
-    let (before, after, asked, control, changed, among) = change;
+fn is_change(alloc: Global, plan: &Plan<Silent>, case: Case) -> Result<bool, Fail> {
+    let (before, after, asked, control, changed, among) = case;
     let (before, after) = (values_of(alloc, before)?, values_of(alloc, after)?);
     let count = plan.controls().len();
-    if before.len() != count || after.len() != count || control as usize >= count {
+    if before.len() != count {
         return Ok(false);
     }
     let pairs = pairs_of(alloc, asked)?;
+    let controls = Controls::of_plan(alloc, plan)?;
+    let before = Moment {
+        plan,
+        ranges: controls.ranges(),
+        values: before.as_slice(),
+        grabs: controls.grabs(),
+    };
+    let Some(change) = change(before, before.ranges, after.as_slice(), before.grabs) else {
+        return Ok(false);
+    };
     Ok(
-        is_changed(
-            plan,
-            before.as_slice(),
-            after.as_slice(),
-            pairs.as_slice(),
-            control,
-        ) == changed
+        control < change.before.plan.control_count()
+            && is_changed(&change, pairs.as_slice(), control) == changed
             && is_among(pairs.as_slice(), control) == among,
     )
 }
@@ -250,9 +262,9 @@ fn is_change(alloc: Global, plan: &Plan<Silent>, change: Change) -> Result<bool,
 fn changed_controls(rt: HostRuntime) -> Result<(), Fail> {
     let alloc = rt.alloc();
     let plan = plan(alloc)?;
-    for &change in CHANGES {
-        let is_change = is_change(alloc, &plan, change)?;
-        assert!(rt; is_change, "{change:?}");
+    for &case in CHANGES {
+        let is_change = is_change(alloc, &plan, case)?;
+        assert!(rt; is_change, "{case:?}");
     }
     Ok(())
 }

@@ -1,13 +1,14 @@
 //! What file handles hear of a change.
 
-ghost use Rattle.std.specs.Prelude.{◌≡◌, length, IfOk};
+ghost use Rattle.std.specs.Prelude.{IfOk};
+ghost use Rattle.ctrl_clusters.specs.Rows.{AreControlsOf};
 
+use crate::raise::changing::change;
 use crate::raise::listeners::{Listeners, Told, takes};
 use crate::raise::planning::{FIRST, Silent, plan};
 use crate::values::{pairs_of, values_of};
-use ctrl_clusters::Ranges;
+use ctrl_clusters::{Moment, Ranges};
 use ctrl_handlers::Plan;
-use ctrl_raises::Moment;
 use ctrl_types::FhId;
 use std::alloc::Global;
 use std::test::Fail;
@@ -279,7 +280,7 @@ const OF_A_RANGE: &[(Range, Case)] = &[
 
 // The plan's ranges, with another one of control 3.
 fn ranges_with(alloc: Global, plan: &Plan<Silent>, range: Range) -> Result<Ranges, Fail>
-    ensures { IfOk result (λ ranges. length ranges ≡ length plan.now.controls) }
+    ensures { IfOk result (λ ranges. AreControlsOf plan.now ranges) }
 {
     let mut ranges = Ranges::of_plan(alloc, plan)?;
     let (minimum, maximum, step, default_value) = range;
@@ -301,7 +302,7 @@ fn is_heard(alloc: Global, plan: &Plan<Silent>, range: Range, case: &Case) -> Re
     let ((old, held), (new, holding)) = (case.before, case.after);
     let (old, new) = (values_of(alloc, old)?, values_of(alloc, new)?);
     let count = plan.controls().len();
-    if old.len() != count || held.len() != count || new.len() != count || holding.len() != count {
+    if old.len() != count || held.len() != count {
         return Ok(false);
     }
     let pairs = pairs_of(alloc, case.pairs)?;
@@ -311,10 +312,17 @@ fn is_heard(alloc: Global, plan: &Plan<Silent>, range: Range, case: &Case) -> Re
     };
     let ranges = Ranges::of_plan(alloc, plan)?;
     let changed = ranges_with(alloc, plan, range)?;
-    let before = Moment::new(&ranges, old.as_slice(), held);
-    let after = Moment::new(&changed, new.as_slice(), holding);
+    let before = Moment {
+        plan,
+        ranges: &ranges,
+        values: old.as_slice(),
+        grabs: held,
+    };
+    let Some(change) = change(before, &changed, new.as_slice(), holding) else {
+        return Ok(false);
+    };
     let listeners = Listeners::subscribed(alloc)?;
-    let mut events = listeners.raised(plan, &before, &after, pairs.as_slice(), from)?;
+    let mut events = listeners.raised(&change, pairs.as_slice(), from)?;
     let [first, second, third] = case.taken;
     Ok(
         takes(&mut events, 0, FIRST, first)

@@ -1,16 +1,15 @@
 //! What file handles hear of another range of one control.
 
-ghost use Rattle.std.specs.Prelude.{◌≡◌, ◌<◌, length, IfOk};
+ghost use Rattle.std.specs.Prelude.{◌<◌, length, IfOk};
 ghost use Rattle.ctrl_handlers.specs.Plan.{control_in};
 ghost use Rattle.ctrl_clusters.specs.Ranges.{HasRangeFor};
 
 use crate::raise::listeners::{Listeners, Told, takes};
 use crate::raise::planning::{FIRST, Silent, plan, plan_with};
 use crate::values::values_of;
-use ctrl_clusters::Ranges;
+use ctrl_clusters::{Change, Controls, Moment, Ranges};
 use ctrl_events::Events;
 use ctrl_handlers::Plan;
-use ctrl_raises::Moment;
 use ctrl_settle::Ctrl;
 use ctrl_types::{CtrlValue, FhId};
 use std::alloc::Global;
@@ -205,47 +204,37 @@ fn control_before(ranges: &Ranges, case: &Case) -> Result<Ctrl, Fail>
 }
 
 // The events once what a case changes is raised.
-fn heard(
-    alloc: Global,
-    plan: &Plan<Silent>,
-    ranges: &Ranges,
-    values: &[CtrlValue],
-    case: &Case,
-) -> Result<Events, Fail>
-    requires known { case.now.control < length plan.now.controls }
-    requires ranges { length ranges.now ≡ length plan.now.controls }
-    requires values { length values.now ≡ length plan.now.controls }
-    requires grabs { length case.now.grabs.now ≡ length plan.now.controls }
+fn heard(alloc: Global, after: &Moment<Silent>, case: &Case) -> Result<Events, Fail>
+    requires { case.now.control < length after.now.plan.now.controls }
 {
-    let old = control_before(ranges, case)?;
-    let after = Moment::new(ranges, values, case.grabs);
+    let old = control_before(after.ranges, case)?;
     let listeners = Listeners::subscribed(alloc)?;
     let old_value = CtrlValue::Number(case.value);
-    listeners.range_raised(plan, &after, case.control, &old, &old_value)
+    listeners.range_raised(after, case.control, &old, &old_value)
 }
 
 // The same, between the moments before and after.
-fn heard_between(
-    alloc: Global,
-    plan: &Plan<Silent>,
-    ranges: &Ranges,
-    values: &[CtrlValue],
-    case: &Case,
-) -> Result<Events, Fail>
-    requires known { case.now.control < length plan.now.controls }
-    requires ranges { length ranges.now ≡ length plan.now.controls }
-    requires values { length values.now ≡ length plan.now.controls }
-    requires grabs { length case.now.grabs.now ≡ length plan.now.controls }
+fn heard_between(alloc: Global, after: &Moment<Silent>, case: &Case) -> Result<Events, Fail>
+    requires { case.now.control < length after.now.plan.now.controls }
 {
-    let mut earlier = Ranges::of_plan(alloc, plan)?;
-    let old = control_before(&earlier, case)?;
-    earlier.modify(case.control, old);
-    let mut earlier_values = Vec::from_slice(alloc, values)?;
-    earlier_values[case.control as usize] = CtrlValue::Number(case.value);
-    let before = Moment::new(&earlier, earlier_values.as_slice(), case.grabs);
-    let after = Moment::new(ranges, values, case.grabs);
+    let mut earlier = Controls::of_plan(alloc, after.plan)?;
+    earlier.replace_values(Vec::from_slice(alloc, after.values)?);
+    let old = control_before(earlier.ranges(), case)?;
+    earlier.modify_range(case.control, old, CtrlValue::Number(case.value));
+    let before = Moment {
+        plan: after.plan,
+        ranges: earlier.ranges(),
+        values: earlier.values(),
+        grabs: after.grabs,
+    };
+    let change = Change {
+        before,
+        ranges: after.ranges,
+        values: after.values,
+        grabs: after.grabs,
+    };
     let listeners = Listeners::subscribed(alloc)?;
-    listeners.raised(plan, &before, &after, &[], None)
+    listeners.raised(&change, &[], None)
 }
 
 // Whether the same waits for each file handle.
@@ -266,8 +255,14 @@ fn is_heard(alloc: Global, plan: &Plan<Silent>, case: &Case) -> Result<bool, Fai
         return Ok(false);
     }
     let ranges = Ranges::of_plan(alloc, plan)?;
-    let mut events = heard(alloc, plan, &ranges, values.as_slice(), case)?;
-    let others = heard_between(alloc, plan, &ranges, values.as_slice(), case)?;
+    let after = Moment {
+        plan,
+        ranges: &ranges,
+        values: values.as_slice(),
+        grabs: case.grabs,
+    };
+    let mut events = heard(alloc, &after, case)?;
+    let others = heard_between(alloc, &after, case)?;
     let [first, second, third] = case.taken;
     Ok(
         are_alike(&events, &others)

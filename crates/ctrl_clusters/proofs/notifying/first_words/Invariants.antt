@@ -10,6 +10,6 @@ abbrev pub invariant-loop-cluster : goal.invariant-loop-cluster
 invariant-loop-cluster g l = record {
   long : length l.words.items ≡ l.cluster;
   room : l.count ≤ vec_capacity l.words;
-  work : l.work ≡ record l.initial.work { told = notified_below l.plan (λ k. true) l.cluster };
-  allowed : (k : ℕ) → k < l.cluster → MaySay g.D.Notifies.told (calls_of l.plan k).notifier (row_of l.values (members l.plan k)) (slice_index l.words.items k);
+  work : l.work ≡ record l.initial.work { told = notified_below l.at.plan.now (λ k. true) l.cluster };
+  allowed : (k : ℕ) → k < l.cluster → MaySay g.D.Notifies.told (calls_of l.at.plan.now k).notifier (row_of l.at.values.now (members l.at.plan.now k)) (slice_index l.words.items k);
 }

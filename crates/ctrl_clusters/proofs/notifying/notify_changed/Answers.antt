@@ -6,22 +6,22 @@ use Rattle.ctrl_clusters.proofs.notifying.notify_changed.Goals as goal
 
 pub loop-cluster-init : goal.loop-cluster-init
 loop-cluster-init g c =
-    let changed = cluster_changes c.args.plan.now c.args.values.now c.args.pairs.now c.args.rows.now.rows in
+    let changed = cluster_changes c.args.before.now.plan.now c.args.before.now.values.now c.args.pairs.now c.args.rows.now.rows in
     record {
-      words = notified_start g.D.Notifies.told c.args.plan.now changed (row_or_empty c.args.rows.now.rows) c.args.words.now.items;
-      work = work_start c.args.plan.now changed c.args.work.now c.requires.fresh;
+      words = notified_start g.D.Notifies.told c.args.before.now.plan.now changed (row_or_empty c.args.rows.now.rows) c.args.words.now.items;
+      work = work_start c.args.before.now.plan.now changed c.args.work.now c.requires.fresh;
     }
 
 -- one more cluster is notified
 pub loop-cluster-preserved : goal.loop-cluster-preserved
 loop-cluster-preserved g c =
-    let changed = cluster_changes c.args.plan.now c.args.values.now c.args.pairs.now c.args.rows.now.rows in
+    let changed = cluster_changes c.args.before.now.plan.now c.args.before.now.values.now c.args.pairs.now c.args.rows.now.rows in
     let k = c.loop-cluster.cluster in
     record {
-      words = notified_next g.D.Notifies.told c.args.plan.now changed (row_or_empty c.args.rows.now.rows) k c.args.words.now.items c.loop-cluster.words.items c.notify_touched.new.words.items c.loop-cluster.invariant.words c.notify_touched.ensures.words;
-      work = work_next c.args.plan.now changed k c.args.work.now c.loop-cluster.work c.notify_touched.new.work (search rules) c.loop-cluster.invariant.work c.notify_touched.ensures.work;
+      words = notified_next g.D.Notifies.told c.args.before.now.plan.now changed (row_or_empty c.args.rows.now.rows) k c.args.words.now.items c.loop-cluster.words.items c.notify_touched.new.words.items c.loop-cluster.invariant.words c.notify_touched.ensures.words;
+      work = work_next c.args.before.now.plan.now changed k c.args.work.now c.loop-cluster.work c.notify_touched.new.work (search rules) c.loop-cluster.invariant.work c.notify_touched.ensures.work;
     }
 
 pub returns-clause-work : goal.returns-clause-work
 returns-clause-work g c =
-    work_end c.args.plan.now (cluster_changes c.args.plan.now c.args.values.now c.args.pairs.now c.args.rows.now.rows) c.loop-cluster.cluster c.args.work.now c.loop-cluster.work (search rules) c.loop-cluster.invariant.work
+    work_end c.args.before.now.plan.now (cluster_changes c.args.before.now.plan.now c.args.before.now.values.now c.args.pairs.now c.args.rows.now.rows) c.loop-cluster.cluster c.args.work.now c.loop-cluster.work (search rules) c.loop-cluster.invariant.work

@@ -7,6 +7,6 @@ use Rattle.ctrl_clusters.proofs.notifying.notify_changed.Given as goal
 -- the clusters so far were notified
 abbrev pub invariant-loop-cluster : goal.invariant-loop-cluster
 invariant-loop-cluster g l = record {
-  words : AreNotifiedBelow g.D.Notifies.told l.plan (cluster_changes l.plan l.values l.pairs l.rows.rows) (row_or_empty l.rows.rows) l.cluster l.initial.words.items l.words.items;
-  work : l.work ≡ record l.initial.work { told = notified_below l.plan (cluster_changes l.plan l.values l.pairs l.rows.rows) l.cluster };
+  words : AreNotifiedBelow g.D.Notifies.told l.before.plan.now (cluster_changes l.before.plan.now l.before.values.now l.pairs l.rows.rows) (row_or_empty l.rows.rows) l.cluster l.initial.words.items l.words.items;
+  work : l.work ≡ record l.initial.work { told = notified_below l.before.plan.now (cluster_changes l.before.plan.now l.before.values.now l.pairs l.rows.rows) l.cluster };
 }

@@ -6,4 +6,4 @@ use Rattle.ctrl_clusters.proofs.writing.write_row.Goals as goal
 pub returns : goal.returns
 returns g c =
     c.write_members.ensures ∙ ap (λ (ms : List ℕ). with_row c.args.values.now.items ms c.args.row.now) c.members.ensures.members
-    ∙ written_one c.args.plan.now c.args.values.now.items c.args.cluster c.args.row.now c.controls-plan.ensures.plan c.requires.values c.requires.cluster c.requires.row
+    ∙ written_one c.args.plan.now c.args.values.now.items c.args.cluster c.args.row.now c.members.ensures.plan c.requires.values c.requires.cluster c.requires.row

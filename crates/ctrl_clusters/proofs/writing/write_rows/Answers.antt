@@ -17,7 +17,7 @@ loop-new-preserved g c =
     let more : c.write_members.new.values.items ≡ written plan c.args.values.now.items (take (loop.new-index + 1) c.args.rows.now) =
     c.write_members.ensures ∙ ap (λ v. with_row v c.members.result.now c.new-item.result.row) loop.invariant.so_far
     ∙ ap (λ ms. with_row (written plan c.args.values.now.items (take loop.new-index c.args.rows.now)) ms c.new-item.result.row) c.members.ensures.members
-    ∙ written_next plan c.args.values.now.items c.args.rows.now loop.new-index c.new-item.result c.controls-plan.ensures.plan c.requires.values c.requires.rows c.loop-new-test.true c.new-item.is in
+    ∙ written_next plan c.args.values.now.items c.args.rows.now loop.new-index c.new-item.result c.members.ensures.plan c.requires.values c.requires.rows c.loop-new-test.true c.new-item.is in
     record {
       so_far = more;
       many = ap length more ∙ length_written plan c.args.values.now.items (take (loop.new-index + 1) c.args.rows.now) ∙ c.requires.values;

@@ -18,7 +18,7 @@ use Rattle.ctrl_forecast.proofs.laying.overlay_named.Goals as goal
 
 pub loop-cluster-init : goal.loop-cluster-init
 loop-cluster-init g c = record {
-  laid = laid_start (laying g.D.Validates.verdict c.args.plan.now c.args.ranges.now c.args.values.now c.args.grabs.now c.args.pairs.now) c.args.named.now c.in_ok-after.after.items c.new-refused.result.items
+  laid = laid_start (laying g.D.Validates.verdict c.args.at.now.plan.now c.args.at.now.ranges.now c.args.at.now.values.now c.args.at.now.grabs.now c.args.pairs.now) c.args.named.now c.in_ok-after.after.items c.new-refused.result.items
       c.requires.named c.in_ok-after.ensures.items c.new-refused.ensures.items;
   asked = omega arith;
   counted = calls_none c.args.work.now.asked (omega arith);
@@ -27,7 +27,7 @@ loop-cluster-init g c = record {
 
 pub members-requires : goal.members-requires
 members-requires g c =
-    let l : Laying = laying g.D.Validates.verdict c.args.plan.now c.args.ranges.now c.args.values.now c.args.grabs.now c.args.pairs.now in
+    let l : Laying = laying g.D.Validates.verdict c.args.at.now.plan.now c.args.at.now.ranges.now c.args.at.now.values.now c.args.at.now.grabs.now c.args.pairs.now in
     let i : ℕ = c.loop-cluster.cluster-index in
     let ks : List ℕ = c.args.named.now in
     (laid_next l (get_or ks i 0) (drop (i + 1) ks) c.loop-cluster.after.items c.loop-cluster.refused.items
@@ -35,7 +35,7 @@ members-requires g c =
 
 pub touched_row-requires-clause-cluster : goal.touched_row-requires-clause-cluster
 touched_row-requires-clause-cluster g c =
-    let l : Laying = laying g.D.Validates.verdict c.args.plan.now c.args.ranges.now c.args.values.now c.args.grabs.now c.args.pairs.now in
+    let l : Laying = laying g.D.Validates.verdict c.args.at.now.plan.now c.args.at.now.ranges.now c.args.at.now.values.now c.args.at.now.grabs.now c.args.pairs.now in
     let i : ℕ = c.loop-cluster.cluster-index in
     let ks : List ℕ = c.args.named.now in
     (laid_next l (get_or ks i 0) (drop (i + 1) ks) c.loop-cluster.after.items c.loop-cluster.refused.items
@@ -43,7 +43,7 @@ touched_row-requires-clause-cluster g c =
 
 pub touched_row-requires-clause-touched : goal.touched_row-requires-clause-touched
 touched_row-requires-clause-touched g c =
-    let l : Laying = laying g.D.Validates.verdict c.args.plan.now c.args.ranges.now c.args.values.now c.args.grabs.now c.args.pairs.now in
+    let l : Laying = laying g.D.Validates.verdict c.args.at.now.plan.now c.args.at.now.ranges.now c.args.at.now.values.now c.args.at.now.grabs.now c.args.pairs.now in
     let i : ℕ = c.loop-cluster.cluster-index in
     let ks : List ℕ = c.args.named.now in
     (laid_next l (get_or ks i 0) (drop (i + 1) ks) c.loop-cluster.after.items c.loop-cluster.refused.items
@@ -51,29 +51,29 @@ touched_row-requires-clause-touched g c =
 
 pub write_row-requires-clause-values : goal.write_row-requires-clause-values
 write_row-requires-clause-values g c =
-    laid_long (laying g.D.Validates.verdict c.args.plan.now c.args.ranges.now c.args.values.now c.args.grabs.now c.args.pairs.now) (drop c.loop-cluster.cluster-index c.args.named.now) c.loop-cluster.after.items
+    laid_long (laying g.D.Validates.verdict c.args.at.now.plan.now c.args.at.now.ranges.now c.args.at.now.values.now c.args.at.now.grabs.now c.args.pairs.now) (drop c.loop-cluster.cluster-index c.args.named.now) c.loop-cluster.after.items
     c.loop-cluster.refused.items c.loop-cluster.invariant.laid
-    ∙ c.requires.values
+    ∙ c.args.at.now.valued
 
 pub returns-in_err-push-in-Err-clause-asked : goal.returns-in_err-push-in-Err-clause-asked
 returns-in_err-push-in-Err-clause-asked g c =
-    let touched : ℕ → Bool = λ j. is_touched c.args.pairs.now (members c.args.plan.now j) in
-    let many : length c.args.named.now ≡ touched_count c.args.plan.now c.args.pairs.now = ap length c.requires.named ∙ length-filter touched (range_with_len 0 (length c.args.plan.now.clusters)) in
-    let one : Bool = asks_row c.args.plan.now c.args.ranges.now c.args.values.now c.args.grabs.now c.args.pairs.now (get_or c.args.named.now c.loop-cluster.cluster-index 0) in
+    let touched : ℕ → Bool = λ j. is_touched c.args.pairs.now (members c.args.at.now.plan.now j) in
+    let many : length c.args.named.now ≡ touched_count c.args.at.now.plan.now c.args.pairs.now = ap length c.requires.named ∙ length-filter touched (range_with_len 0 (length c.args.at.now.plan.now.clusters)) in
+    let one : Bool = asks_row c.args.at.now.plan.now c.args.at.now.ranges.now c.args.at.now.values.now c.args.at.now.grabs.now c.args.pairs.now (get_or c.args.named.now c.loop-cluster.cluster-index 0) in
     let made : c.touched_row.new.work.asked ≡ with_call one c.loop-cluster.work.asked = ap (λ (w : Work). w.asked) c.touched_row.ensures.counted in
     omega (arith, c.loop-cluster.invariant.asked, made, one_call one c.loop-cluster.work.asked, c.loop-cluster-test.true, many)
 
 pub loop-cluster-preserved : goal.loop-cluster-preserved
 loop-cluster-preserved g c =
-    let l : Laying = laying g.D.Validates.verdict c.args.plan.now c.args.ranges.now c.args.values.now c.args.grabs.now c.args.pairs.now in
+    let l : Laying = laying g.D.Validates.verdict c.args.at.now.plan.now c.args.at.now.ranges.now c.args.at.now.values.now c.args.at.now.grabs.now c.args.pairs.now in
     let i : ℕ = c.loop-cluster.cluster-index in
     let ks : List ℕ = c.args.named.now in
     let k : ℕ = get_or ks i 0 in
     let old : Values = c.loop-cluster.after.items in
     let before : List ℕ = c.loop-cluster.refused.items in
-    let keep = keep_rows g.D.Validates.verdict c.args.plan.now c.args.ranges.now c.args.values.now c.args.grabs.now c.args.pairs.now in
+    let keep = keep_rows g.D.Validates.verdict c.args.at.now.plan.now c.args.at.now.ranges.now c.args.at.now.values.now c.args.at.now.grabs.now c.args.pairs.now in
     let laid : IsLaid l (k ∷ drop (i + 1) ks) old before = subst (λ (left : List ℕ). IsLaid l left old before) (drop_more ks i 0 c.loop-cluster-test.true) c.loop-cluster.invariant.laid in
-    let one : ℕ → Bool = asks_row c.args.plan.now c.args.ranges.now c.args.values.now c.args.grabs.now c.args.pairs.now in
+    let one : ℕ → Bool = asks_row c.args.at.now.plan.now c.args.at.now.ranges.now c.args.at.now.values.now c.args.at.now.grabs.now c.args.pairs.now in
     let made : c.touched_row.new.work.asked ≡ with_call (one k) c.loop-cluster.work.asked = ap (λ (w : Work). w.asked) c.touched_row.ensures.counted in
     let asked : c.touched_row.new.work.asked ≤ c.args.work.now.asked + (i + 1) = omega (arith, c.loop-cluster.invariant.asked, made, one_call (one k) c.loop-cluster.work.asked) in
     let counted : c.touched_row.new.work.asked ≡ with_calls (count_by one (take (i + 1) ks)) c.args.work.now.asked =
@@ -97,37 +97,37 @@ loop-cluster-preserved g c =
 
 pub returns-clause-values : goal.returns-clause-values
 returns-clause-values g c =
-    let l : Laying = laying g.D.Validates.verdict c.args.plan.now c.args.ranges.now c.args.values.now c.args.grabs.now c.args.pairs.now in
+    let l : Laying = laying g.D.Validates.verdict c.args.at.now.plan.now c.args.at.now.ranges.now c.args.at.now.values.now c.args.at.now.grabs.now c.args.pairs.now in
     let after : Values = c.loop-cluster.after.items in
     let refused : List ℕ = c.loop-cluster.refused.items in
     c.from_vec.ensures
-    ∙ (laid_end l after refused (keep_rows g.D.Validates.verdict c.args.plan.now c.args.ranges.now c.args.values.now c.args.grabs.now c.args.pairs.now)
+    ∙ (laid_end l after refused (keep_rows g.D.Validates.verdict c.args.at.now.plan.now c.args.at.now.ranges.now c.args.at.now.values.now c.args.at.now.grabs.now c.args.pairs.now)
     (subst (λ (left : List ℕ). IsLaid l left after refused) (drop_all c.loop-cluster.cluster-index c.args.named.now c.loop-cluster-test.false) c.loop-cluster.invariant.laid)).0
-    ∙ below_end g.D.Validates.verdict c.args.plan.now c.args.ranges.now c.args.values.now c.args.grabs.now c.args.pairs.now
+    ∙ below_end g.D.Validates.verdict c.args.at.now.plan.now c.args.at.now.ranges.now c.args.at.now.values.now c.args.at.now.grabs.now c.args.pairs.now
 
 pub returns-clause-refused : goal.returns-clause-refused
 unfolding refused_clusters
 returns-clause-refused g c =
-    let l : Laying = laying g.D.Validates.verdict c.args.plan.now c.args.ranges.now c.args.values.now c.args.grabs.now c.args.pairs.now in
+    let l : Laying = laying g.D.Validates.verdict c.args.at.now.plan.now c.args.at.now.ranges.now c.args.at.now.values.now c.args.at.now.grabs.now c.args.pairs.now in
     let after : Values = c.loop-cluster.after.items in
     let refused : List ℕ = c.loop-cluster.refused.items in
     c.from_vec-2.ensures
-    ∙ (laid_end l after refused (keep_rows g.D.Validates.verdict c.args.plan.now c.args.ranges.now c.args.values.now c.args.grabs.now c.args.pairs.now)
+    ∙ (laid_end l after refused (keep_rows g.D.Validates.verdict c.args.at.now.plan.now c.args.at.now.ranges.now c.args.at.now.values.now c.args.at.now.grabs.now c.args.pairs.now)
     (subst (λ (left : List ℕ). IsLaid l left after refused) (drop_all c.loop-cluster.cluster-index c.args.named.now c.loop-cluster-test.false) c.loop-cluster.invariant.laid)).1
 
 pub returns-clause-long : goal.returns-clause-long
 returns-clause-long g c =
     ap length c.from_vec.ensures
-    ∙ laid_long (laying g.D.Validates.verdict c.args.plan.now c.args.ranges.now c.args.values.now c.args.grabs.now c.args.pairs.now) (drop c.loop-cluster.cluster-index c.args.named.now) c.loop-cluster.after.items
+    ∙ laid_long (laying g.D.Validates.verdict c.args.at.now.plan.now c.args.at.now.ranges.now c.args.at.now.values.now c.args.at.now.grabs.now c.args.pairs.now) (drop c.loop-cluster.cluster-index c.args.named.now) c.loop-cluster.after.items
     c.loop-cluster.refused.items c.loop-cluster.invariant.laid
 
 pub returns-clause-asked : goal.returns-clause-asked
 returns-clause-asked g c =
-    let touched : ℕ → Bool = λ j. is_touched c.args.pairs.now (members c.args.plan.now j) in
-    let many : length c.args.named.now ≡ touched_count c.args.plan.now c.args.pairs.now = ap length c.requires.named ∙ length-filter touched (range_with_len 0 (length c.args.plan.now.clusters)) in
+    let touched : ℕ → Bool = λ j. is_touched c.args.pairs.now (members c.args.at.now.plan.now j) in
+    let many : length c.args.named.now ≡ touched_count c.args.at.now.plan.now c.args.pairs.now = ap length c.requires.named ∙ length-filter touched (range_with_len 0 (length c.args.at.now.plan.now.clusters)) in
     omega (arith, c.loop-cluster.invariant.asked, c.loop-cluster.auto.cluster-index-end, many)
 
 pub returns-clause-counted : goal.returns-clause-counted
 returns-clause-counted g c =
-    asked_all c.args.plan.now c.args.ranges.now c.args.values.now c.args.grabs.now c.args.pairs.now c.args.named.now c.loop-cluster.cluster-index c.args.work.now.asked c.loop-cluster.work.asked
+    asked_all c.args.at.now.plan.now c.args.at.now.ranges.now c.args.at.now.values.now c.args.at.now.grabs.now c.args.pairs.now c.args.named.now c.loop-cluster.cluster-index c.args.work.now.asked c.loop-cluster.work.asked
     c.requires.named c.loop-cluster-test.false c.loop-cluster.invariant.counted

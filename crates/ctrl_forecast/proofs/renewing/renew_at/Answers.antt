@@ -7,10 +7,10 @@ use Rattle.ctrl_forecast.specs.Frames.{AreKeptFrames, FrameData, Setting, base_a
 use Rattle.ctrl_forecast.proofs.RenewLemmas.{base_long, marked_room}
 use Rattle.ctrl_forecast.proofs.renewing.renew_at.Goals as goal
 
-pub lay_row-is_refused-requires-clause-values : goal.lay_row-is_refused-requires-clause-values
-lay_row-is_refused-requires-clause-values g c =
-    ap length (c.values_before-base.ensures ∙ ap (λ (fs : List FrameData). values_before c.args.values.now fs c.args.place) c.as_slice.ensures.value)
-    ∙ base_long c.args.plan.now c.args.values.now c.args.frames.now.items c.args.place c.requires.values c.requires.frames c.requires.place
+pub invariant_of-over-clause-valued : goal.invariant_of-over-clause-valued
+invariant_of-over-clause-valued g c =
+    ap length (c.values_before-base.ensures ∙ ap (λ (fs : List FrameData). values_before c.args.at.now.values.now fs c.args.place) c.as_slice.ensures.value)
+    ∙ base_long c.args.at.now.plan.now c.args.at.now.values.now c.args.frames.now.items c.args.place c.args.at.now.valued c.requires.frames c.requires.place
 
 pub set_row_result-requires-clause-values : goal.set_row_result-requires-clause-values
 unfolding AreKeptFrames
@@ -21,15 +21,15 @@ set_row_result-requires-clause-values g c =
 pub set_row_result-requires-clause-room : goal.set_row_result-requires-clause-room
 unfolding AreKeptFrames
 set_row_result-requires-clause-room g c =
-    let s : Setting = setting g.D.Validates.verdict c.args.plan.now c.args.ranges.now c.args.grabs.now c.args.values.now in
+    let s : Setting = setting g.D.Validates.verdict c.args.at.now.plan.now c.args.at.now.ranges.now c.args.at.now.values.now c.args.at.now.grabs.now in
     let fs : List FrameData = c.args.frames.now.items in
     let p : ℕ = c.args.place in
     let k : ℕ = c.args.cluster in
-    let fails : Values → List Pair → Bool = λ base pairs. is_err (row_after g.D.Validates.verdict c.args.plan.now c.args.ranges.now base c.args.grabs.now pairs k) in
+    let fails : Values → List Pair → Bool = λ base pairs. is_err (row_after g.D.Validates.verdict c.args.at.now.plan.now c.args.at.now.ranges.now base c.args.at.now.grabs.now pairs k) in
     let own : c.index_mut-frame.result.now ≡ frame_at fs p = get_or_read_under fs p (length fs) c.index_mut-frame.result.now no_frame c.index_mut-frame.ensures.value c.requires.place refl in
     let read : c.index.result.now ≡ frame_at fs p = get_or_read_under fs p (length fs) c.index.result.now no_frame c.index.ensures c.requires.place refl in
     let asks : c.asked-asked.result.now ≡ (frame_at fs p).asked = c.asked-asked.ensures ∙ ap (λ (f : FrameData). f.asked) read in
-    let based : c.values_before-base.result.now ≡ base_at s fs p = c.values_before-base.ensures ∙ ap (λ (l : List FrameData). values_before c.args.values.now l p) c.as_slice.ensures.value in
+    let based : c.values_before-base.result.now ≡ base_at s fs p = c.values_before-base.ensures ∙ ap (λ (l : List FrameData). values_before c.args.at.now.values.now l p) c.as_slice.ensures.value in
     let is : c.lay_row-is_refused.result ≡ fails (base_at s fs p) (frame_at fs p).asked =
     c.lay_row-is_refused.ensures.refused ∙ ap (λ (base : Values). fails base c.asked-asked.result.now) based ∙ ap (fails (base_at s fs p)) asks in
     omega (

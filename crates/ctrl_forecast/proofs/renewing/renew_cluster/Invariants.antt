@@ -9,9 +9,9 @@ use Rattle.ctrl_forecast.proofs.renewing.renew_cluster.Given as goal
 -- the cluster is renewed in the frames so far, and asked for as often as they do
 abbrev pub invariant-loop-place : goal.invariant-loop-place
 invariant-loop-place g l = record {
-  renewed : IsClusterRenewed (setting g.D.Validates.verdict l.plan l.ranges l.grabs l.values) l.cluster l.place l.initial.frames.items l.frames.items;
+  renewed : IsClusterRenewed (setting g.D.Validates.verdict l.at.plan.now l.at.ranges.now l.at.values.now l.at.grabs.now) l.cluster l.place l.initial.frames.items l.frames.items;
   many : length l.frames.items ≡ length l.initial.frames.items;
-  counted : l.work.asked ≡ with_calls (count_by (asks_at g.D.Validates.verdict l.plan l.ranges l.grabs l.values (map queued_of l.initial.frames.items) l.cluster) (range_with_len l.from (l.place - l.from))) l.initial.work.asked;
+  counted : l.work.asked ≡ with_calls (count_by (asks_at g.D.Validates.verdict l.at.plan.now l.at.ranges.now l.at.values.now l.at.grabs.now (map queued_of l.initial.frames.items) l.cluster) (range_with_len l.from (l.place - l.from))) l.initial.work.asked;
   told : l.work.told ≡ l.initial.work.told;
-  row : length l.row ≡ length (members l.plan l.cluster);
+  row : length l.row ≡ length (members l.at.plan.now l.cluster);
 }

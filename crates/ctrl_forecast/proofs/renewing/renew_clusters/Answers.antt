@@ -11,7 +11,7 @@ use Rattle.ctrl_forecast.proofs.renewing.renew_clusters.Goals as goal
 
 pub loop-cluster-preserved : goal.loop-cluster-preserved
 loop-cluster-preserved g c =
-    let s : Setting = setting g.D.Validates.verdict c.args.plan.now c.args.ranges.now c.args.grabs.now c.args.values.now in
+    let s : Setting = setting g.D.Validates.verdict c.args.at.now.plan.now c.args.at.now.ranges.now c.args.at.now.values.now c.args.at.now.grabs.now in
     let fs : List FrameData = c.loop-cluster.frames.items in
     let gs : List FrameData = c.renew_cluster.new.frames.items in
     let i : ℕ = c.loop-cluster.cluster-index in
@@ -19,22 +19,22 @@ loop-cluster-preserved g c =
     record {
       ready = ready_next s c.args.from (get_or ks i 0) (drop (i + 1) ks) fs gs (subst (λ (l : List ℕ). AreReady s c.args.from l fs) (drop_more ks i 0 c.loop-cluster-test.true) c.loop-cluster.invariant.ready) c.renew_cluster.ensures.renewed;
       queued = c.renew_cluster.ensures.renewed.queued ∙ c.loop-cluster.invariant.queued;
-      counted = cluster_count (asked_from g.D.Validates.verdict c.args.plan.now c.args.ranges.now c.args.grabs.now c.args.values.now (map queued_of c.args.frames.now.items) c.args.from) ks i
+      counted = cluster_count (asked_from g.D.Validates.verdict c.args.at.now.plan.now c.args.at.now.ranges.now c.args.at.now.values.now c.args.at.now.grabs.now (map queued_of c.args.frames.now.items) c.args.from) ks i
           c.args.work.now.asked c.loop-cluster.work.asked c.renew_cluster.new.work.asked c.loop-cluster-test.true c.loop-cluster.invariant.counted
           (c.renew_cluster.ensures.counted
-          ∙ ap (λ (qs : List QueuedData). with_calls (asked_from g.D.Validates.verdict c.args.plan.now c.args.ranges.now c.args.grabs.now c.args.values.now qs c.args.from (get_or ks i 0)) c.loop-cluster.work.asked) c.loop-cluster.invariant.queued);
+          ∙ ap (λ (qs : List QueuedData). with_calls (asked_from g.D.Validates.verdict c.args.at.now.plan.now c.args.at.now.ranges.now c.args.at.now.values.now c.args.at.now.grabs.now qs c.args.from (get_or ks i 0)) c.loop-cluster.work.asked) c.loop-cluster.invariant.queued);
       told = c.renew_cluster.ensures.told ∙ c.loop-cluster.invariant.told;
     }
 
 pub returns-clause-frames : goal.returns-clause-frames
 returns-clause-frames g c =
-    let s : Setting = setting g.D.Validates.verdict c.args.plan.now c.args.ranges.now c.args.grabs.now c.args.values.now in
+    let s : Setting = setting g.D.Validates.verdict c.args.at.now.plan.now c.args.at.now.ranges.now c.args.at.now.values.now c.args.at.now.grabs.now in
     let fs : List FrameData = c.loop-cluster.frames.items in
-    ready_kept g.D.Validates.verdict c.args.plan.now c.args.ranges.now c.args.grabs.now c.args.values.now c.args.from fs c.controls-plan.ensures.finished c.requires.values
+    ready_kept g.D.Validates.verdict c.args.at.now.plan.now c.args.at.now.ranges.now c.args.at.now.grabs.now c.args.at.now.values.now c.args.from fs c.args.at.now.planned c.args.at.now.valued
     (subst (λ (l : List ℕ). AreReady s c.args.from l fs) (drop_all c.loop-cluster.cluster-index c.args.clusters.now c.loop-cluster-test.false) c.loop-cluster.invariant.ready)
-    ∙ ap (board_of g.D.Validates.verdict c.args.plan.now c.args.ranges.now c.args.grabs.now c.args.values.now) c.loop-cluster.invariant.queued
+    ∙ ap (board_of g.D.Validates.verdict c.args.at.now.plan.now c.args.at.now.ranges.now c.args.at.now.values.now c.args.at.now.grabs.now) c.loop-cluster.invariant.queued
 
 pub returns-clause-counted : goal.returns-clause-counted
 returns-clause-counted g c =
-    clusters_count g.D.Validates.verdict c.args.plan.now c.args.ranges.now c.args.grabs.now c.args.values.now (map queued_of c.args.frames.now.items) c.args.from c.args.clusters.now
+    clusters_count g.D.Validates.verdict c.args.at.now.plan.now c.args.at.now.ranges.now c.args.at.now.grabs.now c.args.at.now.values.now (map queued_of c.args.frames.now.items) c.args.from c.args.clusters.now
     c.loop-cluster.cluster-index c.args.work.now.asked c.loop-cluster.work.asked c.loop-cluster-test.false c.loop-cluster.invariant.counted

@@ -5,4 +5,4 @@ use Rattle.ctrl_lists.proofs.checks.first_unwritable.Given as goal
 -- the first stands among those that are left
 abbrev pub invariant-loop-place : goal.invariant-loop-place
 invariant-loop-place g l =
-    first_from (writing_refusal l.plan l.view l.is_set) l.place (drop l.place l.pairs) ≡ at_first (writing_refusal l.plan l.view l.is_set) l.pairs
+    first_from (writing_refusal l.view.plan l.view.parts l.is_set) l.place (drop l.place l.pairs) ≡ at_first (writing_refusal l.view.plan l.view.parts l.is_set) l.pairs

@@ -5,6 +5,6 @@ use Rattle.ctrl_lists.proofs.lists.entries_read.Given as goal
 -- the entries so far
 abbrev pub invariant-loop-pair : goal.invariant-loop-pair
 invariant-loop-pair g l = record {
-  so_far : l.answers.items ≡ map (entry_read l.plan l.view) (take l.pair-index l.pairs);
+  so_far : l.answers.items ≡ map (entry_read l.view.plan l.view.parts) (take l.pair-index l.pairs);
   room : length l.pairs ≤ vec_capacity l.answers;
 }

@@ -9,16 +9,16 @@ use Rattle.ctrl_lists.proofs.naming.pairs_of.Goals as goal
 pub loop-place-preserved : goal.loop-place-preserved
 loop-place-preserved g c =
     let old = c.loop-place.invariant in
-    let P : Pair → Type 0 = λ p. p.control < length c.args.plan.now.controls in
+    let P : Pair → Type 0 = λ p. p.control < length c.args.view.now.plan.controls in
     let d = c.index-list-place.result in
-    let at_d = pair_of c.args.plan.now c.args.view.now.handler c.args.view.now.which in
+    let at_d = pair_of c.args.view.now.plan c.args.view.now.parts.handler c.args.view.now.parts.which in
     let gives = sym (ap at_d c.index-list-place.is) ∙ gave c.pair_of.result _ c.in-Some.pair c.pair_of.ensures.pair c.in-Some.is in
     record {
-      so_far = gives_pushed (pair_of c.args.plan.now c.args.view.now.handler c.args.view.now.which) c.args.list.now c.loop-place.place d c.in-Some.pair c.loop-place.pairs.items c.push_reserved.new.self.items
+      so_far = gives_pushed (pair_of c.args.view.now.plan c.args.view.now.parts.handler c.args.view.now.parts.which) c.args.list.now c.loop-place.place d c.in-Some.pair c.loop-place.pairs.items c.push_reserved.new.self.items
           c.loop-place-test.true old.so_far c.push_reserved.ensures.items gives;
       each = pushed_length c.loop-place.pairs.items c.push_reserved.new.self.items c.in-Some.pair c.loop-place.place c.push_reserved.ensures.items old.each;
-      none = passes (naming_refusal c.args.plan.now c.args.view.now) (at_first (naming_refusal c.args.plan.now c.args.view.now) c.args.list.now) c.args.list.now c.loop-place.place d c.loop-place-test.true
-          (names_one c.args.plan.now c.args.view.now _ c.in-Some.pair gives) old.none;
+      none = passes (naming_refusal c.args.view.now.plan c.args.view.now.parts) (at_first (naming_refusal c.args.view.now.plan c.args.view.now.parts) c.args.list.now) c.args.list.now c.loop-place.place d c.loop-place-test.true
+          (names_one c.args.view.now.plan c.args.view.now.parts _ c.in-Some.pair gives) old.none;
       known = all_pushed P c.loop-place.pairs.items c.push_reserved.new.self.items c.in-Some.pair c.push_reserved.ensures.items old.known c.in-Some.ensures.known;
       room = rw c.push_reserved.ensures.capacity old.room;
     }

@@ -7,9 +7,9 @@ use Rattle.ctrl_lists.proofs.naming.pairs_of.Given as goal
 -- the pairs so far, of entries that each name a control
 abbrev pub invariant-loop-place : goal.invariant-loop-place
 invariant-loop-place g l = record {
-  so_far : l.pairs.items ≡ pairs_of l.plan l.view.handler l.view.which (take l.place l.list);
+  so_far : l.pairs.items ≡ pairs_of l.view.plan l.view.parts.handler l.view.parts.which (take l.place l.list);
   each : length l.pairs.items ≡ l.place;
-  none : first_from (naming_refusal l.plan l.view) l.place (drop l.place l.list) ≡ at_first (naming_refusal l.plan l.view) l.list;
-  known : All (λ p. p.control < length l.plan.controls) l.pairs.items;
+  none : first_from (naming_refusal l.view.plan l.view.parts) l.place (drop l.place l.list) ≡ at_first (naming_refusal l.view.plan l.view.parts) l.list;
+  known : All (λ p. p.control < length l.view.plan.controls) l.pairs.items;
   room : length l.list ≤ vec_capacity l.pairs;
 }

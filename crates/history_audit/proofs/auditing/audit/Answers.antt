@@ -1,4 +1,4 @@
-use Rattle.std.proofs.Common.{◌≡◌, ℕ, length, ap, sym, subst, ◌∙◌, arith}
+use Rattle.std.proofs.Common.{ℕ, length, ap, sym, subst, ◌∙◌, arith}
 use Rattle.history_audit.specs.Fault.{StopsAt}
 use Rattle.history_audit.specs.Replay.{ReplayData}
 use Rattle.history_audit.proofs.MadeLemmas.{taken_many}

@@ -1,5 +1,5 @@
 use Rattle.std.proofs.Common.{◌≡◌}
-use Rattle.history_audit.proofs.AuditLemmas.{at}
+use Rattle.history_audit.proofs.MadeLemmas.{at}
 use Rattle.history_audit.proofs.auditing.audit.Given as goal
 
 -- the steps so far were replayed

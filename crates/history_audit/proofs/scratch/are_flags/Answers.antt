@@ -10,7 +10,7 @@ clash h = cc
 pub returns-then-flags-count : goal.returns-then-flags-count
 returns-then-flags-count g c = (
   λ h. cc,
-  λ is. absurd (omega (arith, compared_many c.args.flags.now (flags_under c.args.plan.now c.args.values.now c.args.grabs.now) (length c.args.plan.now.controls) is, c.control_count-count.ensures.count, c.if-flags-count.true)),
+  λ is. absurd (omega (arith, compared_many c.args.flags.now (flags_under c.args.at.now.plan.now c.args.at.now.values.now c.args.at.now.grabs.now) (length c.args.at.now.plan.now.controls) is, c.control_count-count.ensures.count, c.if-flags-count.true)),
 )
 
 -- one is another
@@ -22,7 +22,7 @@ returns-then-not-are_equal g c = (
       (clash
       (sym
       (c.are_equal.ensures.1
-      (compared_each c.args.flags.now (flags_under c.args.plan.now c.args.values.now c.args.grabs.now) (length c.args.plan.now.controls) c.loop-control.control _ is
+      (compared_each c.args.flags.now (flags_under c.args.at.now.plan.now c.args.at.now.values.now c.args.at.now.grabs.now) (length c.args.at.now.plan.now.controls) c.loop-control.control _ is
       (omega (arith, c.loop-control-test.true, c.control_count-count.ensures.count))
       ∙ sym c.flags_under.ensures))
       ∙ c.if-not-are_equal.true)),
@@ -31,5 +31,5 @@ returns-then-not-are_equal g c = (
 -- one more is the same
 pub loop-control-preserved : goal.loop-control-preserved
 loop-control-preserved g c =
-    compared_next c.args.flags.now (flags_under c.args.plan.now c.args.values.now c.args.grabs.now) c.loop-control.control _ (omega (arith, c.loop-control-test.true, c.if-flags-count.false))
+    compared_next c.args.flags.now (flags_under c.args.at.now.plan.now c.args.at.now.values.now c.args.at.now.grabs.now) c.loop-control.control _ (omega (arith, c.loop-control-test.true, c.if-flags-count.false))
     (c.are_equal.ensures.0 c.if-not-are_equal.false ∙ c.flags_under.ensures) c.loop-control.invariant

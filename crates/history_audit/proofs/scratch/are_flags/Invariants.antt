@@ -5,4 +5,4 @@ use Rattle.history_audit.proofs.scratch.are_flags.Given as goal
 
 -- the flags so far
 abbrev pub invariant-loop-control : goal.invariant-loop-control
-invariant-loop-control g l = take l.control l.flags ≡ map (flags_under l.plan l.values l.grabs) (range_with_len 0 l.control)
+invariant-loop-control g l = take l.control l.flags ≡ map (flags_under l.at.plan.now l.at.values.now l.at.grabs.now) (range_with_len 0 l.control)

@@ -1,13 +1,9 @@
 // What clusters of one array make of values: bytes, bytes of another length, and a number.
-ghost use Rattle.std.specs.Prelude.{◌≡◌, length};
-ghost use Rattle.ctrl_clusters.specs.Rows.{AreControlsOf};
-
 use super::planning::{Made, Named, plan_of};
 use super::rows::is_work;
 use crate::cluster::driver::Strict;
 use ctrl_calls::{ClusterRow, Work};
-use ctrl_clusters::{Ranges, default_values, validated_row};
-use ctrl_handlers::Plan;
+use ctrl_clusters::{Controls, Moment, validated_row};
 use ctrl_types::{ByteRow, CtrlValue, Errno, Pair};
 use std::alloc::Global;
 use std::test::Fail;
@@ -49,17 +45,12 @@ fn bytes(row: &[u8]) -> Option<CtrlValue> {
 
 // What the only member of a cluster becomes, where a value is asked of it, and how many validators are asked.
 fn becomes(
-    plan: &Plan<Strict>,
-    ranges: &Ranges,
-    values: &[CtrlValue],
+    at: &Moment<Strict>,
     cluster: u32,
     value: CtrlValue,
     asked: u64,
-) -> Result<Option<CtrlValue>, Errno>
-    requires ranges { AreControlsOf plan.now ranges.now }
-    requires values { length values.now ≡ length plan.now.controls }
-{
-    if cluster >= plan.cluster_count() {
+) -> Result<Option<CtrlValue>, Errno> {
+    if cluster >= at.plan.cluster_count() {
         return Ok(None);
     }
     let pairs = [Pair {
@@ -67,16 +58,8 @@ fn becomes(
         value,
     }];
     let mut work = Work::new();
-    let mut row = ClusterRow::zeros(plan.members(cluster).len());
-    validated_row(
-        plan,
-        ranges,
-        cluster,
-        values,
-        pairs.as_slice(),
-        &mut row,
-        &mut work,
-    )?;
+    let mut row = ClusterRow::zeros(at.plan.members(cluster).len());
+    validated_row(at, cluster, pairs.as_slice(), &mut row, &mut work)?;
     Ok(if is_work(&work, asked, 0) {
         row.values().first().copied()
     } else {
@@ -96,23 +79,16 @@ fn is_answered(answer: Result<Option<CtrlValue>, Errno>, want: Result<&[u8], Err
 fn clusters_of_an_array(rt: HostRuntime) -> Result<(), Fail> {
     let alloc = rt.alloc();
     let plan = plan_of(alloc, &[Made::Array; 7], NAMED, &mut Vec::new(alloc))?;
-    let ranges = Ranges::of_plan(alloc, &plan)?;
-    let values = default_values(alloc, plan.controls())?;
+    let controls = Controls::of_plan(alloc, &plan)?;
+    let at = controls.at(&plan);
     for &(cluster, asked, want, count) in CASES {
         let Some(value) = bytes(asked) else {
             return Err(Fail::new("at most 32 bytes"));
         };
-        let answer = becomes(&plan, &ranges, values.as_slice(), cluster, value, count);
+        let answer = becomes(&at, cluster, value, count);
         assert!(rt; is_answered(answer, want), "cluster {cluster} {asked:?}");
     }
-    let number = becomes(
-        &plan,
-        &ranges,
-        values.as_slice(),
-        0,
-        CtrlValue::Number(5),
-        0,
-    );
+    let number = becomes(&at, 0, CtrlValue::Number(5), 0);
     assert!(rt; number == Err(Errno::EINVAL));
     Ok(())
 }

@@ -1,10 +1,13 @@
 // Rows that are written, and notifiers that hear of them.
+ghost use Rattle.ctrl_clusters.specs.Rows.{AreControlsOf};
+
 use super::planning::{BYTE, Made, Named, plan_of};
 use super::rows::{Two, are_rows, is_work, kept_rows, rows_of};
+use crate::cluster::common::controls_of;
 use crate::cluster::driver::Strict;
 use crate::values::{are_numbers, pairs_of, values_of};
 use ctrl_calls::Work;
-use ctrl_clusters::{first_words, notify_changed, write_row, write_rows};
+use ctrl_clusters::{Controls, Moment, first_words, notify_changed, write_row, write_rows};
 use ctrl_handlers::Plan;
 use ctrl_types::{CtrlValue, Pair};
 use std::alloc::{AllocError, Global};
@@ -66,15 +69,39 @@ fn is_written_singly(
     are_numbers(values.as_slice(), want)
 }
 
+// The same into the controls of the plan.
+fn is_written_into(plan: &Plan<Strict>, controls: &mut Controls, two: Two, want: &[i64]) -> bool
+    requires { AreControlsOf plan.now controls.old.ranges }
+{
+    let Some(rows) = rows_of(two) else {
+        return false;
+    };
+    if !are_rows(plan, &rows) {
+        return false;
+    }
+    controls.write_rows(plan, &rows);
+    are_numbers(controls.values(), want)
+}
+
+// Whether the values are these, whichever way the rows are written.
+fn are_written(alloc: Global, plan: &Plan<Strict>, two: Two, want: &[i64]) -> Result<bool, Fail> {
+    let mut values = values_of(alloc, VALUES)?;
+    let mut singly = values_of(alloc, VALUES)?;
+    let mut controls = controls_of(alloc, plan, VALUES)?;
+    Ok(
+        is_written(plan, &mut values, two, want)
+            && is_written_singly(plan, &mut singly, two, want)
+            && is_written_into(plan, &mut controls, two, want),
+    )
+}
+
 #[test]
 fn rows_are_written(rt: HostRuntime) -> Result<(), Fail> {
     let alloc = rt.alloc();
     let plan = plan_of(alloc, NOTIFIED, HEARD, &mut Vec::new(alloc))?;
     for &(two, want) in WRITTEN {
-        let mut values = values_of(alloc, VALUES)?;
-        assert!(rt; is_written(&plan, &mut values, two, want), "{two:?}");
-        let mut singly = values_of(alloc, VALUES)?;
-        assert!(rt; is_written_singly(&plan, &mut singly, two, want), "{two:?}");
+        let are_written = are_written(alloc, &plan, two, want)?;
+        assert!(rt; are_written, "{two:?}");
     }
     Ok(())
 }
@@ -136,23 +163,22 @@ const CHANGES: &[Change] = &[
 
 fn are_told(
     alloc: Global,
-    plan: &Plan<Strict>,
+    before: &Moment<Strict>,
     pairs: &[Pair],
     words: &mut Vec<u64>,
     change: &Change,
 ) -> Result<bool, AllocError> {
-    let Some(rows) = kept_rows(alloc, plan.cluster_count(), change.rows)? else {
+    let Some(rows) = kept_rows(alloc, before.plan.cluster_count(), change.rows)? else {
         return Ok(false);
     };
-    let values = values_of(alloc, VALUES)?;
-    if plan.controls().len() != values.len() || plan.cluster_count() as usize != words.len() {
+    if before.plan.cluster_count() as usize != words.len() {
         return Ok(false);
     }
     let mut work = Work::new();
-    if !are_rows(plan, rows.as_slice()) {
+    if !are_rows(before.plan, rows.as_slice()) {
         return Ok(false);
     }
-    notify_changed(plan, values.as_slice(), pairs, &rows, words, &mut work);
+    notify_changed(before, pairs, &rows, words, &mut work);
     Ok(words.as_slice() == change.words.as_slice() && is_work(&work, 0, change.told))
 }
 
@@ -169,10 +195,17 @@ fn are_counts(heard: &[Arc<AtomicU64>], counts: &[u64]) -> bool {
 fn notifies(rt: &impl Abort, alloc: Global, change: &Change) -> Result<(), Fail> {
     let mut heard = Vec::new(alloc);
     let plan = plan_of(alloc, NOTIFIED, HEARD, &mut heard)?;
+    let controls = controls_of(alloc, &plan, VALUES)?;
     let pairs = pairs_of(alloc, change.pairs)?;
     let mut words = Vec::new(alloc);
     words.extend_from_slice(&WORDS)?;
-    let is_told = are_told(alloc, &plan, pairs.as_slice(), &mut words, change)?;
+    let is_told = are_told(
+        alloc,
+        &controls.at(&plan),
+        pairs.as_slice(),
+        &mut words,
+        change,
+    )?;
     assert!(rt;
         is_told && are_counts(heard.as_slice(), &change.counts),
         "{:?}",
@@ -195,12 +228,9 @@ fn first_words_of_notifiers(rt: HostRuntime) -> Result<(), Fail> {
     let alloc = rt.alloc();
     let mut heard = Vec::new(alloc);
     let plan = plan_of(alloc, NOTIFIED, HEARD, &mut heard)?;
-    let values = values_of(alloc, VALUES)?;
-    if plan.controls().len() != values.len() {
-        return Err(Fail::new("five controls"));
-    }
+    let controls = controls_of(alloc, &plan, VALUES)?;
     let mut work = Work::new();
-    let words = first_words(alloc, &plan, values.as_slice(), &mut work)?;
+    let words = first_words(alloc, &controls.at(&plan), &mut work)?;
     let are_words = words.as_slice() == [11_010, 1_000, 2_013, 0].as_slice();
     assert!(rt; are_words && are_counts(heard.as_slice(), &[1, 1, 1]) && work.told == 3);
     Ok(())

@@ -1,9 +1,10 @@
 // What clusters make of rows, and which members are inactive.
-use super::looks::{Look, holds, shows};
+use super::looks::{Look, holds, holds_at};
 use super::planning::{BYTE, Made, Named, plan_of};
 use crate::cluster::common::are_of;
-use ctrl_clusters::Ranges;
-use ctrl_types::{CtrlValue, Errno};
+use crate::values::values_of;
+use ctrl_clusters::{Moment, Ranges};
+use ctrl_types::Errno;
 use std::alloc::Global;
 use std::process::Abort;
 use std::test::Fail;
@@ -289,12 +290,14 @@ fn holds_under(rt: &impl Abort, alloc: Global, made: &[Made], looks: &[Look]) ->
         return Err(Fail::new("two controls"));
     }
     let ranges = Ranges::of_plan(alloc, &other)?;
-    let values = &[CtrlValue::Number(5), CtrlValue::Number(11)];
-    for (row, &look) in looks.iter().enumerate() {
-        let is_shown = shows(alloc, &plan, &ranges, values, look)?;
-        assert!(rt; is_shown, "look {row}");
-    }
-    Ok(())
+    let values = values_of(alloc, &[5, 11])?;
+    let at = Moment {
+        plan: &plan,
+        ranges: &ranges,
+        values: values.as_slice(),
+        grabs: &FREE[..2],
+    };
+    holds_at(rt, alloc, &at, looks)
 }
 
 #[test]

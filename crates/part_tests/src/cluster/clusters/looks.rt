@@ -1,16 +1,13 @@
 // What a plan is asked at values, as data.
-ghost use Rattle.std.specs.Prelude.{◌≡◌, length};
-ghost use Rattle.ctrl_clusters.specs.Rows.{AreControlsOf};
-
 use super::planning::{Made, Named, plan_of};
 use super::rows::{is_row, is_work};
+use crate::cluster::common::controls_of;
 use crate::cluster::driver::Strict;
-use crate::values::{are_numbers, pairs_of, row_of, values_of};
+use crate::values::{are_numbers, pairs_of, row_of};
 use bitflags::Flags as FlagSet;
 use ctrl_calls::{ClusterRow, Work};
-use ctrl_clusters::{Ranges, flags_under, inactive, judge, present_row, read_row, validated_row};
+use ctrl_clusters::{Moment, flags_under, inactive, judge, present_row, read_row, validated_row};
 use ctrl_forecast::overlay;
-use ctrl_handlers::Plan;
 use ctrl_types::{CtrlValue, Errno, Pair};
 use std::alloc::{AllocError, Global};
 use std::process::Abort;
@@ -45,44 +42,30 @@ fn is_answer(answer: Result<(), Errno>, row: &ClusterRow, want: Answer) -> bool 
 }
 
 fn is_becoming(
-    plan: &Plan<Strict>,
-    ranges: &Ranges,
-    values: &[CtrlValue],
+    at: &Moment<Strict>,
     cluster: u32,
     pairs: &[Pair],
     want: Answer,
     asked: u64,
-) -> bool
-    requires ranges { AreControlsOf plan.now ranges.now }
-    requires values { length values.now ≡ length plan.now.controls }
-{
-    if cluster >= plan.cluster_count() {
+) -> bool {
+    if cluster >= at.plan.cluster_count() {
         return false;
     }
     let mut work = Work::new();
-    let mut row = ClusterRow::zeros(plan.members(cluster).len());
-    let answer = validated_row(plan, ranges, cluster, values, pairs, &mut row, &mut work);
+    let mut row = ClusterRow::zeros(at.plan.members(cluster).len());
+    let answer = validated_row(at, cluster, pairs, &mut row, &mut work);
     is_answer(answer, &row, want) && is_work(&work, asked, 0)
 }
 
-fn is_judged(
-    plan: &Plan<Strict>,
-    ranges: &Ranges,
-    cluster: u32,
-    numbers: &[i64],
-    want: Answer,
-    asked: u64,
-) -> bool
-    requires ranges { AreControlsOf plan.now ranges.now }
-{
+fn is_judged(at: &Moment<Strict>, cluster: u32, numbers: &[i64], want: Answer, asked: u64) -> bool {
     let Some(mut row) = row_of(numbers) else {
         return false;
     };
-    if cluster >= plan.cluster_count() || row.len() != plan.members(cluster).len() {
+    if cluster >= at.plan.cluster_count() || row.len() != at.plan.members(cluster).len() {
         return false;
     }
     let mut work = Work::new();
-    let answer = judge(plan, ranges, cluster, &mut row, &mut work);
+    let answer = judge(at, cluster, &mut row, &mut work);
     // a row that is refused stays
     is_answer(answer, &row, want)
         && (want.is_ok() || is_row(&row, numbers))
@@ -99,68 +82,72 @@ fn has_row(values: &[CtrlValue], members: &[u32], want: &[i64]) -> bool {
     is_row(&read, want) && is_row(&present_row(values, members), want)
 }
 
-fn has_flags(
-    plan: &Plan<Strict>,
-    values: &[CtrlValue],
-    grabs: &[bool],
-    control: u32,
-    want: u32,
-) -> bool
-    requires values { length values.now ≡ length plan.now.controls }
-{
-    let count = plan.control_count();
-    control < count
-        && grabs.len() == count as usize
-        && flags_under(plan, values, grabs, control).bits() == want
+// The same moment under other grabs; none where they aren't as many as the controls.
+fn under<'a>(at: &Moment<'a, Strict>, grabs: &'a [bool]) -> Option<Moment<'a, Strict>> {
+    if grabs.len() != at.plan.controls().len() {
+        return None;
+    }
+    Some(Moment {
+        plan: at.plan,
+        ranges: at.ranges,
+        values: at.values,
+        grabs,
+    })
+}
+
+fn has_flags(at: &Moment<Strict>, control: u32, want: u32) -> bool {
+    control < at.plan.control_count() && flags_under(at, control).bits() == want
 }
 
 fn lays(
     alloc: Global,
-    plan: &Plan<Strict>,
-    ranges: &Ranges,
-    values: &[CtrlValue],
-    grabs: &[bool],
+    at: &Moment<Strict>,
     pairs: &[Pair],
     want: (&[i64], &[u32], u64),
-) -> Result<bool, AllocError>
-    requires ranges { AreControlsOf plan.now ranges.now }
-    requires values { length values.now ≡ length plan.now.controls }
-{
+) -> Result<bool, AllocError> {
     let mut work = Work::new();
-    let laid = overlay(alloc, plan, ranges, values, grabs, pairs, &mut work)?;
+    let laid = overlay(alloc, at, pairs, &mut work)?;
     let is_laid = are_numbers(laid.values.as_slice(), want.0) && laid.refused.as_slice() == want.1;
     Ok(is_laid && is_work(&work, want.2, 0))
 }
 
-pub fn shows(
-    alloc: Global,
-    plan: &Plan<Strict>,
-    ranges: &Ranges,
-    values: &[CtrlValue],
-    look: Look,
-) -> Result<bool, Fail>
-    requires ranges { AreControlsOf plan.now ranges.now }
-    requires values { length values.now ≡ length plan.now.controls }
-{
+fn shows(alloc: Global, at: &Moment<Strict>, look: Look) -> Result<bool, Fail> {
     Ok(match look {
         Look::Becomes(cluster, asked, want, count) => {
             let pairs = pairs_of(alloc, asked)?;
-            is_becoming(plan, ranges, values, cluster, pairs.as_slice(), want, count)
+            is_becoming(at, cluster, pairs.as_slice(), want, count)
         }
-        Look::Judges(cluster, row, want, asked) => {
-            is_judged(plan, ranges, cluster, row, want, asked)
-        }
-        Look::Row(members, want) => has_row(values, members, want),
+        Look::Judges(cluster, row, want, asked) => is_judged(at, cluster, row, want, asked),
+        Look::Row(members, want) => has_row(at.values, members, want),
         Look::Inactive(control, want) => {
-            control < plan.control_count() && inactive(plan, values, control) == want
+            control < at.plan.control_count() && inactive(at.plan, at.values, control) == want
         }
-        Look::Flags(control, grabs, want) => has_flags(plan, values, grabs, control, want),
+        Look::Flags(control, grabs, want) => match under(at, grabs) {
+            Some(held) => has_flags(&held, control, want),
+            None => false,
+        },
         Look::Lays(grabs, asked, want, refused, count) => {
             let pairs = pairs_of(alloc, asked)?;
-            let want = (want, refused, count);
-            lays(alloc, plan, ranges, values, grabs, pairs.as_slice(), want)?
+            match under(at, grabs) {
+                Some(held) => lays(alloc, &held, pairs.as_slice(), (want, refused, count))?,
+                None => false,
+            }
         }
     })
+}
+
+/// All this is seen at a moment.
+pub fn holds_at(
+    rt: &impl Abort,
+    alloc: Global,
+    at: &Moment<Strict>,
+    looks: &[Look],
+) -> Result<(), Fail> {
+    for (row, &look) in looks.iter().enumerate() {
+        let is_shown = shows(alloc, at, look)?;
+        assert!(rt; is_shown, "look {row}");
+    }
+    Ok(())
 }
 
 /// A plan of these controls and clusters shows this at these values.
@@ -173,14 +160,6 @@ pub fn holds(
     looks: &[Look],
 ) -> Result<(), Fail> {
     let plan = plan_of(alloc, made, named, &mut Vec::new(alloc))?;
-    let values = values_of(alloc, numbers)?;
-    if values.len() != plan.controls().len() {
-        return Err(Fail::new("a value for each control"));
-    }
-    let ranges = Ranges::of_plan(alloc, &plan)?;
-    for (row, &look) in looks.iter().enumerate() {
-        let is_shown = shows(alloc, &plan, &ranges, values.as_slice(), look)?;
-        assert!(rt; is_shown, "look {row}");
-    }
-    Ok(())
+    let controls = controls_of(alloc, &plan, numbers)?;
+    holds_at(rt, alloc, &controls.at(&plan), looks)
 }

@@ -1,7 +1,8 @@
 // What lists are answered.
-use super::listing::{CAMERA, Call, Case, Entry, FIRST, holds, plan_of, shows};
+use super::listing::{CAMERA, Call, Case, Entry, FIRST, GRABS, VALUES, holds, plan_of, shows};
 use crate::cluster::common::are_of;
-use ctrl_clusters::Ranges;
+use crate::values::values_of;
+use ctrl_clusters::{Moment, Ranges};
 use ctrl_types::{Errno, Which};
 use std::test::Fail;
 
@@ -278,12 +279,19 @@ fn other_defaults(rt: HostRuntime) -> Result<(), Fail> {
     let alloc = rt.alloc();
     let plan = plan_of(alloc, &[(FIRST, 7, 0), (FIRST + 1, 7, 0)])?;
     let other = plan_of(alloc, &[(FIRST, 40, 0), (FIRST + 1, 41, 0)])?;
-    if !are_of(&plan, other.controls()) {
+    if plan.controls().len() != 2 || !are_of(&plan, other.controls()) {
         return Err(Fail::new("two controls"));
     }
     let ranges = Ranges::of_plan(alloc, &other)?;
+    let values = values_of(alloc, &VALUES[..2])?;
+    let at = Moment {
+        plan: &plan,
+        ranges: &ranges,
+        values: values.as_slice(),
+        grabs: &GRABS[..2],
+    };
     for (row, &case) in DEFAULTS.iter().enumerate() {
-        let is_shown = shows(alloc, &plan, &ranges, case)?;
+        let is_shown = shows(alloc, &at, case)?;
         assert!(rt; is_shown, "case {row}");
     }
     Ok(())

@@ -1,12 +1,11 @@
 // A plan of six controls, and the calls that it is asked, as data.
-ghost use Rattle.std.specs.Prelude.{◌≡◌, length};
-ghost use Rattle.ctrl_clusters.specs.Rows.{AreControlsOf};
+ghost use Rattle.std.specs.Prelude.{◌≡◌};
 
 use crate::cluster::driver::{Judge, Strict, relation};
 use crate::values::{pairs_of, values_of};
 use bitflags::Flags as FlagSet;
 use ctrl_calls::{Calls, Validator, Work};
-use ctrl_clusters::Ranges;
+use ctrl_clusters::{Moment, Ranges};
 use ctrl_handlers::{Plan, PlanBuilder};
 use ctrl_lists::{ControlList, View, plan_set, read_list, try_list};
 use ctrl_settle::Ctrl;
@@ -85,8 +84,8 @@ pub const SIX: &[Made] = &[
 
 pub const VALUES: [i64; 6] = [10, 11, 12, 13, 14, 15];
 
-// control 0 is grabbed
-const GRABS: [bool; 6] = [true, false, false, false, false, false];
+/// Control 0 is grabbed.
+pub const GRABS: [bool; 6] = [true, false, false, false, false, false];
 
 /// An id and a value.
 pub type Entry = (u32, i64);
@@ -125,25 +124,21 @@ pub fn list_of(alloc: Global, entries: &[Entry]) -> Result<ControlList, Fail> {
 // What the call is answered, where the view speaks of this; the defaults can only be read.
 fn answer(
     alloc: Global,
-    plan: &Plan<Strict>,
-    view: &View<'_>,
+    view: &View<Strict>,
     which: Which,
     call: Call,
     list: &ControlList,
     work: &mut Work,
 ) -> Result<ControlList, Fault>
-    requires which { view.now.which ≡ which }
-    requires ranges { AreControlsOf plan.now view.now.ranges }
-    requires values { length view.now.values ≡ length plan.now.controls }
-    requires grabs { length view.now.grabs ≡ length plan.now.controls }
+    requires { view.now.parts.which ≡ which }
 {
     if call == Call::Read || which == Which::Defaults {
-        return read_list(alloc, plan, view, list);
+        return read_list(alloc, view, list);
     }
     let judged = if call == Call::Set {
-        plan_set(alloc, plan, view, list, work)
+        plan_set(alloc, view, list, work)
     } else {
-        try_list(alloc, plan, view, list, work)
+        try_list(alloc, view, list, work)
     };
     match judged {
         Ok(touched) => {
@@ -171,31 +166,33 @@ fn is_answer(answer: &Result<ControlList, Fault>, want: Answer) -> bool {
     }
 }
 
-/// Whether the call is answered so, where a plan's controls have these ranges.
-pub fn shows(alloc: Global, plan: &Plan<Strict>, ranges: &Ranges, case: Case) -> Result<bool, Fail>
-    requires ranges { AreControlsOf plan.now ranges.now }
-{
+/// Whether the call is answered so at a moment.
+pub fn shows(alloc: Global, at: &Moment<Strict>, case: Case) -> Result<bool, Fail> {
     let (call, which, before, entries, want, asked) = case;
-    let count = plan.controls().len();
-    if count > 6 {
-        return Ok(false);
-    }
     let pairs = pairs_of(alloc, before)?;
-    let values = values_of(alloc, &VALUES)?;
-    let (values, grabs) = (&values[..count], &GRABS[..count]);
-    let view = View::new(0, which, ranges, values, grabs, pairs.as_slice());
+    let view = View::new(0, which, *at, pairs.as_slice());
     let list = list_of(alloc, entries)?;
     let mut work = Work::new();
-    let got = answer(alloc, plan, &view, which, call, &list, &mut work);
+    let got = answer(alloc, &view, which, call, &list, &mut work);
     Ok(is_answer(&got, want) && work.asked == asked && work.told == 0)
 }
 
 /// The plan of six answers these.
 pub fn holds(rt: &impl Abort, alloc: Global, cases: &[Case]) -> Result<(), Fail> {
     let plan = plan_of(alloc, SIX)?;
+    if plan.controls().len() != 6 {
+        return Err(Fail::new("six controls"));
+    }
     let ranges = Ranges::of_plan(alloc, &plan)?;
+    let values = values_of(alloc, &VALUES)?;
+    let at = Moment {
+        plan: &plan,
+        ranges: &ranges,
+        values: values.as_slice(),
+        grabs: &GRABS,
+    };
     for (row, &case) in cases.iter().enumerate() {
-        let is_shown = shows(alloc, &plan, &ranges, case)?;
+        let is_shown = shows(alloc, &at, case)?;
         assert!(rt; is_shown, "case {row}");
     }
     Ok(())

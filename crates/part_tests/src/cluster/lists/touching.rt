@@ -1,8 +1,8 @@
 // What a set makes of the clusters that it touches.
 use super::listing::{FIRST, SIX, VALUES, are_entries, list_of, plan_of};
-use crate::values::{row_of, values_of};
+use crate::cluster::common::controls_of;
+use crate::values::row_of;
 use ctrl_calls::Work;
-use ctrl_clusters::Ranges;
 use ctrl_lists::{Touched, View, plan_set};
 use ctrl_types::{CtrlValue, Pair, Which};
 use std::test::Fail;
@@ -46,21 +46,10 @@ fn is_touched(touched: Touched) -> bool {
 fn rows_of_a_set(rt: HostRuntime) -> Result<(), Fail> {
     let alloc = rt.alloc();
     let plan = plan_of(alloc, SIX)?;
-    if plan.controls().len() != 6 {
-        return Err(Fail::new("six controls"));
-    }
-    let ranges = Ranges::of_plan(alloc, &plan)?;
-    let values = values_of(alloc, &VALUES)?;
-    let view = View::new(
-        0,
-        Which::Current,
-        &ranges,
-        values.as_slice(),
-        &[false; 6],
-        &[],
-    );
+    let controls = controls_of(alloc, &plan, &VALUES)?;
+    let view = View::new(0, Which::Current, controls.at(&plan), &[]);
     let list = list_of(alloc, &[(FIRST + 4, 1), (FIRST + 1, 2)])?;
-    match plan_set(alloc, &plan, &view, &list, &mut Work::new()) {
+    match plan_set(alloc, &view, &list, &mut Work::new()) {
         Ok(touched) => {
             assert!(rt; is_touched(touched));
             Ok(())

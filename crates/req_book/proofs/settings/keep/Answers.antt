@@ -1,4 +1,4 @@
-use Rattle.std.proofs.Common.{rules, ◌≡◌, ◌∙◌, unwrap_or, slice_index_or, None, length}
+use Rattle.std.proofs.Common.{rules, unwrap_or, slice_index_or, None, length}
 use Rattle.ctrl_types.specs.Values.{zero_value}
 use Rattle.req_book.specs.Requests.{snapshot_of}
 use Rattle.req_book.proofs.SettingLemmas.{map_more, map_all}

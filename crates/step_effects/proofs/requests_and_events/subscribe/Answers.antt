@@ -1,5 +1,6 @@
 use Rattle.std.proofs.Common.{◌∙◌, ap}
 use Rattle.ctrl_types.specs.declared.changes.Changes.{Changes}
+use Rattle.ctrl_clusters.specs.Moments.{parts}
 use Rattle.ctrl_events.specs.declared.event.Payload.{Payload}
 use Rattle.ctrl_events.specs.Events.{after_subscribe, events_of, only_at}
 use Rattle.ctrl_handlers.specs.Plan.{control}
@@ -12,5 +13,5 @@ pub returns-in-Ok-clause-ok : goal.returns-in-Ok-clause-ok
 returns-in-Ok-clause-ok g c verdicts e older is r v gs j =
     c.in-Ok.ensures.ok j.0
     ∙ ap (λ (x : Changes). only_at c.args.fh.0 (after_subscribe c.args.control c.args.flags x c.payload_at-payload.result) j.0 (events_of c.args.events.now j.0)) c.initial_changes-changes.ensures
-    ∙ ap (λ (x : Payload). only_at c.args.fh.0 (after_subscribe c.args.control c.args.flags (initial_changes (control c.args.plan.now c.args.control).flags) x) j.0 (events_of c.args.events.now j.0)) c.payload_at-payload.ensures
-    ∙ subscribed_step verdicts c.args.plan.now e older c.args.at.now c.args.fh c.args.control c.args.flags j (events_of c.args.events.now j.0) is r v gs
+    ∙ ap (λ (x : Payload). only_at c.args.fh.0 (after_subscribe c.args.control c.args.flags (initial_changes (control c.args.at.now.plan.now c.args.control).flags) x) j.0 (events_of c.args.events.now j.0)) c.payload_at-payload.ensures
+    ∙ subscribed_step verdicts c.args.at.now.plan.now e older (parts c.args.at.now) c.args.fh c.args.control c.args.flags j (events_of c.args.events.now j.0) is r v gs

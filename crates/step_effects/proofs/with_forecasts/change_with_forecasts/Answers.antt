@@ -10,4 +10,4 @@ pub returns-in_ok-change_requests_and_events-in-StreamOff-clause-board : goal.re
 unfolding forecasts
 returns-in_ok-change_requests_and_events-in-StreamOff-clause-board g c =
     c.clear.ensures
-    ∙ ap (λ (s : Step). board_of g.D.Validates.verdict c.args.plan.now c.args.ranges.now c.args.grabs.now c.args.values.now (queued_after c.args.frames.now s c.args.board.now.queued)) (sym c.in-StreamOff.is)
+    ∙ ap (λ (s : Step). board_of g.D.Validates.verdict c.args.at.now.plan.now c.args.at.now.ranges.now c.args.at.now.values.now c.args.at.now.grabs.now (queued_after c.args.frames.now s c.args.board.now.queued)) (sym c.in-StreamOff.is)

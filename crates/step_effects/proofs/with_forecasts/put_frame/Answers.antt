@@ -10,9 +10,9 @@ use Rattle.step_effects.proofs.with_forecasts.put_frame.Goals as goal
 -- its frame is laid over what the last one leaves
 pub returns-clause-counted : goal.returns-clause-counted
 returns-clause-counted g c =
-    let count : Values → List Pair → ℕ = λ values pairs. with_calls (asked_count c.args.plan.now c.args.ranges.now values c.args.grabs.now pairs) c.args.work.now.asked in
-    let behind : Values = values_behind c.args.values.now (forecasts g.D.Validates.verdict c.args.plan.now c.args.ranges.now c.args.grabs.now c.args.values.now c.args.board.now.queued) in
+    let count : Values → List Pair → ℕ = λ values pairs. with_calls (asked_count c.args.at.now.plan.now c.args.at.now.ranges.now values c.args.at.now.grabs.now pairs) c.args.work.now.asked in
+    let behind : Values = values_behind c.args.at.now.values.now (forecasts g.D.Validates.verdict c.args.at.now.plan.now c.args.at.now.ranges.now c.args.at.now.values.now c.args.at.now.grabs.now c.args.board.now.queued) in
     subst (λ (n : ℕ). OnOk c.push.result (c.push.new.work.asked ≡ n))
-    (ap (λ (b : BoardData). count (values_behind c.args.values.now b.forecasts) c.frame_of-frame.result.asked) c.requires.board
+    (ap (λ (b : BoardData). count (values_behind c.args.at.now.values.now b.forecasts) c.frame_of-frame.result.asked) c.requires.board
     ∙ ap (λ (q : QueuedData). count behind q.asked) c.frame_of-frame.ensures)
     c.push.ensures.counted

@@ -13,18 +13,18 @@ loop-frame-init g c = record { kept = c.empty-board.ensures; asked = omega arith
 pub returns-in_err-push-clause-asked : goal.returns-in_err-push-clause-asked
 returns-in_err-push-clause-asked g c =
     let i : ℕ = c.loop-frame.frame-index in
-    let own : touched_count c.args.plan.now c.frame-item.result.asked ≡ touched_count c.args.plan.now (get_or c.args.queued.now i c.frame-item.result).asked = ap (λ (q : QueuedData). touched_count c.args.plan.now q.asked) c.frame-item.is in
-    omega (arith, c.loop-frame.invariant.asked, c.push.ensures.asked, own, touched_next c.args.plan.now c.args.queued.now i c.frame-item.result c.loop-frame-test.true, touched_below c.args.plan.now c.args.queued.now (i + 1))
+    let own : touched_count c.args.at.now.plan.now c.frame-item.result.asked ≡ touched_count c.args.at.now.plan.now (get_or c.args.queued.now i c.frame-item.result).asked = ap (λ (q : QueuedData). touched_count c.args.at.now.plan.now q.asked) c.frame-item.is in
+    omega (arith, c.loop-frame.invariant.asked, c.push.ensures.asked, own, touched_next c.args.at.now.plan.now c.args.queued.now i c.frame-item.result c.loop-frame-test.true, touched_below c.args.at.now.plan.now c.args.queued.now (i + 1))
 
 pub loop-frame-preserved : goal.loop-frame-preserved
 loop-frame-preserved g c =
     let i : ℕ = c.loop-frame.frame-index in
-    let own : touched_count c.args.plan.now c.frame-item.result.asked ≡ touched_count c.args.plan.now (get_or c.args.queued.now i c.frame-item.result).asked = ap (λ (q : QueuedData). touched_count c.args.plan.now q.asked) c.frame-item.is in
+    let own : touched_count c.args.at.now.plan.now c.frame-item.result.asked ≡ touched_count c.args.at.now.plan.now (get_or c.args.queued.now i c.frame-item.result).asked = ap (λ (q : QueuedData). touched_count c.args.at.now.plan.now q.asked) c.frame-item.is in
     let asks : c.loop-frame.board.queued ++ c.frame-item.result ∷ [] ≡ take (i + 1) c.args.queued.now =
     ap (λ (l : List QueuedData). l ++ c.frame-item.result ∷ []) (ap (λ (b : BoardData). b.queued) c.loop-frame.invariant.kept)
     ∙ ap (λ (q : QueuedData). take i c.args.queued.now ++ q ∷ []) c.frame-item.is ∙ sym (take_more c.args.queued.now i c.frame-item.result c.loop-frame-test.true) in
     record {
-      kept = c.in_ok-push.ensures.ok ∙ ap (board_of g.D.Validates.verdict c.args.plan.now c.args.ranges.now c.args.grabs.now c.args.values.now) asks;
-      asked = omega (arith, c.loop-frame.invariant.asked, c.push.ensures.asked, own, touched_next c.args.plan.now c.args.queued.now i c.frame-item.result c.loop-frame-test.true);
+      kept = c.in_ok-push.ensures.ok ∙ ap (board_of g.D.Validates.verdict c.args.at.now.plan.now c.args.at.now.ranges.now c.args.at.now.values.now c.args.at.now.grabs.now) asks;
+      asked = omega (arith, c.loop-frame.invariant.asked, c.push.ensures.asked, own, touched_next c.args.at.now.plan.now c.args.queued.now i c.frame-item.result c.loop-frame-test.true);
       told = c.push.ensures.told ∙ c.loop-frame.invariant.told;
     }

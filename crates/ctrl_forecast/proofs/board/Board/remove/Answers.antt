@@ -16,30 +16,30 @@ renew_clusters-requires-clause-clusters g c =
     let p : ℕ = c.args.place in
     let lt : p < length fs = omega (arith, c.requires.place, ap (λ (b : BoardData). length b.queued) c.self.view_is, length-map fs queued_of) in
     let own : c.remove-removed.result ≡ frame_at fs p = get_or_read_under fs p (length fs) c.remove-removed.result no_frame c.remove-removed.ensures.value lt refl in
-    let named : c.named.result.now ≡ named_clusters c.args.plan.now (frame_at fs p).asked =
-    c.named.ensures ∙ ap (λ (f : FrameData). f.named) own ∙ kept_named g.D.Validates.verdict c.args.plan.now c.args.ranges.now c.args.grabs.now c.args.values.now fs p c.requires.values lt c.args.self.now.queued (c.self.view_is ∙ c.requires.kept) in
-    subst (λ (ks : List ℕ). All (λ k. k < length c.args.plan.now.clusters) ks) (sym named) (named_within c.args.plan.now (frame_at fs p).asked)
+    let named : c.named.result.now ≡ named_clusters c.args.at.now.plan.now (frame_at fs p).asked =
+    c.named.ensures ∙ ap (λ (f : FrameData). f.named) own ∙ kept_named g.D.Validates.verdict c.args.at.now.plan.now c.args.at.now.ranges.now c.args.at.now.grabs.now c.args.at.now.values.now fs p c.args.at.now.valued lt c.args.self.now.queued (c.self.view_is ∙ c.requires.kept) in
+    subst (λ (ks : List ℕ). All (λ k. k < length c.args.at.now.plan.now.clusters) ks) (sym named) (named_within c.args.at.now.plan.now (frame_at fs p).asked)
 
 pub renew_clusters-requires-clause-ready : goal.renew_clusters-requires-clause-ready
 renew_clusters-requires-clause-ready g c =
-    let s : Setting = setting g.D.Validates.verdict c.args.plan.now c.args.ranges.now c.args.grabs.now c.args.values.now in
+    let s : Setting = setting g.D.Validates.verdict c.args.at.now.plan.now c.args.at.now.ranges.now c.args.at.now.values.now c.args.at.now.grabs.now in
     let fs : List FrameData = c.self.inside.frames.items in
     let p : ℕ = c.args.place in
     let lt : p < length fs = omega (arith, c.requires.place, ap (λ (b : BoardData). length b.queued) c.self.view_is, length-map fs queued_of) in
     let own : c.remove-removed.result ≡ frame_at fs p = get_or_read_under fs p (length fs) c.remove-removed.result no_frame c.remove-removed.ensures.value lt refl in
     let named : c.named.result.now ≡ (frame_at fs p).named = c.named.ensures ∙ ap (λ (f : FrameData). f.named) own in
     let asks : c.args.self.now.queued ≡ map queued_of fs = sym (ap (λ (b : BoardData). b.queued) c.self.view_is) in
-    let kept = c.self.view_is ∙ c.requires.kept ∙ ap (board_of g.D.Validates.verdict c.args.plan.now c.args.ranges.now c.args.grabs.now c.args.values.now) asks in
+    let kept = c.self.view_is ∙ c.requires.kept ∙ ap (board_of g.D.Validates.verdict c.args.at.now.plan.now c.args.at.now.ranges.now c.args.at.now.values.now c.args.at.now.grabs.now) asks in
     subst (λ (l : List FrameData). AreReady s p c.named.result.now l) (sym c.remove-removed.ensures.items)
     (subst (λ (ks : List ℕ). AreReady s p ks (remove fs p)) (sym named)
-    (ready_removed g.D.Validates.verdict c.args.plan.now c.args.ranges.now c.args.grabs.now c.args.values.now p fs c.controls-plan.ensures.plan c.requires.values lt kept))
+    (ready_removed g.D.Validates.verdict c.args.at.now.plan.now c.args.at.now.ranges.now c.args.at.now.grabs.now c.args.at.now.values.now p fs c.args.at.now.planned.is_plan c.args.at.now.valued lt kept))
 
 pub returns-clause-frames : goal.returns-clause-frames
 returns-clause-frames g c =
     let fs : List FrameData = c.self.inside.frames.items in
     let p : ℕ = c.args.place in
     c.renew_clusters.ensures.frames
-    ∙ ap (board_of g.D.Validates.verdict c.args.plan.now c.args.ranges.now c.args.grabs.now c.args.values.now)
+    ∙ ap (board_of g.D.Validates.verdict c.args.at.now.plan.now c.args.at.now.ranges.now c.args.at.now.values.now c.args.at.now.grabs.now)
     (ap (map queued_of) c.remove-removed.ensures.items ∙ removed_queued fs p ∙ ap (λ (qs : List QueuedData). remove qs p) (ap (λ (b : BoardData). b.queued) c.self.view_is))
 
 -- the clusters that it names are renewed in the frames behind
@@ -51,14 +51,14 @@ renewed g c =
     let own : c.remove-removed.result ≡ frame_at fs p = get_or_read_under fs p (length fs) c.remove-removed.result no_frame c.remove-removed.ensures.value lt refl in
     let asks : (frame_at fs p).asked ≡ asked_at c.args.self.now.queued p =
     ap (λ (q : QueuedData). q.asked) (sym (get_or-map queued_of fs p no_frame (queued_of no_frame) lt)) ∙ ap (λ (b : BoardData). asked_at b.queued p) c.self.view_is in
-    let named : c.named.result.now ≡ named_clusters c.args.plan.now (asked_at c.args.self.now.queued p) =
-    c.named.ensures ∙ ap (λ (f : FrameData). f.named) own ∙ kept_named g.D.Validates.verdict c.args.plan.now c.args.ranges.now c.args.grabs.now c.args.values.now fs p c.requires.values lt c.args.self.now.queued (c.self.view_is ∙ c.requires.kept)
-    ∙ ap (named_clusters c.args.plan.now) asks in
+    let named : c.named.result.now ≡ named_clusters c.args.at.now.plan.now (asked_at c.args.self.now.queued p) =
+    c.named.ensures ∙ ap (λ (f : FrameData). f.named) own ∙ kept_named g.D.Validates.verdict c.args.at.now.plan.now c.args.at.now.ranges.now c.args.at.now.grabs.now c.args.at.now.values.now fs p c.args.at.now.valued lt c.args.self.now.queued (c.self.view_is ∙ c.requires.kept)
+    ∙ ap (named_clusters c.args.at.now.plan.now) asks in
     let queued : map queued_of c.remove-removed.new.self.items ≡ remove c.args.self.now.queued p =
     ap (map queued_of) c.remove-removed.ensures.items ∙ removed_queued fs p ∙ ap (λ (qs : List QueuedData). remove qs p) (ap (λ (b : BoardData). b.queued) c.self.view_is) in
     c.renew_clusters.ensures.counted
-    ∙ ap (λ (qs : List QueuedData). with_calls (renewing_count g.D.Validates.verdict c.args.plan.now c.args.ranges.now c.args.grabs.now c.args.values.now qs p c.named.result.now) c.args.work.now.asked) queued
-    ∙ ap (λ (ks : List ℕ). with_calls (renewing_count g.D.Validates.verdict c.args.plan.now c.args.ranges.now c.args.grabs.now c.args.values.now (remove c.args.self.now.queued p) p ks) c.args.work.now.asked) named
+    ∙ ap (λ (qs : List QueuedData). with_calls (renewing_count g.D.Validates.verdict c.args.at.now.plan.now c.args.at.now.ranges.now c.args.at.now.values.now c.args.at.now.grabs.now qs p c.named.result.now) c.args.work.now.asked) queued
+    ∙ ap (λ (ks : List ℕ). with_calls (renewing_count g.D.Validates.verdict c.args.at.now.plan.now c.args.at.now.ranges.now c.args.at.now.values.now c.args.at.now.grabs.now (remove c.args.self.now.queued p) p ks) c.args.work.now.asked) named
 
 pub returns-clause-counted : goal.returns-clause-counted
 returns-clause-counted g c = renewed g c
@@ -68,9 +68,9 @@ pub returns-clause-asked : goal.returns-clause-asked
 returns-clause-asked g c =
     let p : ℕ = c.args.place in
     let qs : List QueuedData = c.args.self.now.queued in
-    let ks : List ℕ = named_clusters c.args.plan.now (asked_at qs p) in
-    let n : ℕ = renewing_count g.D.Validates.verdict c.args.plan.now c.args.ranges.now c.args.grabs.now c.args.values.now (remove qs p) p ks in
+    let ks : List ℕ = named_clusters c.args.at.now.plan.now (asked_at qs p) in
+    let n : ℕ = renewing_count g.D.Validates.verdict c.args.at.now.plan.now c.args.at.now.ranges.now c.args.at.now.values.now c.args.at.now.grabs.now (remove qs p) p ks in
     let made : c.renew_clusters.new.work.asked ≡ with_calls n c.args.work.now.asked = renewed g c in
-    let most : with_calls n c.args.work.now.asked ≤ c.args.work.now.asked + named_by_frames c.args.plan.now (drop p (remove qs p)) ks =
-    calls_most n (named_by_frames c.args.plan.now (drop p (remove qs p)) ks) c.args.work.now.asked (renewing_most g.D.Validates.verdict c.args.plan.now c.args.ranges.now c.args.grabs.now c.args.values.now (remove qs p) p ks) in
-    omega (arith, made, most, ap (λ (behind : List QueuedData). named_by_frames c.args.plan.now behind ks) (behind_removed qs p c.requires.place))
+    let most : with_calls n c.args.work.now.asked ≤ c.args.work.now.asked + named_by_frames c.args.at.now.plan.now (drop p (remove qs p)) ks =
+    calls_most n (named_by_frames c.args.at.now.plan.now (drop p (remove qs p)) ks) c.args.work.now.asked (renewing_most g.D.Validates.verdict c.args.at.now.plan.now c.args.at.now.ranges.now c.args.at.now.grabs.now c.args.at.now.values.now (remove qs p) p ks) in
+    omega (arith, made, most, ap (λ (behind : List QueuedData). named_by_frames c.args.at.now.plan.now behind ks) (behind_removed qs p c.requires.place))

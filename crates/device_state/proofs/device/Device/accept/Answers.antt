@@ -2,24 +2,26 @@ use Rattle.std.proofs.Common.{List, [], ◌∷◌, ◌++◌, ℕ, length, ◌≡
 use Rattle.history.specs.declared.entry.Entry.{Entry}
 use Rattle.history.specs.Past.{past}
 use Rattle.ctrl_types.specs.declared.ids.Pair.{Pair}
-use Rattle.ctrl_clusters.specs.Rows.{Values, AreControlsOf}
+use Rattle.ctrl_calls.specs.declared.work.Work.{Work}
+use Rattle.ctrl_clusters.specs.Rows.{Values}
+use Rattle.ctrl_forecast.specs.Boards.{BoardData}
 use Rattle.frame_queue.specs.Frames.{FramesData}
 use Rattle.device_history.specs.declared.ask.Step.{Step}
 use Rattle.device_history.specs.FrameSteps.{frames_changed}
+use Rattle.device_history.specs.Forecasts.{queued_frames}
+use Rattle.device_history.specs.Grabs.{grabbed}
+use Rattle.device_history.specs.Ranges.{ranges_now}
 use Rattle.device_history.specs.Values.{now}
-use Rattle.device_history.proofs.PresentLemmas.{length_grabbed, length_now}
 use Rattle.step_effects.specs.Leaving.{FitsIn}
 use Rattle.step_effects.proofs.FitLemmas.{fits_in}
 use Rattle.step_effects.proofs.LeavingLemmas.{given_controls_left}
-use Rattle.ctrl_forecast.specs.Boards.{BoardData}
-use Rattle.device_history.specs.Grabs.{grabbed}
-use Rattle.device_history.specs.Forecasts.{queued_frames}
 use Rattle.device_state.proofs.BoardLemmas.{board_own, board_same, line_bound, queued_once}
-use Rattle.device_state.proofs.KeptLemmas.{kept_controls_left, numbered}
-use Rattle.ctrl_calls.specs.declared.work.Work.{Work}
-use Rattle.device_history.specs.Ranges.{ranges_now}
-use Rattle.device_history.proofs.RangeLemmas.{ranges_own}
+use Rattle.device_state.proofs.KeptLemmas.{kept_controls_left, numbered, ranges_kept}
 use Rattle.device_state.proofs.device.Device.accept.Goals as goal
+
+-- what is kept fits the plan
+pub at-requires : goal.at-requires
+at-requires g c = ranges_kept g.D.Validates.verdict g.D.Notifies.told c.self.inside.plan c.self.inside.steps.items _ c.self.invariant
 
 -- the step fits what is kept
 pub change_with_forecasts-changed-requires-clause-fits : goal.change_with_forecasts-changed-requires-clause-fits
@@ -29,33 +31,23 @@ change_with_forecasts-changed-requires-clause-fits g c =
     subst (λ (n : ℕ). FitsIn n c.args.step device.frames) number
     (fits_in g.D.Validates.verdict device.plan device.steps.items device.frames c.args.step c.self.invariant.frames c.self.invariant.legal (rw (← c.self.view_is) at c.requires.follows) c.requires.leaves (rw (← c.self.view_is) at c.requires.known))
 
--- there is a range, a value and a grab for each control
-pub change_with_forecasts-changed-requires-clause-ranges : goal.change_with_forecasts-changed-requires-clause-ranges
-change_with_forecasts-changed-requires-clause-ranges g c = subst (AreControlsOf c.self.inside.plan) (sym c.self.invariant.ranges) (ranges_own c.self.inside.plan (past c.self.inside.steps.items))
-
-pub change_with_forecasts-changed-requires-clause-values : goal.change_with_forecasts-changed-requires-clause-values
-change_with_forecasts-changed-requires-clause-values g c =
-    let device = c.self.inside in
-    ap length (c.as_slice.ensures.value ∙ c.self.invariant.values) ∙ length_now g.D.Validates.verdict device.plan (past device.steps.items)
-
-pub change_with_forecasts-changed-requires-clause-grabs : goal.change_with_forecasts-changed-requires-clause-grabs
-change_with_forecasts-changed-requires-clause-grabs g c =
-    let device = c.self.inside in
-    ap length (c.as_slice-2.ensures.value ∙ c.self.invariant.grabs) ∙ length_grabbed device.plan (past device.steps.items)
+pub change_with_forecasts-changed-requires-clause-known : goal.change_with_forecasts-changed-requires-clause-known
+change_with_forecasts-changed-requires-clause-known g c = rw c.at.ensures.plan (rw (← c.self.view_is) at c.requires.known)
 
 pub change_with_forecasts-changed-requires-clause-frames : goal.change_with_forecasts-changed-requires-clause-frames
-change_with_forecasts-changed-requires-clause-frames g c = ap (λ (f : FramesData). f.requests.controls) c.self.invariant.frames
+change_with_forecasts-changed-requires-clause-frames g c = rw c.at.ensures.plan (ap (λ (f : FramesData). f.requests.controls) c.self.invariant.frames)
 
 -- there are numbers
 pub change_with_forecasts-changed-requires-clause-numbers : goal.change_with_forecasts-changed-requires-clause-numbers
-change_with_forecasts-changed-requires-clause-numbers g c = numbered g.D.Validates.verdict g.D.Notifies.told c.self.inside.plan c.self.inside.steps.items _ c.self.invariant
+change_with_forecasts-changed-requires-clause-numbers g c = rw c.at.ensures.plan (numbered g.D.Validates.verdict g.D.Notifies.told c.self.inside.plan c.self.inside.steps.items _ c.self.invariant)
 
 -- the board is of what is kept beside it, and no request is queued twice
 pub change_with_forecasts-changed-requires-clause-board : goal.change_with_forecasts-changed-requires-clause-board
 change_with_forecasts-changed-requires-clause-board g c =
     let device = c.self.inside in
-    board_own g.D.Validates.verdict device.plan (ranges_now device.plan (past device.steps.items)) _ (grabbed device.plan (past device.steps.items)) _ (now g.D.Validates.verdict device.plan (past device.steps.items)) _ (queued_frames device.plan (past device.steps.items)) device.board c.self.invariant.board
-    c.self.invariant.ranges (c.as_slice-2.ensures.value ∙ c.self.invariant.grabs) (c.as_slice.ensures.value ∙ c.self.invariant.values)
+    rw c.at.ensures.plan
+    (board_own g.D.Validates.verdict device.plan (ranges_now device.plan (past device.steps.items)) _ (now g.D.Validates.verdict device.plan (past device.steps.items)) _ (grabbed device.plan (past device.steps.items)) _ (queued_frames device.plan (past device.steps.items)) device.board c.self.invariant.board
+    (c.at.ensures.ranges ∙ c.self.invariant.ranges) (c.at.ensures.values ∙ c.self.invariant.values) (c.at.ensures.grabs ∙ c.self.invariant.grabs))
 
 pub change_with_forecasts-changed-requires-clause-once : goal.change_with_forecasts-changed-requires-clause-once
 change_with_forecasts-changed-requires-clause-once g c =
@@ -72,12 +64,12 @@ invariant_of-self-in-Ok g c =
     kept_controls_left g.D.Validates.verdict g.D.Notifies.told device.plan device.steps.items _ _ _ _ _ c.args.seat c.args.step c.self.invariant (rw (← c.self.view_is) at c.requires.room) (rw (← c.self.view_is) at c.requires.follows) c.requires.leaves
     (c.push_reserved.ensures.items ∙ ap (λ (s : List (Entry Step)). s ++ entry ∷ []) c.reserve.ensures.items)
     (c.in-Ok.ensures.frames
-    ∙ ap (λ (v : Values). frames_changed v [] c.len-number.result c.args.step device.frames) (c.as_slice.ensures.value ∙ c.self.invariant.values)
+    ∙ ap (λ (v : Values). frames_changed v [] c.len-number.result c.args.step device.frames) (c.at.ensures.values ∙ c.self.invariant.values)
     ∙ ap (λ (n : ℕ). frames_changed (now g.D.Validates.verdict device.plan P) [] n c.args.step device.frames) number
     ∙ ap (λ (l : List Pair). frames_changed (now g.D.Validates.verdict device.plan P) l (length device.steps.items) c.args.step device.frames)
     (sym (given_controls_left g.D.Validates.verdict device.plan P c.args.step c.requires.leaves)))
-    (c.in-Ok.ensures.events g.D.Validates.verdict entry P refl c.self.invariant.ranges (c.as_slice.ensures.value ∙ c.self.invariant.values) (c.as_slice-2.ensures.value ∙ c.self.invariant.grabs))
-    (c.in-Ok.ensures.board ∙ board_same g.D.Validates.verdict device.plan refl c.as_slice-2.ensures.value c.as_slice.ensures.value refl)
+    ((rw c.at.ensures.plan at c.in-Ok.ensures.events) g.D.Validates.verdict entry P refl (c.at.ensures.ranges ∙ c.self.invariant.ranges) (c.at.ensures.values ∙ c.self.invariant.values) (c.at.ensures.grabs ∙ c.self.invariant.grabs))
+    ((rw c.at.ensures.plan at c.in-Ok.ensures.board) ∙ board_same g.D.Validates.verdict device.plan c.at.ensures.ranges c.at.ensures.values c.at.ensures.grabs refl)
 
 -- validators are asked as often as is said
 pub returns-in-Ok-clause-asked : goal.returns-in-Ok-clause-asked
@@ -86,7 +78,7 @@ returns-in-Ok-clause-asked g c =
     let most =
     line_bound g.D.Validates.verdict device.plan (past device.steps.items) c.args.step device.frames device.board.queued c.self.invariant.frames
     (ap (λ (b : BoardData). b.queued) c.self.invariant.board) in
-    rw (← c.self.view_is) (omega (arith, c.saturating_add-self-inside.ensures, c.change_with_forecasts-changed.ensures.asked, ap (λ (w : Work). w.asked) c.new-work.ensures, most))
+    rw (← c.self.view_is) (omega (arith, c.saturating_add-self-inside.ensures, rw c.at.ensures.plan at c.change_with_forecasts-changed.ensures.asked, ap (λ (w : Work). w.asked) c.new-work.ensures, most))
 
 pub returns-in-Err-clause-asked : goal.returns-in-Err-clause-asked
 returns-in-Err-clause-asked g c =
@@ -94,4 +86,4 @@ returns-in-Err-clause-asked g c =
     let most =
     line_bound g.D.Validates.verdict device.plan (past device.steps.items) c.args.step device.frames device.board.queued c.self.invariant.frames
     (ap (λ (b : BoardData). b.queued) c.self.invariant.board) in
-    rw (← c.self.view_is) (omega (arith, c.saturating_add-self-inside.ensures, c.change_with_forecasts-changed.ensures.asked, ap (λ (w : Work). w.asked) c.new-work.ensures, most))
+    rw (← c.self.view_is) (omega (arith, c.saturating_add-self-inside.ensures, rw c.at.ensures.plan at c.change_with_forecasts-changed.ensures.asked, ap (λ (w : Work). w.asked) c.new-work.ensures, most))

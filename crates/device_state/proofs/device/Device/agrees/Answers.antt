@@ -1,6 +1,9 @@
-use Rattle.std.proofs.Common.{ap}
+use Rattle.std.proofs.Common.{◌≡◌, ◌↔◌, IsTrue, ap, subst}
 use Rattle.history.specs.Past.{past}
+use Rattle.ctrl_handlers.specs.Plan.{PlanData}
+use Rattle.ctrl_clusters.specs.ControlsData.{ControlsData, as_one}
 use Rattle.ctrl_forecast.specs.Boards.{BoardData}
+use Rattle.history_audit.specs.Scratch.{HasParts}
 use Rattle.history_audit.proofs.ScratchLemmas.{events_made}
 use Rattle.device_state.proofs.AuditLemmas.{agrees_both}
 use Rattle.device_state.proofs.device.Device.agrees.Goals as goal
@@ -9,7 +12,11 @@ use Rattle.device_state.proofs.device.Device.agrees.Goals as goal
 pub returns : goal.returns
 returns g c =
     let d = c.self.inside in
+    let plan : c.at.result.plan.now ≡ d.plan = rw (← c.self.view_is) at c.at.ensures.plan in
+    let controls : ControlsData = as_one c.at.result.ranges.now c.at.result.values.now c.at.result.grabs.now in
+    let has : IsTrue c.has_parts.result ↔ HasParts c.args.scratch.now d.plan controls d.frames d.board.forecasts d.file_handles.entries d.events =
+    subst (λ (p : PlanData). IsTrue c.has_parts.result ↔ HasParts c.args.scratch.now p controls d.frames d.board.forecasts d.file_handles.entries d.events) plan c.has_parts.ensures in
     let both =
-    agrees_both g.D.Validates.verdict d.plan (past d.steps.items) c.args.scratch.now d.ranges c.values.result.now c.grabs.result.now d.frames d.board.forecasts d.file_handles.entries d.events c.self.invariant.ranges (rw (← c.self.view_is) at c.values.ensures.values)
-    (rw (← c.self.view_is) at c.grabs.ensures.grabs) c.self.invariant.frames (ap (λ (b : BoardData). b.forecasts) c.self.invariant.board) (events_made g.D.Validates.verdict d.plan (past d.steps.items) d.events d.file_handles.entries c.self.invariant.file_handles c.self.invariant.events) in
-    rw (← c.self.view_is) (λ h. both.0 (c.has_parts.ensures.0 h), λ agrees. c.has_parts.ensures.1 (both.1 agrees))
+    agrees_both g.D.Validates.verdict d.plan (past d.steps.items) c.args.scratch.now controls d.frames d.board.forecasts d.file_handles.entries d.events (rw (← c.self.view_is) at c.at.ensures.ranges) (rw (← c.self.view_is) at c.at.ensures.values)
+    (rw (← c.self.view_is) at c.at.ensures.grabs) c.self.invariant.frames (ap (λ (b : BoardData). b.forecasts) c.self.invariant.board) (events_made g.D.Validates.verdict d.plan (past d.steps.items) d.events d.file_handles.entries c.self.invariant.file_handles c.self.invariant.events) in
+    rw (← c.self.view_is) (λ h. both.0 (has.0 h), λ agrees. has.1 (both.1 agrees))

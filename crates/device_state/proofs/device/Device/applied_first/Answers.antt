@@ -1,4 +1,4 @@
-use Rattle.std.proofs.Common.{◌<◌, ℕ, List, length, is_some, ap, sym, subst, ◌∙◌}
+use Rattle.std.proofs.Common.{◌≡◌, ◌<◌, ℕ, true, None, Some, Option, refl, List, length, is_some, ap, sym, subst, ◌∙◌}
 use Rattle.std.specs.List.{All}
 use Rattle.std.specs.Option.{option_map}
 use Rattle.std.proofs.lemmas.Result.{IfOk-weaker}
@@ -16,10 +16,14 @@ use Rattle.device_state.proofs.BeginLemmas.{begun_first, begun_some, length_begu
 use Rattle.device_state.proofs.device.Device.applied_first.Goals as goal
 
 -- the first frame has a row
-pub returns-in_default : goal.returns-in_default
-returns-in_default g c =
+pub unwrap-row-requires : goal.unwrap-row-requires
+unwrap-row-requires g c =
     let d : DeviceData = c.args.self.now in
-    absurd (begun_some g.D.Validates.verdict d.plan (past d.steps) c.args.request.0 c.requires.first (sym c.row.ensures ∙ ap (option_map seen) c.in_default.is))
+    there c.row.result (λ none. begun_some g.D.Validates.verdict d.plan (past d.steps) c.args.request.0 c.requires.first (sym c.row.ensures ∙ ap (option_map seen) none))
+  where
+    there : {X : Type 0} (o : Option X) → (o ≡ None → ⊥) → is_some o ≡ true
+    there None h = absurd (h refl)
+    there (Some x) h = refl
 
 -- the first that waits is there
 pub asked_by-pairs-requires : goal.asked_by-pairs-requires
@@ -29,7 +33,7 @@ asked_by-pairs-requires g c = ap is_some (first_queued (past c.args.self.now.ste
 pub applied-requires-clause-values : goal.applied-requires-clause-values
 applied-requires-clause-values g c =
     let d : DeviceData = c.args.self.now in
-    let first = begun_first g.D.Validates.verdict d.plan (past d.steps) c.args.request.0 (seen c.in-Some.row) c.requires.free c.requires.first (sym c.row.ensures ∙ ap (option_map seen) c.in-Some.is) in
+    let first = begun_first g.D.Validates.verdict d.plan (past d.steps) c.args.request.0 (seen c.unwrap-row.result) c.requires.free c.requires.first (sym c.row.ensures ∙ ap (option_map seen) c.unwrap-row.ensures) in
     ap length first.0 ∙ length_begun g.D.Validates.verdict d.plan (past d.steps) c.args.request.0 ∙ ap (λ (x : DeviceData). length x.plan.controls) (sym c.self.view_is)
 
 -- it asks for controls that are there
@@ -44,12 +48,12 @@ applied-requires-clause-pairs g c =
 pub returns : goal.returns
 returns g c =
     let d : DeviceData = c.args.self.now in
-    let first = begun_first g.D.Validates.verdict d.plan (past d.steps) c.args.request.0 (seen c.in-Some.row) c.requires.free c.requires.first (sym c.row.ensures ∙ ap (option_map seen) c.in-Some.is) in
+    let first = begun_first g.D.Validates.verdict d.plan (past d.steps) c.args.request.0 (seen c.unwrap-row.result) c.requires.free c.requires.first (sym c.row.ensures ∙ ap (option_map seen) c.unwrap-row.ensures) in
     IfOk-weaker c.applied.result _ _
     (λ a h.
     h
-    ∙ ap (λ (x : DeviceData). applied_pairs x.plan c.in-Some.row.values.now c.in-Some.row.refused.now c.asked_by-pairs.result.now) c.self.view_is
-    ∙ ap (λ (v : Values). applied_pairs d.plan v c.in-Some.row.refused.now c.asked_by-pairs.result.now) first.0
+    ∙ ap (λ (x : DeviceData). applied_pairs x.plan c.unwrap-row.result.values.now c.unwrap-row.result.refused.now c.asked_by-pairs.result.now) c.self.view_is
+    ∙ ap (λ (v : Values). applied_pairs d.plan v c.unwrap-row.result.refused.now c.asked_by-pairs.result.now) first.0
     ∙ ap (λ (l : List ℕ). applied_pairs d.plan (begun_values g.D.Validates.verdict d.plan (past d.steps) c.args.request.0) l c.asked_by-pairs.result.now) first.1
     ∙ ap (λ (ps : List Pair). applied_pairs d.plan (begun_values g.D.Validates.verdict d.plan (past d.steps) c.args.request.0) (begun_refused g.D.Validates.verdict d.plan (past d.steps) c.args.request.0) ps) c.asked_by-pairs.ensures)
     c.applied.ensures

@@ -1,9 +1,14 @@
+use Rattle.std.proofs.Common.{sym, ap, ◌∙◌}
 use Rattle.history.specs.Past.{past}
-use Rattle.device_state.proofs.EnterLemmas.{asked_is, asked_there}
+use Rattle.req_book.specs.Refusals.{asked_answer}
+use Rattle.device_state.proofs.EnterLemmas.{asked_is, found, held}
 use Rattle.device_state.proofs.device.Device.asked_by.Goals as goal
 
-pub returns-in-Ok : goal.returns-in-Ok
-returns-in-Ok g c = asked_is g.D.Validates.verdict c.args.self.now.plan (past c.args.self.now.steps) c.args.request.0 c.in-Ok.pairs.now c.in-Ok.ensures
+pub pairs_of-requires : goal.pairs_of-requires
+pairs_of-requires g c = held g.D.Validates.verdict g.D.Notifies.told c.self.inside.plan c.self.inside.steps.items _ c.args.request.0 c.self.invariant (rw (← c.self.view_is) at c.requires)
 
-pub returns-in-Err : goal.returns-in-Err
-returns-in-Err g c = absurd (asked_there g.D.Validates.verdict c.args.self.now.plan (past c.args.self.now.steps) c.args.request.0 _ c.requires c.in-Err.ensures)
+pub returns : goal.returns
+returns g c =
+    let device = c.self.inside in
+    let same = found g.D.Validates.verdict g.D.Notifies.told device.plan device.steps.items _ c.args.request.0 c.self.invariant in
+    rw (← c.self.view_is) (asked_is g.D.Validates.verdict device.plan (past device.steps.items) c.args.request.0 c.pairs_of.result.now (sym (ap asked_answer same) ∙ c.pairs_of.ensures))

@@ -1,4 +1,4 @@
-use Rattle.std.proofs.Common.{true, sym, ◌∙◌}
+use Rattle.std.proofs.Common.{◌≡◌, true, sym, ◌∙◌}
 use Rattle.history.specs.Past.{past}
 use Rattle.device_state.proofs.AnswerLemmas.{set_denied, set_full}
 use Rattle.device_state.proofs.BoundLemmas.{read_bound}
@@ -8,52 +8,59 @@ use Rattle.device_state.proofs.device.Device.plan_list.Goals as goal
 pub returns-in-Err-plan_set-clause-err : goal.returns-in-Err-plan_set-clause-err
 returns-in-Err-plan_set-clause-err g c =
     let device = c.self.inside in
+    let plan : c.in-Ok.view.plan ≡ device.plan = rw (← c.self.view_is) at c.in-Ok.ensures.plan in
     rw (← c.self.view_is)
-    (set_denied g.D.Validates.verdict device.plan (past device.steps.items) device.words.items c.args.fh c.args.which c.args.request c.args.list.now c.in-Ok.view c.in-Err-plan_set.refused
-    (rw (← c.self.view_is) at c.in-Ok.ensures.passed) (rw (← c.self.view_is) at c.in-Ok.ensures.view) c.in-Err-plan_set.ensures.err)
+    (set_denied g.D.Validates.verdict device.plan (past device.steps.items) device.words.items c.args.fh c.args.which c.args.request c.args.list.now c.in-Ok.view.parts c.in-Err-plan_set.refused
+    (rw (← c.self.view_is) at c.in-Ok.ensures.passed) (rw (← c.self.view_is) at c.in-Ok.ensures.view) (rw plan at c.in-Err-plan_set.ensures.err))
 
 pub returns-then-is_full-clause-err : goal.returns-then-is_full-clause-err
 returns-then-is_full-clause-err g c =
     let device = c.self.inside in
+    let plan : c.in-Ok.view.plan ≡ device.plan = rw (← c.self.view_is) at c.in-Ok.ensures.plan in
     rw (← c.self.view_is, c.at-then-is_full.ensures, c.len-then-is_full.ensures)
-    (set_full g.D.Validates.verdict device.plan (past device.steps.items) device.words.items c.args.fh c.args.which c.args.request c.args.list.now c.in-Ok.view c.in-Ok-plan_set.touch.answers
-    (rw (← c.self.view_is) at c.in-Ok.ensures.passed) (rw (← c.self.view_is) at c.in-Ok.ensures.view) c.in-Ok-plan_set.ensures.ok
+    (set_full g.D.Validates.verdict device.plan (past device.steps.items) device.words.items c.args.fh c.args.which c.args.request c.args.list.now c.in-Ok.view.parts c.in-Ok-plan_set.touch.answers
+    (rw (← c.self.view_is) at c.in-Ok.ensures.passed) (rw (← c.self.view_is) at c.in-Ok.ensures.view) (rw plan at c.in-Ok-plan_set.ensures.ok)
     (sym (rw (← c.self.view_is) at c.is_full.ensures) ∙ c.if-is_full.true))
 
 -- what isn't refused can be set
 pub returns-clause-ok : goal.returns-clause-ok
 returns-clause-ok g c =
     let device = c.self.inside in
+    let plan : c.in-Ok.view.plan ≡ device.plan = rw (← c.self.view_is) at c.in-Ok.ensures.plan in
     rw (← c.self.view_is)
-    (settable g.D.Validates.verdict device.plan (past device.steps.items) c.args.fh c.args.which c.args.request c.args.list.now c.in-Ok.view c.in-Ok-plan_set.touch c.controls-plan.ensures.plan
-    (rw (← c.self.view_is) at c.in-Ok.ensures.passed) (rw (← c.self.view_is) at c.in-Ok.ensures.view) c.in-Ok-plan_set.ensures.ok c.in-Ok-plan_set.ensures.touched
+    (settable g.D.Validates.verdict device.plan (past device.steps.items) c.args.fh c.args.which c.args.request c.args.list.now c.in-Ok.view.parts c.in-Ok-plan_set.touch c.self.invariant.plans.is_plan
+    (rw (← c.self.view_is) at c.in-Ok.ensures.passed) (rw (← c.self.view_is) at c.in-Ok.ensures.view) (rw plan at c.in-Ok-plan_set.ensures.ok) (rw plan at c.in-Ok-plan_set.ensures.touched)
     (sym (rw (← c.self.view_is) at c.is_full.ensures) ∙ c.if-is_full.false))
 
 pub returns-clause-asked : goal.returns-clause-asked
 returns-clause-asked g c =
     let device = c.self.inside in
+    let plan : c.in-Ok.view.plan ≡ device.plan = rw (← c.self.view_is) at c.in-Ok.ensures.plan in
     rw (← c.self.view_is)
-    (read_asked g.D.Validates.verdict device.plan (past device.steps.items) c.args.fh c.args.which c.args.request c.args.list.now c.in-Ok.view c.plan_set.new.work.asked c.args.work.now.asked
-    (rw (← c.self.view_is) at c.in-Ok.ensures.view) c.in-Ok-plan_set.ensures.asked)
+    (read_asked g.D.Validates.verdict device.plan (past device.steps.items) c.args.fh c.args.which c.args.request c.args.list.now c.in-Ok.view.parts c.plan_set.new.work.asked c.args.work.now.asked
+    (rw (← c.self.view_is) at c.in-Ok.ensures.view) (rw plan at c.in-Ok-plan_set.ensures.asked))
 
 -- validators are asked as often as is said
 pub returns-in-Err-plan_set-clause-at_most : goal.returns-in-Err-plan_set-clause-at_most
 returns-in-Err-plan_set-clause-at_most g c =
     let device = c.self.inside in
+    let plan : c.in-Ok.view.plan ≡ device.plan = rw (← c.self.view_is) at c.in-Ok.ensures.plan in
     rw (← c.self.view_is)
-    (read_bound g.D.Validates.verdict device.plan (past device.steps.items) c.args.fh c.args.which c.args.request true c.args.list.now c.in-Ok.view c.plan_set.new.work.asked c.args.work.now.asked
-    (rw (← c.self.view_is) at c.in-Ok.ensures.passed) (rw (← c.self.view_is) at c.in-Ok.ensures.view) c.plan_set.ensures.at_most)
+    (read_bound g.D.Validates.verdict device.plan (past device.steps.items) c.args.fh c.args.which c.args.request true c.args.list.now c.in-Ok.view.parts c.plan_set.new.work.asked c.args.work.now.asked
+    (rw (← c.self.view_is) at c.in-Ok.ensures.passed) (rw (← c.self.view_is) at c.in-Ok.ensures.view) (rw plan at c.plan_set.ensures.at_most))
 
 pub returns-then-is_full-clause-at_most : goal.returns-then-is_full-clause-at_most
 returns-then-is_full-clause-at_most g c =
     let device = c.self.inside in
+    let plan : c.in-Ok.view.plan ≡ device.plan = rw (← c.self.view_is) at c.in-Ok.ensures.plan in
     rw (← c.self.view_is)
-    (read_bound g.D.Validates.verdict device.plan (past device.steps.items) c.args.fh c.args.which c.args.request true c.args.list.now c.in-Ok.view c.plan_set.new.work.asked c.args.work.now.asked
-    (rw (← c.self.view_is) at c.in-Ok.ensures.passed) (rw (← c.self.view_is) at c.in-Ok.ensures.view) c.plan_set.ensures.at_most)
+    (read_bound g.D.Validates.verdict device.plan (past device.steps.items) c.args.fh c.args.which c.args.request true c.args.list.now c.in-Ok.view.parts c.plan_set.new.work.asked c.args.work.now.asked
+    (rw (← c.self.view_is) at c.in-Ok.ensures.passed) (rw (← c.self.view_is) at c.in-Ok.ensures.view) (rw plan at c.plan_set.ensures.at_most))
 
 pub returns-clause-at_most : goal.returns-clause-at_most
 returns-clause-at_most g c =
     let device = c.self.inside in
+    let plan : c.in-Ok.view.plan ≡ device.plan = rw (← c.self.view_is) at c.in-Ok.ensures.plan in
     rw (← c.self.view_is)
-    (read_bound g.D.Validates.verdict device.plan (past device.steps.items) c.args.fh c.args.which c.args.request true c.args.list.now c.in-Ok.view c.plan_set.new.work.asked c.args.work.now.asked
-    (rw (← c.self.view_is) at c.in-Ok.ensures.passed) (rw (← c.self.view_is) at c.in-Ok.ensures.view) c.plan_set.ensures.at_most)
+    (read_bound g.D.Validates.verdict device.plan (past device.steps.items) c.args.fh c.args.which c.args.request true c.args.list.now c.in-Ok.view.parts c.plan_set.new.work.asked c.args.work.now.asked
+    (rw (← c.self.view_is) at c.in-Ok.ensures.passed) (rw (← c.self.view_is) at c.in-Ok.ensures.view) (rw plan at c.plan_set.ensures.at_most))

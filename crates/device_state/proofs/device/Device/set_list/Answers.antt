@@ -4,8 +4,13 @@ use Rattle.device_state.specs.Device.{DeviceData}
 use Rattle.device_state.proofs.BoundLemmas.{set_at_least}
 use Rattle.device_state.proofs.HandleLemmas.{handles_asked, asked_all}
 use Rattle.device_state.proofs.EnterLemmas.{handles_list}
-use Rattle.device_state.proofs.SettingLemmas.{set_lacks}
+use Rattle.device_state.proofs.SettingLemmas.{can_be_set, set_lacks}
 use Rattle.device_state.proofs.device.Device.set_list.Goals as goal
+
+pub accept_set-requires-clause-settable : goal.accept_set-requires-clause-settable
+accept_set-requires-clause-settable g c =
+    rw c.spoken.ensures
+    (can_be_set g.D.Validates.verdict c.self.inside.plan (past c.self.inside.steps.items) c.args.fh c.args.which c.args.request c.args.list.now c.in-Ok.touch (rw (← c.self.view_is) at c.in-Ok.ensures.ok))
 
 pub returns-in-Err : goal.returns-in-Err
 returns-in-Err g c =
@@ -22,7 +27,7 @@ returns-in-Ok-accept_set g c =
     rw (← c.self.view_is)
     (handles_list g.D.Validates.verdict g.D.Notifies.told _ _ _ c.new-work.result planned.new.work c.args.seat c.args.fh c.args.which c.args.request c.args.list.now c.in-Ok.touch c.in-Ok-accept_set.controls
     refl c.new-work.ensures planned.ensures.told (rw (← c.self.view_is) at planned.ensures.at_most) (rw (← c.self.view_is) at c.in-Ok.ensures.ok)
-    c.in-Ok-accept_set.ensures.answers (asked_all planned.new.work.asked _ c.new-work.result c.new-work.ensures (rw (← c.self.view_is) at c.in-Ok.ensures.asked)) c.in-Ok-accept_set.ensures.ok)
+    c.in-Ok-accept_set.ensures.answers (asked_all planned.new.work.asked _ c.new-work.result c.new-work.ensures (rw (← c.self.view_is) at c.in-Ok.ensures.asked)) (rw c.spoken.ensures at c.in-Ok-accept_set.ensures.ok))
 
 pub returns-in-Err-accept_set : goal.returns-in-Err-accept_set
 returns-in-Err-accept_set g c =

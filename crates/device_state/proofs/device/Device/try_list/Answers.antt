@@ -1,46 +1,51 @@
-use Rattle.std.proofs.Common.{false}
+use Rattle.std.proofs.Common.{◌≡◌, false}
 use Rattle.history.specs.Past.{past}
 use Rattle.device_state.proofs.AnswerLemmas.{try_judged, try_denied, try_unread}
 use Rattle.device_state.proofs.BoundLemmas.{read_bound}
 use Rattle.device_state.proofs.SettingLemmas.{read_asked}
 use Rattle.device_state.proofs.device.Device.try_list.Goals as goal
 
-pub returns-in-Ok-try_list-clause-answers : goal.returns-in-Ok-try_list-clause-answers
-returns-in-Ok-try_list-clause-answers g c =
+pub returns-clause-answers : goal.returns-clause-answers
+returns-clause-answers g c =
     let device = c.self.inside in
+    let plan : c.in-Ok.view.plan ≡ device.plan = rw (← c.self.view_is) at c.in-Ok.ensures.plan in
     rw (← c.self.view_is, c.into_parts.ensures.answers)
-    (try_judged g.D.Validates.verdict device.plan (past device.steps.items) device.words.items c.args.fh c.args.which c.args.request c.args.list.now c.in-Ok.view _
-    (rw (← c.self.view_is) at c.in-Ok.ensures.passed) (rw (← c.self.view_is) at c.in-Ok.ensures.view) c.in-Ok-try_list.ensures.ok)
+    (try_judged g.D.Validates.verdict device.plan (past device.steps.items) device.words.items c.args.fh c.args.which c.args.request c.args.list.now c.in-Ok.view.parts _
+    (rw (← c.self.view_is) at c.in-Ok.ensures.passed) (rw (← c.self.view_is) at c.in-Ok.ensures.view) (rw plan at c.in-Ok-try_list.ensures.ok))
 
 pub returns-in-Err-try_list-clause-answers : goal.returns-in-Err-try_list-clause-answers
 returns-in-Err-try_list-clause-answers g c =
     let device = c.self.inside in
+    let plan : c.in-Ok.view.plan ≡ device.plan = rw (← c.self.view_is) at c.in-Ok.ensures.plan in
     rw (← c.self.view_is)
-    (try_denied g.D.Validates.verdict device.plan (past device.steps.items) device.words.items c.args.fh c.args.which c.args.request c.args.list.now c.in-Ok.view c.in-Err-try_list.fault
-    (rw (← c.self.view_is) at c.in-Ok.ensures.passed) (rw (← c.self.view_is) at c.in-Ok.ensures.view) c.in-Err-try_list.ensures.err)
+    (try_denied g.D.Validates.verdict device.plan (past device.steps.items) device.words.items c.args.fh c.args.which c.args.request c.args.list.now c.in-Ok.view.parts c.in-Err-try_list.refusal
+    (rw (← c.self.view_is) at c.in-Ok.ensures.passed) (rw (← c.self.view_is) at c.in-Ok.ensures.view) (rw plan at c.in-Err-try_list.ensures.err))
 
-pub returns-in-Ok-try_list-clause-asked : goal.returns-in-Ok-try_list-clause-asked
-returns-in-Ok-try_list-clause-asked g c =
+pub returns-clause-asked : goal.returns-clause-asked
+returns-clause-asked g c =
     let device = c.self.inside in
+    let plan : c.in-Ok.view.plan ≡ device.plan = rw (← c.self.view_is) at c.in-Ok.ensures.plan in
     rw (← c.self.view_is)
-    (read_asked g.D.Validates.verdict device.plan (past device.steps.items) c.args.fh c.args.which c.args.request c.args.list.now c.in-Ok.view c.try_list.new.work.asked c.args.work.now.asked
-    (rw (← c.self.view_is) at c.in-Ok.ensures.view) c.in-Ok-try_list.ensures.asked)
+    (read_asked g.D.Validates.verdict device.plan (past device.steps.items) c.args.fh c.args.which c.args.request c.args.list.now c.in-Ok.view.parts c.try_list.new.work.asked c.args.work.now.asked
+    (rw (← c.self.view_is) at c.in-Ok.ensures.view) (rw plan at c.in-Ok-try_list.ensures.asked))
 
 pub returns-in-Err-clause-answers : goal.returns-in-Err-clause-answers
 returns-in-Err-clause-answers g c =
     rw (c.at.ensures, c.len.ensures) (try_unread g.D.Validates.verdict c.args.self.now.plan (past c.args.self.now.steps) c.args.self.now.words c.args.fh c.args.which c.args.request c.args.list.now c.in-Err.errno c.in-Err.ensures.err)
 
 -- validators are asked as often as is said
-pub returns-in-Ok-try_list-clause-at_most : goal.returns-in-Ok-try_list-clause-at_most
-returns-in-Ok-try_list-clause-at_most g c =
+pub returns-clause-at_most : goal.returns-clause-at_most
+returns-clause-at_most g c =
     let device = c.self.inside in
+    let plan : c.in-Ok.view.plan ≡ device.plan = rw (← c.self.view_is) at c.in-Ok.ensures.plan in
     rw (← c.self.view_is)
-    (read_bound g.D.Validates.verdict device.plan (past device.steps.items) c.args.fh c.args.which c.args.request false c.args.list.now c.in-Ok.view c.try_list.new.work.asked c.args.work.now.asked
-    (rw (← c.self.view_is) at c.in-Ok.ensures.passed) (rw (← c.self.view_is) at c.in-Ok.ensures.view) c.try_list.ensures.at_most)
+    (read_bound g.D.Validates.verdict device.plan (past device.steps.items) c.args.fh c.args.which c.args.request false c.args.list.now c.in-Ok.view.parts c.try_list.new.work.asked c.args.work.now.asked
+    (rw (← c.self.view_is) at c.in-Ok.ensures.passed) (rw (← c.self.view_is) at c.in-Ok.ensures.view) (rw plan at c.try_list.ensures.at_most))
 
 pub returns-in-Err-try_list-clause-at_most : goal.returns-in-Err-try_list-clause-at_most
 returns-in-Err-try_list-clause-at_most g c =
     let device = c.self.inside in
+    let plan : c.in-Ok.view.plan ≡ device.plan = rw (← c.self.view_is) at c.in-Ok.ensures.plan in
     rw (← c.self.view_is)
-    (read_bound g.D.Validates.verdict device.plan (past device.steps.items) c.args.fh c.args.which c.args.request false c.args.list.now c.in-Ok.view c.try_list.new.work.asked c.args.work.now.asked
-    (rw (← c.self.view_is) at c.in-Ok.ensures.passed) (rw (← c.self.view_is) at c.in-Ok.ensures.view) c.try_list.ensures.at_most)
+    (read_bound g.D.Validates.verdict device.plan (past device.steps.items) c.args.fh c.args.which c.args.request false c.args.list.now c.in-Ok.view.parts c.try_list.new.work.asked c.args.work.now.asked
+    (rw (← c.self.view_is) at c.in-Ok.ensures.passed) (rw (← c.self.view_is) at c.in-Ok.ensures.view) (rw plan at c.try_list.ensures.at_most))

@@ -1,8 +1,8 @@
-use Rattle.std.proofs.Common.{arith, ◌≡◌, ◌∙◌, ◌∷◌, List, ℕ, Some, None, ap, sym, subst, remove, slice_get}
+use Rattle.std.proofs.Common.{arith, ◌≡◌, ◌∙◌, ◌∷◌, List, ℕ, Some, None, refl, ap, sym, subst, remove, slice_get}
 use Rattle.std.proofs.Math.Path.{ap₂}
-use Rattle.req_book.specs.Requests.{RequestsData}
+use Rattle.req_book.specs.Requests.{RequestsData, begun}
 use Rattle.frame_queue.specs.Frames.{FramesData, QueueFitsRequests}
-use Rattle.frame_queue.proofs.PlaceLemmas.{many_after}
+use Rattle.frame_queue.proofs.PlaceLemmas.{many_after, own_after}
 use Rattle.frame_queue.proofs.FrameLemmas.{begun_kept, first_is}
 use Rattle.frame_queue.proofs.frames.Frames.begin_first.Goals as goal
 
@@ -14,6 +14,7 @@ invariant_of-self c =
     let none : c.self.inside.running ≡ None = ap (λ (f : FramesData). f.running) c.self.view_is ∙ c.requires.idle in
     record {
       frames = subst QueueFitsRequests (sym (ap₂ whole c.mark_running.ensures c.remove.ensures.items)) (begun_kept old c.args.id (remove c.self.inside.queue.items 0) c.args.applied.now c.self.invariant.frames first none);
+      own = own_after c.self.inside.requests _ c.args.id (begun c.self.inside.requests.controls c.args.applied.now) (λ r. refl) c.mark_running.ensures c.self.invariant.own;
       few = omega (arith, c.self.invariant.few, many_after c.self.inside.requests _ c.args.id _ c.mark_running.ensures);
       fits = omega (arith, c.self.invariant.fits, c.remove.ensures.capacity);
     }

@@ -1,8 +1,8 @@
-use Rattle.std.proofs.Common.{arith, ◌≡◌, ◌∙◌, ◌∷◌, List, ℕ, ap, sym, subst, remove, slice_get}
+use Rattle.std.proofs.Common.{arith, ◌≡◌, ◌∙◌, ◌∷◌, List, ℕ, refl, ap, sym, subst, remove, slice_get}
 use Rattle.std.proofs.Math.Path.{ap₂}
-use Rattle.req_book.specs.Requests.{RequestsData}
+use Rattle.req_book.specs.Requests.{RequestsData, completed}
 use Rattle.frame_queue.specs.Frames.{FramesData, QueueFitsRequests}
-use Rattle.frame_queue.proofs.PlaceLemmas.{many_after}
+use Rattle.frame_queue.proofs.PlaceLemmas.{many_after, own_after}
 use Rattle.frame_queue.proofs.FrameLemmas.{ended_kept, first_is}
 use Rattle.frame_queue.proofs.frames.Frames.end_first.Goals as goal
 
@@ -13,6 +13,7 @@ invariant_of-self c =
     let first : c.self.inside.queue.items ≡ c.args.id ∷ remove c.self.inside.queue.items 0 = first_is c.self.inside.queue.items c.args.id (ap (λ (f : FramesData). slice_get f.queue 0) c.self.view_is ∙ c.requires.first) in
     record {
       frames = subst QueueFitsRequests (sym (ap₂ whole c.mark_complete.ensures c.remove.ensures.items)) (ended_kept old c.args.id (remove c.self.inside.queue.items 0) c.args.values.now c.self.invariant.frames first);
+      own = own_after c.self.inside.requests _ c.args.id (completed c.args.values.now) (λ r. refl) c.mark_complete.ensures c.self.invariant.own;
       few = omega (arith, c.self.invariant.few, many_after c.self.inside.requests _ c.args.id _ c.mark_complete.ensures);
       fits = omega (arith, c.self.invariant.fits, c.remove.ensures.capacity);
     }

@@ -1,19 +1,20 @@
-use Rattle.std.proofs.Common.{take, ap, sym, ◌∙◌}
+use Rattle.std.proofs.Common.{take, is_some, ap, sym, ◌∙◌}
 use Rattle.history.specs.Past.{past}
 use Rattle.req_book.specs.Refusals.{asked_answer}
 use Rattle.step_effects.proofs.FitLemmas.{found}
-use Rattle.history_audit.proofs.ReadLemmas.{asked_is, asked_there}
+use Rattle.history_audit.proofs.ReadLemmas.{asked_is, held}
 use Rattle.history_audit.proofs.replay.Replay.asked_by.Goals as goal
 
-pub returns-in-Ok : goal.returns-in-Ok
-returns-in-Ok g c =
+-- it is there
+pub pairs_of-requires : goal.pairs_of-requires
+pairs_of-requires g c =
+    let r = c.self.inside in
+    ap is_some (found g.D.Validates.verdict r.plan.now (take r.count r.steps.now) r.frames c.args.request.0 c.self.invariant.made.frames c.self.invariant.made.legal)
+    ∙ held g.D.Validates.verdict r.plan.now (past (take r.count r.steps.now)) c.args.request.0 (rw (← c.self.view_is) at c.requires)
+
+pub returns : goal.returns
+returns g c =
     let r = c.self.inside in
     rw (← c.self.view_is)
-    (asked_is g.D.Validates.verdict r.plan.now (past (take r.count r.steps.now)) c.args.request.0 c.in-Ok.pairs.now (ap asked_answer (sym (found g.D.Validates.verdict r.plan.now (take r.count r.steps.now) r.frames c.args.request.0 c.self.invariant.made.frames c.self.invariant.made.legal)) ∙ c.in-Ok.ensures))
-
-pub returns-in-Err : goal.returns-in-Err
-returns-in-Err g c =
-    let r = c.self.inside in
-    absurd
-    (asked_there g.D.Validates.verdict r.plan.now (past (take r.count r.steps.now)) c.args.request.0 _ (rw (← c.self.view_is) at c.requires)
-    (ap asked_answer (sym (found g.D.Validates.verdict r.plan.now (take r.count r.steps.now) r.frames c.args.request.0 c.self.invariant.made.frames c.self.invariant.made.legal)) ∙ c.in-Err.ensures))
+    (asked_is g.D.Validates.verdict r.plan.now (past (take r.count r.steps.now)) c.args.request.0 c.pairs_of.result.now
+    (ap asked_answer (sym (found g.D.Validates.verdict r.plan.now (take r.count r.steps.now) r.frames c.args.request.0 c.self.invariant.made.frames c.self.invariant.made.legal)) ∙ c.pairs_of.ensures))

@@ -1,4 +1,4 @@
-use Rattle.std.proofs.Common.{rules, length, take, ap, arith}
+use Rattle.std.proofs.Common.{rules, length, ap, arith}
 use Rattle.std.proofs.lemmas.List.FromFn.{length-map-range_with_len}
 use Rattle.history.specs.Past.{past}
 use Rattle.device_history.specs.Flags.{flags_now}
@@ -14,10 +14,8 @@ push_reserved-requires g c =
 -- those of one more control
 pub loop-control-preserved : goal.loop-control-preserved
 loop-control-preserved g c =
-    let r = c.self.inside in
     record {
-      flags = rw (← c.self.view_is)
-          (flags_next g.D.Validates.verdict r.plan.now (past (take r.count r.steps.now)) c.loop-control.control c.values.result.now c.grabs.result.now c.flags_under.result c.loop-control.all.items c.push_reserved.new.self.items
-          c.flags_under.ensures (rw (← c.self.view_is) at c.values.ensures.values) (rw (← c.self.view_is) at c.grabs.ensures.grabs) (rw (← c.self.view_is) at c.loop-control.invariant.flags) c.push_reserved.ensures.items);
+      flags = flags_next g.D.Validates.verdict c.args.self.now.plan c.at-at.result.plan.now (past c.args.self.now.steps) c.loop-control.control c.at-at.result.values.now c.at-at.result.grabs.now c.flags_under.result c.loop-control.all.items c.push_reserved.new.self.items
+          c.flags_under.ensures c.at-at.ensures.plan c.at-at.ensures.values c.at-at.ensures.grabs c.loop-control.invariant.flags c.push_reserved.ensures.items;
       room = search rules;
     }

@@ -1,92 +1,53 @@
-use Rattle.std.proofs.Common.{◌≡◌, ◌<◌, List, ◌∷◌, length, take, slice_set, refl, ap, sym, subst, ◌∙◌, arith}
-use Rattle.history.specs.declared.entry.Entry.{Entry}
+use Rattle.std.proofs.Common.{◌≡◌, ◌<◌, length, take, slice_set, refl, ap, sym, ◌∙◌, arith}
+use Rattle.std.proofs.lemmas.List.{length-set}
 use Rattle.history.specs.Past.{past}
+use Rattle.ctrl_clusters.specs.ControlsData.{ControlsData}
 use Rattle.ctrl_clusters.specs.Rows.{Grabs}
-use Rattle.ctrl_raises.specs.Raises.{MomentData}
-use Rattle.device_history.specs.declared.ask.Step.{Step}
 use Rattle.device_history.specs.declared.ask.Step.TheVariants as steps
-use Rattle.device_history.specs.EventSteps.{AreAround}
-use Rattle.device_history.specs.Ranges.{ranges_after, ranges_now}
-use Rattle.device_history.specs.Grabs.{grabbed, grabbed_after}
-use Rattle.device_history.specs.Legal.{MayFollow}
-use Rattle.device_history.specs.Values.{now, values_after}
-use Rattle.device_history.proofs.EventLemmas.{values_controls_left}
-use Rattle.device_history.proofs.GrabLemmas.{grabbed_more}
-use Rattle.device_history.proofs.PresentLemmas.{length_grabbed, length_now}
 use Rattle.history_audit.proofs.FollowLemmas.{grab_known}
-use Rattle.history_audit.specs.Replay.{ReplayData}
-use Rattle.history_audit.proofs.MadeLemmas.{numbered, replay_add, replayed_next}
-use Rattle.device_history.proofs.RangeLemmas.{ranges_more, ranges_own}
+use Rattle.history_audit.proofs.MadeLemmas.{behind_next, numbered, ranges_there, replay_raise}
 use Rattle.history_audit.proofs.replay.Replay.grab.Goals as goal
 
 -- the control is there
 pub index_mut-requires : goal.index_mut-requires
 index_mut-requires g c =
     let r = c.self.inside in
-    let known : c.args.control < length r.plan.now.controls =
-    grab_known g.D.Validates.verdict r.plan.now (past (take r.count r.steps.now)) c.args.control c.args.on (subst (λ (s : Step). MayFollow g.D.Validates.verdict r.plan.now (past (take r.count r.steps.now)) s) c.requires.step (rw (← c.self.view_is) at c.requires.follows)) in
-    let many : length c.in_ok-grabs.grabs.items ≡ length r.plan.now.controls = ap length (c.in_ok-grabs.ensures ∙ c.as_slice.ensures.value ∙ c.self.invariant.made.grabs) ∙ length_grabbed r.plan.now (past (take r.count r.steps.now)) in
-    omega (arith, known, many, c.in_ok-grabs.grabs.ok.0)
+    let known : c.args.control < length r.plan.now.controls = grab_known g.D.Validates.verdict r.plan.now (past (take r.count r.steps.now)) c.args.control c.args.on (rw (← c.self.view_is) at c.requires.follows) in
+    let many : length c.in_ok-grabs.grabs.items ≡ length r.controls.ranges = ap length c.in_ok-grabs.ensures ∙ c.grabs.ensures.many in
+    omega (arith, known, many, (ranges_there g.D.Validates.verdict r.plan.now r.steps.now r.count _ c.self.invariant).many, c.in_ok-grabs.grabs.ok.0)
 
--- there is a range, a value and a grab for each control, before and afterwards
-pub raise_step-requires-clause-ranges_before : goal.raise_step-requires-clause-ranges_before
-raise_step-requires-clause-ranges_before g c = ap (λ (m : MomentData). length m.ranges) c.new.ensures ∙ ap length c.self.invariant.made.ranges ∙ (ranges_own c.self.inside.plan.now (past (take c.self.inside.count c.self.inside.steps.now))).many
-
-pub raise_step-requires-clause-ranges : goal.raise_step-requires-clause-ranges
-raise_step-requires-clause-ranges g c = ap (λ (m : MomentData). length m.ranges) c.new-2.ensures ∙ ap length c.self.invariant.made.ranges ∙ (ranges_own c.self.inside.plan.now (past (take c.self.inside.count c.self.inside.steps.now))).many
-
-pub raise_step-requires-clause-values_before : goal.raise_step-requires-clause-values_before
-raise_step-requires-clause-values_before g c =
+pub grab-requires : goal.grab-requires
+grab-requires g c =
     let r = c.self.inside in
-    ap (λ (m : MomentData). length m.values) c.new.ensures ∙ ap length (c.as_slice-2.ensures.value ∙ c.self.invariant.made.values) ∙ length_now g.D.Validates.verdict r.plan.now (past (take r.count r.steps.now))
+    let known : c.args.control < length r.plan.now.controls = grab_known g.D.Validates.verdict r.plan.now (past (take r.count r.steps.now)) c.args.control c.args.on (rw (← c.self.view_is) at c.requires.follows) in
+    omega (arith, known, (ranges_there g.D.Validates.verdict r.plan.now r.steps.now r.count _ c.self.invariant).many)
 
-pub raise_step-requires-clause-grabs_before : goal.raise_step-requires-clause-grabs_before
-raise_step-requires-clause-grabs_before g c =
-    let r = c.self.inside in
-    ap (λ (m : MomentData). length m.grabs) c.new.ensures ∙ ap length (c.as_slice-3.ensures.value ∙ c.self.invariant.made.grabs) ∙ length_grabbed r.plan.now (past (take r.count r.steps.now))
+-- the ranges are of the plan's controls
+pub to_grabs-change-requires-clause-plan : goal.to_grabs-change-requires-clause-plan
+to_grabs-change-requires-clause-plan g c = ranges_there g.D.Validates.verdict c.self.inside.plan.now c.self.inside.steps.now c.self.inside.count _ c.self.invariant
 
-pub raise_step-requires-clause-values : goal.raise_step-requires-clause-values
-raise_step-requires-clause-values g c =
-    let r = c.self.inside in
-    ap (λ (m : MomentData). length m.values) c.new-2.ensures ∙ ap length (c.as_slice-4.ensures.value ∙ c.self.invariant.made.values) ∙ length_now g.D.Validates.verdict r.plan.now (past (take r.count r.steps.now))
+pub to_grabs-change-requires-clause-grabs : goal.to_grabs-change-requires-clause-grabs
+to_grabs-change-requires-clause-grabs g c = ap length c.as_slice.ensures.value ∙ length-set c.in_ok-grabs.grabs.items c.args.control c.args.on ∙ ap length c.in_ok-grabs.ensures ∙ c.grabs.ensures.many
 
-pub raise_step-requires-clause-grabs : goal.raise_step-requires-clause-grabs
-raise_step-requires-clause-grabs g c =
-    let r = c.self.inside in
-    let made = c.self.invariant.made in
-    let step : c.args.entry.now.step ≡ steps.Grab c.args.control c.args.on = c.requires.step in
-    let P : List (Entry Step) = past (take r.count r.steps.now) in
-    ap (λ (m : MomentData). length m.grabs) c.new-2.ensures ∙ ap length c.as_slice-5.ensures.value
-    ∙ ap (λ (gs : Grabs). length (slice_set gs c.args.control c.args.on)) (c.in_ok-grabs.ensures ∙ c.as_slice.ensures.value ∙ made.grabs)
-    ∙ ap length (sym (grabbed_more r.plan.now c.args.entry.now P ∙ ap (λ (s : Step). grabbed_after s (grabbed r.plan.now P)) step)) ∙ length_grabbed r.plan.now (c.args.entry.now ∷ P)
-
-pub raise_step-requires-clause-numbers : goal.raise_step-requires-clause-numbers
-raise_step-requires-clause-numbers g c = numbered g.D.Validates.verdict c.self.inside.plan.now c.self.inside.steps.now c.self.inside.count _ c.self.invariant
+-- there are numbers
+pub raise_step-requires : goal.raise_step-requires
+raise_step-requires g c = record { numbers = rw c.to_grabs-change.ensures.plan (numbered g.D.Validates.verdict c.self.inside.plan.now c.self.inside.steps.now c.self.inside.count _ c.self.invariant) }
 
 -- it is grabbed now, or let go, and those are told whose flags differ
 pub invariant_of-self : goal.invariant_of-self
 invariant_of-self g c =
     let r = c.self.inside in
     let made = c.self.invariant.made in
-    let step : c.args.entry.now.step ≡ steps.Grab c.args.control c.args.on = c.requires.step in
-    let P : List (Entry Step) = past (take r.count r.steps.now) in
-    let kept : slice_set c.in_ok-grabs.grabs.items c.args.control c.args.on ≡ slice_set (grabbed r.plan.now P) c.args.control c.args.on =
-    ap (λ (gs : Grabs). slice_set gs c.args.control c.args.on) (c.in_ok-grabs.ensures ∙ c.as_slice.ensures.value ∙ made.grabs) in
-    let around : AreAround g.D.Validates.verdict r.plan.now c.args.entry.now P c.new.result c.new-2.result = record {
-      old_ranges = ap (λ (m : MomentData). m.ranges) c.new.ensures ∙ made.ranges;
-      old_values = ap (λ (m : MomentData). m.values) c.new.ensures ∙ c.as_slice-2.ensures.value ∙ made.values;
-      old_grabs = ap (λ (m : MomentData). m.grabs) c.new.ensures ∙ c.as_slice-3.ensures.value ∙ made.grabs;
-      ranges = ap (λ (m : MomentData). m.ranges) c.new-2.ensures ∙ made.ranges ∙ sym (ranges_more r.plan.now c.args.entry.now P ∙ ap (λ (s : Step). ranges_after s (ranges_now r.plan.now P)) step);
-      values = ap (λ (m : MomentData). m.values) c.new-2.ensures ∙ c.as_slice-4.ensures.value ∙ made.values ∙ sym (values_controls_left g.D.Validates.verdict r.plan.now c.args.entry.now P (ap (λ (s : Step). values_after g.D.Validates.verdict r.plan.now P s (now g.D.Validates.verdict r.plan.now P)) step));
-      grabs = ap (λ (m : MomentData). m.grabs) c.new-2.ensures ∙ c.as_slice-5.ensures.value ∙ kept ∙ sym (grabbed_more r.plan.now c.args.entry.now P ∙ ap (λ (s : Step). grabbed_after s (grabbed r.plan.now P)) step);
-    } in
-    replay_add g.D.Validates.verdict r.plan.now r.steps.now r.count _ _ c.args.entry.now c.self.invariant (rw (← c.self.view_is) at c.requires.next) (rw (← c.self.view_is) at c.requires.room) (rw (← c.self.view_is) at c.requires.follows)
-    (rw step made.file_handles) (rw step kept) (rw step made.ranges) (rw step made.values) (rw step made.frames)
-    (c.raise_step.ensures g.D.Validates.verdict c.args.entry.now P around (rw step (refl, refl)))
+    let grabs : c.as_slice.result.now ≡ slice_set r.controls.grabs c.args.control c.args.on =
+    c.as_slice.ensures.value ∙ ap (λ (gs : Grabs). slice_set gs c.args.control c.args.on) (c.in_ok-grabs.ensures ∙ c.grabs.ensures.grabs) in
+    replay_raise g.D.Validates.verdict r.plan.now c.to_grabs-change.result.before.plan.now r.steps.now r.count _ _ (steps.Grab c.args.control c.args.on) _ _ _ _ c.self.invariant
+    (rw (← c.self.view_is) at c.requires.next) (rw (← c.self.view_is) at c.requires.room) (rw (← c.self.view_is) at c.requires.follows) made.file_handles
+    (ap (λ (d : ControlsData). d.ranges) c.grab.ensures ∙ made.ranges) (ap (λ (d : ControlsData). d.values) c.grab.ensures ∙ made.values)
+    (ap (λ (d : ControlsData). d.grabs) c.grab.ensures ∙ ap (λ (gs : Grabs). slice_set gs c.args.control c.args.on) made.grabs) made.frames
+    c.to_grabs-change.ensures.plan c.to_grabs-change.ensures.before
+    (c.to_grabs-change.ensures.after ∙ ap (λ (gs : Grabs). record r.controls { grabs = gs }) grabs ∙ sym c.grab.ensures)
+    (refl, refl) c.raise_step.ensures
 
 -- one more step was replayed
 pub returns-clause-ok : goal.returns-clause-ok
-returns-clause-ok g c =
-    let r = c.self.inside in
-    let next = rw (← c.self.view_is) at c.requires.next in
-    rw (← c.self.view_is) (ap (λ (s : List (Entry Step)). (let d : ReplayData = record { plan = r.plan.now; steps = s; all = r.steps.now } in d)) (replayed_next r.steps.now r.count c.args.entry.now c.self.invariant.within next).0)
+returns-clause-ok g c = rw (← c.self.view_is) (behind_next c.self.inside.plan.now c.self.inside.steps.now c.self.inside.count c.self.invariant.within)

@@ -1,4 +1,4 @@
-use Rattle.std.proofs.Common.{◌≡◌, sym}
+use Rattle.std.proofs.Common.{sym}
 use Rattle.history_audit.proofs.MadeLemmas.{taken_many}
 use Rattle.history_audit.proofs.replay.Replay.replayed.Goals as goal
 

@@ -1,4 +1,4 @@
-use Rattle.std.proofs.Common.{◌≡◌, ◌∙◌, ◌++◌, ◌∷◌, [], None, OnOk, OnErr, Result, Ok, Err, ap, sym, subst, nat_eq, length, arith}
+use Rattle.std.proofs.Common.{◌≡◌, ◌∙◌, ◌++◌, ◌∷◌, [], None, OnErr, Result, Ok, Err, ap, sym, subst, nat_eq, length, arith}
 use Rattle.std.specs.Map.{lookup}
 use Rattle.slab.specs.Slab.{Slab, get, slab_len}
 use Rattle.indexmap.specs.IndexMap.{insert_entry}
@@ -31,11 +31,11 @@ returns-in_err-reserve-2-clause-err c = holds_number c.from_residual-in_err-rese
     holds_number (Err error) = ap (λ rs. record { controls = c.self.inside.controls; all = rs }) is ∙ c.self.view_is
 
 -- room was made: the object stands under a key that was free, and the id is there
-abbrev stands : goal.Joined-insert → Type 0
+abbrev stands : goal.After-unwrap → Type 0
 stands c = IsObjectTable c.self.inside.controls c.insert_reserved-key.new.self c.insert.new.self.entries
     × (requests_of_entries c.insert_reserved-key.new.self c.insert.new.self.entries ≡ requests_of_entries c.self.inside.slots c.self.inside.ids.entries ++ new_request c.args.id ∷ [])
 
-standing : (c : goal.Joined-insert) → stands c
+standing : (c : goal.After-unwrap) → stands c
 standing c =
     let n = c.self.inside.controls in
     let kept = same_get n c.self.inside.slots c.reserve-2.new.self c.self.inside.ids.entries (λ key. ap (λ (s : Slab Object). get s key) c.reserve-2.ensures.rest_kept) c.self.invariant.named in
@@ -65,15 +65,10 @@ standing c =
 pub invariant_of-self-2 : goal.invariant_of-self-2
 invariant_of-self-2 c = (standing c).0
 
+-- there was room for the id
+pub unwrap-requires : goal.unwrap-requires
+unwrap-requires c = c.insert.ensures.succeeds (omega (arith, c.in_ok-reserve.ensures.ok))
+
 pub returns-clause-ok : goal.returns-clause-ok
-returns-clause-ok c = holds_number c.match-insert.result
-  where
-    Done : Type 0
-    Done = ◌≡◌ {A = RequestsData} (record { controls = c.self.inside.controls; all = requests_of_entries c.insert_reserved-key.new.self c.insert.new.self.entries }) (record { controls = c.args.self.now.controls; all = c.args.self.now.all ++ new_request c.args.id ∷ [] })
-
-    is : Done
-    is = ap (λ rs. record { controls = c.self.inside.controls; all = rs }) (standing c).1 ∙ ap (λ (r : RequestsData). record { controls = r.controls; all = r.all ++ new_request c.args.id ∷ [] }) c.self.view_is
-
-    holds_number : (r : Result (Unit {0}) AllocError) → OnOk r Done
-    holds_number (Ok done) = is
-    holds_number (Err error) = tt
+returns-clause-ok c =
+    ap (λ rs. record { controls = c.self.inside.controls; all = rs }) (standing c).1 ∙ ap (λ (r : RequestsData). record { controls = r.controls; all = r.all ++ new_request c.args.id ∷ [] }) c.self.view_is

@@ -1,4 +1,4 @@
-use Rattle.std.proofs.Common.{◌≡◌, ◌∙◌, ℕ, sym, ap, Option, None, Some}
+use Rattle.std.proofs.Common.{◌∙◌, ℕ, sym, ap, Option}
 use Rattle.std.specs.Option.{option_map, option_and_then}
 use Rattle.req_book.specs.declared.object.Object.{Object}
 use Rattle.req_book.specs.Objects.{request_at, request_of_entry}

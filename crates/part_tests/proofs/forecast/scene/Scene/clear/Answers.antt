@@ -4,11 +4,7 @@ use Rattle.ctrl_forecast.specs.Forecasts.{forecasts}
 use Rattle.part_tests.specs.Verdicts.{ordered_verdict}
 use Rattle.part_tests.proofs.forecast.scene.Scene.clear.Goals as goal
 
-pub returns : goal.returns
+pub invariant_of-self-clause-kept : goal.invariant_of-self-clause-kept
 unfolding forecasts
-returns c = record {
-  ranges_own = c.requires.ranges_own;
-  values_many = c.requires.values_many;
-  grabs_many = c.requires.grabs_many;
-  kept = c.clear-2.ensures ∙ ap (board_of ordered_verdict c.args.plan.now c.args.self.now.ranges c.args.self.now.grabs.items c.args.self.now.values.items) (sym (ap (λ (b : BoardData). b.queued) c.clear-2.ensures));
-}
+invariant_of-self-clause-kept c =
+    c.clear-2.ensures ∙ ap (board_of ordered_verdict c.args.self.now.plan.now c.args.self.now.controls.ranges c.args.self.now.controls.values c.args.self.now.controls.grabs) (sym (ap (λ (b : BoardData). b.queued) c.clear-2.ensures))
