@@ -1,3 +1,2 @@
 pub mod Errnos
-pub mod Failed
-pub mod Fitting
+pub mod ListReasons

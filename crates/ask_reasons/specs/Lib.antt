@@ -1,4 +1,1 @@
-pub mod Checks
-pub mod Singles
-pub mod Lists
 pub mod Reasons

@@ -1,19 +1,16 @@
-//! Lists of controls.
+//! Lists of controls: the checks are made anew, by the calls that answer the list.
 
-ghost use Rattle.std.specs.Prelude.{◌≡◌, ◌++◌, true, Option, None, Some, IfOk};
+ghost use Rattle.std.specs.Prelude.{◌≡◌, ◌≢◌, IfOk};
 ghost use Rattle.std.specs.Option.{option_map};
 ghost use Rattle.history.specs.Past.{past};
-ghost use Rattle.ctrl_types.specs.declared.ids.RequestId.{RequestId as RequestIdOf};
-ghost use Rattle.ctrl_lists.specs.Checks.{first_refusal, write_checks};
-ghost use Rattle.ctrl_lists.specs.Failed.{first_failed};
-ghost use Rattle.device_history.specs.Lists.{opening_checks, write_view};
-ghost use Rattle.ask_reasons.specs.Lists.{get_reason, name_of, opening_names, reason_at, request_part, set_reason, try_names, try_reason, writing_part};
+ghost use Rattle.ctrl_lists.specs.Checks.{first_refusal, memory_refusal};
+ghost use Rattle.device_history.specs.Lists.{get_checks, set_checks, try_checks};
+ghost use Rattle.ask_reasons.specs.Reasons.{reason_at};
 
-use crate::check::Check;
 use crate::reason::Reason;
 use ctrl_calls::{Driver, Work};
-use ctrl_lists::{Failed, ListCheck, failed_read, failed_write};
-use ctrl_types::{Errno, FhId, RequestId, Which};
+use ctrl_lists::{Refusal, plan_set, read_list, try_list};
+use ctrl_types::{Check, FhId, RequestId};
 use device_state::{ControlList, Device};
 use std::alloc::{AllocError, Global};
 
@@ -26,14 +23,16 @@ pub(crate) fn get_reason<D: Driver>(
     request: Option<RequestId>,
     list: &ControlList,
 ) -> Result<Option<Reason>, AllocError>
-    ensures { IfOk result (λ reason. reason ≡ get_reason D.verdict device.now.plan (past device.now.steps) fh which request list.now) }
+    ensures { IfOk result (λ reason. reason ≡ option_map reason_at (first_refusal (get_checks D.verdict device.now.plan (past device.now.steps) fh which request list.now))) }
 {
     let view = match device.read_view(fh, which, request) {
         Ok(view) => view,
-        Err(errno) => return Ok(Some(opening_reason(device, fh, which, false, errno))),
+        Err(check) => return Ok(Some(Reason::as_whole(check))),
     };
-    let failed = failed_read(alloc, &view, list)?;
-    Ok(named(failed))
+    match read_list(alloc, &view, list) {
+        Ok(_) => Ok(None),
+        Err(refusal) => Ok(Some(reason_at(refusal)?)),
+    }
 }
 
 /// Why a set is refused.
@@ -45,13 +44,17 @@ pub(crate) fn set_reason<D: Driver>(
     request: Option<RequestId>,
     list: &ControlList,
 ) -> Result<Option<Reason>, AllocError>
-    ensures { IfOk result (λ reason. reason ≡ set_reason D.verdict device.now.plan (past device.now.steps) fh which request list.now) }
+    ensures { IfOk result (λ reason. reason ≡ option_map reason_at (first_refusal (set_checks D.verdict device.now.plan (past device.now.steps) fh which request list.now))) }
 {
-    let reason = write_reason(alloc, device, fh, which, request, true, list)?;
-    if reason.is_none() && device.is_full() {
-        Ok(Some(Reason::as_whole(Check::RoomForSet)))
-    } else {
-        Ok(reason)
+    let view = match device.write_view(fh, which, request) {
+        Ok(view) => view,
+        Err(check) => return Ok(Some(Reason::as_whole(check))),
+    };
+    let mut work = Work::new();
+    match plan_set(alloc, &view, list, &mut work) {
+        Ok(_) if device.is_full() => Ok(Some(Reason::as_whole(Check::NoRoomForSet))),
+        Ok(_) => Ok(None),
+        Err(refusal) => Ok(Some(reason_at(refusal)?)),
     }
 }
 
@@ -64,98 +67,29 @@ pub(crate) fn try_reason<D: Driver>(
     request: Option<RequestId>,
     list: &ControlList,
 ) -> Result<Option<Reason>, AllocError>
-    ensures { IfOk result (λ reason. reason ≡ try_reason D.verdict device.now.plan (past device.now.steps) fh which request list.now) }
-{
-    write_reason(alloc, device, fh, which, request, false, list)
-}
-
-// Why a list that writes is refused, the limit of steps aside.
-fn write_reason<D: Driver>(
-    alloc: Global,
-    device: &Device<D>,
-    fh: FhId,
-    which: u32,
-    request: Option<RequestId>,
-    is_set: bool,
-    list: &ControlList,
-) -> Result<Option<Reason>, AllocError>
-    ensures { IfOk result (λ reason. reason ≡ first_failed reason_at try_names (opening_checks D.verdict device.now.plan (past device.now.steps) fh which request true ++ write_checks D.verdict device.now.plan (write_view D.verdict device.now.plan (past device.now.steps) fh which request) is_set list.now)) }
+    ensures { IfOk result (λ reason. reason ≡ option_map reason_at (first_refusal (try_checks D.verdict device.now.plan (past device.now.steps) fh which request list.now))) }
 {
     let view = match device.write_view(fh, which, request) {
         Ok(view) => view,
-        Err(errno) => return Ok(Some(opening_reason(device, fh, which, true, errno))),
+        Err(check) => return Ok(Some(Reason::as_whole(check))),
     };
     let mut work = Work::new();
-    let failed = failed_write(alloc, &view, is_set, list, &mut work)?;
-    Ok(named(failed))
-}
-
-// Which of the checks that every list begins with refuses one with an errno.
-fn opening_reason<D: Driver>(
-    device: &Device<D>,
-    fh: FhId,
-    which: u32,
-    writes: bool,
-    errno: Errno,
-) -> Reason
-    ensures { (request : Option RequestIdOf) → first_refusal (opening_checks D.verdict device.now.plan (past device.now.steps) fh which request writes) ≡ Some (record { errno = errno; place = None })
-        → Some result ≡ first_failed reason_at opening_names (opening_checks D.verdict device.now.plan (past device.now.steps) fh which request writes) }
-{
-    if device.handler_of(fh).is_none() {
-        return Reason::as_whole(Check::ListHandle);
-    }
-    match Which::read(which) {
-        Err(_) => Reason::as_whole(Check::WhichReadable),
-        Ok(Which::Defaults) if writes => Reason::as_whole(Check::NotDefaults),
-        Ok(_) => Reason::as_whole(request_part(errno)),
+    match try_list(alloc, &view, list, &mut work) {
+        Ok(_) => Ok(None),
+        Err(refusal) => Ok(Some(reason_at(refusal)?)),
     }
 }
 
-// What is told of a check that ctrl_lists names.
-fn named(failed: Option<Failed>) -> Option<Reason>
-    ensures { result ≡ option_map (λ f. reason_at (name_of f.check) f.refusal) failed }
+// How a refusal of a list is told. Want of memory is no reason: another run may have enough.
+fn reason_at(refusal: Refusal) -> Result<Reason, AllocError>
+    ensures reason { IfOk result (λ reason. reason ≡ reason_at refusal) }
+    ensures own { IfOk result (λ reason. refusal ≢ memory_refusal) }
 {
-    match failed {
-        Some(failed) => Some(Reason {
-            check: name_of(failed.check, failed.refusal.errno),
-            entry: failed.refusal.place,
+    match refusal.check {
+        Check::MemoryRefused => Err(AllocError),
+        check => Ok(Reason {
+            check,
+            entry: refusal.place,
         }),
-        None => None,
-    }
-}
-
-fn name_of(check: ListCheck, errno: Errno) -> Check
-    ensures { result ≡ name_of check errno }
-{
-    match check {
-        ListCheck::Count => Check::EntryCount,
-        ListCheck::Class => Check::ClassShown,
-        ListCheck::Naming => Check::EntryNamed,
-        ListCheck::Reading => Check::EntryReadable,
-        ListCheck::Writing => writing_part(errno),
-        ListCheck::Judging => Check::ClusterTakes,
-    }
-}
-
-// What a request that a list speaks of doesn't meet, by its errno.
-fn request_part(errno: Errno) -> Check
-    ensures { result ≡ request_part errno }
-{
-    match errno {
-        Errno::EBUSY => Check::RequestIdle,
-        Errno::EACCES => Check::RequestComplete,
-        _ => Check::RequestThere,
-    }
-}
-
-// What an entry of a list that writes doesn't meet, by its errno.
-fn writing_part(errno: Errno) -> Check
-    ensures { result ≡ writing_part errno }
-{
-    match errno {
-        Errno::EACCES => Check::EntryWritable,
-        Errno::EBUSY => Check::EntryNotGrabbed,
-        Errno::ERANGE => Check::EntryInRange,
-        _ => Check::EntryFits,
     }
 }

@@ -3,10 +3,9 @@ ghost use Rattle.std.specs.Option.{option_map};
 ghost use Rattle.history.specs.Past.{past};
 ghost use Rattle.ask_reasons.specs.Reasons.{as_whole, reason_of};
 
-use crate::check::Check;
 use crate::lists::{get_reason, set_reason, try_reason};
-use crate::singles::check_of;
 use ctrl_calls::Driver;
+use ctrl_types::Check;
 use device_state::{Ask, Device};
 use std::alloc::{AllocError, Global};
 
@@ -65,7 +64,7 @@ pub fn reason_of<D: Driver>(
             request,
             list,
         } => try_reason(alloc, device, *fh, *which, *request, list),
-        _ => Ok(as_wholes(check_of(device, ask))),
+        _ => Ok(as_wholes(device.check_of(ask))),
     }
 }
 

@@ -75,8 +75,6 @@ fn print_frames<D: Driver, W: Write>(
             Err(_) => Outcome::WriteFault,
         };
     }
-    // no more are queued than steps were taken, so that each place is a u32, as the contract of `steps` says
-    let _taken = device.steps();
     for place in 0..count as u32 {
         match print_frame(device, place, writer, line) {
             Ok(()) => {}

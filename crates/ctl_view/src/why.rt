@@ -2,10 +2,10 @@
 
 use crate::reply::wanted_by;
 use crate::words::{control_of, members_beside, put_name, word_of};
-use ask_reasons::{Check, Reason};
+use ask_reasons::{Reason, text_of};
 use ctl_script::ControlWords;
 use ctrl_calls::Driver;
-use ctrl_types::{CtrlId, CtrlValue, Fault, Kind, Pair, last_value};
+use ctrl_types::{Check, CtrlId, CtrlValue, Fault, Kind, Pair, last_value};
 use device_state::{Ask, Device, Plan};
 use script_replies::{ReplyLine, write_answer};
 use std::io::Write;
@@ -35,7 +35,8 @@ pub fn put_refusal<D: Driver>(
     }
 }
 
-/// Puts on a page the check that an ask was refused by, and what didn't hold.
+/// Puts on a page the check that an ask was refused by, behind it in brackets the part of it that is meant, where docs/RULES.md numbers its parts, and what
+/// didn't hold.
 pub fn put_check<D: Driver>(
     page: &mut Page,
     known: &ControlWords,
@@ -45,12 +46,17 @@ pub fn put_check<D: Driver>(
 ) {
     page.put("check ");
     page.put_number(i64::from(reason.check.number()));
+    if let Some(part) = reason.check.part() {
+        page.put(" (");
+        page.put_number(i64::from(part));
+        page.put(")");
+    }
     page.put(", ");
-    page.put(reason.check.text());
-    if let (Check::ClusterTakes, Some(id)) = (reason.check, id_at(ask, reason.entry)) {
+    page.put(text_of(reason.check));
+    if let (Check::RowRefused(_), Some(id)) = (reason.check, id_at(ask, reason.entry)) {
         put_row(page, known, device, ask, id);
     }
-    if reason.check == Check::EntryFits {
+    if reason.check == Check::ValueNotOfKind {
         put_form(page, device.plan(), ask, reason.entry);
     }
 }
@@ -63,24 +69,13 @@ fn put_form<D: Driver>(page: &mut Page, plan: &Plan<D>, ask: &Ask, entry: Option
     let Some(ctrl) = plan.controls().iter().find(|ctrl| ctrl.id() == id) else {
         return;
     };
-    let is_number = match value_at(ask, entry) {
-        Some(CtrlValue::Number(_)) => true,
-        _ => false,
-    };
     match ctrl.kind() {
         Kind::U8 => {
             let elems = ctrl.elems();
             let _ = write!(page, ": it is an array of {elems} bytes");
         }
-        _ if is_number => page.put(": the menu skips this item"),
         _ => page.put(": it takes a number"),
     }
-}
-
-// The value that an entry of a list that writes asks for.
-fn value_at(ask: &Ask, entry: Option<u32>) -> Option<CtrlValue> {
-    let found = wanted_by(ask).get(entry? as usize)?;
-    Some(found.value)
 }
 
 // The entry that is refused, and the control that it or the ask names.

@@ -2,16 +2,13 @@ ghost use Rattle.std.specs.Prelude.{◌≡◌, ◌<◌, length, slice_set, IfOk}
 ghost use Rattle.ctrl_handlers.specs.Plan.{control_in};
 ghost use Rattle.ctrl_clusters.specs.ControlsData.{at_start, given_range};
 ghost use Rattle.ctrl_clusters.specs.Moments.{parts, parts_after};
-ghost use Rattle.ctrl_clusters.specs.NewRows.{AreNewRows, written};
 ghost use Rattle.ctrl_clusters.specs.Ranges.{HasRangeFor, StayControlsOf};
 ghost use Rattle.ctrl_clusters.specs.Rows.{AreControlsOf, value_at};
 
 use crate::change::Change;
 use crate::moment::Moment;
-use crate::new_row::NewRow;
 use crate::ranges::Ranges;
 use crate::start::{default_values, no_grabs};
-use crate::writing::write_rows;
 use ctrl_calls::Driver;
 use ctrl_handlers::Plan;
 use ctrl_settle::Ctrl;
@@ -176,18 +173,6 @@ impl Controls {
         ensures old { result.items ≡ self.old.values }
     {
         mem::replace(&mut self.values, values)
-    }
-
-    /// Writes the rows that some clusters get into the values. It takes no memory and refuses nothing.
-    ///
-    /// - `plan`: what the device is built of; the caller owes that these are its controls.
-    /// - `rows`: the rows; the caller owes that each is of another cluster of the plan, and has a value for each member.
-    pub fn write_rows<D: Driver>(&mut self, plan: &Plan<D>, rows: &[NewRow])
-        requires plan { AreControlsOf plan.now self.old.ranges }
-        requires rows { AreNewRows plan.now rows.now }
-        ensures { self.new ≡ record self.old { values = written plan.now self.old.values rows.now } }
-    {
-        write_rows(plan, &mut self.values, rows);
     }
 
     /// Gives a control another range, and the value that it has under it (Linux driver API, `v4l2_ctrl_modify_range`). It takes no memory and refuses nothing.

@@ -8,8 +8,8 @@ use Rattle.std.specs.Map.{lookup}
 use Rattle.ctrl_types.specs.Events.{joined, no_changes, sends_initial, allows_feedback}
 use Rattle.ctrl_types.specs.declared.changes.Changes.{Changes}
 use Rattle.ctrl_types.specs.declared.sub_flags.SubFlags.{SubFlags}
-use Rattle.ctrl_types.specs.declared.errno.Errno.{Errno}
-use Rattle.ctrl_types.specs.declared.errno.Errno.TheVariants.{ENOENT}
+use Rattle.ctrl_types.specs.declared.check.Check.{Check}
+use Rattle.ctrl_types.specs.declared.check.Check.TheVariants.{NoEventWaits}
 use Rattle.ctrl_events.specs.declared.event.Payload.{Payload}
 use Rattle.ctrl_events.specs.declared.event.Event.{Event}
 
@@ -77,10 +77,10 @@ event_of pending w = record {
   pending = pending;
 }
 
--- What a take answers: the first event that waits; ENOENT where none does.
-abbrev pub take_answer : List Waiting → Result Event Errno
-take_answer [] = Err ENOENT
-take_answer (w ∷ ws) = Ok (event_of (length ws) w)
+-- the first of some events that wait
+abbrev pub first_waiting : List Waiting → Result Event Check
+first_waiting [] = Err NoEventWaits
+first_waiting (w ∷ ws) = Ok (event_of (length ws) w)
 
 -- what waits behind the first
 abbrev pub behind_first : List Waiting → List Waiting

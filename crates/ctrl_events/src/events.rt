@@ -1,16 +1,15 @@
-ghost use Rattle.std.specs.Prelude.{◌≡◌, ◌↔◌, ◌<◌, ℕ, [], IsTrue, length, IfSome, IfErr, OnOk, slice_get, nat_eq};
+ghost use Rattle.std.specs.Prelude.{◌≡◌, ◌↔◌, ◌<◌, ℕ, [], IsTrue, length, IfSome, OnErr, OnOk, slice_get, nat_eq};
 ghost use Rattle.std.specs.Option.{option_map};
 ghost use Rattle.std.specs.List.{IsDistinct};
 ghost use Rattle.std.specs.Map.{keys_of};
-ghost use Rattle.ctrl_types.specs.declared.errno.Errno.TheVariants.{ENOMEM};
-ghost use Rattle.ctrl_events.specs.Events.{events_of, only_at, no_events, flags_in, event_at, after_subscribe, after_unsubscribe, take_answer, after_take, after_raise, is_from, WaitsForSubscribed, IsLike};
+ghost use Rattle.ctrl_events.specs.Events.{events_of, only_at, no_events, flags_in, event_at, after_subscribe, after_unsubscribe, first_waiting, after_take, after_raise, is_from, WaitsForSubscribed, IsLike};
 ghost use Rattle.ctrl_events.specs.Files.{changed_at, raised_in_entry};
 
 use crate::event::{Event, Payload, Waiting};
 use crate::queue::Queue;
-use ctrl_types::{Changes, Errno, FhId, SubFlags};
+use ctrl_types::{Changes, Check, FhId, SubFlags};
 use indexmap::IndexMap;
-use std::alloc::Global;
+use std::alloc::{AllocError, Global};
 use std::marker::Model;
 
 /// The control events of file handles. Contracts see what is kept of each: its subscriptions, the events that wait, in the order of their last
@@ -116,8 +115,8 @@ impl Events {
     /// - `control`: the number of a control.
     /// - `changes`, `payload`: what such an event says.
     ///
-    /// The caller owes that the number of the file handle's next event is below 4294967295. Refused by check 34 of docs/RULES.md (ENOMEM, 12),
-    /// which changes nothing.
+    /// The caller owes that the number of the file handle's next event is below 4294967295. The error is that a growth was refused; nothing is
+    /// changed then.
     pub fn subscribe(
         &mut self,
         fh: FhId,
@@ -125,15 +124,15 @@ impl Events {
         flags: SubFlags,
         changes: Changes,
         payload: &Payload,
-    ) -> Result<(), Errno>
+    ) -> Result<(), AllocError>
         requires { (events_of self.old fh.0).next < 4294967295 }
         ensures ok { OnOk result ((j : ℕ) → events_of self.new j ≡ only_at fh.0 (after_subscribe control flags changes payload.now) j (events_of self.old j)) }
-        ensures err { IfErr result (λ errno. (errno ≡ ENOMEM) × (self.new ≡ self.old)) }
+        ensures err { OnErr result (self.new ≡ self.old) }
     {
         match self.files.get_mut(&fh.0) {
             Some(queue) => match queue.subscribe(control, flags, changes, payload) {
                 Ok(()) => Ok(()),
-                Err(_) => Err(Errno::ENOMEM),
+                Err(error) => Err(error),
             },
             None => self.subscribe_first(fh, control, flags, changes, payload),
         }
@@ -147,18 +146,18 @@ impl Events {
         flags: SubFlags,
         changes: Changes,
         payload: &Payload,
-    ) -> Result<(), Errno>
+    ) -> Result<(), AllocError>
         requires { events_of self.old fh.0 ≡ no_events }
         ensures ok { OnOk result ((j : ℕ) → events_of self.new j ≡ only_at fh.0 (after_subscribe control flags changes payload.now) j (events_of self.old j)) }
-        ensures err { IfErr result (λ errno. (errno ≡ ENOMEM) × (self.new ≡ self.old)) }
+        ensures err { OnErr result (self.new ≡ self.old) }
     {
         let mut queue = Queue::new(self.alloc);
         if queue.subscribe(control, flags, changes, payload).is_err() {
-            return Err(Errno::ENOMEM);
+            return Err(AllocError);
         }
         match self.files.insert(fh.0, queue) {
             Ok(_) => Ok(()),
-            Err(_) => Err(Errno::ENOMEM),
+            Err(_) => Err(AllocError),
         }
     }
 
@@ -176,13 +175,13 @@ impl Events {
 
     /// Takes the first event that waits for a file handle (`VIDIOC_DQEVENT`). Refused by check 32 of docs/RULES.md (ENOENT, 2), which changes
     /// nothing. It takes no memory.
-    pub fn take(&mut self, fh: FhId) -> Result<Event, Errno>
-        ensures answer { result ≡ take_answer (events_of self.old fh.0).waiting }
+    pub fn take(&mut self, fh: FhId) -> Result<Event, Check>
+        ensures answer { result ≡ first_waiting (events_of self.old fh.0).waiting }
         ensures events { (j : ℕ) → events_of self.new j ≡ only_at fh.0 after_take j (events_of self.old j) }
     {
         match self.files.get_mut(&fh.0) {
             Some(queue) => queue.take(),
-            None => Err(Errno::ENOENT),
+            None => Err(Check::NoEventWaits),
         }
     }
 

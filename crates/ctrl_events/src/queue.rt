@@ -1,11 +1,11 @@
 ghost use Rattle.std.specs.Prelude.{◌≡◌, ◌<◌, ◌≤◌, true, [], length, is_some, filter, not, nat_eq, IsTrue, OnOk, OnErr, if◌then◌else◌};
 ghost use Rattle.std.specs.List.{list_any};
 ghost use Rattle.std.specs.Prelude.{vec_capacity};
-ghost use Rattle.ctrl_events.specs.Events.{no_events, flags_in, changes_in, other_events, event_of, event_at, raised, with_subscription, after_subscribe, after_unsubscribe, take_answer, after_take, reaches, WaitsForSubscribed};
+ghost use Rattle.ctrl_events.specs.Events.{no_events, flags_in, changes_in, other_events, event_of, event_at, raised, with_subscription, after_subscribe, after_unsubscribe, first_waiting, after_take, reaches, WaitsForSubscribed};
 
 use crate::event::{Event, Payload, Subscription, Waiting};
 use bitflags::Flags;
-use ctrl_types::{Changes, Errno, SubFlags};
+use ctrl_types::{Changes, Check, SubFlags};
 use std::alloc::{AllocError, Global};
 use std::marker::Model;
 
@@ -123,13 +123,13 @@ impl Queue {
         drop_events(&mut self.waiting, control);
     }
 
-    /// Takes the first event that waits; ENOENT (2) where none does.
-    pub(crate) fn take(&mut self) -> Result<Event, Errno>
-        ensures answer { result ≡ take_answer self.old.waiting }
+    /// Takes the first event that waits, where one does.
+    pub(crate) fn take(&mut self) -> Result<Event, Check>
+        ensures answer { result ≡ first_waiting self.old.waiting }
         ensures events { self.new ≡ after_take self.old }
     {
         if self.waiting.is_empty() {
-            return Err(Errno::ENOENT);
+            return Err(Check::NoEventWaits);
         }
         let first = self.waiting.remove(0);
         Ok(event_of(self.waiting.len() as u32, &first))

@@ -7,17 +7,17 @@ use Rattle.std.proofs.lemmas.List.Folds.{list_any-append}
 use Rattle.std.proofs.lemmas.List.Sums.{fold-append}
 use Rattle.std.proofs.lemmas.List.{drop_more, take_more}
 use Rattle.std.proofs.lemmas.List.Elements.{filter_map-append, All-push}
-use Rattle.ctrl_types.specs.declared.errno.Errno.{Errno}
+use Rattle.ctrl_types.specs.declared.check.Check.{Check}
 use Rattle.ctrl_types.specs.declared.ids.ExtControl.{ExtControl}
 use Rattle.ctrl_types.specs.declared.ids.Pair.{Pair}
 use Rattle.ctrl_handlers.specs.Plan.{PlanData, cluster_of}
 use Rattle.ctrl_lists.specs.View.{ViewData, named, pair_of}
-use Rattle.ctrl_lists.specs.Checks.{first_from, found_at, naming_refusal}
+use Rattle.ctrl_lists.specs.Checks.{first_from, found_at, naming_check}
 use Rattle.ctrl_lists.specs.Touched.{with_cluster, touched}
 use Rattle.ctrl_lists.specs.declared.refusal.Refusal.{Refusal}
 
 -- the next item is refused, or one behind it
-pub first_next : {X : Type 0} (refused : X → Option Errno) (n : ℕ) (xs : List X) (i : ℕ) (d : X) → i < length xs
+pub first_next : {X : Type 0} (refused : X → Option Check) (n : ℕ) (xs : List X) (i : ℕ) (d : X) → i < length xs
     → first_from refused n (drop i xs) ≡ found_at n (refused (get_or xs i d)) (first_from refused (n + 1) (drop (i + 1) xs))
 first_next refused n xs i d within = rw (drop_more xs i d within) refl
 
@@ -37,20 +37,20 @@ pub gave : {Y : Type 0} (found own : Option Y) (y : Y) → found ≡ own → fou
 gave found own y same is = sym same ∙ is
 
 -- an item that isn't refused is passed over
-pub passes : {X : Type 0} (refused : X → Option Errno) (all : Option Refusal) (xs : List X) (i : ℕ) (d : X) → i < length xs → refused (get_or xs i d) ≡ None
+pub passes : {X : Type 0} (refused : X → Option Check) (all : Option Refusal) (xs : List X) (i : ℕ) (d : X) → i < length xs → refused (get_or xs i d) ≡ None
     → first_from refused i (drop i xs) ≡ all → first_from refused (i + 1) (drop (i + 1) xs) ≡ all
 passes refused all xs i d within none left = sym (first_next refused i xs i d within ∙ rw none refl) ∙ left
 
 -- one that is refused is the first
-pub stops : {X : Type 0} (refused : X → Option Errno) (all : Option Refusal) (xs : List X) (i : ℕ) (d : X) (errno : Errno) → i < length xs → refused (get_or xs i d) ≡ Some errno
-    → first_from refused i (drop i xs) ≡ all → all ≡ Some (record { errno = errno; place = Some i })
-stops refused all xs i d errno within some left = sym left ∙ first_next refused i xs i d within ∙ rw some refl
+pub stops : {X : Type 0} (refused : X → Option Check) (all : Option Refusal) (xs : List X) (i : ℕ) (d : X) (check : Check) → i < length xs → refused (get_or xs i d) ≡ Some check
+    → first_from refused i (drop i xs) ≡ all → all ≡ Some (record { check = check; place = Some i })
+stops refused all xs i d check within some left = sym left ∙ first_next refused i xs i d within ∙ rw some refl
 
 -- an entry that gives a pair names a control
-pub names_one : (plan : PlanData) (view : ViewData) (entry : ExtControl) (p : Pair) → pair_of plan view.handler view.which entry ≡ Some p → naming_refusal plan view entry ≡ None
+pub names_one : (plan : PlanData) (view : ViewData) (entry : ExtControl) (p : Pair) → pair_of plan view.handler view.which entry ≡ Some p → naming_check plan view entry ≡ None
 names_one plan view entry p gives = by (named plan view.handler view.which entry.id) refl gives
   where
-    by : (o : Option ℕ) → named plan view.handler view.which entry.id ≡ o → option_map (λ c. record { control = c; value = entry.value }) o ≡ Some p → naming_refusal plan view entry ≡ None
+    by : (o : Option ℕ) → named plan view.handler view.which entry.id ≡ o → option_map (λ c. record { control = c; value = entry.value }) o ≡ Some p → naming_check plan view entry ≡ None
     by None is h = cc
     by (Some c) is h = rw is refl
 

@@ -1,13 +1,14 @@
 -- The rows that clusters get, and how many validators were asked for them.
-use Rattle.std.proofs.Common.{◌≡◌, ℕ, ◌<◌, ◌≤◌, ◌+◌, ◌==◌, Bool, true, false, cond, nat_eq, eq-eqb, option_map, get_or, List, [], ◌∷◌, ◌++◌, length, Option, None, Some, is_some, unwrap_or, Ok, Err, Result, IsTrue, refl, ap, sym, ◌∙◌, arith}
+use Rattle.std.proofs.Common.{◌≡◌, ℕ, ◌<◌, ◌≤◌, ◌+◌, ◌==◌, Bool, true, false, cond, nat_eq, eq-eqb, option_map, get_or, map, List, [], ◌∷◌, ◌++◌, length, Option, None, Some, is_some, unwrap_or, Ok, Err, Result, IsTrue, refl, ap, sym, ◌∙◌, arith}
 use Rattle.std.specs.List.{All, list_any}
 use Rattle.std.specs.Option.{option_and_then}
 use Rattle.std.proofs.lemmas.List.{length_push, map-append}
 use Rattle.std.proofs.lemmas.List.Folds.{list_any-append, list_any_at}
-use Rattle.std.proofs.lemmas.List.Elements.{All-weaker, All-from_get_or}
+use Rattle.std.proofs.lemmas.List.Elements.{All-from_get_or, All-get_or, All-head, All-tail, All-weaker}
 use Rattle.std.proofs.lemmas.List.Sums.{sum_by-append, sum_by-cons}
 use Rattle.ctrl_types.specs.Values.{zero_value}
 use Rattle.ctrl_types.specs.declared.value.CtrlValue.{CtrlValue}
+use Rattle.ctrl_types.specs.declared.check.Check.TheVariants.{RowRefused}
 use Rattle.ctrl_types.specs.declared.errno.Errno.{Errno}
 use Rattle.ctrl_types.specs.declared.ids.ExtControl.{ExtControl}
 use Rattle.ctrl_types.specs.declared.ids.Pair.{Pair}
@@ -24,7 +25,7 @@ use Rattle.ctrl_clusters.proofs.NewRowLemmas.{row_met, has_row}
 use Rattle.ctrl_clusters.proofs.OverlayLemmas.{any_of, row_after_free, held_not, or_true_right}
 use Rattle.ctrl_lists.specs.Lists.{ListData}
 use Rattle.ctrl_lists.specs.View.{ViewData}
-use Rattle.ctrl_lists.specs.Checks.{errno_if_refused, row_judged}
+use Rattle.ctrl_lists.specs.Checks.{row_check, row_judged}
 use Rattle.ctrl_lists.specs.Touched.{with_cluster, entry_in, AreRows, AreJudged, judged_count, with_calls}
 use Rattle.ctrl_lists.specs.Answers.{entry_judged}
 use Rattle.ctrl_lists.proofs.ListLemmas.{touched_has}
@@ -40,24 +41,24 @@ laid_becomes verdicts plan view laid c k among found =
 
 -- a cluster that has a row was accepted
 pub accepted : (verdicts : Verdicts) (plan : PlanData) (view : ViewData) (laid : List Pair) (rows : List NewRow) (c k : ℕ) → AreRows verdicts plan view.ranges view.values laid rows → IsTrue (is_among laid c) → cluster_of plan c ≡ Some k
-    → is_some (row_among rows k) ≡ true → errno_if_refused (row_judged verdicts plan view laid (Some k)) ≡ None
+    → is_some (row_among rows k) ≡ true → row_check (row_judged verdicts plan view laid (Some k)) ≡ None
 accepted verdicts plan view laid rows c k are among found there = by (row_among rows k) refl there
   where
-    by : (o : Option (List CtrlValue)) → row_among rows k ≡ o → is_some o ≡ true → errno_if_refused (row_judged verdicts plan view laid (Some k)) ≡ None
+    by : (o : Option (List CtrlValue)) → row_among rows k ≡ o → is_some o ≡ true → row_check (row_judged verdicts plan view laid (Some k)) ≡ None
     by None at is = cc
     by (Some row) at is =
-        ap errno_if_refused (laid_becomes verdicts plan view laid c k among found ∙ row_met (λ (j : ℕ) (x : List CtrlValue). validated_row verdicts plan view.ranges view.values laid j ≡ Ok x) rows k row are at)
+        ap row_check (laid_becomes verdicts plan view laid c k among found ∙ row_met (λ (j : ℕ) (x : List CtrlValue). validated_row verdicts plan view.ranges view.values laid j ≡ Ok x) rows k row are at)
 
 -- what a cluster's row becomes is what is laid
 pub accepted_now : (verdicts : Verdicts) (plan : PlanData) (view : ViewData) (laid : List Pair) (c k : ℕ) (row : List CtrlValue) → IsTrue (is_among laid c) → cluster_of plan c ≡ Some k
-    → Ok row ≡ validated_row verdicts plan view.ranges view.values laid k → errno_if_refused (row_judged verdicts plan view laid (cluster_of plan c)) ≡ None
+    → Ok row ≡ validated_row verdicts plan view.ranges view.values laid k → row_check (row_judged verdicts plan view laid (cluster_of plan c)) ≡ None
 accepted_now verdicts plan view laid c k row among found is =
-    ap (λ (o : Option ℕ). errno_if_refused (row_judged verdicts plan view laid o)) found ∙ ap errno_if_refused (laid_becomes verdicts plan view laid c k among found ∙ sym is)
+    ap (λ (o : Option ℕ). row_check (row_judged verdicts plan view laid o)) found ∙ ap row_check (laid_becomes verdicts plan view laid c k among found ∙ sym is)
 
 pub refused_now : (verdicts : Verdicts) (plan : PlanData) (view : ViewData) (laid : List Pair) (c k : ℕ) (errno : Errno) → IsTrue (is_among laid c) → cluster_of plan c ≡ Some k
-    → Err errno ≡ validated_row verdicts plan view.ranges view.values laid k → errno_if_refused (row_judged verdicts plan view laid (cluster_of plan c)) ≡ Some errno
+    → Err errno ≡ validated_row verdicts plan view.ranges view.values laid k → row_check (row_judged verdicts plan view laid (cluster_of plan c)) ≡ Some (RowRefused errno)
 refused_now verdicts plan view laid c k errno among found is =
-    ap (λ (o : Option ℕ). errno_if_refused (row_judged verdicts plan view laid o)) found ∙ ap errno_if_refused (laid_becomes verdicts plan view laid c k among found ∙ sym is)
+    ap (λ (o : Option ℕ). row_check (row_judged verdicts plan view laid o)) found ∙ ap row_check (laid_becomes verdicts plan view laid c k among found ∙ sym is)
 
 -- a cluster that has a row isn't added again
 pub added_not : (rows : List NewRow) (k : ℕ) → is_some (row_among rows k) ≡ true → clusters_of rows ≡ with_cluster (clusters_of rows) (Some k)
@@ -144,6 +145,20 @@ entry_same verdicts plan view laid pairs rows i d judged within among =
   where
     entry_with : PlanData → ℕ → CtrlValue → ExtControl
     entry_with plan c v = record { id = (control plan c).id; value = v }
+
+-- and all pairs theirs
+pub entries_same : (verdicts : Verdicts) (plan : PlanData) (view : ViewData) (laid pairs : List Pair) (rows : List NewRow)
+    → AreJudged verdicts plan view.ranges view.values laid pairs rows → All (λ p. IsTrue (is_among laid p.control)) pairs
+    → map (λ p. entry_in plan view.values rows p.control) pairs ≡ map (entry_judged verdicts plan view laid) pairs
+entries_same verdicts plan view laid pairs rows judged among =
+    each pairs
+    (All-from_get_or (λ p. entry_in plan view.values rows p.control ≡ entry_judged verdicts plan view laid p) pairs (record { control = 0; value = zero_value })
+    (λ i within. entry_same verdicts plan view laid pairs rows i (record { control = 0; value = zero_value }) judged within (All-get_or (λ (p : Pair). IsTrue (is_among laid p.control)) pairs i (record { control = 0; value = zero_value }) within among)))
+  where
+    each : (ps : List Pair) → All (λ p. entry_in plan view.values rows p.control ≡ entry_judged verdicts plan view laid p) ps
+        → map (λ p. entry_in plan view.values rows p.control) ps ≡ map (entry_judged verdicts plan view laid) ps
+    each [] same = refl
+    each (p ∷ ps) same = rw (All-head (λ q. entry_in plan view.values rows q.control ≡ entry_judged verdicts plan view laid q) p ps same, each ps (All-tail (λ q. entry_in plan view.values rows q.control ≡ entry_judged verdicts plan view laid q) p ps same)) refl
 
 -- whether a cluster is among the rows, as it was looked up
 pub looked_up : {A : Type 0} (read : A → List CtrlValue) (rows : List NewRow) (k : ℕ) (found : Option A) (is b : Bool) → option_map read found ≡ row_among rows k → is ≡ is_some found → is ≡ b → is_some (row_among rows k) ≡ b

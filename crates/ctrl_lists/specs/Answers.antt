@@ -1,8 +1,8 @@
 -- What a list of controls is answered (Linux userspace API, "ioctl VIDIOC_G_EXT_CTRLS, VIDIOC_S_EXT_CTRLS, VIDIOC_TRY_EXT_CTRLS";
 -- which index a refusal has is of this project).
-use Rattle.std.specs.Prelude.{ℕ, Bool, true, false, not, List, [], ◌∷◌, map, length, Option, None, Some, unwrap_or, Result, Ok, Err}
+use Rattle.std.specs.Prelude.{ℕ, Bool, false, not, List, [], ◌∷◌, map, Option, None, Some, unwrap_or, Result, Ok, Err}
 use Rattle.ctrl_types.specs.declared.value.CtrlValue.{CtrlValue}
-use Rattle.ctrl_types.specs.declared.errno.Errno.TheVariants.{ENOMEM}
+use Rattle.ctrl_types.specs.Checks.{errno_of}
 use Rattle.ctrl_types.specs.declared.errno.Fault.{Fault}
 use Rattle.ctrl_types.specs.declared.ids.ExtControl.{ExtControl}
 use Rattle.ctrl_types.specs.declared.ids.Pair.{Pair}
@@ -15,7 +15,7 @@ use Rattle.ctrl_clusters.specs.Rows.{Values, value_at}
 use Rattle.ctrl_clusters.specs.Overlay.{value_after, no_grabs}
 use Rattle.ctrl_lists.specs.declared.refusal.Refusal.{Refusal}
 use Rattle.ctrl_lists.specs.View.{ViewData, pairs_of}
-use Rattle.ctrl_lists.specs.Checks.{first_refusal, is_long, pairs_judged, read_checks, write_checks}
+use Rattle.ctrl_lists.specs.Checks.{is_long, pairs_judged}
 
 -- what a list is answered: its entries with their values, or a fault
 abbrev pub ListAnswer : Type 0
@@ -23,11 +23,11 @@ ListAnswer = Result (List ExtControl) Fault
 
 -- A refusal of a get or a set has the number of entries as its index.
 abbrev pub fault_at_count : ℕ → Refusal → Fault
-fault_at_count count refusal = record { errno = refusal.errno; index = Some count }
+fault_at_count count refusal = record { errno = errno_of refusal.check; index = Some count }
 
 -- A refusal of a try has the place of the entry where it stands; the number of entries where it stands at none.
 abbrev pub fault_at_entry : ℕ → Refusal → Fault
-fault_at_entry count refusal = record { errno = refusal.errno; index = Some (unwrap_or refusal.place count) }
+fault_at_entry count refusal = record { errno = errno_of refusal.check; index = Some (unwrap_or refusal.place count) }
 
 -- the entries, unless something refuses the list
 abbrev pub answered : (Refusal → Fault) → Option Refusal → List ExtControl → ListAnswer
@@ -47,10 +47,6 @@ entry_read plan view p = record { id = (control plan p.control).id; value = valu
 abbrev pub entries_read : PlanData → ViewData → List ExtControl → List ExtControl
 entries_read plan view list = map (entry_read plan view) (pairs_of plan view.handler view.which list)
 
--- What a get is answered whose file handle and `which` are good, memory aside.
-unfoldable pub get_answer : PlanData → ViewData → List ExtControl → ListAnswer
-get_answer plan view list = answered (fault_at_count (length list)) (first_refusal (read_checks plan view list)) (entries_read plan view list)
-
 -- The value that a control has once its cluster was judged.
 abbrev pub value_judged : Verdicts → PlanData → ViewData → List Pair → ℕ → CtrlValue
 value_judged verdicts plan view pairs c = value_after verdicts plan view.ranges view.values no_grabs pairs c
@@ -63,21 +59,7 @@ entry_judged verdicts plan view pairs p = record { id = (control plan p.control)
 abbrev pub entries_judged : Verdicts → PlanData → ViewData → List ExtControl → List ExtControl
 entries_judged verdicts plan view list = map (entry_judged verdicts plan view (pairs_judged plan view list)) (pairs_of plan view.handler view.which list)
 
--- What a set is answered whose file handle and `which` are good, memory and the limit of steps aside.
-unfoldable pub set_answer : Verdicts → PlanData → ViewData → List ExtControl → ListAnswer
-set_answer verdicts plan view list =
-    answered (fault_at_count (length list)) (first_refusal (write_checks verdicts plan view true list)) (entries_judged verdicts plan view list)
-
--- What a try is answered whose file handle and `which` are good, memory aside.
-unfoldable pub try_answer : Verdicts → PlanData → ViewData → List ExtControl → ListAnswer
-try_answer verdicts plan view list =
-    answered (fault_at_entry (length list)) (first_refusal (write_checks verdicts plan view false list)) (entries_judged verdicts plan view list)
-
 -- Want of memory may stand in place of the answer of every list that has entries, and not too many.
 abbrev pub may_lack : List ExtControl → Bool
 may_lack [] = false
 may_lack (entry ∷ rest) = not (is_long (entry ∷ rest))
-
--- want of memory, for a list with this many entries
-abbrev pub no_memory : ℕ → Fault
-no_memory count = record { errno = ENOMEM; index = Some count }

@@ -15,7 +15,6 @@ pub use Rattle.ctrl_clusters.specs.Overlay
 pub use Rattle.ctrl_clusters.specs.NewRows
 pub mod View
 pub mod Checks
-pub mod Failed
 pub mod Touched
 pub mod Answers
 pub mod Lists

@@ -4,7 +4,6 @@
 
 mod checks;
 mod control_list;
-mod failed;
 mod limits;
 mod lists;
 mod naming;
@@ -15,7 +14,6 @@ mod view;
 
 pub use control_list::ControlList;
 pub use ctrl_clusters::{NewRow, NewRows};
-pub use failed::{Failed, ListCheck, failed_read, failed_write};
 pub use limits::MAX_ENTRIES;
 pub use lists::{plan_set, read_list, try_list};
 pub use refusal::Refusal;

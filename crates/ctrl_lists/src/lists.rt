@@ -1,124 +1,43 @@
-ghost use Rattle.std.specs.Prelude.{◌≡◌, ◌≢◌, ◌<◌, ◌≤◌, ◌+◌, ◌⊎◌, ◌++◌, true, false, None, Some, Ok, Err, length, map, IfOk, IfErr, OnOk, IsTrue};
+ghost use Rattle.std.specs.Prelude.{◌≡◌, ◌≢◌, ◌<◌, ◌≤◌, ◌+◌, ◌⊎◌, ◌++◌, true, false, None, Some, length, map, IfOk, IfErr, OnOk, IsTrue};
 ghost use Rattle.std.specs.List.{All};
 ghost use Rattle.ctrl_types.specs.declared.which.Which.TheVariants.{Defaults};
 ghost use Rattle.ctrl_clusters.specs.Overlay.{is_among};
 ghost use Rattle.ctrl_lists.specs.View.{pairs_of};
-ghost use Rattle.ctrl_lists.specs.Checks.{at_first, first_refusal, judging_refusal, read_checks, write_checks, memory_refusal};
+ghost use Rattle.ctrl_lists.specs.Checks.{at_first, first_refusal, judging_check, read_checks, write_checks, memory_refusal};
 ghost use Rattle.ctrl_lists.specs.Touched.{touched, AreJudged, IsTouched, judged_count, list_asks, with_calls};
-ghost use Rattle.ctrl_lists.specs.Answers.{value_read, entry_read, entry_judged, entries_judged, get_answer, set_answer, try_answer, may_lack, no_memory};
+ghost use Rattle.ctrl_lists.specs.Answers.{value_read, entry_read, entries_read, entry_judged, entries_judged, may_lack};
 ghost use Rattle.ctrl_lists.specs.declared.limits.TheConstants.{MAX_ENTRIES};
 
 use crate::checks::{check_whole, first_unreadable, first_unwritable};
 use crate::control_list::ControlList;
 use crate::naming::pairs_of;
 use crate::refusal::Refusal;
-use crate::rows::{entries_judged, judge_all};
+use crate::rows::{entries_in, judge_all};
 use crate::touched::Touched;
 use crate::view::View;
 use ctrl_calls::{Driver, Work};
 use ctrl_clusters::{NewRows, Ranges};
-use ctrl_types::{CtrlValue, ExtControl, Fault, Pair, Which};
+use ctrl_types::{CtrlValue, ExtControl, Pair, Which};
 use std::alloc::{AllocError, Global};
 
 /// Reads controls (Linux userspace API, "ioctl VIDIOC_G_EXT_CTRLS, VIDIOC_S_EXT_CTRLS, VIDIOC_TRY_EXT_CTRLS"; the order of the
-/// refusals, the index, and that a default of a WRITE_ONLY control isn't told are of this project). It answers one entry for each of the
-/// list, in its order: its control with the default where `view` speaks of the defaults, and else with its value in `view`. Nothing is
-/// changed.
+/// checks, and that a default of a WRITE_ONLY control isn't told are of this project). It answers one entry for each of the list, in its
+/// order: its control with the default where `view` speaks of the defaults, and else with its value in `view`. Nothing is changed.
 ///
 /// - `alloc`: where the answer lies.
 /// - `view`: what the list is checked against. Its grabs and pairs count for nothing.
 /// - `list`: the entries; their values are ignored. It is lent, and never changed.
 ///
-/// Refused by the first of the checks 4 to 7 of a list in docs/RULES.md that doesn't hold: EINVAL (22) or EACCES (13). ENOMEM (12) may
-/// stand in place of any answer from check 6 on, unless there are no entries. The index is the number of entries.
-#[tactic(auto, unfolding(crate::specs::Answers::get_answer))]
+/// Refused by the first of the checks 4 to 7 of a list in docs/RULES.md that doesn't hold: the check is answered, and, of the checks 6 and
+/// 7, the place of the first entry where it stands. Want of memory, check 34, may stand in place of any answer from check 6 on, unless there
+/// are no entries. `Refusal::at_count` makes the fault.
 pub fn read_list<D: Driver>(
     alloc: Global,
     view: &View<D>,
     list: &ControlList,
-) -> Result<ControlList, Fault>
-    ensures ok { IfOk result (λ answers. get_answer view.now.plan view.now.parts list.now ≡ Ok answers) }
-    ensures err { IfErr result (λ fault. (get_answer view.now.plan view.now.parts list.now ≡ Err fault) ⊎ (IsTrue (may_lack list.now) × (fault ≡ no_memory (length list.now)))) }
-{
-    match read_all(alloc, view, list) {
-        Ok(answers) => Ok(answers),
-        Err(unread) => Err(unread.at_count(list.len())),
-    }
-}
-
-/// Judges what a list that sets asks for (Linux userspace API, "ioctl VIDIOC_G_EXT_CTRLS, VIDIOC_S_EXT_CTRLS,
-/// VIDIOC_TRY_EXT_CTRLS"; Linux driver API, "V4L2 Controls", "Control Clusters"; the order of the refusals and the index are of this
-/// project). Each cluster with a control of the list gets a row: the members' values, overwritten by the pairs that `view` has from
-/// before and then by the list, of which the last of a control counts, settle in member order and are judged by the cluster's validator,
-/// which is asked at most once. Each entry is answered with its control's value of that row, so that an id that stands twice is answered
-/// one value. Nothing is changed here.
-///
-/// - `alloc`: where rows, answers and pairs lie.
-/// - `view`: what the list is checked against; the caller owes that it doesn't speak of the defaults, which can't be written.
-/// - `list`: the entries. It is lent, and never changed.
-/// - `work`: its count `asked` grows by one for each validator that is asked, by no more than the clusters that the list touches; `told`
-///   stays. After a refusal by check 8, or with ENOMEM, `asked` may have grown too; a list that the checks 4 to 7 refuse asks nobody.
-///
-/// Refused by the first of the checks 4 to 8 of a list in docs/RULES.md that doesn't hold: EACCES (13), EBUSY (16), EINVAL (22) or ERANGE
-/// (34). ENOMEM (12) may stand in place of any answer from check 6 on, unless there are no entries. The index is the number of entries.
-#[tactic(auto, unfolding(crate::specs::Answers::set_answer))]
-pub fn plan_set<D: Driver>(
-    alloc: Global,
-    view: &View<D>,
-    list: &ControlList,
-    work: &mut Work,
-) -> Result<Touched, Fault>
-    requires which { view.now.parts.which ≢ Defaults }
-    ensures ok { IfOk result (λ touch. set_answer D.verdict view.now.plan view.now.parts list.now ≡ Ok touch.answers) }
-    ensures touched { IfOk result (λ touch. IsTouched D.verdict view.now.plan view.now.parts list.now touch) }
-    ensures err { IfErr result (λ fault. (set_answer D.verdict view.now.plan view.now.parts list.now ≡ Err fault) ⊎ (IsTrue (may_lack list.now) × (fault ≡ no_memory (length list.now)))) }
-    ensures at_most { work.new.asked ≤ work.old.asked + list_asks view.now.plan view.now.parts true list.now }
-    ensures asked { OnOk result (work.new.asked ≡ with_calls (judged_count view.now.plan (touched view.now.plan (pairs_of view.now.plan view.now.parts.handler view.now.parts.which list.now))) work.old.asked) }
-    ensures told { work.new.told ≡ work.old.told }
-{
-    match judge_list(alloc, view, true, list, work) {
-        Ok(touched) => Ok(touched),
-        Err(refusal) => Err(refusal.at_count(list.len())),
-    }
-}
-
-/// Judges what a list that tries asks for, as `plan_set` does a list that sets, but that a grabbed control may be tried, and that the
-/// index of a refusal is the place of its entry, from 0, where it stands at one (Linux userspace API, "ioctl VIDIOC_G_EXT_CTRLS,
-/// VIDIOC_S_EXT_CTRLS, VIDIOC_TRY_EXT_CTRLS"; the order of the refusals and the index are of this project).
-///
-/// - `alloc`, `view`, `list`, `work`: as of `plan_set`.
-///
-/// Refused as by `plan_set`, with EBUSY (16) only where a validator refuses with it. In the checks 6, 7 and 8 the index is the place of the
-/// entry that is refused, and in check 8 of the first one of its cluster. It is the number of entries in the others, and with ENOMEM (12).
-#[tactic(auto, unfolding(crate::specs::Answers::try_answer))]
-pub fn try_list<D: Driver>(
-    alloc: Global,
-    view: &View<D>,
-    list: &ControlList,
-    work: &mut Work,
-) -> Result<Touched, Fault>
-    requires which { view.now.parts.which ≢ Defaults }
-    ensures ok { IfOk result (λ touch. try_answer D.verdict view.now.plan view.now.parts list.now ≡ Ok touch.answers) }
-    ensures touched { IfOk result (λ touch. IsTouched D.verdict view.now.plan view.now.parts list.now touch) }
-    ensures err { IfErr result (λ fault. (try_answer D.verdict view.now.plan view.now.parts list.now ≡ Err fault) ⊎ (IsTrue (may_lack list.now) × (fault ≡ no_memory (length list.now)))) }
-    ensures at_most { work.new.asked ≤ work.old.asked + list_asks view.now.plan view.now.parts false list.now }
-    ensures asked { OnOk result (work.new.asked ≡ with_calls (judged_count view.now.plan (touched view.now.plan (pairs_of view.now.plan view.now.parts.handler view.now.parts.which list.now))) work.old.asked) }
-    ensures told { work.new.told ≡ work.old.told }
-{
-    match judge_list(alloc, view, false, list, work) {
-        Ok(touched) => Ok(touched),
-        Err(refusal) => Err(refusal.at_entry(list.len())),
-    }
-}
-
-// Reads the controls of a list.
-fn read_all<D: Driver>(
-    alloc: Global,
-    view: &View<D>,
-    list: &ControlList,
 ) -> Result<ControlList, Refusal>
-    ensures ok { IfOk result (λ answers. first_refusal (read_checks view.now.plan view.now.parts list.now) ≡ None) }
-    ensures answers { IfOk result (λ answers. answers ≡ map (entry_read view.now.plan view.now.parts) (pairs_of view.now.plan view.now.parts.handler view.now.parts.which list.now)) }
+    ensures ok { OnOk result (first_refusal (read_checks view.now.plan view.now.parts list.now) ≡ None) }
+    ensures answers { IfOk result (λ answers. answers ≡ entries_read view.now.plan view.now.parts list.now) }
     ensures err { IfErr result (λ refusal. (first_refusal (read_checks view.now.plan view.now.parts list.now) ≡ Some refusal) ⊎ (IsTrue (may_lack list.now) × (refusal ≡ memory_refusal))) }
 {
     check_whole(view, list)?;
@@ -133,6 +52,64 @@ fn read_all<D: Driver>(
         Ok(answers) => Ok(answers),
         Err(_) => Err(Refusal::of_memory()),
     }
+}
+
+/// Judges what a list that sets asks for (Linux userspace API, "ioctl VIDIOC_G_EXT_CTRLS, VIDIOC_S_EXT_CTRLS,
+/// VIDIOC_TRY_EXT_CTRLS"; Linux driver API, "V4L2 Controls", "Control Clusters"; the order of the checks is of this project). Each
+/// cluster with a control of the list gets a row: the members' values, overwritten by the pairs that `view` has from before and then by
+/// the list, of which the last of a control counts, settle in member order and are judged by the cluster's validator, which is asked at
+/// most once. Each entry is answered with its control's value of that row, so that an id that stands twice is answered one value. Nothing
+/// is changed here.
+///
+/// - `alloc`: where rows, answers and pairs lie.
+/// - `view`: what the list is checked against; the caller owes that it doesn't speak of the defaults, which can't be written.
+/// - `list`: the entries. It is lent, and never changed.
+/// - `work`: its count `asked` grows by one for each validator that is asked, by no more than the clusters that the list touches; `told`
+///   stays. After a refusal by check 8, or for want of memory, `asked` may have grown too; a list that the checks 4 to 7 refuse asks nobody.
+///
+/// Refused by the first of the checks 4 to 8 of a list in docs/RULES.md that doesn't hold: the check is answered, and, of the checks 6, 7
+/// and 8, the place of the entry where it stands, in check 8 of the first one of its cluster. Want of memory, check 34, may stand in place of
+/// any answer from check 6 on, unless there are no entries. `Refusal::at_count` makes the fault.
+pub fn plan_set<D: Driver>(
+    alloc: Global,
+    view: &View<D>,
+    list: &ControlList,
+    work: &mut Work,
+) -> Result<Touched, Refusal>
+    requires which { view.now.parts.which ≢ Defaults }
+    ensures ok { OnOk result (first_refusal (write_checks D.verdict view.now.plan view.now.parts true list.now) ≡ None) }
+    ensures answers { IfOk result (λ touch. touch.answers ≡ entries_judged D.verdict view.now.plan view.now.parts list.now) }
+    ensures touched { IfOk result (λ touch. IsTouched D.verdict view.now.plan view.now.parts list.now touch) }
+    ensures err { IfErr result (λ refusal. (first_refusal (write_checks D.verdict view.now.plan view.now.parts true list.now) ≡ Some refusal) ⊎ (IsTrue (may_lack list.now) × (refusal ≡ memory_refusal))) }
+    ensures at_most { work.new.asked ≤ work.old.asked + list_asks view.now.plan view.now.parts true list.now }
+    ensures asked { OnOk result (work.new.asked ≡ with_calls (judged_count view.now.plan (touched view.now.plan (pairs_of view.now.plan view.now.parts.handler view.now.parts.which list.now))) work.old.asked) }
+    ensures told { work.new.told ≡ work.old.told }
+{
+    judge_list(alloc, view, true, list, work)
+}
+
+/// Judges what a list that tries asks for, as `plan_set` does a list that sets, but that a grabbed control may be tried (Linux userspace
+/// API, "ioctl VIDIOC_G_EXT_CTRLS, VIDIOC_S_EXT_CTRLS, VIDIOC_TRY_EXT_CTRLS"; the order of the checks is of this project).
+///
+/// - `alloc`, `view`, `list`, `work`: as of `plan_set`.
+///
+/// Refused as by `plan_set`, but never because a control is grabbed. `Refusal::at_entry` makes the fault.
+pub fn try_list<D: Driver>(
+    alloc: Global,
+    view: &View<D>,
+    list: &ControlList,
+    work: &mut Work,
+) -> Result<Touched, Refusal>
+    requires which { view.now.parts.which ≢ Defaults }
+    ensures ok { OnOk result (first_refusal (write_checks D.verdict view.now.plan view.now.parts false list.now) ≡ None) }
+    ensures answers { IfOk result (λ touch. touch.answers ≡ entries_judged D.verdict view.now.plan view.now.parts list.now) }
+    ensures touched { IfOk result (λ touch. IsTouched D.verdict view.now.plan view.now.parts list.now touch) }
+    ensures err { IfErr result (λ refusal. (first_refusal (write_checks D.verdict view.now.plan view.now.parts false list.now) ≡ Some refusal) ⊎ (IsTrue (may_lack list.now) × (refusal ≡ memory_refusal))) }
+    ensures at_most { work.new.asked ≤ work.old.asked + list_asks view.now.plan view.now.parts false list.now }
+    ensures asked { OnOk result (work.new.asked ≡ with_calls (judged_count view.now.plan (touched view.now.plan (pairs_of view.now.plan view.now.parts.handler view.now.parts.which list.now))) work.old.asked) }
+    ensures told { work.new.told ≡ work.old.told }
+{
+    judge_list(alloc, view, false, list, work)
 }
 
 // The controls of these pairs, as they are read.
@@ -184,7 +161,7 @@ fn judge_list<D: Driver>(
     list: &ControlList,
     work: &mut Work,
 ) -> Result<Touched, Refusal>
-    ensures ok { IfOk result (λ touch. first_refusal (write_checks D.verdict view.now.plan view.now.parts is_set list.now) ≡ None) }
+    ensures ok { OnOk result (first_refusal (write_checks D.verdict view.now.plan view.now.parts is_set list.now) ≡ None) }
     ensures answers { IfOk result (λ touch. touch.answers ≡ entries_judged D.verdict view.now.plan view.now.parts list.now) }
     ensures touched { IfOk result (λ touch. IsTouched D.verdict view.now.plan view.now.parts list.now touch) }
     ensures err { IfErr result (λ refusal. (first_refusal (write_checks D.verdict view.now.plan view.now.parts is_set list.now) ≡ Some refusal) ⊎ (IsTrue (may_lack list.now) × (refusal ≡ memory_refusal))) }
@@ -214,11 +191,11 @@ fn judge_pairs<D: Driver>(
 ) -> Result<Touched, Refusal>
     requires few { length pairs.items ≤ MAX_ENTRIES }
     requires known { All (λ p. p.control < length view.now.plan.controls) pairs.items }
-    ensures ok { IfOk result (λ touch. at_first (judging_refusal D.verdict view.now.plan view.now.parts (view.now.parts.asked ++ pairs.items)) pairs.items ≡ None) }
+    ensures ok { IfOk result (λ touch. at_first (judging_check D.verdict view.now.plan view.now.parts (view.now.parts.asked ++ pairs.items)) pairs.items ≡ None) }
     ensures pairs { IfOk result (λ touch. touch.pairs ≡ pairs.items) }
     ensures rows { IfOk result (λ touch. AreJudged D.verdict view.now.plan view.now.parts.ranges view.now.parts.values (view.now.parts.asked ++ pairs.items) pairs.items touch.rows) }
     ensures answers { IfOk result (λ touch. touch.answers ≡ map (entry_judged D.verdict view.now.plan view.now.parts (view.now.parts.asked ++ pairs.items)) pairs.items) }
-    ensures err { IfErr result (λ refusal. (at_first (judging_refusal D.verdict view.now.plan view.now.parts (view.now.parts.asked ++ pairs.items)) pairs.items ≡ Some refusal) ⊎ (refusal ≡ memory_refusal)) }
+    ensures err { IfErr result (λ refusal. (at_first (judging_check D.verdict view.now.plan view.now.parts (view.now.parts.asked ++ pairs.items)) pairs.items ≡ Some refusal) ⊎ (refusal ≡ memory_refusal)) }
     ensures at_most { work.new.asked ≤ work.old.asked + length (touched view.now.plan pairs.items) }
     ensures asked { OnOk result (work.new.asked ≡ with_calls (judged_count view.now.plan (touched view.now.plan pairs.items)) work.old.asked) }
     ensures told { work.new.told ≡ work.old.told }
@@ -233,9 +210,9 @@ fn judge_pairs<D: Driver>(
     }
 }
 
-/// The rows and the answers, where the pairs are laid over the values behind those from before.
+// The rows and the answers, where the pairs are laid over the values behind those from before.
 #[tactic(auto, using(crate::proofs::TouchLemmas::own_among, crate::proofs::TouchLemmas::more_among))]
-pub(crate) fn judge_joined<D: Driver>(
+fn judge_joined<D: Driver>(
     alloc: Global,
     view: &View<D>,
     pairs: &[Pair],
@@ -243,10 +220,10 @@ pub(crate) fn judge_joined<D: Driver>(
 ) -> Result<(NewRows, ControlList), Refusal>
     requires few { length pairs.now ≤ MAX_ENTRIES }
     requires known { All (λ p. p.control < length view.now.plan.controls) pairs.now }
-    ensures ok { IfOk result (λ judged. at_first (judging_refusal D.verdict view.now.plan view.now.parts (view.now.parts.asked ++ pairs.now)) pairs.now ≡ None) }
+    ensures ok { IfOk result (λ judged. at_first (judging_check D.verdict view.now.plan view.now.parts (view.now.parts.asked ++ pairs.now)) pairs.now ≡ None) }
     ensures rows { IfOk result (λ judged. AreJudged D.verdict view.now.plan view.now.parts.ranges view.now.parts.values (view.now.parts.asked ++ pairs.now) pairs.now judged.0.rows) }
     ensures answers { IfOk result (λ judged. judged.1 ≡ map (entry_judged D.verdict view.now.plan view.now.parts (view.now.parts.asked ++ pairs.now)) pairs.now) }
-    ensures err { IfErr result (λ refusal. (at_first (judging_refusal D.verdict view.now.plan view.now.parts (view.now.parts.asked ++ pairs.now)) pairs.now ≡ Some refusal) ⊎ (refusal ≡ memory_refusal)) }
+    ensures err { IfErr result (λ refusal. (at_first (judging_check D.verdict view.now.plan view.now.parts (view.now.parts.asked ++ pairs.now)) pairs.now ≡ Some refusal) ⊎ (refusal ≡ memory_refusal)) }
     ensures at_most { work.new.asked ≤ work.old.asked + length (touched view.now.plan pairs.now) }
     ensures asked { OnOk result (work.new.asked ≡ with_calls (judged_count view.now.plan (touched view.now.plan pairs.now)) work.old.asked) }
     ensures told { work.new.told ≡ work.old.told }
@@ -271,16 +248,16 @@ fn judge_under<D: Driver>(
     requires few { length pairs.now ≤ MAX_ENTRIES }
     requires known { All (λ p. p.control < length view.now.plan.controls) pairs.now }
     requires among { All (λ p. IsTrue (is_among laid.now p.control)) pairs.now }
-    ensures ok { IfOk result (λ judged. at_first (judging_refusal D.verdict view.now.plan view.now.parts laid.now) pairs.now ≡ None) }
+    ensures ok { IfOk result (λ judged. at_first (judging_check D.verdict view.now.plan view.now.parts laid.now) pairs.now ≡ None) }
     ensures rows { IfOk result (λ judged. AreJudged D.verdict view.now.plan view.now.parts.ranges view.now.parts.values laid.now pairs.now judged.0.rows) }
     ensures answers { IfOk result (λ judged. judged.1 ≡ map (entry_judged D.verdict view.now.plan view.now.parts laid.now) pairs.now) }
-    ensures err { IfErr result (λ refusal. (at_first (judging_refusal D.verdict view.now.plan view.now.parts laid.now) pairs.now ≡ Some refusal) ⊎ (refusal ≡ memory_refusal)) }
+    ensures err { IfErr result (λ refusal. (at_first (judging_check D.verdict view.now.plan view.now.parts laid.now) pairs.now ≡ Some refusal) ⊎ (refusal ≡ memory_refusal)) }
     ensures at_most { work.new.asked ≤ work.old.asked + length (touched view.now.plan pairs.now) }
     ensures asked { OnOk result (work.new.asked ≡ with_calls (judged_count view.now.plan (touched view.now.plan pairs.now)) work.old.asked) }
     ensures told { work.new.told ≡ work.old.told }
 {
     let rows = judge_all(alloc, view, laid, pairs, work)?;
-    match entries_judged(alloc, view, laid, pairs, &rows) {
+    match entries_in(alloc, &view.at, &rows, pairs) {
         Ok(answers) => Ok((rows, answers)),
         Err(_) => Err(Refusal::of_memory()),
     }

@@ -5,7 +5,7 @@ ghost use Rattle.std.specs.List.{All, list_any};
 ghost use Rattle.ctrl_types.specs.Classes.{class_of};
 ghost use Rattle.ctrl_handlers.specs.Plan.{control_in};
 ghost use Rattle.ctrl_lists.specs.View.{is_meant, named, pair_of, pairs_of, shows_class};
-ghost use Rattle.ctrl_lists.specs.Checks.{at_first, naming_refusal, memory_refusal};
+ghost use Rattle.ctrl_lists.specs.Checks.{at_first, naming_check, memory_refusal};
 ghost use Rattle.ctrl_lists.specs.declared.limits.TheConstants.{MAX_ENTRIES};
 
 use crate::refusal::Refusal;
@@ -14,7 +14,7 @@ use bitflags::Flags as FlagSet;
 use ctrl_calls::Driver;
 use ctrl_handlers::Plan;
 use ctrl_settle::Ctrl;
-use ctrl_types::{CtrlId, Errno, ExtControl, Flags, Pair, Which};
+use ctrl_types::{Check, CtrlId, ExtControl, Flags, Pair, Which};
 use std::alloc::Global;
 
 /// The pairs of a list: each entry's control with the value as it was given; or the first entry that names no control.
@@ -24,10 +24,10 @@ pub(crate) fn pairs_of<D: Driver>(
     list: &[ExtControl],
 ) -> Result<Vec<Pair>, Refusal>
     requires { length list.now ≤ MAX_ENTRIES }
-    ensures ok { IfOk result (λ pairs. (pairs.items ≡ pairs_of view.now.plan view.now.parts.handler view.now.parts.which list.now) × (at_first (naming_refusal view.now.plan view.now.parts) list.now ≡ None)) }
+    ensures ok { IfOk result (λ pairs. (pairs.items ≡ pairs_of view.now.plan view.now.parts.handler view.now.parts.which list.now) × (at_first (naming_check view.now.plan view.now.parts) list.now ≡ None)) }
     ensures few { IfOk result (λ pairs. length pairs.items ≡ length list.now) }
     ensures known { IfOk result (λ pairs. All (λ p. p.control < length view.now.plan.controls) pairs.items) }
-    ensures err { IfErr result (λ refusal. (at_first (naming_refusal view.now.plan view.now.parts) list.now ≡ Some refusal) ⊎ (refusal ≡ memory_refusal)) }
+    ensures err { IfErr result (λ refusal. (at_first (naming_check view.now.plan view.now.parts) list.now ≡ Some refusal) ⊎ (refusal ≡ memory_refusal)) }
 {
     let Ok(mut pairs) = Vec::with_capacity(alloc, list.len()) else {
         return Err(Refusal::of_memory());
@@ -35,7 +35,7 @@ pub(crate) fn pairs_of<D: Driver>(
     for (place, entry) in list.iter().enumerate() {
         match pair_of(view, *entry) {
             Some(pair) => pairs.push_reserved(pair),
-            None => return Err(Refusal::at(Errno::EINVAL, place as u32)),
+            None => return Err(Refusal::at(Check::EntryNotShown, place as u32)),
         }
     }
     Ok(pairs)

@@ -2,32 +2,32 @@ ghost use Rattle.std.specs.Prelude.{◌≡◌, None, Some};
 ghost use Rattle.ctrl_lists.specs.Checks.{memory_refusal};
 ghost use Rattle.ctrl_lists.specs.Answers.{fault_at_count, fault_at_entry};
 
-use ctrl_types::{Errno, Fault};
+use ctrl_types::{Check, Fault};
 
-/// What refuses a list of controls (Linux userspace API, "struct v4l2_ext_controls", `error_idx`). The definitions of the answers speak
-/// of it; calls answer a `Fault`.
+/// What refuses a list of controls: the check that doesn't hold, and the entry where it stands (Linux userspace API, "struct
+/// v4l2_ext_controls", `error_idx`).
 #[derive(Clone, Copy)]
 pub struct Refusal {
-    /// The errno.
-    pub errno: Errno,
+    /// The check.
+    pub check: Check,
     /// The place of the entry where it stands, from 0; none where the list is refused as a whole.
     pub place: Option<u32>,
 }
 
 impl Refusal {
     // A refusal of the list as a whole.
-    pub(crate) fn whole(errno: Errno) -> Refusal
-        ensures { result ≡ record { errno = errno; place = None } }
+    pub(crate) fn whole(check: Check) -> Refusal
+        ensures { result ≡ record { check = check; place = None } }
     {
-        Refusal { errno, place: None }
+        Refusal { check, place: None }
     }
 
     // A refusal at the entry at a place.
-    pub(crate) fn at(errno: Errno, place: u32) -> Refusal
-        ensures { result ≡ record { errno = errno; place = Some place } }
+    pub(crate) fn at(check: Check, place: u32) -> Refusal
+        ensures { result ≡ record { check = check; place = Some place } }
     {
         Refusal {
-            errno,
+            check,
             place: Some(place),
         }
     }
@@ -36,25 +36,31 @@ impl Refusal {
     pub(crate) fn of_memory() -> Refusal
         ensures { result ≡ memory_refusal }
     {
-        Refusal::whole(Errno::ENOMEM)
+        Refusal::whole(Check::MemoryRefused)
     }
 
-    // The fault of a get or a set of so many entries.
-    pub(crate) fn at_count(self, count: u32) -> Fault
+    /// The fault that a get or a set is answered (the index is of this project): the errno of the check, and as the index the number of
+    /// entries.
+    ///
+    /// - `count`: how many entries the list has.
+    pub fn at_count(self, count: u32) -> Fault
         ensures { result ≡ fault_at_count count self }
     {
         Fault {
-            errno: self.errno,
+            errno: self.check.errno(),
             index: Some(count),
         }
     }
 
-    // The fault of a try of so many entries.
-    pub(crate) fn at_entry(self, count: u32) -> Fault
+    /// The fault that a try is answered (the index is of this project): the errno of the check, and as the index the place of the entry where
+    /// it stands, from 0; the number of entries where the list is refused as a whole.
+    ///
+    /// - `count`: how many entries the list has.
+    pub fn at_entry(self, count: u32) -> Fault
         ensures { result ≡ fault_at_entry count self }
     {
         Fault {
-            errno: self.errno,
+            errno: self.check.errno(),
             index: Some(self.place.unwrap_or(count)),
         }
     }

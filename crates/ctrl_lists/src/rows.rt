@@ -2,12 +2,12 @@
 
 ghost use Rattle.std.specs.Prelude.{◌≡◌, ◌<◌, ◌≤◌, ◌+◌, ◌⊎◌, None, Some, length, map, IfOk, IfErr, OnOk, IsTrue, ℕ};
 ghost use Rattle.std.specs.List.{All};
+ghost use Rattle.ctrl_types.specs.declared.check.Check.TheVariants.{RowRefused};
 ghost use Rattle.ctrl_handlers.specs.Plan.{cluster_of, members};
 ghost use Rattle.ctrl_clusters.specs.Overlay.{is_among};
 ghost use Rattle.ctrl_clusters.specs.NewRows.{clusters_of};
-ghost use Rattle.ctrl_lists.specs.Checks.{at_first, errno_if_refused, row_judged, judging_refusal, memory_refusal};
+ghost use Rattle.ctrl_lists.specs.Checks.{at_first, row_check, row_judged, judging_check, memory_refusal};
 ghost use Rattle.ctrl_lists.specs.Touched.{with_cluster, touched, entry_in, AreRows, AreJudged, judged_count, with_calls};
-ghost use Rattle.ctrl_lists.specs.Answers.{entry_judged};
 ghost use Rattle.ctrl_lists.specs.declared.limits.TheConstants.{MAX_ENTRIES};
 
 use crate::control_list::ControlList;
@@ -15,7 +15,7 @@ use crate::refusal::Refusal;
 use crate::view::View;
 use ctrl_calls::{ClusterRow, Driver, Work};
 use ctrl_clusters::{Moment, NewRow, NewRows, member_value, validated_row};
-use ctrl_types::{Errno, ExtControl, Pair};
+use ctrl_types::{Check, Errno, ExtControl, Pair};
 use std::alloc::{AllocError, Global};
 
 /// The rows of the clusters that pairs touch, in the order of their first pairs, where the pairs `laid` are laid over the values; or the first
@@ -30,9 +30,9 @@ pub(crate) fn judge_all<D: Driver>(
     requires few { length pairs.now ≤ MAX_ENTRIES }
     requires known { All (λ p. p.control < length view.now.plan.controls) pairs.now }
     requires among { All (λ p. IsTrue (is_among laid.now p.control)) pairs.now }
-    ensures ok { IfOk result (λ rows. at_first (judging_refusal D.verdict view.now.plan view.now.parts laid.now) pairs.now ≡ None) }
+    ensures ok { IfOk result (λ rows. at_first (judging_check D.verdict view.now.plan view.now.parts laid.now) pairs.now ≡ None) }
     ensures rows { IfOk result (λ rows. AreJudged D.verdict view.now.plan view.now.parts.ranges view.now.parts.values laid.now pairs.now rows.rows) }
-    ensures err { IfErr result (λ refusal. (at_first (judging_refusal D.verdict view.now.plan view.now.parts laid.now) pairs.now ≡ Some refusal) ⊎ (refusal ≡ memory_refusal)) }
+    ensures err { IfErr result (λ refusal. (at_first (judging_check D.verdict view.now.plan view.now.parts laid.now) pairs.now ≡ Some refusal) ⊎ (refusal ≡ memory_refusal)) }
     ensures at_most { work.new.asked ≤ work.old.asked + length (touched view.now.plan pairs.now) }
     ensures asked { OnOk result (work.new.asked ≡ with_calls (judged_count view.now.plan (touched view.now.plan pairs.now)) work.old.asked) }
     ensures told { work.new.told ≡ work.old.told }
@@ -45,7 +45,7 @@ pub(crate) fn judge_all<D: Driver>(
     let _before = work.asked;
     for (place, pair) in pairs.iter().enumerate() {
         if let Err(errno) = judge_next(view, laid, pair.control, &mut rows, work) {
-            return Err(Refusal::at(errno, place as u32));
+            return Err(Refusal::at(Check::RowRefused(errno), place as u32));
         }
     }
     Ok(rows)
@@ -66,8 +66,8 @@ fn judge_next<D: Driver>(
     requires rows { AreRows D.verdict view.now.plan view.now.parts.ranges view.now.parts.values laid.now rows.old.rows }
     requires within { All (λ r. r.cluster < length view.now.plan.clusters) rows.old.rows }
     requires long { All (λ r. length r.row ≡ length (members view.now.plan r.cluster)) rows.old.rows }
-    ensures ok { OnOk result (errno_if_refused (row_judged D.verdict view.now.plan view.now.parts laid.now (cluster_of view.now.plan control)) ≡ None) }
-    ensures err { IfErr result (λ errno. errno_if_refused (row_judged D.verdict view.now.plan view.now.parts laid.now (cluster_of view.now.plan control)) ≡ Some errno) }
+    ensures ok { OnOk result (row_check (row_judged D.verdict view.now.plan view.now.parts laid.now (cluster_of view.now.plan control)) ≡ None) }
+    ensures err { IfErr result (λ errno. row_check (row_judged D.verdict view.now.plan view.now.parts laid.now (cluster_of view.now.plan control)) ≡ Some (RowRefused errno)) }
     ensures each { OnOk result (clusters_of rows.new.rows ≡ with_cluster (clusters_of rows.old.rows) (cluster_of view.now.plan control)) }
     ensures rows { OnOk result (AreRows D.verdict view.now.plan view.now.parts.ranges view.now.parts.values laid.now rows.new.rows) }
     ensures within { OnOk result (All (λ r. r.cluster < length view.now.plan.clusters) rows.new.rows) }
@@ -94,29 +94,28 @@ fn judge_next<D: Driver>(
     }
 }
 
-/// What the entries of a list that writes are answered: each control's id, and the value that its cluster's row gives it.
-pub(crate) fn entries_judged<D: Driver>(
+/// The entries of pairs as they are read off rows: each control's id, and the value that its cluster's row gives it.
+pub(crate) fn entries_in<D: Driver>(
     alloc: Global,
-    view: &View<D>,
-    laid: &[Pair],
-    pairs: &[Pair],
+    at: &Moment<D>,
     rows: &NewRows,
+    pairs: &[Pair],
 ) -> Result<ControlList, AllocError>
     requires few { length pairs.now ≤ MAX_ENTRIES }
-    requires known { All (λ p. p.control < length view.now.plan.controls) pairs.now }
-    requires among { All (λ p. IsTrue (is_among laid.now p.control)) pairs.now }
-    requires rows { AreJudged D.verdict view.now.plan view.now.parts.ranges view.now.parts.values laid.now pairs.now rows.now.rows }
-    ensures { IfOk result (λ answers. answers ≡ map (entry_judged D.verdict view.now.plan view.now.parts laid.now) pairs.now) }
+    requires known { All (λ p. p.control < length at.now.plan.now.controls) pairs.now }
+    requires within { All (λ r. r.cluster < length at.now.plan.now.clusters) rows.now.rows }
+    requires long { All (λ r. length r.row ≡ length (members at.now.plan.now r.cluster)) rows.now.rows }
+    ensures { IfOk result (λ entries. entries ≡ map (λ p. entry_in at.now.plan.now at.now.values.now rows.now.rows p.control) pairs.now) }
 {
-    let mut answers = Vec::with_capacity(alloc, pairs.len())?;
+    let mut entries = Vec::with_capacity(alloc, pairs.len())?;
     for pair in pairs {
-        answers.push_reserved(entry_judged(&view.at, rows, pair.control));
+        entries.push_reserved(entry_in(at, rows, pair.control));
     }
-    Ok(ControlList::from_vec(answers))
+    Ok(ControlList::from_vec(entries))
 }
 
-// What an entry of a list that writes is answered.
-fn entry_judged<D: Driver>(at: &Moment<D>, rows: &NewRows, control: u32) -> ExtControl
+// An entry, as it is read off rows.
+fn entry_in<D: Driver>(at: &Moment<D>, rows: &NewRows, control: u32) -> ExtControl
     requires known { control < length at.now.plan.now.controls }
     requires within { All (λ r. r.cluster < length at.now.plan.now.clusters) rows.now.rows }
     requires long { All (λ r. length r.row ≡ length (members at.now.plan.now r.cluster)) rows.now.rows }

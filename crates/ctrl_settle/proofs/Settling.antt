@@ -12,10 +12,11 @@ use Rattle.std.specs.Int.{bit_at}
 use Rattle.std.specs.Int.Bits.{and_self}
 use Rattle.std.specs.Ordering.{int_eq}
 use Rattle.ctrl_types.specs.declared.value.CtrlValue.{CtrlValue}
-use Rattle.ctrl_types.specs.Values.{number_of}
 use Rattle.ctrl_types.specs.declared.value.CtrlValue.TheVariants.{Number, Bytes}
 use Rattle.ctrl_types.specs.declared.errno.Errno.{Errno}
-use Rattle.ctrl_types.specs.declared.errno.Errno.TheVariants.{ERANGE, EINVAL}
+use Rattle.ctrl_types.specs.declared.check.Check.{Check}
+use Rattle.ctrl_types.specs.declared.check.Check.TheVariants.{ValueOutsideMenu, ValueSkipped, ValueNotOfKind}
+use Rattle.ctrl_types.specs.Checks.{with_errno}
 use Rattle.ctrl_types.specs.declared.kind.Kind.{Kind}
 use Rattle.ctrl_types.specs.declared.kind.Kind.TheVariants.{Integer, Boolean, Menu, Button, Integer64, Bitmask, IntegerMenu, U8}
 use Rattle.ctrl_settle.specs.Control.{Control, default_of, default_of_elems, elems_of}
@@ -47,11 +48,11 @@ nearest-within c v in_order =
 -- a menu takes an item of its range as it is
 item-ok : (c : Control) (v w : ℤ) → item c v ≡ Ok w → (c.minimum ≤ℤ v) × (v ≤ℤ c.maximum) × (w ≡ v)
 item-ok c v w =
-    cond_both (int_lt v c.minimum || int_lt c.maximum v) (Err ERANGE) (if bit_at c.skip (unsigned_abs v) == 1 then Err EINVAL else Ok v)
+    cond_both (int_lt v c.minimum || int_lt c.maximum v) (Err ValueOutsideMenu) (if bit_at c.skip (unsigned_abs v) == 1 then Err ValueSkipped else Ok v)
     (λ r. r ≡ Ok w → (c.minimum ≤ℤ v) × (v ≤ℤ c.maximum) × (w ≡ v))
     (λ outside e. absurd (cc e))
     (λ inside. let both = or_parts (int_lt v c.minimum) (int_lt c.maximum v) inside in
-    cond_both (bit_at c.skip (unsigned_abs v) == 1) (Err EINVAL) (Ok v)
+    cond_both (bit_at c.skip (unsigned_abs v) == 1) (Err ValueSkipped) (Ok v)
     (λ r. r ≡ Ok w → (c.minimum ≤ℤ v) × (v ≤ℤ c.maximum) × (w ≡ v))
     (λ skipped e. absurd (cc e))
     (λ there e. (grind (arith, ints, both.0), grind (arith, ints, both.1), cc)))
@@ -84,12 +85,12 @@ within_as IntegerMenu c v w in_order bounds e = let i = item-ok c v w e in rw i.
 within_as U8 c v w in_order bounds e = let is : w ≡ nearest c v = cc in rw is (nearest-within c v in_order)
 
 -- a number is taken for a number
-number_taken : (r : Result ℤ Errno) (w : ℤ) → as_number r ≡ Ok (Number w) → r ≡ Ok w
+number_taken : (r : Result ℤ Check) (w : ℤ) → as_number r ≡ Ok (Number w) → r ≡ Ok w
 number_taken (Ok v) w e = cc
 number_taken (Err errno) w e = absurd (cc)
 
 -- and no bytes
-never_bytes : (r : Result ℤ Errno) (row : List ℕ) → as_number r ≡ Ok (Bytes row) → ⊥
+never_bytes : (r : Result ℤ Check) (row : List ℕ) → as_number r ≡ Ok (Bytes row) → ⊥
 never_bytes (Ok v) row e = cc
 never_bytes (Err errno) row e = cc
 
@@ -145,7 +146,7 @@ again_as U8 c v w in_order bounds e = let is : w ≡ nearest c v = cc in rw is (
 -- a kind takes numbers alone, and has no elements
 record TakesNumbers (kind : Kind) (c : Control) : Type 0 where
   numbers : (v : ℤ) → settle_value kind c (Number v) ≡ as_number (settle_as kind c v)
-  no_bytes : (row : List ℕ) → settle_value kind c (Bytes row) ≡ Err EINVAL
+  no_bytes : (row : List ℕ) → settle_value kind c (Bytes row) ≡ Err ValueNotOfKind
   no_elems : (elems : Option ℕ) → HasElems kind elems → elems ≡ None
 
 -- every kind but that of arrays does
@@ -160,7 +161,7 @@ by_kind Menu c = inr (record { numbers = λ v. refl; no_bytes = λ row. refl; no
 by_kind IntegerMenu c = inr (record { numbers = λ v. refl; no_bytes = λ row. refl; no_elems = λ elems h. h })
 
 -- what is taken where a test holds
-taken : (b : Bool) (x w : CtrlValue) → (if b then Ok x else Err EINVAL) ≡ Ok w → (b ≡ true) × (x ≡ w)
+taken : (b : Bool) (x w : CtrlValue) → (if b then Ok x else Err ValueNotOfKind) ≡ Ok w → (b ≡ true) × (x ≡ w)
 taken true x w e = (refl, cc)
 taken false x w e = absurd (cc)
 
@@ -176,23 +177,31 @@ number_takes : (kind : Kind) (c : Control) (v w : CtrlValue) → TakesNumbers ki
     → (x : ℤ) × ((y : ℤ) × ((v ≡ Number x) × ((w ≡ Number y) × (settle_as kind c x ≡ Ok y))))
 number_takes kind c (Bytes row) w other e = absurd (differ (sym (other.no_bytes row) ∙ e))
   where
-    differ : Err EINVAL ≡ Ok w → ⊥
+    differ : Err ValueNotOfKind ≡ Ok w → ⊥
     differ h = cc
 number_takes kind c (Number x) (Number y) other e = (x, (y, (refl, (refl, number_taken (settle_as kind c x) y (sym (other.numbers x) ∙ e)))))
 number_takes kind c (Number x) (Bytes row) other e = absurd (never_bytes (settle_as kind c x) row (sym (other.numbers x) ∙ e))
+
+-- what is taken is no check
+value_taken : (r : Result CtrlValue Check) (w : CtrlValue) → with_errno r ≡ Ok w → r ≡ Ok w
+value_taken (Ok v) w e = cc
+value_taken (Err check) w e = absurd (cc)
 
 -- what a control takes lies within its bounds
 pub settle-within : (c : Control) (v w : CtrlValue) → IsWellFormed c → settle c v ≡ Ok w → IsWithin c w
 unfolding settle
 settle-within c v w sound e = by (by_kind c.kind c)
   where
+    as_it_is : settle_value c.kind c v ≡ Ok w
+    as_it_is = value_taken (settle_value c.kind c v) w e
+
     by : (c.kind ≡ U8) ⊎ TakesNumbers c.kind c → IsWithin c w
     by (inl array) =
-        let t = array_takes c v w (subst (λ k. settle_value k c v ≡ Ok w) array e) in
+        let t = array_takes c v w (subst (λ k. settle_value k c v ≡ Ok w) array as_it_is) in
         let bounds : HasBounds U8 c = subst (λ k. HasBounds k c) array sound.fits_kind.bounds in
         subst (IsWithin c) (sym t.1.1.1) (length-map t.0 (settled_byte c) ∙ t.1.0, bytes_within c t.0 sound.in_order bounds.0)
     by (inr other) =
-        let t = number_takes c.kind c v w other e in
+        let t = number_takes c.kind c v w other as_it_is in
         subst (IsWithin c) (sym t.1.1.1.0) (within_as c.kind c t.0 t.1.0 sound.in_order sound.fits_kind.bounds t.1.1.1.1)
 
 -- an array takes bytes that it settles to themselves
@@ -201,17 +210,20 @@ all_taken c row many own = rw (many, eq-eqb (elems_of c) (elems_of c) refl) (ap 
 
 pub settle-settled : (c : Control) (v w : CtrlValue) → IsWellFormed c → settle c v ≡ Ok w → IsSettled c w
 unfolding settle
-settle-settled c v w sound e = by (by_kind c.kind c)
+settle-settled c v w sound e = ap with_errno (by (by_kind c.kind c))
   where
+    as_it_is : settle_value c.kind c v ≡ Ok w
+    as_it_is = value_taken (settle_value c.kind c v) w e
+
     by : (c.kind ≡ U8) ⊎ TakesNumbers c.kind c → settle_value c.kind c w ≡ Ok w
     by (inl array) =
-        let t = array_takes c v w (subst (λ k. settle_value k c v ≡ Ok w) array e) in
+        let t = array_takes c v w (subst (λ k. settle_value k c v ≡ Ok w) array as_it_is) in
         let bounds : HasBounds U8 c = subst (λ k. HasBounds k c) array sound.fits_kind.bounds in
         let whole : settle_bytes c (map (settled_byte c) t.0) ≡ Ok (Bytes (map (settled_byte c) t.0)) =
         all_taken c (map (settled_byte c) t.0) (length-map t.0 (settled_byte c) ∙ t.1.0) (bytes_again c t.0 sound.in_order bounds.0) in
         subst (λ x. settle_value c.kind c x ≡ Ok x) (sym t.1.1.1) (subst (λ k. settle_value k c (Bytes (map (settled_byte c) t.0)) ≡ Ok (Bytes (map (settled_byte c) t.0))) (sym array) whole)
     by (inr other) =
-        let t = number_takes c.kind c v w other e in
+        let t = number_takes c.kind c v w other as_it_is in
         rw t.1.1.1.0 (other.numbers t.1.0 ∙ ap as_number (again_as c.kind c t.0 t.1.0 sound.in_order sound.fits_kind.bounds t.1.1.1.1))
 
 -- the same byte so many times stays where it stays
@@ -231,13 +243,13 @@ default_array c (Some n) is has in_order low own =
     (all_taken c (replicate n x) (length-replicate n x ∙ ap (λ o. unwrap_or o 1) (sym is)) (repeated_stays (settled_byte c) n x again))
 
 -- what two answers have is the same
-same_taken : (x y : ℤ) → ◌≡◌ {A = Result ℤ Errno} (Ok x) (Ok y) → x ≡ y
+same_taken : (x y : ℤ) → ◌≡◌ {A = Result ℤ Check} (Ok x) (Ok y) → x ≡ y
 same_taken x y e = cc
 
 -- a well-formed control takes its default
 pub default_settles : (c : Control) → IsWellFormed c → IsSettled c (default_of c)
 unfolding settle
-default_settles c sound = by (by_kind c.kind c)
+default_settles c sound = ap with_errno (by (by_kind c.kind c))
   where
     by : (c.kind ≡ U8) ⊎ TakesNumbers c.kind c → settle_value c.kind c (default_of c) ≡ Ok (default_of c)
     by (inl array) =

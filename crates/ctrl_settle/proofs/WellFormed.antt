@@ -7,7 +7,7 @@ use Rattle.std.proofs.lemmas.Nat.{div-add-mod'}
 use Rattle.std.proofs.lemmas.Bool.Decides.{Decides-and, Decides-like, Decides-eqb, Decides-int_eq, nat_tests, not_from_Decides}
 use Rattle.std.proofs.lemmas.Int.{ints, by_lt_z}
 use Rattle.ctrl_types.specs.Flags.{union, intersects}
-use Rattle.ctrl_types.specs.declared.errno.Errno.{Errno}
+use Rattle.ctrl_types.specs.declared.check.Check.{Check}
 use Rattle.ctrl_types.specs.declared.flags.Flags.{Flags}
 use Rattle.ctrl_types.specs.declared.flags.TheConstants.Flags.{GRABBED, INACTIVE}
 use Rattle.ctrl_types.specs.declared.kind.Kind.{Kind}
@@ -127,12 +127,12 @@ Decides-fits_kind c =
 yes_or_no : {P : Type 0} (b : Bool) → Decides b P → P ⊎ (¬ P)
 yes_or_no b d = ⊎_elim (λ (e : b ≡ true). inl (d.0 e)) (λ (e : b ≡ false). inr (not_from_Decides b d e)) (cases_Bool b)
 
-Decides-number : (v : ℤ) (r : Result ℤ Errno) → Decides (is_number v r) (r ≡ Ok v)
+Decides-number : (v : ℤ) (r : Result ℤ Check) → Decides (is_number v r) (r ≡ Ok v)
 Decides-number v (Ok w) = (λ e. ap Ok ((Decides-int_eq w v).0 e), λ h. (Decides-int_eq w v).1 (cc))
 Decides-number v (Err e) = (λ h. absurd (cc), λ h. absurd (cc))
 
 -- whether an answer is this number
-answers : (r : Result ℤ Errno) (v : ℤ) → (r ≡ Ok v) ⊎ (¬ (r ≡ Ok v))
+answers : (r : Result ℤ Check) (v : ℤ) → (r ≡ Ok v) ⊎ (¬ (r ≡ Ok v))
 answers r v = yes_or_no (is_number v r) (Decides-number v r)
 
 -- each fault is the first where it holds and those before it don't
@@ -259,7 +259,7 @@ IsOnGrid-test c v e =
     let parts : distance v c.minimum / c.step * c.step + distance v c.minimum % c.step ≡ distance v c.minimum = div-add-mod' (distance v c.minimum) c.step in
     record { steps = (distance v c.minimum / c.step, omega (arith, ints)); within = (Decides-int_le v c.maximum).0 q.0 }
 
-is_number-true : (r : Result ℤ Errno) (v : ℤ) → is_number v r ≡ true → r ≡ Ok v
+is_number-true : (r : Result ℤ Check) (v : ℤ) → is_number v r ≡ true → r ≡ Ok v
 is_number-true r v e = (Decides-number v r).0 e
 
 -- a control of this kind takes the value as it is

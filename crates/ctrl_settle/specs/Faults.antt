@@ -7,6 +7,8 @@ use Rattle.ctrl_types.specs.declared.flags.Flags.{Flags}
 use Rattle.ctrl_types.specs.declared.flags.TheConstants.Flags.{GRABBED, INACTIVE}
 use Rattle.ctrl_types.specs.declared.kind.Kind.{Kind}
 use Rattle.ctrl_types.specs.declared.kind.Kind.TheVariants.{Integer, Boolean, Menu, Button, Integer64, Bitmask, IntegerMenu, U8}
+use Rattle.ctrl_types.specs.declared.check.Check.{Check}
+use Rattle.ctrl_types.specs.declared.check.Check.TheVariants.{RangeReversed, RangeStepZero, RangeNotOfKind, RangeDefaultNotTaken}
 use Rattle.ctrl_settle.specs.Control.{Control}
 use Rattle.ctrl_settle.specs.Settle.{settle_as}
 use Rattle.ctrl_settle.specs.declared.fault.CtrlFault.{CtrlFault}
@@ -108,3 +110,10 @@ fault_number BadRange = 1
 fault_number ZeroStep = 2
 fault_number BadDefault = 3
 fault_number KindBounds = 4
+
+-- the check that a range with this fault is refused by
+abbrev pub range_check_of : CtrlFault → Check
+range_check_of BadRange = RangeReversed
+range_check_of ZeroStep = RangeStepZero
+range_check_of BadDefault = RangeDefaultNotTaken
+range_check_of KindBounds = RangeNotOfKind

@@ -2,8 +2,7 @@
 use Rattle.std.specs.Prelude.{ℕ, ◌-◌, ◌^◌, ◌==◌, ◌&&◌, ℤ, pos, negsuc, int_le, int_lt, Bool, true, false, not, if◌then◌else◌, Option, None, Some, is_some, nat_le, Result, Ok, Err}
 use Rattle.std.specs.Ordering.{int_eq}
 use Rattle.ctrl_types.specs.Flags.{union, intersects}
-use Rattle.ctrl_types.specs.declared.value.CtrlValue.{CtrlValue}
-use Rattle.ctrl_types.specs.declared.errno.Errno.{Errno}
+use Rattle.ctrl_types.specs.declared.check.Check.{Check}
 use Rattle.ctrl_types.specs.declared.flags.Flags.{Flags}
 use Rattle.ctrl_types.specs.declared.flags.TheConstants.Flags.{GRABBED, INACTIVE}
 use Rattle.ctrl_types.specs.declared.kind.Kind.{Kind}
@@ -66,7 +65,7 @@ abbrev pub fits_kind : Control → Bool
 fits_kind c = has_bounds c.kind c && (has_elems c.kind c.elems && (can_skip c.kind c.skip && can_declare c.flags))
 
 -- whether an answer is this number
-abbrev pub is_number : ℤ → Result ℤ Errno → Bool
+abbrev pub is_number : ℤ → Result ℤ Check → Bool
 is_number v (Ok w) = int_eq w v
 is_number v (Err _) = false
 

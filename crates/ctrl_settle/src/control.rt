@@ -1,12 +1,12 @@
 ghost use Rattle.std.specs.Prelude.{◌≡◌, ◌↔◌, IsOk, IfOk, IfErr};
 ghost use Rattle.ctrl_settle.specs.Control.{default_of, described, described_array, elems_of, flags_of, is_array, with_range};
 ghost use Rattle.ctrl_settle.specs.Faults.{IsFirstFault, IsWellFormed};
-ghost use Rattle.ctrl_settle.specs.Settle.{settle, settled_anew};
+ghost use Rattle.ctrl_settle.specs.Settle.{settle, settle_check, settled_anew};
 
 use crate::description::Description;
 use crate::fault::CtrlFault;
 use bitflags::Flags as FlagSet;
-use ctrl_types::{CtrlId, CtrlValue, Errno, Flags, Kind};
+use ctrl_types::{Check, CtrlId, CtrlValue, Errno, Flags, Kind};
 use std::marker::Model;
 
 /// A control with which nothing is wrong (Linux userspace API, "struct v4l2_query_ext_ctrl").
@@ -265,11 +265,28 @@ pub(crate) fn flags_of(kind: Kind, flags: Flags) -> Flags
 ///
 /// Refused by the check 57 (EINVAL, 22) of docs/RULES.md where an array is given a number or another count of bytes, or another control bytes; and, of a menu alone, by the
 /// checks 51 (ERANGE, 34) and 52 (EINVAL), in this order.
+#[tactic(auto, unfolding(crate::specs::Settle::settle))]
 pub fn settle(control: &Ctrl, value: CtrlValue) -> Result<CtrlValue, Errno>
     ensures settled { result ≡ settle control.now value }
     ensures well_formed { IsWellFormed control.now }
 {
-    control.description.settle(value)
+    match control.description.settle(value) {
+        Ok(taken) => Ok(taken),
+        Err(check) => Err(check.errno()),
+    }
+}
+
+/// Which check refuses a value for `control`, none where it takes one for it: 57 where an array is given a number or another count of bytes, or another
+/// control bytes; and, of a menu alone, 51 and 52 of docs/RULES.md, in this order (Linux driver API, "V4L2 Controls"). `settle` answers its errno.
+///
+/// - `value`: any value.
+///
+/// It takes no memory and refuses nothing.
+#[tactic(auto, unfolding(crate::specs::Settle::settle_check))]
+pub fn settle_check(control: &Ctrl, value: CtrlValue) -> Option<Check>
+    ensures { result ≡ settle_check control.now value }
+{
+    control.description.settle(value).err()
 }
 
 /// The value that `control` has from `value`, once its range was changed (Linux driver API, `v4l2_ctrl_modify_range`): what it takes for it, and its default

@@ -2,11 +2,11 @@ ghost use Rattle.std.specs.Prelude.{◌≡◌, ◌<◌, ◌≤ℤ◌, ◌↔◌,
 ghost use Rattle.ctrl_settle.specs.Control.{default_of, elems_of};
 ghost use Rattle.ctrl_settle.specs.Faults.{FitsKind, HasBounds, HasElems, HasItems, IsFirstFault, IsWellFormed, has_grid};
 ghost use Rattle.ctrl_settle.specs.Grid.{IsNearest, grid_value, nearest};
-ghost use Rattle.ctrl_settle.specs.Settle.{item, settle, settle_as, settle_bytes, settled_byte};
+ghost use Rattle.ctrl_settle.specs.Settle.{item, settle_as, settle_bytes, settle_value, settled_byte};
 
 use crate::fault::CtrlFault;
 use bitflags::Flags as FlagSet;
-use ctrl_types::{ByteRow, CtrlId, CtrlValue, Errno, Flags, Kind};
+use ctrl_types::{ByteRow, Check, CtrlId, CtrlValue, Flags, Kind};
 use std::marker::Model;
 
 /// What a driver says of a control, not checked yet.
@@ -117,20 +117,21 @@ impl Description {
     }
 
     /// The value that the control takes for `value`, or why it takes none.
-    #[tactic(auto, unfolding(crate::specs::Settle::settle))]
-    pub fn settle(&self, value: CtrlValue) -> Result<CtrlValue, Errno>
+    pub fn settle(&self, value: CtrlValue) -> Result<CtrlValue, Check>
         requires in_order { self.now.minimum ≤ℤ self.now.maximum }
         requires stepped { IsTrue (has_grid self.now.kind self.now.elems) → 0 < self.now.step }
         requires bounds { HasBounds self.now.kind self.now }
         requires elems { HasElems self.now.kind self.now.elems }
-        ensures { result ≡ settle self.now value }
+        ensures { result ≡ settle_value self.now.kind self.now value }
     {
         match (self.kind, value) {
             (Kind::U8, CtrlValue::Bytes(row)) => self.settle_bytes(row),
-            (Kind::U8, CtrlValue::Number(_)) | (_, CtrlValue::Bytes(_)) => Err(Errno::EINVAL),
+            (Kind::U8, CtrlValue::Number(_)) | (_, CtrlValue::Bytes(_)) => Err(
+                Check::ValueNotOfKind,
+            ),
             (_, CtrlValue::Number(number)) => match self.settle_number(number) {
                 Ok(taken) => Ok(CtrlValue::Number(taken)),
-                Err(errno) => Err(errno),
+                Err(check) => Err(check),
             },
         }
     }
@@ -143,7 +144,7 @@ impl Description {
     }
 
     /// What an array takes for bytes, element by element.
-    fn settle_bytes(&self, row: ByteRow) -> Result<CtrlValue, Errno>
+    fn settle_bytes(&self, row: ByteRow) -> Result<CtrlValue, Check>
         requires in_order { self.now.minimum ≤ℤ self.now.maximum }
         requires stepped { 0 < self.now.step }
         requires low { pos 0 ≤ℤ self.now.minimum }
@@ -151,7 +152,7 @@ impl Description {
         ensures { result ≡ settle_bytes self.now row }
     {
         if row.len() != self.elems_of() {
-            return Err(Errno::EINVAL);
+            return Err(Check::ValueNotOfKind);
         }
         let mut settled = row;
         for place in 0..row.len() {
@@ -172,7 +173,7 @@ impl Description {
     }
 
     /// The number that the control takes for `number`, or why it takes none.
-    fn settle_number(&self, number: i64) -> Result<i64, Errno>
+    fn settle_number(&self, number: i64) -> Result<i64, Check>
         requires in_order { self.now.minimum ≤ℤ self.now.maximum }
         requires stepped { IsTrue (has_grid self.now.kind self.now.elems) → 0 < self.now.step }
         requires bounds { HasBounds self.now.kind self.now }
@@ -188,15 +189,15 @@ impl Description {
         }
     }
 
-    fn item(&self, value: i64) -> Result<i64, Errno>
+    fn item(&self, value: i64) -> Result<i64, Check>
         requires { HasItems self.now }
         ensures { result ≡ item self.now value }
     {
         if value < self.minimum || self.maximum < value {
-            return Err(Errno::ERANGE);
+            return Err(Check::ValueOutsideMenu);
         }
         if self.skip >> value & 1 == 1 {
-            return Err(Errno::EINVAL);
+            return Err(Check::ValueSkipped);
         }
         Ok(value)
     }

@@ -1,5 +1,6 @@
 ghost use Rattle.std.specs.Prelude.{◌≡◌};
 
+use ctrl_types::Check;
 use thiserror::Error;
 
 /// What is wrong with a control's description (of this project).
@@ -20,7 +21,7 @@ pub enum CtrlFault {
 }
 
 impl CtrlFault {
-    ghost use Rattle.ctrl_settle.specs.Faults.{fault_number};
+    ghost use Rattle.ctrl_settle.specs.Faults.{fault_number, range_check_of};
 
     /// The number of the fault: 1 `BadRange`, 2 `ZeroStep`, 3 `BadDefault`, 4 `KindBounds` (of this project).
     pub fn number(self) -> u32
@@ -31,6 +32,18 @@ impl CtrlFault {
             CtrlFault::ZeroStep => 2,
             CtrlFault::BadDefault => 3,
             CtrlFault::KindBounds => 4,
+        }
+    }
+
+    /// The check that a range with this fault is refused by: 55 of docs/RULES.md, and of the control 35 to 38 (of this project).
+    pub fn range_check(self) -> Check
+        ensures { result ≡ range_check_of self }
+    {
+        match self {
+            CtrlFault::BadRange => Check::RangeReversed,
+            CtrlFault::ZeroStep => Check::RangeStepZero,
+            CtrlFault::BadDefault => Check::RangeDefaultNotTaken,
+            CtrlFault::KindBounds => Check::RangeNotOfKind,
         }
     }
 }

@@ -9,5 +9,5 @@ mod fault;
 pub mod laws;
 
 pub use config::CtrlConfig;
-pub use control::{Ctrl, settle, settle_anew};
+pub use control::{Ctrl, settle, settle_anew, settle_check};
 pub use fault::CtrlFault;

@@ -1,4 +1,5 @@
 pub mod Numbers
+pub mod Checks
 pub mod Classes
 pub mod Flags
 pub mod Values

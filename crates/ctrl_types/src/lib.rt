@@ -3,6 +3,7 @@
 
 mod bytes;
 mod changes;
+mod check;
 mod errno;
 mod flags;
 mod ids;
@@ -14,6 +15,7 @@ mod which;
 
 pub use bytes::{ByteRow, MAX_ELEMENTS};
 pub use changes::{Changes, EVENT_CTRL};
+pub use check::Check;
 pub use errno::{Errno, Fault};
 pub use flags::Flags;
 pub use ids::{CtrlId, ExtControl, FhId, Pair, RequestId};

@@ -1,6 +1,6 @@
 ghost use Rattle.std.specs.Prelude.{◌≡◌};
 
-use crate::errno::Errno;
+use crate::check::Check;
 use crate::ids::CtrlId;
 
 /// Which values a control list speaks of (Linux userspace API, "struct v4l2_ext_controls", field `which`).
@@ -20,8 +20,8 @@ impl Which {
     ghost use Rattle.ctrl_types.specs.Classes.{which_of};
 
     /// Reads the field `which`: 0 the present values, 0x0f000000 the defaults, 0x0f010000 those of a request, and any
-    /// other number that is its own class that class. Refused by check 50 of docs/RULES.md (EINVAL, 22).
-    pub fn read(number: u32) -> Result<Which, Errno>
+    /// other number that is its own class that class. Refused by check 50 of docs/RULES.md (EINVAL, 22), which is check 2 of a list.
+    pub fn read(number: u32) -> Result<Which, Check>
         ensures { result ≡ which_of number }
     {
         match number {
@@ -29,7 +29,7 @@ impl Which {
             0x0f00_0000 => Ok(Which::Defaults),
             0x0f01_0000 => Ok(Which::Request),
             _ if CtrlId(number).class() == number => Ok(Which::Class(number)),
-            _ => Err(Errno::EINVAL),
+            _ => Err(Check::WhichUnknown),
         }
     }
 }

@@ -4,8 +4,8 @@ use Rattle.std.proofs.lemmas.Bool.Decides.{nat_tests}
 use Rattle.std.specs.Map.{lookup}
 use Rattle.std.specs.Option.{option_and_then, option_map, is_none}
 use Rattle.ctrl_types.specs.Classes.{which_of}
-use Rattle.ctrl_types.specs.declared.errno.Errno.{Errno}
-use Rattle.ctrl_types.specs.declared.errno.Errno.TheVariants.{EBADF, EINVAL, ENOSPC}
+use Rattle.ctrl_types.specs.declared.check.Check.{Check}
+use Rattle.ctrl_types.specs.declared.check.Check.TheVariants.{ListHandleClosed, TooManyEntries, ClassNotShown, NoRoomForSet}
 use Rattle.ctrl_types.specs.declared.errno.Fault.{Fault}
 use Rattle.ctrl_types.specs.declared.ids.CtrlId.{CtrlId}
 use Rattle.ctrl_types.specs.declared.ids.ExtControl.{ExtControl}
@@ -18,11 +18,10 @@ use Rattle.ctrl_types.specs.declared.which.Which.TheVariants.{Current, Defaults,
 use Rattle.ctrl_calls.specs.Meanings.{Verdicts}
 use Rattle.ctrl_handlers.specs.Plan.{PlanData}
 use Rattle.ctrl_handlers.specs.Visible.{find}
-use Rattle.req_book.specs.Refusals.{store_refusal}
 use Rattle.ctrl_lists.specs.declared.refusal.Refusal.{Refusal}
 use Rattle.ctrl_lists.specs.Answers.{answered, entries_judged, fault_at_count}
 use Rattle.ctrl_lists.specs.View.{ViewData, is_meant, pairs_of}
-use Rattle.ctrl_lists.specs.Checks.{at_first, first_refusal, is_long, is_of_no_class, judging_refusal, naming_refusal, refused_if, shows_none_of, write_checks, writing_refusal}
+use Rattle.ctrl_lists.specs.Checks.{at_first, first_refusal, is_long, is_of_no_class, judging_check, naming_check, refused_if, shows_none_of, write_checks, writing_check}
 use Rattle.device_history.specs.declared.ask.Ask.{Ask}
 use Rattle.device_history.specs.declared.ask.Ask.TheVariants as asks
 use Rattle.device_history.specs.declared.ask.Step.{Step}
@@ -34,11 +33,11 @@ use Rattle.device_history.specs.Events.{pending}
 use Rattle.device_history.specs.EventAnswers.{first_control}
 use Rattle.device_history.specs.Frames.{queue, running, first_of}
 use Rattle.device_history.specs.Snapshots.{request}
-use Rattle.device_history.specs.Lists.{controls_of, earlier_pairs, handler_or, list_pairs, list_step, meant, opening_checks, pairs_step, refused_with, set_checks, through_refusal, which_or, write_view}
+use Rattle.device_history.specs.Lists.{controls_of, earlier_pairs, handler_or, list_pairs, list_step, meant, opening_checks, meant_check, pairs_step, refused_by, request_check, set_checks, which_or, write_view}
 use Rattle.device_history.specs.Answers.{refusal, step_of}
 use Rattle.device_history.specs.Legal.{MayFollow}
 use Rattle.device_history.specs.Asking.{ask_by, entries_of, fh_or_none, first_storer, free_id, shows_pairs, storer}
-use Rattle.device_history.proofs.FitLemmas.{same_step, through}
+use Rattle.device_history.proofs.FitLemmas.{meant_passes, same_step}
 use Rattle.device_history.proofs.ListLemmas.{first_behind, none_of_both, passes}
 use Rattle.device_history.proofs.PastLemmas.{AreAbove, AreRising, opened_rising}
 use Rattle.device_history.proofs.NamingLemmas.{entries_back, pairs_back, shown_id}
@@ -63,9 +62,9 @@ set_unrefused fault None entries h = refl
 set_unrefused fault (Some r) entries h = cc
 
 -- what doesn't refuse a list doesn't hold
-not_refused_if : (b : Bool) (errno : Errno) → refused_if b errno ≡ None → b ≡ false
-not_refused_if true errno h = cc
-not_refused_if false errno h = refl
+not_refused_if : (b : Bool) (check : Check) → refused_if b check ≡ None → b ≡ false
+not_refused_if true check h = cc
+not_refused_if false check h = refl
 
 -- a list of all controls isn't one about a class of which none is shown
 about_all : (plan : PlanData) (view : ViewData) (list : List ExtControl) → shows_none_of plan view view.which ≡ false → is_of_no_class plan view list ≡ false
@@ -92,18 +91,18 @@ writes_back : (verdicts : Verdicts) (plan : PlanData) (view : ViewData) (handler
     → first_refusal (write_checks verdicts plan view true list) ≡ None
     → first_refusal (write_checks verdicts plan (record view { handler = handler; which = which }) true (entries_of plan (pairs_of plan view.handler view.which list))) ≡ None
 writes_back verdicts plan view handler which list all known shows h =
-    let before = all_pass (refused_if (is_long list) EINVAL) (refused_if (is_of_no_class plan view list) EINVAL) (at_first (naming_refusal plan view) list)
-    (at_first (writing_refusal plan view true) pairs) (at_first (judging_refusal verdicts plan view (view.asked ++ pairs)) pairs) h in
+    let before = all_pass (refused_if (is_long list) TooManyEntries) (refused_if (is_of_no_class plan view list) ClassNotShown) (at_first (naming_check plan view) list)
+    (at_first (writing_check plan view true) pairs) (at_first (judging_check verdicts plan view (view.asked ++ pairs)) pairs) h in
     let same : entries ≡ list = (entries_back plan view 0 list before.2).0 in
     let back = pairs_back plan other 0 pairs all shows in
-    passed (refused_if (is_long entries) EINVAL) (refused_if (is_of_no_class plan other entries) EINVAL) (at_first (naming_refusal plan other) entries)
-    (at_first (writing_refusal plan other true) (pairs_of plan handler which entries))
-    (at_first (judging_refusal verdicts plan other (view.asked ++ pairs_of plan handler which entries)) (pairs_of plan handler which entries))
-    (ap (λ (l : List ExtControl). refused_if (is_long l) EINVAL) same ∙ before.0)
-    (ap (λ (b : Bool). refused_if b EINVAL) (about_all plan other entries known))
+    passed (refused_if (is_long entries) TooManyEntries) (refused_if (is_of_no_class plan other entries) ClassNotShown) (at_first (naming_check plan other) entries)
+    (at_first (writing_check plan other true) (pairs_of plan handler which entries))
+    (at_first (judging_check verdicts plan other (view.asked ++ pairs_of plan handler which entries)) (pairs_of plan handler which entries))
+    (ap (λ (l : List ExtControl). refused_if (is_long l) TooManyEntries) same ∙ before.0)
+    (ap (λ (b : Bool). refused_if b ClassNotShown) (about_all plan other entries known))
     back.1
-    (ap (λ (ps : List Pair). at_first (writing_refusal plan view true) ps) back.0 ∙ before.3)
-    (ap (λ (ps : List Pair). at_first (judging_refusal verdicts plan view (view.asked ++ ps)) ps) back.0 ∙ before.4)
+    (ap (λ (ps : List Pair). at_first (writing_check plan view true) ps) back.0 ∙ before.3)
+    (ap (λ (ps : List Pair). at_first (judging_check verdicts plan view (view.asked ++ ps)) ps) back.0 ∙ before.4)
   where
     other : ViewData
     other = record view { handler = handler; which = which }
@@ -162,15 +161,15 @@ storer_fits plan past fh pairs is_open shows = by (handler_of past fh) refl is_o
 
 -- A list that is set passes its first checks where its file handle is open, it doesn't speak of the defaults, and the request that it speaks of
 -- doesn't refuse it.
-opens : (is_closed : Bool) (refusal : Option Errno) → is_closed ≡ false → refusal ≡ None → first_refusal (refused_if is_closed EBADF ∷ None ∷ None ∷ refused_with refusal ∷ []) ≡ None
-opens is_closed refusal is none = rw (is, none) refl
+opens : (is_closed : Bool) (check : Option Check) → is_closed ≡ false → check ≡ None → first_refusal (refused_if is_closed ListHandleClosed ∷ None ∷ None ∷ refused_by check ∷ []) ≡ None
+opens is_closed check is none = rw (is, none) refl
 
 -- the request that a list speaks of, where it does, doesn't refuse a list that is set
 Stores : Verdicts → PlanData → Past → Option RequestId → Type 0
 Stores verdicts plan past None = Unit {0}
-Stores verdicts plan past (Some r) = store_refusal (request verdicts plan past r.0) ≡ None
+Stores verdicts plan past (Some r) = request_check true (request verdicts plan past r.0) ≡ None
 
-stores : (verdicts : Verdicts) (plan : PlanData) (past : Past) (which : Which) (id : Option RequestId) → through_refusal verdicts plan past true which id ≡ None → Stores verdicts plan past (meant which id)
+stores : (verdicts : Verdicts) (plan : PlanData) (past : Past) (which : Which) (id : Option RequestId) → meant_check verdicts plan past true which id ≡ None → Stores verdicts plan past (meant which id)
 unfolding Stores
 stores verdicts plan past Request (Some r) h = h
 stores verdicts plan past Request None h = tt
@@ -182,8 +181,8 @@ stores verdicts plan past (Class n) id h = tt
 opened_by : (verdicts : Verdicts) (plan : PlanData) (past : Past) (fh : FhId) (which : ℕ) (id : Option RequestId) → first_refusal (opening_checks verdicts plan past fh which id true) ≡ None
     → (is_none (handler_of past fh) ≡ false) × Stores verdicts plan past (meant (which_or (which_of which)) id)
 opened_by verdicts plan past fh which id h =
-    let first = passes (refused_if (is_none (handler_of past fh)) EBADF) _ h in
-    (not_refused_if (is_none (handler_of past fh)) EBADF first.0, stores verdicts plan past (which_or (which_of which)) id (through verdicts plan past fh which id true h))
+    let first = passes (refused_if (is_none (handler_of past fh)) ListHandleClosed) _ h in
+    (not_refused_if (is_none (handler_of past fh)) ListHandleClosed first.0, stores verdicts plan past (which_or (which_of which)) id (meant_passes verdicts plan past fh which id true h))
 
 -- the step of a list that is set is decided
 set_decided : (verdicts : Verdicts) (plan : PlanData) (past : Past) (fh : FhId) (which : ℕ) (id : Option RequestId) (list : List ExtControl) → first_refusal (set_checks verdicts plan past fh which id list) ≡ None
@@ -196,7 +195,7 @@ set_decided verdicts plan past fh which id list h =
     by (meant (which_or (which_of which)) id) opening.0 opening.1 rest.0 rest.1
   where
     limit : List (Option Refusal)
-    limit = refused_if (is_full past) ENOSPC ∷ []
+    limit = refused_if (is_full past) NoRoomForSet ∷ []
 
     view : Option RequestId → ViewData
     view m = record (write_view verdicts plan past fh which id) { asked = earlier_pairs plan past m }
@@ -210,8 +209,8 @@ set_decided verdicts plan past fh which id list h =
     by : (m : Option RequestId) → is_none (handler_of past fh) ≡ false → Stores verdicts plan past m → first_refusal (write_checks verdicts plan (view m) true list) ≡ None → first_refusal limit ≡ None
         → Decided verdicts plan past (pairs_step m fh pairs)
     by None is_open through own few =
-        let checks = all_pass (refused_if (is_long list) EINVAL) (refused_if (is_of_no_class plan (view None) list) EINVAL) (at_first (naming_refusal plan (view None)) list)
-        (at_first (writing_refusal plan (view None) true) pairs) (at_first (judging_refusal verdicts plan (view None) pairs) pairs) own in
+        let checks = all_pass (refused_if (is_long list) TooManyEntries) (refused_if (is_of_no_class plan (view None) list) ClassNotShown) (at_first (naming_check plan (view None)) list)
+        (at_first (writing_check plan (view None) true) pairs) (at_first (judging_check verdicts plan (view None) pairs) pairs) own in
         let shows : shows_pairs plan (handler_or (handler_of past fh)) pairs ≡ true = (entries_back plan (view None) 0 list checks.2).1 in
         let other : ViewData = record (view None) { which = Current } in (
           set_unrefused (fault_at_count (length entries)) (first_refusal (set_checks verdicts plan past fh 0 None entries)) (entries_judged verdicts plan other entries)
@@ -221,15 +220,15 @@ set_decided verdicts plan past fh which id list h =
           ap (λ (ps : List Pair). Some (steps.Set fh ps)) (pairs_back plan other 0 pairs (λ i. refl) shows).0,
         )
     by (Some r) is_open through own few =
-        let checks = all_pass (refused_if (is_long list) EINVAL) (refused_if (is_of_no_class plan (view (Some r)) list) EINVAL) (at_first (naming_refusal plan (view (Some r))) list)
-        (at_first (writing_refusal plan (view (Some r)) true) pairs) (at_first (judging_refusal verdicts plan (view (Some r)) ((view (Some r)).asked ++ pairs)) pairs) own in
+        let checks = all_pass (refused_if (is_long list) TooManyEntries) (refused_if (is_of_no_class plan (view (Some r)) list) ClassNotShown) (at_first (naming_check plan (view (Some r))) list)
+        (at_first (writing_check plan (view (Some r)) true) pairs) (at_first (judging_check verdicts plan (view (Some r)) ((view (Some r)).asked ++ pairs)) pairs) own in
         let before : shows_pairs plan (handler_or (handler_of past fh)) pairs ≡ true = (entries_back plan (view (Some r)) 0 list checks.2).1 in
         let found = storer_fits plan past fh pairs is_open before in
         let to : FhId = storer plan past pairs in
         let other : ViewData = record (view (Some r)) { handler = handler_or (handler_of past to); which = Request } in (
           set_unrefused (fault_at_count (length entries)) (first_refusal (set_checks verdicts plan past to 0x0f010000 (Some r) entries)) (entries_judged verdicts plan other entries)
               (none_both (opening_checks verdicts plan past to 0x0f010000 (Some r) true) (write_checks verdicts plan other true entries ++ limit)
-              (opens (is_none (handler_of past to)) (store_refusal (request verdicts plan past r.0)) found.0 through)
+              (opens (is_none (handler_of past to)) (request_check true (request verdicts plan past r.0)) found.0 through)
               (none_both (write_checks verdicts plan other true entries) limit
               (writes_back verdicts plan (view (Some r)) (handler_or (handler_of past to)) Request list (λ i. refl) refl found.1 own) few)),
           ap (λ (ps : List Pair). Some (steps.Store r ps)) (pairs_back plan other 0 pairs (λ i. refl) found.1).0,

@@ -1,10 +1,10 @@
 -- What may follow a history fits the requests and the queue.
-use Rattle.std.proofs.Common.{◌≡◌, ℕ, Bool, true, not, List, [], ◌∷◌, ◌++◌, Option, None, Some, refl, ap, sym, subst, ◌∙◌}
+use Rattle.std.proofs.Common.{◌≡◌, ℕ, Bool, true, false, not, cond, List, [], ◌∷◌, ◌++◌, Option, None, Some, refl, ap, sym, subst, ◌∙◌}
 use Rattle.std.specs.Option.{option_map, is_none}
 use Rattle.std.specs.Result.{is_ok}
 use Rattle.ctrl_types.specs.Classes.{which_of}
-use Rattle.ctrl_types.specs.declared.errno.Errno.{Errno}
-use Rattle.ctrl_types.specs.declared.errno.Errno.TheVariants.{EBADF, EINVAL, ENOSPC}
+use Rattle.ctrl_types.specs.declared.check.Check.{Check}
+use Rattle.ctrl_types.specs.declared.check.Check.TheVariants.{DefaultsWritten, ListHandleClosed, ListRequestNotIdle, NoRoomForSet, NotIdle, WhichUnknown}
 use Rattle.ctrl_types.specs.declared.errno.Fault.{Fault}
 use Rattle.ctrl_types.specs.declared.ids.ExtControl.{ExtControl}
 use Rattle.ctrl_types.specs.declared.ids.FhId.{FhId}
@@ -15,7 +15,9 @@ use Rattle.ctrl_types.specs.declared.which.Which.{Which}
 use Rattle.ctrl_types.specs.declared.which.Which.TheVariants.{Current, Defaults, Class, Request}
 use Rattle.ctrl_calls.specs.Meanings.{Verdicts}
 use Rattle.ctrl_handlers.specs.Plan.{PlanData}
-use Rattle.frame_queue.specs.Frames.{begin_answer}
+use Rattle.req_book.specs.Requests.{RequestData, is_idle}
+use Rattle.req_book.specs.Refusals.{store_check}
+use Rattle.frame_queue.specs.Frames.{next_frame}
 use Rattle.ctrl_lists.specs.declared.refusal.Refusal.{Refusal}
 use Rattle.ctrl_lists.specs.Answers.{answered}
 use Rattle.ctrl_lists.specs.Checks.{first_refusal, refused_if, write_checks}
@@ -25,14 +27,14 @@ use Rattle.device_history.specs.declared.ask.Reply.{Reply}
 use Rattle.device_history.specs.declared.ask.Step.{Step}
 use Rattle.device_history.specs.declared.ask.Step.TheVariants as steps
 use Rattle.device_history.specs.Steps.{Past}
-use Rattle.device_history.specs.Refusals.{is_full, fault_of}
+use Rattle.device_history.specs.Refusals.{fault_of, is_full, stepped, stepped_with}
 use Rattle.device_history.specs.Handles.{handler_of, shown}
 use Rattle.device_history.specs.Events.{pending}
 use Rattle.device_history.specs.EventAnswers.{first_control}
 use Rattle.device_history.specs.Frames.{queue, running, first_of}
-use Rattle.device_history.specs.Snapshots.{frames}
-use Rattle.device_history.specs.RequestAnswers.{stepped, frame_answer}
-use Rattle.device_history.specs.Lists.{controls_of, meant, opening_checks, refused_with, through_refusal, which_or, writes_defaults, write_view, list_pairs, pairs_step}
+use Rattle.device_history.specs.Snapshots.{frames, request}
+use Rattle.device_history.specs.RequestAnswers.{begin_frame_answer, frame_reply}
+use Rattle.device_history.specs.Lists.{controls_of, meant, opening_checks, meant_check, refused_by, request_check, which_or, writes_defaults, write_view, list_pairs, pairs_step}
 use Rattle.device_history.specs.Answers.{refusal, step_of}
 use Rattle.device_history.specs.Legal.{MayFollow, IsLegal}
 use Rattle.device_history.specs.FrameSteps.{FitsFrames}
@@ -40,9 +42,9 @@ use Rattle.device_history.proofs.ListLemmas.{none_of_both, passes}
 use Rattle.device_history.proofs.AllFit.{AllFit}
 
 -- where nothing refuses an ask that adds a step, its own refusal is none
-unrefused_step : (o : Option Errno) (past : Past) (reply : Reply) → fault_of (stepped o past reply) ≡ None → o ≡ None
+unrefused_step : (o : Option Check) (past : Past) (reply : Reply) → fault_of (stepped o past reply) ≡ None → o ≡ None
 unrefused_step None past reply h = refl
-unrefused_step (Some errno) past reply h = cc
+unrefused_step (Some check) past reply h = cc
 
 pub same_step : (a b : Step) → Some a ≡ Some b → a ≡ b
 same_step a b h = cc
@@ -58,37 +60,46 @@ list_opens fault checks behind entries h = (none_of_both checks behind (none (fi
     none None h = refl
     none (Some refusal) h = cc
 
-unrefused_with : (o : Option Errno) → refused_with o ≡ None → o ≡ None
-unrefused_with None h = refl
-unrefused_with (Some errno) h = cc
+unrefused_by : (o : Option Check) → refused_by o ≡ None → o ≡ None
+unrefused_by None h = refl
+unrefused_by (Some check) h = cc
 
 -- a list that passes its first checks isn't refused by the request that it speaks of
-pub through : (verdicts : Verdicts) (plan : PlanData) (older : Past) (fh : FhId) (which : ℕ) (id : Option RequestId) (writes : Bool) → first_refusal (opening_checks verdicts plan older fh which id writes) ≡ None
-    → through_refusal verdicts plan older writes (which_or (which_of which)) id ≡ None
-through verdicts plan older fh which id writes h =
-    let last : Option Refusal = refused_with (through_refusal verdicts plan older writes (which_or (which_of which)) id) in
-    let defaults : Option Refusal = refused_if (writes_defaults writes (which_or (which_of which))) EINVAL in
-    let unread : Option Refusal = refused_if (not (is_ok (which_of which))) EINVAL in
-    let first = passes (refused_if (is_none (handler_of older fh)) EBADF) (unread ∷ defaults ∷ last ∷ []) h in
+pub meant_passes : (verdicts : Verdicts) (plan : PlanData) (older : Past) (fh : FhId) (which : ℕ) (id : Option RequestId) (writes : Bool) → first_refusal (opening_checks verdicts plan older fh which id writes) ≡ None
+    → meant_check verdicts plan older writes (which_or (which_of which)) id ≡ None
+meant_passes verdicts plan older fh which id writes h =
+    let last : Option Refusal = refused_by (meant_check verdicts plan older writes (which_or (which_of which)) id) in
+    let defaults : Option Refusal = refused_if (writes_defaults writes (which_or (which_of which))) DefaultsWritten in
+    let unread : Option Refusal = refused_if (not (is_ok (which_of which))) WhichUnknown in
+    let first = passes (refused_if (is_none (handler_of older fh)) ListHandleClosed) (unread ∷ defaults ∷ last ∷ []) h in
     let second = passes unread (defaults ∷ last ∷ []) first.1 in
     let third = passes defaults (last ∷ []) second.1 in
-    unrefused_with (through_refusal verdicts plan older writes (which_or (which_of which)) id) (passes last [] third.1).0
+    unrefused_by (meant_check verdicts plan older writes (which_or (which_of which)) id) (passes last [] third.1).0
+
+-- a request that doesn't refuse a list that writes takes its pairs
+stores : (o : Option RequestData) → request_check true o ≡ None → store_check o ≡ None
+stores None h = cc
+stores (Some r) h = by (is_idle r.state) h
+  where
+    by : (b : Bool) → cond b None (Some ListRequestNotIdle) ≡ None → cond b None (Some NotIdle) ≡ None
+    by true k = refl
+    by false k = cc
 
 -- a list that is set fits
-fits_list : (verdicts : Verdicts) (plan : PlanData) (older : Past) (fh : FhId) (which : Which) (id : Option RequestId) (pairs : List Pair) → through_refusal verdicts plan older true which id ≡ None
+fits_list : (verdicts : Verdicts) (plan : PlanData) (older : Past) (fh : FhId) (which : Which) (id : Option RequestId) (pairs : List Pair) → meant_check verdicts plan older true which id ≡ None
     → FitsFrames verdicts plan older (pairs_step (meant which id) fh pairs)
-fits_list verdicts plan older fh Request (Some r) pairs h = h
+fits_list verdicts plan older fh Request (Some r) pairs h = stores (request verdicts plan older r.0) h
 fits_list verdicts plan older fh Request None pairs h = tt
 fits_list verdicts plan older fh Current id pairs h = tt
 fits_list verdicts plan older fh Defaults id pairs h = tt
 fits_list verdicts plan older fh (Class n) id pairs h = tt
 
 -- a frame that is begun fits
-fits_begin : (verdicts : Verdicts) (plan : PlanData) (older : Past) (step : Step) → fault_of (frame_answer verdicts plan older (begin_answer (frames verdicts plan older))) ≡ None
+fits_begin : (verdicts : Verdicts) (plan : PlanData) (older : Past) (step : Step) → fault_of (begin_frame_answer verdicts plan older) ≡ None
     → option_map (λ r. steps.Begin (record { 0 = r })) (first_of (queue older)) ≡ Some step → FitsFrames verdicts plan older step
 fits_begin verdicts plan older step unrefused adds = by (running older) (queue older) refl refl unrefused
   where
-    by : (runs : Option ℕ) (waits : List ℕ) → running older ≡ runs → queue older ≡ waits → fault_of (frame_answer verdicts plan older (begin_answer (record (frames verdicts plan older) { queue = waits; running = runs }))) ≡ None
+    by : (runs : Option ℕ) (waits : List ℕ) → running older ≡ runs → queue older ≡ waits → fault_of (stepped_with (frame_reply verdicts plan older) (next_frame (record (frames verdicts plan older) { queue = waits; running = runs })) older) ≡ None
         → FitsFrames verdicts plan older step
     by (Some r) waits is_running is_queue h = cc
     by None [] is_running is_queue h = cc
@@ -133,8 +144,8 @@ fits verdicts plan older step may = by may.0 may.1 may.2
     by (asks.SetCtrls fh which id list) h adds =
         is (pairs_step (meant (which_or (which_of which)) id) fh (list_pairs plan older fh which list))
         (fits_list verdicts plan older fh (which_or (which_of which)) id (list_pairs plan older fh which list)
-        (through verdicts plan older fh which id true
-        (list_opens _ (opening_checks verdicts plan older fh which id true) (write_checks verdicts plan (write_view verdicts plan older fh which id) true list ++ refused_if (is_full older) ENOSPC ∷ []) _ h)))
+        (meant_passes verdicts plan older fh which id true
+        (list_opens _ (opening_checks verdicts plan older fh which id true) (write_checks verdicts plan (write_view verdicts plan older fh which id) true list ++ refused_if (is_full older) NoRoomForSet ∷ []) _ h)))
         adds
     by (asks.TryCtrls fh which id list) h adds = nothing verdicts plan older step adds
     by (asks.Grab c on) h adds = is _ tt adds

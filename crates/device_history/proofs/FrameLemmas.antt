@@ -8,15 +8,15 @@ use Rattle.std.proofs.lemmas.List.Elements.{filter_map-append}
 use Rattle.std.proofs.lemmas.List.Folds.{list_any-append}
 use Rattle.history.specs.declared.entry.Entry.{Entry}
 use Rattle.ctrl_types.specs.declared.value.CtrlValue.{CtrlValue}
-use Rattle.ctrl_types.specs.declared.errno.Errno.TheVariants.{EBUSY}
+use Rattle.ctrl_types.specs.declared.check.Check.TheVariants.{NotIdle, RequestRunning}
 use Rattle.ctrl_types.specs.declared.ids.Pair.{Pair}
 use Rattle.ctrl_calls.specs.Meanings.{Verdicts}
 use Rattle.ctrl_handlers.specs.Plan.{PlanData}
 use Rattle.req_book.specs.declared.state.RequestState.{RequestState}
 use Rattle.req_book.specs.declared.state.RequestState.TheVariants as states
 use Rattle.req_book.specs.Requests.{RequestData, RequestsData, find, new_request, with_changed, with_pairs, with_buffer, cleared, queued, begun, completed, is_idle, is_number, without}
-use Rattle.req_book.specs.Refusals.{store_refusal, buffer_refusal, queue_refusal, clear_refusal}
-use Rattle.frame_queue.specs.Frames.{FramesData, QueueFitsRequests, AreOnce, is_in, is_queued, is_running, after_begin, after_complete, ended_request, cancel_refusal}
+use Rattle.req_book.specs.Refusals.{store_check, buffer_check, queue_check, clear_check}
+use Rattle.frame_queue.specs.Frames.{FramesData, QueueFitsRequests, AreOnce, is_in, is_queued, is_running, after_begin, after_complete, ended_request, cancel_check}
 use Rattle.frame_queue.proofs.FrameLemmas.{queued_kept, begun_kept, completed_kept, cancelled_kept, off_kept, state_kept, rests, cleared_kept, freed_kept, added_kept}
 use Rattle.device_history.specs.declared.ask.Step.{Step}
 use Rattle.device_history.specs.declared.ask.Step.TheVariants.{OpenFh, CloseFh, Set, Grab, Alloc, Store, Buffer, Queue, Begin, Complete, Cancel, StreamOff, Reinit, Free, Subscribe, Unsubscribe, Take, ModifyRange}
@@ -169,15 +169,15 @@ idle_rests (Some q) is = by q.state is
     by states.Running is = cc
     by states.Complete is = (refl, refl)
 
-pub store_idle : (o : Option RequestData) → store_refusal o ≡ None → is_in is_idle o ≡ true
+pub store_idle : (o : Option RequestData) → store_check o ≡ None → is_in is_idle o ≡ true
 store_idle None fits = cc
 store_idle (Some q) fits = by (is_idle q.state) fits
   where
-    by : (b : Bool) → (if b then None else Some EBUSY) ≡ None → b ≡ true
+    by : (b : Bool) → (if b then None else Some NotIdle) ≡ None → b ≡ true
     by true h = refl
     by false h = cc
 
-pub buffer_idle : (rs : List RequestData) (number : ℕ) (o : Option RequestData) → buffer_refusal rs number o ≡ None → is_in is_idle o ≡ true
+pub buffer_idle : (rs : List RequestData) (number : ℕ) (o : Option RequestData) → buffer_check rs number o ≡ None → is_in is_idle o ≡ true
 buffer_idle rs number None fits = cc
 buffer_idle rs number (Some q) fits = by (is_idle q.state) refl
   where
@@ -185,10 +185,10 @@ buffer_idle rs number (Some q) fits = by (is_idle q.state) refl
     by true is = is
     by false is = clash (rw is at fits)
       where
-        clash : Some EBUSY ≡ None → is_idle q.state ≡ true
+        clash : Some NotIdle ≡ None → is_idle q.state ≡ true
         clash h = cc
 
-queue_idle : (o : Option RequestData) → queue_refusal o ≡ None → is_in is_idle o ≡ true
+queue_idle : (o : Option RequestData) → queue_check o ≡ None → is_in is_idle o ≡ true
 queue_idle None fits = cc
 queue_idle (Some q) fits = by (is_idle q.state) refl
   where
@@ -196,18 +196,18 @@ queue_idle (Some q) fits = by (is_idle q.state) refl
     by true is = is
     by false is = clash (rw is at fits)
       where
-        clash : Some EBUSY ≡ None → is_idle q.state ≡ true
+        clash : Some NotIdle ≡ None → is_idle q.state ≡ true
         clash h = cc
 
 -- a request that may be taken from the queue doesn't run; nor does one that waits, and one that runs doesn't wait
-cancel_waits : (o : Option RequestData) → cancel_refusal o ≡ None → is_in is_running o ≡ false
+cancel_waits : (o : Option RequestData) → cancel_check o ≡ None → is_in is_running o ≡ false
 cancel_waits None fits = cc
 cancel_waits (Some q) fits = by (is_running q.state) refl
   where
     by : (b : Bool) → is_running q.state ≡ b → is_running q.state ≡ false
     by true is = clash (rw is at fits)
       where
-        clash : Some EBUSY ≡ None → is_running q.state ≡ false
+        clash : Some RequestRunning ≡ None → is_running q.state ≡ false
         clash h = cc
     by false is = is
 
@@ -256,15 +256,15 @@ after_kept verdicts plan older (ModifyRange c low high apart default_value) fit 
 after_kept verdicts plan older Alloc fit kept fits = added_kept (frames verdicts plan older) (length older) kept (find_request verdicts plan older (length older) fit ∙ next_none verdicts plan older fit)
 after_kept verdicts plan older (Store r pairs) fit kept fits = state_kept (frames verdicts plan older) r.0 (with_pairs (length plan.controls) pairs) kept (λ q. refl) (λ q. refl) (λ q h. h)
 after_kept verdicts plan older (Buffer r number) fit kept fits = state_kept (frames verdicts plan older) r.0 (with_buffer number) kept (λ q. refl) (λ q. refl) (λ q h. refl)
-after_kept verdicts plan older (Queue r) fit kept fits = queued_kept (frames verdicts plan older) r.0 kept (ap queue_refusal (find_request verdicts plan older r.0 fit) ∙ fits)
+after_kept verdicts plan older (Queue r) fit kept fits = queued_kept (frames verdicts plan older) r.0 kept (ap queue_check (find_request verdicts plan older r.0 fit) ∙ fits)
 after_kept verdicts plan older (Begin r) fit kept fits =
     let first = first_waits (queue older) r.0 fits.1 in
     subst QueueFitsRequests (sym (begin_is (frames verdicts plan older) (begun_pairs verdicts plan older r.0) r.0 first.0 fits.0 first.1)) (begun_kept (frames verdicts plan older) r.0 first.0 (begun_pairs verdicts plan older r.0) kept first.1 fits.0)
 after_kept verdicts plan older (Complete r) fit kept fits = subst QueueFitsRequests (sym (complete_is (frames verdicts plan older) (now verdicts plan older) r.0 fits)) (completed_kept (frames verdicts plan older) r.0 (now verdicts plan older) kept fits)
-after_kept verdicts plan older (Cancel r) fit kept fits = cancelled_kept (frames verdicts plan older) r.0 (now verdicts plan older) kept (ap cancel_refusal (find_request verdicts plan older r.0 fit) ∙ fits)
+after_kept verdicts plan older (Cancel r) fit kept fits = cancelled_kept (frames verdicts plan older) r.0 (now verdicts plan older) kept (ap cancel_check (find_request verdicts plan older r.0 fit) ∙ fits)
 after_kept verdicts plan older StreamOff fit kept fits = off_kept (now verdicts plan older) (frames verdicts plan older)
-after_kept verdicts plan older (Reinit r) fit kept fits = cleared_kept (frames verdicts plan older) r.0 kept (ap clear_refusal (find_request verdicts plan older r.0 fit) ∙ fits)
-after_kept verdicts plan older (Free r) fit kept fits = freed_kept (frames verdicts plan older) r.0 kept (ap clear_refusal (find_request verdicts plan older r.0 fit) ∙ fits)
+after_kept verdicts plan older (Reinit r) fit kept fits = cleared_kept (frames verdicts plan older) r.0 kept (ap clear_check (find_request verdicts plan older r.0 fit) ∙ fits)
+after_kept verdicts plan older (Free r) fit kept fits = freed_kept (frames verdicts plan older) r.0 kept (ap clear_check (find_request verdicts plan older r.0 fit) ∙ fits)
 after_kept verdicts plan older (Subscribe f c flags) fit kept fits = kept
 after_kept verdicts plan older (Unsubscribe f c) fit kept fits = kept
 after_kept verdicts plan older (Take f c) fit kept fits = kept

@@ -1,6 +1,6 @@
 -- What may follow a history.
-use Rattle.std.proofs.Common.{◌≡◌, ℕ, Bool, true, false, if◌then◌else◌, List, [], length, nat_le, slice_index, Some, None, Ok, Err, IsOk, refl, ap, sym, ◌∙◌, inl, inr}
-use Rattle.ctrl_types.specs.declared.errno.Errno.TheVariants.{EINVAL}
+use Rattle.std.proofs.Common.{◌≡◌, ℕ, Bool, true, false, cond, List, [], length, nat_le, slice_index, Some, None, Ok, Err, IsOk, refl, ap, sym, ◌∙◌, inl, inr}
+use Rattle.ctrl_types.specs.declared.check.Check.TheVariants.{ClusterMissing}
 use Rattle.ctrl_calls.specs.Meanings.{Verdicts}
 use Rattle.ctrl_handlers.specs.Plan.{PlanData}
 use Rattle.device_history.specs.declared.ask.Ask.{Ask}
@@ -9,7 +9,7 @@ use Rattle.device_history.specs.declared.ask.Reply.{Reply}
 use Rattle.device_history.specs.declared.ask.Reply.TheVariants.{Word}
 use Rattle.device_history.specs.declared.ask.Step.{Step}
 use Rattle.device_history.specs.Steps.{Past}
-use Rattle.device_history.specs.Refusals.{Answer, refused, fault_of}
+use Rattle.device_history.specs.Refusals.{Answer, fault_of, told_of}
 use Rattle.device_history.specs.Answers.{MayAnswer, answer_of, no_memory, refusal, step_of}
 use Rattle.device_history.specs.Legal.{MayFollow}
 
@@ -43,7 +43,7 @@ refusal_of verdicts plan past words (asks.NextId fh id) = refl
 refusal_of verdicts plan past words (asks.MenuItem fh id index) = refl
 refusal_of verdicts plan past words (asks.Told cluster) = by (nat_le (length plan.clusters) cluster)
   where
-    by : (b : Bool) → fault_of (if b then refused EINVAL else Ok (Word (slice_index words cluster))) ≡ fault_of (if b then refused EINVAL else Ok (Word (slice_index [] cluster)))
+    by : (b : Bool) → fault_of (told_of (λ word. Word word) (cond b (Err ClusterMissing) (Ok (slice_index words cluster)))) ≡ fault_of (told_of (λ word. Word word) (cond b (Err ClusterMissing) (Ok (slice_index [] cluster))))
     by true = refl
     by false = refl
 refusal_of verdicts plan past words (asks.Subscribe fh id flags) = refl

@@ -13,6 +13,7 @@ pub mod ListLemmas
 pub mod WholeLemmas
 pub mod WordLemmas
 pub mod IndexLemmas
+pub mod CheckLemmas
 pub mod LegalLemmas
 pub mod FitLemmas
 pub mod NamingLemmas

@@ -4,7 +4,7 @@ use Rattle.std.proofs.lemmas.Bool.Decides.{nat_tests}
 use Rattle.std.specs.List.{cons_option}
 use Rattle.std.specs.Option.{option_map, option_and_then}
 use Rattle.ctrl_types.specs.Flags.{contains}
-use Rattle.ctrl_types.specs.declared.errno.Errno.TheVariants.{EINVAL}
+use Rattle.ctrl_types.specs.declared.check.Check.TheVariants.{EntryNotShown}
 use Rattle.ctrl_types.specs.declared.flags.TheConstants.Flags.{DISABLED}
 use Rattle.ctrl_types.specs.declared.ids.CtrlId.{CtrlId}
 use Rattle.ctrl_types.specs.declared.ids.ExtControl.{ExtControl}
@@ -17,7 +17,7 @@ use Rattle.req_book.specs.Requests.{is_number}
 use Rattle.ctrl_handlers.specs.Plan.{PlanData, control, control_in}
 use Rattle.ctrl_handlers.specs.Visible.{find, first_with_id}
 use Rattle.ctrl_lists.specs.View.{ViewData, is_meant, meant_one, named, pairs_of}
-use Rattle.ctrl_lists.specs.Checks.{first_from, naming_refusal}
+use Rattle.ctrl_lists.specs.Checks.{first_from, naming_check}
 use Rattle.device_history.specs.Steps.{Past}
 use Rattle.device_history.specs.Handles.{handler_of, shown}
 use Rattle.device_history.specs.Asking.{entries_of, shows_pair, shows_pairs}
@@ -90,12 +90,12 @@ own_is None n is = cc
 own_is (Some m) n is = ap (λ (k : ℕ). Some k) (equal m n is)
 
 -- Where each entry of a list names a control, its handler shows the list's pairs, and their list is that list.
-pub entries_back : (plan : PlanData) (view : ViewData) (n : ℕ) (list : List ExtControl) → first_from (naming_refusal plan view) n list ≡ None
+pub entries_back : (plan : PlanData) (view : ViewData) (n : ℕ) (list : List ExtControl) → first_from (naming_check plan view) n list ≡ None
     → (entries_of plan (pairs_of plan view.handler view.which list) ≡ list) × (shows_pairs plan view.handler (pairs_of plan view.handler view.which list) ≡ true)
 entries_back plan view n [] names = (refl, refl)
 entries_back plan view n (entry ∷ list) names =
-    let parts : (naming_refusal plan view entry ≡ None) × (first_from (naming_refusal plan view) (n + 1) list ≡ None) =
-    none_found n (naming_refusal plan view entry) (first_from (naming_refusal plan view) (n + 1) list) names in
+    let parts : (naming_check plan view entry ≡ None) × (first_from (naming_check plan view) (n + 1) list ≡ None) =
+    none_found n (naming_check plan view entry) (first_from (naming_check plan view) (n + 1) list) names in
     by (named plan view.handler view.which entry.id) refl parts.0 (entries_back plan view (n + 1) list parts.1)
   where
     rest : List Pair
@@ -104,7 +104,7 @@ entries_back plan view n (entry ∷ list) names =
     one : (o : Option ℕ) → List Pair
     one o = cons_option (option_map (λ c. record { control = c; value = entry.value }) o) rest
 
-    by : (o : Option ℕ) → named plan view.handler view.which entry.id ≡ o → cond (is_some o) None (Some EINVAL) ≡ None → (entries_of plan rest ≡ list) × (shows_pairs plan view.handler rest ≡ true)
+    by : (o : Option ℕ) → named plan view.handler view.which entry.id ≡ o → cond (is_some o) None (Some EntryNotShown) ≡ None → (entries_of plan rest ≡ list) × (shows_pairs plan view.handler rest ≡ true)
         → (entries_of plan (one o) ≡ entry ∷ list) × (shows_pairs plan view.handler (one o) ≡ true)
     by None is h ih = cc
     by (Some c) is h ih =
@@ -115,7 +115,7 @@ entries_back plan view n (entry ∷ list) names =
 
 -- A handler that shows some pairs has each entry of their list name its control, where the list speaks of all controls.
 pub pairs_back : (plan : PlanData) (view : ViewData) (n : ℕ) (pairs : List Pair) → ((id : CtrlId) → is_meant view.which id ≡ true) → shows_pairs plan view.handler pairs ≡ true
-    → (pairs_of plan view.handler view.which (entries_of plan pairs) ≡ pairs) × (first_from (naming_refusal plan view) n (entries_of plan pairs) ≡ None)
+    → (pairs_of plan view.handler view.which (entries_of plan pairs) ≡ pairs) × (first_from (naming_check plan view) n (entries_of plan pairs) ≡ None)
 pairs_back plan view n [] all shows = (refl, refl)
 pairs_back plan view n (p ∷ pairs) all shows =
     let parts = both (shows_pair plan view.handler p) (shows_pairs plan view.handler pairs) shows in

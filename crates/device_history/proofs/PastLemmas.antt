@@ -14,12 +14,11 @@ use Rattle.device_history.specs.declared.ask.Step.{Step}
 use Rattle.device_history.specs.declared.ask.Step.TheVariants as steps
 use Rattle.ctrl_handlers.specs.Plan.{PlanData}
 use Rattle.device_history.specs.Steps.{History, Past}
-use Rattle.device_history.specs.Ranges.{ranges_now}
 use Rattle.device_history.specs.Handles.{opening, ever_opened, closes, behind, is_closed, opened, opened_after, handler_of}
 use Rattle.device_history.specs.Grabs.{grabbed, grabbed_after}
 use Rattle.ctrl_clusters.specs.PresentFlags.{flags_under}
 use Rattle.device_history.specs.Flags.{flags_now}
-use Rattle.device_history.specs.Values.{defaults, pairs_asked, now, values_after}
+use Rattle.device_history.specs.Values.{defaults, now, values_after}
 use Rattle.device_history.proofs.GrabLemmas.{grabbed_start, grabbed_add}
 use Rattle.device_history.specs.Legal.{IsLegal, MayFollow}
 

@@ -11,9 +11,9 @@ use Rattle.ctrl_types.specs.declared.ids.RequestId.{RequestId}
 use Rattle.req_book.specs.declared.state.RequestState.{RequestState}
 use Rattle.req_book.specs.declared.state.RequestState.TheVariants.{Idle, Queued, Running, Complete}
 use Rattle.req_book.specs.Requests.{RequestData, new_request, cleared, is_idle, is_complete, is_number, snapshot_of}
-use Rattle.req_book.specs.Refusals.{store_refusal, buffer_refusal, queue_refusal, clear_refusal}
+use Rattle.req_book.specs.Refusals.{store_check, buffer_check, queue_check, clear_check}
 use Rattle.req_book.proofs.ObjectLemmas.{Tells}
-use Rattle.frame_queue.specs.Frames.{is_queued, is_running, cancel_refusal}
+use Rattle.frame_queue.specs.Frames.{is_queued, is_running, cancel_check}
 use Rattle.ctrl_calls.specs.Meanings.{Verdicts}
 use Rattle.ctrl_handlers.specs.Plan.{PlanData}
 use Rattle.device_history.specs.declared.ask.Step.{Step}
@@ -208,11 +208,11 @@ off_request verdicts plan older j = by (state older j) refl
     by (Some Complete) is = rw (is, is, asked_same plan older j) refl
 
 -- what takes pairs is idle
-stored_idle : (verdicts : Verdicts) (plan : PlanData) (older : Past) (r : ℕ) → store_refusal (request verdicts plan older r) ≡ None → state older r ≡ Some Idle
+stored_idle : (verdicts : Verdicts) (plan : PlanData) (older : Past) (r : ℕ) → store_check (request verdicts plan older r) ≡ None → state older r ≡ Some Idle
 unfolding request
 stored_idle verdicts plan older r = by (state older r)
   where
-    by : (o : Option RequestState) → store_refusal (option_map (request_in verdicts plan older r) o) ≡ None → o ≡ Some Idle
+    by : (o : Option RequestState) → store_check (option_map (request_in verdicts plan older r) o) ≡ None → o ≡ Some Idle
     by None h = cc
     by (Some Idle) h = refl
     by (Some Queued) h = cc
@@ -220,11 +220,11 @@ stored_idle verdicts plan older r = by (state older r)
     by (Some Complete) h = cc
 
 -- what takes a buffer is idle
-buffered_idle : (verdicts : Verdicts) (plan : PlanData) (older : Past) (rs : List RequestData) (number r : ℕ) → buffer_refusal rs number (request verdicts plan older r) ≡ None → state older r ≡ Some Idle
+buffered_idle : (verdicts : Verdicts) (plan : PlanData) (older : Past) (rs : List RequestData) (number r : ℕ) → buffer_check rs number (request verdicts plan older r) ≡ None → state older r ≡ Some Idle
 unfolding request
 buffered_idle verdicts plan older rs number r = by (state older r)
   where
-    by : (o : Option RequestState) → buffer_refusal rs number (option_map (request_in verdicts plan older r) o) ≡ None → o ≡ Some Idle
+    by : (o : Option RequestState) → buffer_check rs number (option_map (request_in verdicts plan older r) o) ≡ None → o ≡ Some Idle
     by None h = cc
     by (Some Idle) h = refl
     by (Some Queued) h = cc
@@ -232,11 +232,11 @@ buffered_idle verdicts plan older rs number r = by (state older r)
     by (Some Complete) h = cc
 
 -- what is queued was idle
-queued_idle : (verdicts : Verdicts) (plan : PlanData) (older : Past) (r : ℕ) → queue_refusal (request verdicts plan older r) ≡ None → state older r ≡ Some Idle
+queued_idle : (verdicts : Verdicts) (plan : PlanData) (older : Past) (r : ℕ) → queue_check (request verdicts plan older r) ≡ None → state older r ≡ Some Idle
 unfolding request
 queued_idle verdicts plan older r = by (state older r)
   where
-    by : (o : Option RequestState) → queue_refusal (option_map (request_in verdicts plan older r) o) ≡ None → o ≡ Some Idle
+    by : (o : Option RequestState) → queue_check (option_map (request_in verdicts plan older r) o) ≡ None → o ≡ Some Idle
     by None h = cc
     by (Some Idle) h = refl
     by (Some Queued) h = cc
@@ -244,11 +244,11 @@ queued_idle verdicts plan older r = by (state older r)
     by (Some Complete) h = cc
 
 -- what is taken from the queue is queued
-cancelled_queued : (verdicts : Verdicts) (plan : PlanData) (older : Past) (r : ℕ) → cancel_refusal (request verdicts plan older r) ≡ None → state older r ≡ Some Queued
+cancelled_queued : (verdicts : Verdicts) (plan : PlanData) (older : Past) (r : ℕ) → cancel_check (request verdicts plan older r) ≡ None → state older r ≡ Some Queued
 unfolding request
 cancelled_queued verdicts plan older r = by (state older r)
   where
-    by : (o : Option RequestState) → cancel_refusal (option_map (request_in verdicts plan older r) o) ≡ None → o ≡ Some Queued
+    by : (o : Option RequestState) → cancel_check (option_map (request_in verdicts plan older r) o) ≡ None → o ≡ Some Queued
     by None h = cc
     by (Some Idle) h = cc
     by (Some Queued) h = refl
@@ -256,11 +256,11 @@ cancelled_queued verdicts plan older r = by (state older r)
     by (Some Complete) h = cc
 
 -- what is made as new is there
-renewed_there : (verdicts : Verdicts) (plan : PlanData) (older : Past) (r : ℕ) → clear_refusal (request verdicts plan older r) ≡ None → is_some (state older r) ≡ true
+renewed_there : (verdicts : Verdicts) (plan : PlanData) (older : Past) (r : ℕ) → clear_check (request verdicts plan older r) ≡ None → is_some (state older r) ≡ true
 unfolding request
 renewed_there verdicts plan older r = by (state older r)
   where
-    by : (o : Option RequestState) → clear_refusal (option_map (request_in verdicts plan older r) o) ≡ None → is_some o ≡ true
+    by : (o : Option RequestState) → clear_check (option_map (request_in verdicts plan older r) o) ≡ None → is_some o ≡ true
     by None h = cc
     by (Some s) h = refl
 

@@ -1,12 +1,13 @@
 -- What becomes of a forecast while a history goes on, and of the frames that it is of.
-use Rattle.std.proofs.Common.{◌≡◌, ℕ, ◌+◌, zero, suc, ◌∙◌, Bool, true, false, cond, List, [], ◌∷◌, ◌++◌, length, map, filter, drop, Option, None, Some, is_some, slice_get, unwrap_or, Ok, refl, sym, ap, subst, arith, append-nil, append_assoc, if◌then◌else◌}
+use Rattle.std.proofs.Common.{◌≡◌, ℕ, ◌+◌, zero, suc, ◌∙◌, Bool, true, false, cond, List, [], ◌∷◌, ◌++◌, length, map, filter, drop, Option, None, Some, is_some, slice_get, unwrap_or, Result, Ok, refl, sym, ap, subst, arith, append-nil, append_assoc}
 use Rattle.std.specs.Option.{option_map}
 use Rattle.std.proofs.lemmas.Bool.{and_parts}
 use Rattle.history.specs.declared.entry.Entry.{Entry}
 use Rattle.history.specs.Past.{past}
 use Rattle.history.proofs.Pasts.{past_add}
 use Rattle.ctrl_types.specs.Classes.{which_of}
-use Rattle.ctrl_types.specs.declared.errno.Errno.TheVariants.{ENOSPC}
+use Rattle.ctrl_types.specs.declared.check.Check.{Check}
+use Rattle.ctrl_types.specs.declared.check.Check.TheVariants.{HistoryFull}
 use Rattle.ctrl_types.specs.declared.ids.FhId.{FhId}
 use Rattle.ctrl_types.specs.declared.sub_flags.SubFlags.{SubFlags}
 use Rattle.device_history.specs.Handles.{shown}
@@ -23,7 +24,7 @@ use Rattle.ctrl_forecast.specs.declared.board.Forecast.{Forecast}
 use Rattle.ctrl_forecast.specs.Forecasts.{QueuedData, forecast_over, forecasts}
 use Rattle.req_book.specs.declared.state.RequestState.TheVariants as states
 use Rattle.req_book.specs.Requests.{RequestData, find}
-use Rattle.frame_queue.specs.Frames.{begin_answer, buffer_number, first_waiting}
+use Rattle.frame_queue.specs.Frames.{next_frame, buffer_number, first_waiting}
 use Rattle.device_history.specs.declared.ask.Ask.{Ask}
 use Rattle.device_history.specs.declared.ask.Ask.TheVariants as asks
 use Rattle.device_history.specs.declared.ask.Reply.{Reply}
@@ -32,13 +33,13 @@ use Rattle.device_history.specs.declared.ask.Step.{Step}
 use Rattle.device_history.specs.declared.ask.Step.TheVariants as steps
 use Rattle.device_history.specs.Steps.{History, Past}
 use Rattle.device_history.specs.Ranges.{ranges_after, ranges_now}
-use Rattle.device_history.specs.Refusals.{refused, is_full, fault_of}
+use Rattle.device_history.specs.Refusals.{fault_of, is_full, stepped, stepped_with, unless_refused}
 use Rattle.device_history.specs.Grabs.{grabbed, grabbed_after}
 use Rattle.device_history.specs.Requests.{asked, buffer}
 use Rattle.device_history.specs.Frames.{begun_by, queue, running}
-use Rattle.device_history.specs.Values.{pairs_asked, now, values_after}
-use Rattle.device_history.specs.Snapshots.{request, request_in, requests, frames, begun_refused}
-use Rattle.device_history.specs.RequestAnswers.{begin_frame_answer, frame_answer}
+use Rattle.device_history.specs.Values.{now, values_after}
+use Rattle.device_history.specs.Snapshots.{request_in, requests, frames, begun_refused}
+use Rattle.device_history.specs.RequestAnswers.{begin_frame_answer, frame_reply}
 use Rattle.device_history.specs.Lists.{list_pairs, meant, pairs_step, which_or}
 use Rattle.device_history.specs.Answers.{refusal, step_of, answer_of}
 use Rattle.device_history.specs.Legal.{IsLegal, MayFollow}
@@ -242,7 +243,7 @@ begin_replies : (verdicts : Verdicts) (plan : PlanData) (older : Past) (r : Requ
 begin_replies verdicts plan older r fit may =
     answered ∙ kept (is_full older) _ (sym (ap fault_of answered) ∙ begin_unrefused verdicts plan older r may)
   where
-    kept : (full : Bool) (reply : Reply) → fault_of (if full then refused ENOSPC else Ok reply) ≡ None → (if full then refused ENOSPC else Ok reply) ≡ Ok reply
+    kept : (full : Bool) (reply : Reply) → fault_of (unless_refused (cond full (Some HistoryFull) None) reply) ≡ None → unless_refused (cond full (Some HistoryFull) None) reply ≡ Ok reply
     kept true reply h = cc
     kept false reply h = refl
 
@@ -252,13 +253,13 @@ begin_replies verdicts plan older r fit may =
     found : find (requests verdicts plan older) r.0 ≡ Some (request_in verdicts plan older r.0 states.Queued)
     found = find_request verdicts plan older r.0 fit ∙ request_some verdicts plan older r.0 states.Queued (first_queued older r.0 fit_it.1)
 
-    first : begin_answer (frames verdicts plan older) ≡ Ok (r.0, unwrap_or (buffer older r.0) 0)
+    first : next_frame (frames verdicts plan older) ≡ Ok (r.0, unwrap_or (buffer older r.0) 0)
     first =
         let front = first_waits (queue older) r.0 fit_it.1 in
-        ap (λ (o : Option ℕ). begin_answer (record (frames verdicts plan older) { running = o })) fit_it.0 ∙ ap (first_waiting (requests verdicts plan older)) front.1 ∙ ap (λ (o : Option RequestData). Ok (r.0, buffer_number o)) found
+        ap (λ (o : Option ℕ). next_frame (record (frames verdicts plan older) { running = o })) fit_it.0 ∙ ap (first_waiting (requests verdicts plan older)) front.1 ∙ ap (λ (o : Option RequestData). Ok (r.0, buffer_number o)) found
 
-    answered : begin_frame_answer verdicts plan older ≡ (if is_full older then refused ENOSPC else Ok (replies.Frame r (unwrap_or (buffer older r.0) 0) (begun_refused verdicts plan older r.0)))
-    answered = ap (frame_answer verdicts plan older) first
+    answered : begin_frame_answer verdicts plan older ≡ stepped None older (replies.Frame r (unwrap_or (buffer older r.0) 0) (begun_refused verdicts plan older r.0))
+    answered = ap (λ (found : Result (ℕ × ℕ) Check). stepped_with (frame_reply verdicts plan older) found older) first
 
 -- The frame that is begun next is of the row that stood as many places down as frames were begun since.
 module _ (verdicts : Verdicts) (plan : PlanData) (entries more : History) (e : Entry Step) (r : RequestId) (row : Forecast) (legal : IsLegal verdicts plan (past (entries ++ more ++ e ∷ []))) (on : all_go_on more ≡ true)
@@ -280,5 +281,5 @@ module _ (verdicts : Verdicts) (plan : PlanData) (entries more : History) (e : E
   pub frame_values : now verdicts plan (past (entries ++ more ++ e ∷ [])) ≡ row.values
   frame_values = ap (now verdicts plan) (past_add (entries ++ more) e) ∙ begun_now verdicts plan e (past (entries ++ more)) r is ∙ sym (ap (λ (f : Forecast). f.values) row_is)
 
-  pub frame_reply : (words : List ℕ) → answer_of verdicts plan (past (entries ++ more)) words asks.Begin ≡ Ok (replies.Frame row.request row.buffer row.refused)
-  frame_reply words = begin_replies verdicts plan (past (entries ++ more)) r (all_fit verdicts plan (past (entries ++ more)) legal_then) may ∙ sym (ap (λ (f : Forecast). Ok (replies.Frame f.request f.buffer f.refused)) row_is)
+  pub frame_answered : (words : List ℕ) → answer_of verdicts plan (past (entries ++ more)) words asks.Begin ≡ Ok (replies.Frame row.request row.buffer row.refused)
+  frame_answered words = begin_replies verdicts plan (past (entries ++ more)) r (all_fit verdicts plan (past (entries ++ more)) legal_then) may ∙ sym (ap (λ (f : Forecast). Ok (replies.Frame f.request f.buffer f.refused)) row_is)

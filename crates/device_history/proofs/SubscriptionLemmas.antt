@@ -1,27 +1,26 @@
 -- Which file handles are open, and the subscriptions, after one more entry.
-use Rattle.std.proofs.Common.{arith, ◌≡◌, ◌∙◌, ◌≤◌, ℕ, Bool, true, false, not, ◌&&◌, cond, List, [], ◌∷◌, ◌++◌, filter, length, Option, None, Some, is_some, nat_eq, eq-eqb, refl, ap, sym, subst}
+use Rattle.std.proofs.Common.{arith, ◌≡◌, ◌∙◌, ◌≤◌, ℕ, Bool, true, false, not, ◌&&◌, cond, List, [], ◌∷◌, ◌++◌, filter, length, Option, None, Some, is_some, Result, Err, nat_eq, eq-eqb, refl, ap, sym, subst}
 use Rattle.std.proofs.lemmas.Bool.Decides.{nat_tests}
 use Rattle.std.specs.Map.{lookup}
 use Rattle.std.specs.Option.{option_or}
+use Rattle.std.specs.Result.{result_err}
 use Rattle.history.specs.declared.entry.Entry.{Entry}
 use Rattle.history.specs.Past.{past}
 use Rattle.history.proofs.Pasts.{past_add}
-use Rattle.ctrl_types.specs.declared.errno.Errno.{Errno}
-use Rattle.ctrl_types.specs.declared.errno.Errno.TheVariants.{EBADF}
+use Rattle.ctrl_types.specs.declared.check.Check.{Check}
+use Rattle.ctrl_types.specs.declared.check.Check.TheVariants.{HandleClosed}
 use Rattle.ctrl_types.specs.declared.ids.FhId.{FhId}
 use Rattle.ctrl_types.specs.declared.sub_flags.SubFlags.{SubFlags}
 use Rattle.ctrl_calls.specs.Meanings.{Verdicts}
-use Rattle.ctrl_events.specs.declared.event.Waiting.{Waiting}
+use Rattle.ctrl_events.specs.declared.event.Event.{Event}
 use Rattle.ctrl_handlers.specs.Plan.{PlanData}
 use Rattle.device_history.specs.declared.ask.Reply.{Reply}
+use Rattle.device_history.specs.declared.ask.Reply.TheVariants as replies
 use Rattle.device_history.specs.declared.ask.Step.{Step}
 use Rattle.device_history.specs.declared.ask.Step.TheVariants as steps
 use Rattle.device_history.specs.Steps.{History, Past}
-use Rattle.device_history.specs.Refusals.{fault_of}
-use Rattle.device_history.specs.Handles.{ever_opened, handler_of, opened, opened_after}
-use Rattle.device_history.specs.RequestAnswers.{stepped}
-use Rattle.device_history.specs.EventAnswers.{take_of, unless_open}
-use Rattle.device_history.specs.Events.{pending}
+use Rattle.device_history.specs.Refusals.{fault_of, stepped, stepped_with}
+use Rattle.device_history.specs.Handles.{ever_opened, handler_of, opened, opened_after, through}
 use Rattle.device_history.specs.Legal.{IsLegal, MayFollow}
 use Rattle.device_history.specs.Subscriptions.{first_flags, is_ended_by, since_ended, subscribed, subscribed_after, subscribed_by}
 use Rattle.device_history.proofs.AskingLemmas.{may_decided}
@@ -69,25 +68,31 @@ pub not_yet : (past : Past) (fh : FhId) → length past ≤ fh.0 → handler_of 
 not_yet past fh late = absent (length past) fh.0 (opened past) late (opened_below past)
 
 -- what nothing refuses came through an open file handle
-stepped_open : (o : Option Errno) (past : Past) (fh : FhId) (reply : Reply) → fault_of (stepped (unless_open past fh o) past reply) ≡ None → is_open past fh ≡ true
+stepped_open : (o : Option Check) (past : Past) (fh : FhId) (reply : Reply) → fault_of (stepped (through past fh o) past reply) ≡ None → is_open past fh ≡ true
 stepped_open o past fh reply h = by (is_open past fh) h
   where
-    by : (b : Bool) → fault_of (stepped (cond b o (Some EBADF)) past reply) ≡ None → b ≡ true
+    by : (b : Bool) → fault_of (stepped (cond b o (Some HandleClosed)) past reply) ≡ None → b ≡ true
     by true k = refl
     by false k = cc
 
+-- what found a control did
+shown_open : (b : Bool) (found : Result ℕ Check) (past : Past) (reply : Reply) → fault_of (stepped (result_err (cond b found (Err HandleClosed))) past reply) ≡ None → b ≡ true
+shown_open true found past reply h = refl
+shown_open false found past reply h = cc
+
+-- and what found an event
+event_open : (b : Bool) (found : Result Event Check) (past : Past) → fault_of (stepped_with (λ event. replies.Event event) (cond b found (Err HandleClosed)) past) ≡ None → b ≡ true
+event_open true found past h = refl
+event_open false found past h = cc
+
 pub subscribes_open : (verdicts : Verdicts) (plan : PlanData) (older : Past) (fh : FhId) (c : ℕ) (flags : SubFlags) → MayFollow verdicts plan older (steps.Subscribe fh c flags) → is_open older fh ≡ true
-subscribes_open verdicts plan older fh c flags may = stepped_open _ older fh _ (may_decided verdicts plan older (steps.Subscribe fh c flags) may).0
+subscribes_open verdicts plan older fh c flags may = shown_open (is_open older fh) _ older _ (may_decided verdicts plan older (steps.Subscribe fh c flags) may).0
 
 pub unsubscribes_open : (verdicts : Verdicts) (plan : PlanData) (older : Past) (fh : FhId) (c : Option ℕ) → MayFollow verdicts plan older (steps.Unsubscribe fh c) → is_open older fh ≡ true
 unsubscribes_open verdicts plan older fh c may = stepped_open _ older fh _ (may_decided verdicts plan older (steps.Unsubscribe fh c) may).0
 
 pub takes_open : (verdicts : Verdicts) (plan : PlanData) (older : Past) (fh : FhId) (c : ℕ) → MayFollow verdicts plan older (steps.Take fh c) → is_open older fh ≡ true
-takes_open verdicts plan older fh c may = by (pending verdicts plan older fh) (may_decided verdicts plan older (steps.Take fh c) may).0
-  where
-    by : (ws : List Waiting) → fault_of (take_of older fh ws) ≡ None → is_open older fh ≡ true
-    by [] h = cc
-    by (w ∷ ws) h = stepped_open _ older fh _ h
+takes_open verdicts plan older fh c may = event_open (is_open older fh) _ older (may_decided verdicts plan older (steps.Take fh c) may).0
 
 -- what may follow doesn't subscribe a file handle that isn't open
 pub closed_by_none : (verdicts : Verdicts) (plan : PlanData) (older : Past) (fh : FhId) (c : ℕ) (step : Step) → MayFollow verdicts plan older step → is_open older fh ≡ false → subscribed_by fh c step ≡ None

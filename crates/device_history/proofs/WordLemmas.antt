@@ -14,7 +14,7 @@ use Rattle.ctrl_clusters.specs.Changes.{is_changed, row_changes}
 use Rattle.ctrl_clusters.specs.Notified.{MaySay}
 use Rattle.ctrl_clusters.proofs.NotifyLemmas.{same_row}
 use Rattle.ctrl_clusters.specs.Rows.{Values, value_at, row_of}
-use Rattle.device_history.specs.Values.{pairs_asked, now, values_after}
+use Rattle.device_history.specs.Values.{now, values_after}
 use Rattle.device_history.specs.Steps.{History, Past}
 use Rattle.device_history.specs.Ranges.{ranges_now, settled_after}
 use Rattle.history.specs.declared.entry.Entry.{Entry}

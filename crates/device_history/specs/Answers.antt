@@ -1,7 +1,8 @@
 -- What each ask is answered after a history, and the step that it adds (of this project; the rules stand with each family of asks).
 use Rattle.std.specs.Prelude.{◌≡◌, ℕ, Bool, true, false, List, [], length, Option, None, Some, is_some, Ok, Err, IsOk, ◌⊎◌}
 use Rattle.std.specs.Option.{option_map}
-use Rattle.ctrl_types.specs.declared.errno.Errno.TheVariants.{ENOMEM}
+use Rattle.ctrl_types.specs.declared.check.Check.TheVariants.{MemoryRefused}
+use Rattle.ctrl_types.specs.Checks.{errno_of}
 use Rattle.ctrl_types.specs.declared.errno.Fault.{Fault}
 use Rattle.ctrl_types.specs.declared.ids.ExtControl.{ExtControl}
 use Rattle.device_history.specs.declared.ask.Ask.{Ask}
@@ -55,7 +56,7 @@ answer_of verdicts plan past words (asks.Told cluster) = told_answer plan words 
 abbrev pub refusal : Verdicts → PlanData → Past → Ask → Option Fault
 refusal verdicts plan past ask = fault_of (answer_of verdicts plan past [] ask)
 
--- ENOMEM may take the place of every accepted answer, but for a state, a query, a next id and a word, which take no memory; of a get
+-- Want of memory may take the place of every accepted answer, but for a state, a query, a next id and a word, which take no memory; of a get
 -- and a try without entries, which take none either, it may not; for a list with entries, and not too many, it may take the place of
 -- every answer after the first checks.
 abbrev pub MayLackMemory : Verdicts → PlanData → Past → Ask → Type 0
@@ -98,7 +99,7 @@ is_list ask = is_some (list_of ask)
 
 -- want of memory, with the number of entries as the index of a list
 abbrev pub no_memory : Ask → Answer
-no_memory ask = Err (record { errno = ENOMEM; index = option_map length (list_of ask) })
+no_memory ask = Err (record { errno = errno_of MemoryRefused; index = option_map length (list_of ask) })
 
 -- an answer that the ask may get after this past
 abbrev pub MayAnswer : Verdicts → PlanData → Past → List ℕ → Ask → Answer → Type 0

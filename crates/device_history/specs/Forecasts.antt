@@ -1,6 +1,8 @@
 -- What the queued frames will have, as they stand (of this project).
-use Rattle.std.specs.Prelude.{ℕ, nat_eq, not, List, [], ◌∷◌, ◌++◌, map, filter, drop, unwrap_or, Option, None, Some, slice_get, Ok}
-use Rattle.ctrl_types.specs.declared.errno.Errno.TheVariants.{ENOENT}
+use Rattle.std.specs.Prelude.{ℕ, nat_eq, not, List, [], ◌∷◌, ◌++◌, map, filter, drop, unwrap_or, slice_get, Result}
+use Rattle.std.specs.Option.{ok_or}
+use Rattle.ctrl_types.specs.declared.check.Check.{Check}
+use Rattle.ctrl_types.specs.declared.check.Check.TheVariants.{NothingQueuedThere}
 use Rattle.ctrl_calls.specs.Meanings.{Verdicts}
 use Rattle.ctrl_handlers.specs.Plan.{PlanData}
 use Rattle.ctrl_forecast.specs.Boards.{BoardData, board_of}
@@ -10,7 +12,7 @@ use Rattle.device_history.specs.declared.ask.Reply.TheVariants as replies
 use Rattle.device_history.specs.declared.ask.Step.{Step}
 use Rattle.device_history.specs.declared.ask.Step.TheVariants as steps
 use Rattle.device_history.specs.Steps.{Past}
-use Rattle.device_history.specs.Refusals.{Answer, refused}
+use Rattle.device_history.specs.Refusals.{Answer, told_of}
 use Rattle.device_history.specs.Ranges.{ranges_now}
 use Rattle.device_history.specs.Grabs.{grabbed}
 use Rattle.device_history.specs.Requests.{asked, buffer}
@@ -43,10 +45,10 @@ forecast verdicts plan past = forecasts verdicts plan (ranges_now plan past) (no
 abbrev pub board : Verdicts → PlanData → Past → BoardData
 board verdicts plan past = board_of verdicts plan (ranges_now plan past) (now verdicts plan past) (grabbed plan past) (queued_frames plan past)
 
--- A forecast at a place of the queue: ENOENT where no frame is queued there. Neither a running frame nor the limit of steps refuses it.
-abbrev pub forecast_reply : Option Forecast → Answer
-forecast_reply None = refused ENOENT
-forecast_reply (Some row) = Ok (replies.Forecast row)
+-- the forecast at a place of the queue, where a frame is queued there
+abbrev pub forecast_at : Verdicts → PlanData → Past → ℕ → Result Forecast Check
+forecast_at verdicts plan past place = ok_or (slice_get (forecast verdicts plan past) place) NothingQueuedThere
 
+-- Reading it: neither a running frame nor the limit of steps refuses it.
 abbrev pub forecast_answer : Verdicts → PlanData → Past → ℕ → Answer
-forecast_answer verdicts plan past place = forecast_reply (slice_get (forecast verdicts plan past) place)
+forecast_answer verdicts plan past place = told_of (λ row. replies.Forecast row) (forecast_at verdicts plan past place)

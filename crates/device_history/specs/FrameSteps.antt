@@ -5,8 +5,8 @@ use Rattle.std.specs.Option.{option_map}
 use Rattle.ctrl_types.specs.declared.ids.Pair.{Pair}
 use Rattle.ctrl_clusters.specs.Rows.{Values}
 use Rattle.req_book.specs.Requests.{RequestData, new_request, with_changed, with_pairs, with_buffer, cleared, queued, begun, completed, without}
-use Rattle.req_book.specs.Refusals.{store_refusal, buffer_refusal, queue_refusal, clear_refusal}
-use Rattle.frame_queue.specs.Frames.{FramesData, with_requests, queued_last, after_begin, after_complete, cancelled, cancel_refusal, ended_request, after_off}
+use Rattle.req_book.specs.Refusals.{store_check, buffer_check, queue_check, clear_check}
+use Rattle.frame_queue.specs.Frames.{FramesData, with_requests, queued_last, after_begin, after_complete, cancelled, cancel_check, ended_request, after_off}
 use Rattle.ctrl_calls.specs.Meanings.{Verdicts}
 use Rattle.ctrl_handlers.specs.Plan.{PlanData}
 use Rattle.device_history.specs.declared.ask.Step.{Step}
@@ -42,14 +42,14 @@ frames_after verdicts plan older n step f = frames_changed (now verdicts plan ol
 -- What a step about requests that may follow a history finds: its request doesn't refuse it, and a begin and an end are of the request whose
 -- turn it is.
 abbrev pub FitsFrames : Verdicts → PlanData → Past → Step → Type 0
-FitsFrames verdicts plan older (steps.Store r pairs) = store_refusal (request verdicts plan older r.0) ≡ None
-FitsFrames verdicts plan older (steps.Buffer r number) = buffer_refusal (requests verdicts plan older) number (request verdicts plan older r.0) ≡ None
-FitsFrames verdicts plan older (steps.Queue r) = queue_refusal (request verdicts plan older r.0) ≡ None
+FitsFrames verdicts plan older (steps.Store r pairs) = store_check (request verdicts plan older r.0) ≡ None
+FitsFrames verdicts plan older (steps.Buffer r number) = buffer_check (requests verdicts plan older) number (request verdicts plan older r.0) ≡ None
+FitsFrames verdicts plan older (steps.Queue r) = queue_check (request verdicts plan older r.0) ≡ None
 FitsFrames verdicts plan older (steps.Begin r) = (running older ≡ None) × (first_of (queue older) ≡ Some r.0)
 FitsFrames verdicts plan older (steps.Complete r) = running older ≡ Some r.0
-FitsFrames verdicts plan older (steps.Cancel r) = cancel_refusal (request verdicts plan older r.0) ≡ None
-FitsFrames verdicts plan older (steps.Reinit r) = clear_refusal (request verdicts plan older r.0) ≡ None
-FitsFrames verdicts plan older (steps.Free r) = clear_refusal (request verdicts plan older r.0) ≡ None
+FitsFrames verdicts plan older (steps.Cancel r) = cancel_check (request verdicts plan older r.0) ≡ None
+FitsFrames verdicts plan older (steps.Reinit r) = clear_check (request verdicts plan older r.0) ≡ None
+FitsFrames verdicts plan older (steps.Free r) = clear_check (request verdicts plan older r.0) ≡ None
 FitsFrames verdicts plan older _ = Unit {0}
 
 -- a change of the request with an id

@@ -1,12 +1,13 @@
 -- Grabs: which controls are grabbed after a history, and what grabbing is answered (Linux driver API, "V4L2 Controls",
 -- `v4l2_ctrl_grab`).
-use Rattle.std.specs.Prelude.{ℕ, Bool, false, nat_eq, nat_le, map, slice_set, if◌then◌else◌, List, length, Option, None, Some, unwrap_or, Ok}
+use Rattle.std.specs.Prelude.{ℕ, Bool, false, nat_eq, nat_le, map, slice_set, if◌then◌else◌, List, length, Option, None, Some, unwrap_or}
 use Rattle.std.specs.List.{filter_map, range_with_len}
 use Rattle.std.specs.Map.{lookup}
-use Rattle.ctrl_types.specs.declared.errno.Errno.TheVariants.{EINVAL, ENOSPC}
+use Rattle.ctrl_types.specs.declared.check.Check.{Check}
+use Rattle.ctrl_types.specs.declared.check.Check.TheVariants.{ControlMissing}
 use Rattle.ctrl_clusters.specs.Rows.{Grabs}
 use Rattle.device_history.specs.declared.ask.Reply.TheVariants.{Done}
-use Rattle.device_history.specs.Refusals.{Answer, refused, is_full}
+use Rattle.device_history.specs.Refusals.{Answer, stepped}
 use Rattle.device_history.specs.declared.ask.Step.{Step}
 use Rattle.device_history.specs.declared.ask.Step.TheVariants.{Grab}
 use Rattle.ctrl_handlers.specs.Plan.{PlanData}
@@ -34,10 +35,10 @@ abbrev pub grabbed_after : Step → Grabs → Grabs
 grabbed_after (Grab c on) grabs = slice_set grabs c on
 grabbed_after _ grabs = grabs
 
--- Grabbing a control, or letting it go: EINVAL where there is no such control; ENOSPC where no further step is kept. Any control
--- can be grabbed, and a grab that holds already is accepted.
+-- Why a control isn't grabbed or let go: there is no such control.
+abbrev pub grab_check : PlanData → ℕ → Option Check
+grab_check plan c = if nat_le (length plan.controls) c then Some ControlMissing else None
+
+-- Grabbing a control, or letting it go: any control can be grabbed, and a grab that holds already is accepted.
 abbrev pub grab_answer : PlanData → Past → ℕ → Answer
-grab_answer plan past c =
-    if nat_le (length plan.controls) c then refused EINVAL
-    else if is_full past then refused ENOSPC
-    else Ok Done
+grab_answer plan past c = stepped (grab_check plan c) past Done

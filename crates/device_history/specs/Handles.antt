@@ -1,9 +1,10 @@
 -- File handles: the open ones after a history, what is shown to them, and what opening and closing are answered (of this project).
-use Rattle.std.specs.Prelude.{ℕ, Bool, false, nat_le, nat_eq, not, suc, ◌-◌, ◌++◌, take, filter, if◌then◌else◌, List, [], ◌∷◌, length, Option, is_some, Ok}
+use Rattle.std.specs.Prelude.{ℕ, Bool, false, nat_le, nat_eq, not, suc, ◌-◌, ◌++◌, take, filter, if◌then◌else◌, List, [], ◌∷◌, length, Option, None, Some, is_some}
 use Rattle.std.specs.List.{list_any}
 use Rattle.std.specs.Option.{option_and_then}
 use Rattle.std.specs.Map.{lookup}
-use Rattle.ctrl_types.specs.declared.errno.Errno.TheVariants.{EBADF, EINVAL, ENOSPC}
+use Rattle.ctrl_types.specs.declared.check.Check.{Check}
+use Rattle.ctrl_types.specs.declared.check.Check.TheVariants.{HandlerMissing, TooManyHandles, HandleClosed}
 use Rattle.ctrl_types.specs.declared.ids.CtrlId.{CtrlId}
 use Rattle.ctrl_types.specs.declared.ids.FhId.{FhId}
 use Rattle.device_history.specs.declared.ask.Step.{Step}
@@ -13,7 +14,7 @@ use Rattle.device_history.specs.declared.limits.TheConstants.{MAX_FILE_HANDLES}
 use Rattle.ctrl_handlers.specs.Plan.{PlanData}
 use Rattle.ctrl_handlers.specs.Visible.{find}
 use Rattle.device_history.specs.Steps.{Past}
-use Rattle.device_history.specs.Refusals.{Answer, refused, is_full}
+use Rattle.device_history.specs.Refusals.{Answer, stepped}
 
 -- the file handle that the step with a number opens: this number is its id; with its handler
 abbrev pub opening : ℕ → Step → List (ℕ × ℕ)
@@ -61,18 +62,21 @@ shown plan past fh id = option_and_then (λ handler. find plan handler id) (hand
 abbrev pub are_all_open : Past → Bool
 are_all_open past = nat_le MAX_FILE_HANDLES (length (opened past))
 
--- Opening on a handler: EINVAL where there is no such handler; ENOSPC where as many file handles are open as can be; ENOSPC
--- where no further step is kept. Else the file handle, whose id is the number of this step.
-abbrev pub open_answer : PlanData → Past → ℕ → Answer
-open_answer plan past handler =
-    if nat_le (length plan.handlers) handler then refused EINVAL
-    else if are_all_open past then refused ENOSPC
-    else if is_full past then refused ENOSPC
-    else Ok (Fh (record { 0 = length past }))
+-- why an ask through a file handle is refused: it isn't open; else as the ask says
+abbrev pub through : Past → FhId → Option Check → Option Check
+through past fh check = if is_some (handler_of past fh) then check else Some HandleClosed
 
--- Closing a file handle: EBADF where it isn't open; ENOSPC where no further step is kept.
+-- Why no file handle is opened on a handler: there is no such handler; as many are open as can be.
+abbrev pub open_check : PlanData → Past → ℕ → Option Check
+open_check plan past handler =
+    if nat_le (length plan.handlers) handler then Some HandlerMissing
+    else if are_all_open past then Some TooManyHandles
+    else None
+
+-- Opening on a handler: the file handle, whose id is the number of this step.
+abbrev pub open_answer : PlanData → Past → ℕ → Answer
+open_answer plan past handler = stepped (open_check plan past handler) past (Fh (record { 0 = length past }))
+
+-- Closing a file handle: only one that isn't open is refused.
 abbrev pub close_answer : Past → FhId → Answer
-close_answer past fh =
-    if is_some (handler_of past fh) then
-    (if is_full past then refused ENOSPC else Ok Done)
-    else refused EBADF
+close_answer past fh = stepped (through past fh None) past Done

@@ -1,5 +1,6 @@
 pub use Rattle.history.specs.Past
 pub use Rattle.ctrl_types.specs.Classes
+pub use Rattle.ctrl_types.specs.Checks as TypeChecks
 pub use Rattle.ctrl_types.specs.Flags as TypeFlags
 pub use Rattle.ctrl_types.specs.Events as TypeEvents
 pub use Rattle.ctrl_calls.specs.Counts
@@ -52,6 +53,7 @@ pub mod EventSteps
 pub mod Forecasts
 pub mod Queries
 pub mod Answers
+pub mod AskChecks
 pub mod Legal
 pub mod Asking
 pub mod Stretches

@@ -1,11 +1,11 @@
 -- Lists of controls: what getting, setting and trying them is answered after a history, and the pairs of a list (Linux userspace
 -- API, "ioctl VIDIOC_G_EXT_CTRLS, VIDIOC_S_EXT_CTRLS, VIDIOC_TRY_EXT_CTRLS"; the order of the refusals and the index are of this
 -- project).
-use Rattle.std.specs.Prelude.{◌≡◌, ℕ, Bool, true, false, not, ◌++◌, List, [], ◌∷◌, length, Option, None, Some, unwrap_or, Result, Ok, Err, IsOk, IsTrue, ◌⊎◌}
+use Rattle.std.specs.Prelude.{◌≡◌, ℕ, Bool, true, false, not, if◌then◌else◌, ◌++◌, List, [], ◌∷◌, length, Option, None, Some, unwrap_or, Result, Ok, Err, IsOk, IsTrue, ◌⊎◌}
 use Rattle.std.specs.Option.{is_none, option_and_then}
 use Rattle.std.specs.Result.{is_ok}
-use Rattle.ctrl_types.specs.declared.errno.Errno.{Errno}
-use Rattle.ctrl_types.specs.declared.errno.Errno.TheVariants.{EBADF, EINVAL, ENOSPC}
+use Rattle.ctrl_types.specs.declared.check.Check.{Check}
+use Rattle.ctrl_types.specs.declared.check.Check.TheVariants.{ListHandleClosed, WhichUnknown, DefaultsWritten, ListRequestMissing, ListRequestNotIdle, ListRequestNotComplete, NoRoomForSet}
 use Rattle.ctrl_types.specs.Classes.{which_of}
 use Rattle.ctrl_types.specs.declared.which.Which.{Which}
 use Rattle.ctrl_types.specs.declared.which.Which.TheVariants.{Current, Defaults, Request}
@@ -21,7 +21,7 @@ use Rattle.ctrl_calls.specs.Meanings.{Verdicts}
 use Rattle.ctrl_clusters.specs.Rows.{Values}
 use Rattle.ctrl_lists.specs.declared.refusal.Refusal.{Refusal}
 use Rattle.ctrl_lists.specs.View.{ViewData, pairs_of}
-use Rattle.ctrl_lists.specs.Checks.{first_refusal, refused_if, errno_if_refused, read_checks, entry_checks, write_checks}
+use Rattle.ctrl_lists.specs.Checks.{first_refusal, refused_if, read_checks, entry_checks, write_checks}
 use Rattle.ctrl_lists.specs.Answers.{ListAnswer, answered, fault_at_count, fault_at_entry, entries_read, entries_judged, may_lack}
 use Rattle.device_history.specs.Steps.{Past}
 use Rattle.device_history.specs.Refusals.{Answer, is_full}
@@ -31,8 +31,7 @@ use Rattle.device_history.specs.Grabs.{grabbed}
 use Rattle.device_history.specs.Requests.{asked}
 use Rattle.device_history.specs.Snapshots.{request, snapshot}
 use Rattle.device_history.specs.Values.{now, now_after}
-use Rattle.req_book.specs.Requests.{RequestData}
-use Rattle.req_book.specs.Refusals.{store_refusal, snapshot_answer}
+use Rattle.req_book.specs.Requests.{RequestData, is_idle, is_complete}
 
 -- a list that writes can't speak of the defaults
 abbrev pub writes_defaults : Bool → Which → Bool
@@ -40,24 +39,25 @@ writes_defaults writes Defaults = writes
 writes_defaults writes _ = false
 
 -- why a request refuses a list: it isn't there; for one that writes, it isn't idle; for one that reads, it isn't complete
-abbrev pub request_refusal : Bool → Option RequestData → Option Errno
-request_refusal true r = store_refusal r
-request_refusal false r = errno_if_refused (snapshot_answer r)
+abbrev pub request_check : Bool → Option RequestData → Option Check
+request_check writes None = Some ListRequestMissing
+request_check true (Some r) = if is_idle r.state then None else Some ListRequestNotIdle
+request_check false (Some r) = if is_complete r.state then None else Some ListRequestNotComplete
 
 -- the same, where the list speaks of a request; one that isn't named isn't there
-abbrev pub through_refusal : Verdicts → PlanData → Past → Bool → Which → Option RequestId → Option Errno
-through_refusal verdicts plan past writes Request id = request_refusal writes (option_and_then (λ r. request verdicts plan past r.0) id)
-through_refusal verdicts plan past writes _ id = None
+abbrev pub meant_check : Verdicts → PlanData → Past → Bool → Which → Option RequestId → Option Check
+meant_check verdicts plan past writes Request id = request_check writes (option_and_then (λ r. request verdicts plan past r.0) id)
+meant_check verdicts plan past writes _ id = None
 
--- the whole list is refused with an errno, where there is one
-abbrev pub refused_with : Option Errno → Option Refusal
-refused_with None = None
-refused_with (Some errno) = Some (record { errno = errno; place = None })
+-- the whole list is refused by a check, where there is one
+abbrev pub refused_by : Option Check → Option Refusal
+refused_by None = None
+refused_by (Some check) = Some (record { check = check; place = None })
 
 -- what `which` stands for; where it can't be read, which refuses the list, the present values stand in
-abbrev pub which_or : Result Which Errno → Which
+abbrev pub which_or : Result Which Check → Which
 which_or (Ok which) = which
-which_or (Err errno) = Current
+which_or (Err check) = Current
 
 -- the handler of a file handle; where it isn't open, which refuses the list, 0 stands in
 abbrev pub handler_or : Option ℕ → ℕ
@@ -104,15 +104,14 @@ write_view verdicts plan past fh which request = record {
 -- The checks that every list begins with, the first refusal first; `writes` says whether the list writes.
 abbrev pub opening_checks : Verdicts → PlanData → Past → FhId → ℕ → Option RequestId → Bool → List (Option Refusal)
 opening_checks verdicts plan past fh which request writes =
-    -- the file handle isn't open: EBADF
-    refused_if (is_none (handler_of past fh)) EBADF
-    -- `which` can't be read: EINVAL
-    ∷ refused_if (not (is_ok (which_of which))) EINVAL
-    -- it speaks of the defaults and the list writes: EINVAL
-    ∷ refused_if (writes_defaults writes (which_or (which_of which))) EINVAL
-    -- it speaks of a request: EINVAL where there is none; EBUSY where the list writes and it isn't idle; EACCES where the list reads and
-    -- it isn't complete
-    ∷ refused_with (through_refusal verdicts plan past writes (which_or (which_of which)) request)
+    -- the file handle isn't open
+    refused_if (is_none (handler_of past fh)) ListHandleClosed
+    -- `which` can't be read
+    ∷ refused_if (not (is_ok (which_of which))) WhichUnknown
+    -- it speaks of the defaults and the list writes
+    ∷ refused_if (writes_defaults writes (which_or (which_of which))) DefaultsWritten
+    -- it speaks of a request: there is none; the list writes and it isn't idle; the list reads and it isn't complete
+    ∷ refused_by (meant_check verdicts plan past writes (which_or (which_of which)) request)
     ∷ []
 
 -- The checks of a get, the first refusal first: those that every list begins with, and then those of a list that reads
@@ -122,11 +121,11 @@ get_checks verdicts plan past fh which request list =
     opening_checks verdicts plan past fh which request false ++ read_checks plan (read_view verdicts plan past fh which request) list
 
 -- The checks of a set, the first refusal first: those that every list begins with, those of a list that writes, to set
--- (ctrl_lists/specs/Checks), and last ENOSPC where no further step is kept.
+-- (ctrl_lists/specs/Checks), and last that no further step is kept.
 abbrev pub set_checks : Verdicts → PlanData → Past → FhId → ℕ → Option RequestId → List ExtControl → List (Option Refusal)
 set_checks verdicts plan past fh which request list =
     opening_checks verdicts plan past fh which request true
-    ++ (write_checks verdicts plan (write_view verdicts plan past fh which request) true list ++ refused_if (is_full past) ENOSPC ∷ [])
+    ++ (write_checks verdicts plan (write_view verdicts plan past fh which request) true list ++ refused_if (is_full past) NoRoomForSet ∷ [])
 
 -- The checks of a try, the first refusal first: those that every list begins with, and then those of a list that writes, to try
 -- (ctrl_lists/specs/Checks).

@@ -1,7 +1,9 @@
 -- Queries: what a control is like, the next id, the items of a menu, and the word that a cluster was told last (Linux userspace
 -- API, "ioctls VIDIOC_QUERYCTRL, VIDIOC_QUERY_EXT_CTRL and VIDIOC_QUERYMENU"; words are of this project).
-use Rattle.std.specs.Prelude.{ℕ, pos, int_le, Bool, ◌&&◌, cond, nat_le, if◌then◌else◌, List, length, Option, None, Some, is_some, slice_index, Ok}
-use Rattle.ctrl_types.specs.declared.errno.Errno.TheVariants.{EBADF, EINVAL}
+use Rattle.std.specs.Prelude.{ℕ, pos, int_le, Bool, ◌&&◌, cond, nat_le, if◌then◌else◌, List, length, Option, None, Some, is_some, slice_index, Result, Ok, Err}
+use Rattle.std.specs.Option.{ok_or}
+use Rattle.ctrl_types.specs.declared.check.Check.{Check}
+use Rattle.ctrl_types.specs.declared.check.Check.TheVariants.{HandleClosed, IdNotShown, NoGreaterId, ItemMissing, ClusterMissing}
 use Rattle.ctrl_types.specs.declared.flags.Flags.{Flags}
 use Rattle.ctrl_types.specs.declared.ids.CtrlId.{CtrlId}
 use Rattle.ctrl_types.specs.declared.ids.FhId.{FhId}
@@ -13,7 +15,7 @@ use Rattle.ctrl_handlers.specs.Plan.{PlanData, control_in, menu_item}
 use Rattle.ctrl_handlers.specs.Visible.{next_id}
 use Rattle.ctrl_calls.specs.Meanings.{Verdicts}
 use Rattle.device_history.specs.Steps.{Past}
-use Rattle.device_history.specs.Refusals.{Answer, refused}
+use Rattle.device_history.specs.Refusals.{Answer, told_of}
 use Rattle.device_history.specs.Ranges.{ranges_now}
 use Rattle.device_history.specs.Handles.{handler_of, shown}
 use Rattle.device_history.specs.Flags.{flags_now}
@@ -31,28 +33,27 @@ info_of ctrl flags = record {
   elems = elems_of ctrl;
 }
 
--- Querying a control: EINVAL where it isn't shown. Else what it is like, also where it is DISABLED.
-abbrev pub query_one : Verdicts → PlanData → Past → Option ℕ → Answer
-query_one verdicts plan past None = refused EINVAL
-query_one verdicts plan past (Some c) = Ok (Info (info_of (control_in (ranges_now plan past) c) (flags_now verdicts plan past c)))
+-- The control that is shown to a file handle under an id: there is none where the file handle isn't open, or the id isn't shown to it.
+abbrev pub control_shown : PlanData → Past → FhId → CtrlId → Result ℕ Check
+control_shown plan past fh id = if is_some (handler_of past fh) then ok_or (shown plan past fh id) IdNotShown else Err HandleClosed
 
--- A query: EBADF where the file handle isn't open; then as of the control that is shown to it.
+-- A query: what the control is like, also where it is DISABLED.
 abbrev pub query_answer : Verdicts → PlanData → Past → FhId → CtrlId → Answer
-query_answer verdicts plan past fh id = if is_some (handler_of past fh) then query_one verdicts plan past (shown plan past fh id) else refused EBADF
+query_answer verdicts plan past fh id =
+    told_of (λ c. Info (info_of (control_in (ranges_now plan past) c) (flags_now verdicts plan past c))) (control_shown plan past fh id)
 
--- The next id: EINVAL where no id that is shown is greater.
-abbrev pub next_one : Option CtrlId → Answer
-next_one None = refused EINVAL
-next_one (Some next) = Ok (Id next)
+-- the next id of what a handler shows, where there is a handler
+abbrev pub next_shown : PlanData → CtrlId → Option ℕ → Result CtrlId Check
+next_shown plan id None = Err HandleClosed
+next_shown plan id (Some handler) = ok_or (next_id plan handler id) NoGreaterId
 
--- The next id of what is shown to a file handle: EBADF where it isn't open; then as of its handler.
-abbrev pub next_of : PlanData → CtrlId → Option ℕ → Answer
-next_of plan id None = refused EBADF
-next_of plan id (Some handler) = next_one (next_id plan handler id)
+-- The least id behind another one that is shown to a file handle: there is none where the file handle isn't open, or no greater id is shown to it.
+abbrev pub id_behind : PlanData → Past → FhId → CtrlId → Result CtrlId Check
+id_behind plan past fh id = next_shown plan id (handler_of past fh)
 
 -- the answer to an ask for the next id
 abbrev pub next_answer : PlanData → Past → FhId → CtrlId → Answer
-next_answer plan past fh id = next_of plan id (handler_of past fh)
+next_answer plan past fh id = told_of (λ next. Id next) (id_behind plan past fh id)
 
 -- whether an index lies within the range of a menu
 abbrev pub has_index : Control → ℕ → Bool
@@ -62,22 +63,23 @@ has_index ctrl index = int_le ctrl.minimum (pos index) && int_le (pos index) ctr
 abbrev pub item_now : PlanData → Past → ℕ → ℕ → Option MenuItem
 item_now plan past c index = cond (has_index (control_in (ranges_now plan past) c) index) (menu_item plan c index) None
 
--- An item of a menu: EINVAL where there is none at the index.
-abbrev pub item_one : Option MenuItem → Answer
-item_one None = refused EINVAL
-item_one (Some item) = Ok (Item item)
+-- the item of a control, where there is a control
+abbrev pub item_of : PlanData → Past → ℕ → Result ℕ Check → Result MenuItem Check
+item_of plan past index (Ok c) = ok_or (item_now plan past c index) ItemMissing
+item_of plan past index (Err check) = Err check
 
--- An item of a control: EINVAL where the control isn't shown; then as of it.
-abbrev pub item_of : PlanData → Past → ℕ → Option ℕ → Answer
-item_of plan past index None = refused EINVAL
-item_of plan past index (Some c) = item_one (item_now plan past c index)
+-- The item of a menu that is shown to a file handle: there is none where there is no such control, or the control has no item at the index.
+abbrev pub item_found : PlanData → Past → FhId → CtrlId → ℕ → Result MenuItem Check
+item_found plan past fh id index = item_of plan past index (control_shown plan past fh id)
 
--- An item of a menu, asked through a file handle: EBADF where it isn't open; then as of the control that is shown to it.
+-- the answer to an ask for an item
 abbrev pub item_answer : PlanData → Past → FhId → CtrlId → ℕ → Answer
-item_answer plan past fh id index =
-    if is_some (handler_of past fh) then item_of plan past index (shown plan past fh id) else refused EBADF
+item_answer plan past fh id index = told_of (λ item. Item item) (item_found plan past fh id index)
 
--- The word that a cluster was told last: EINVAL where there is no such cluster. A cluster without a notifier was told 0.
+-- The word that a cluster was told last: there is none where there is no such cluster. A cluster without a notifier was told 0.
+abbrev pub word_of : PlanData → List ℕ → ℕ → Result ℕ Check
+word_of plan words cluster = if nat_le (length plan.clusters) cluster then Err ClusterMissing else Ok (slice_index words cluster)
+
+-- the answer to an ask for it
 abbrev pub told_answer : PlanData → List ℕ → ℕ → Answer
-told_answer plan words cluster =
-    if nat_le (length plan.clusters) cluster then refused EINVAL else Ok (Word (slice_index words cluster))
+told_answer plan words cluster = told_of (λ word. Word word) (word_of plan words cluster)

@@ -1,11 +1,14 @@
 -- The range of each control after a history, and what giving a control another one is answered (Linux driver API, "V4L2 Controls",
 -- `v4l2_ctrl_modify_range`; that neither a grab nor a validator refuses it, that a default which the range doesn't take does, and that the default stands in
 -- where the range takes no value are of this project).
-use Rattle.std.specs.Prelude.{ℕ, ℤ, nat_eq, nat_le, if◌then◌else◌, List, length, map, filter_map, slice_set, Option, None, Some, is_some, Ok}
+use Rattle.std.specs.Prelude.{ℕ, ℤ, nat_eq, nat_le, if◌then◌else◌, List, length, map, filter_map, slice_set, Option, None, Some}
 use Rattle.std.specs.List.{range_with_len}
 use Rattle.std.specs.Map.{lookup}
-use Rattle.ctrl_types.specs.declared.errno.Errno.TheVariants.{EINVAL, ENOSPC, ERANGE}
+use Rattle.std.specs.Option.{option_map}
+use Rattle.ctrl_types.specs.declared.check.Check.{Check}
+use Rattle.ctrl_types.specs.declared.check.Check.TheVariants.{ControlMissing}
 use Rattle.ctrl_settle.specs.Control.{Control, with_range}
+use Rattle.ctrl_settle.specs.Faults.{range_check_of}
 use Rattle.ctrl_settle.specs.FirstFault.{first_fault}
 use Rattle.ctrl_settle.specs.Settle.{settled_anew}
 use Rattle.ctrl_handlers.specs.Plan.{PlanData, control, control_in}
@@ -14,7 +17,7 @@ use Rattle.ctrl_clusters.specs.Rows.{Values, value_at}
 use Rattle.device_history.specs.declared.ask.Reply.TheVariants.{Done}
 use Rattle.device_history.specs.declared.ask.Step.{Step}
 use Rattle.device_history.specs.declared.ask.Step.TheVariants.{ModifyRange}
-use Rattle.device_history.specs.Refusals.{Answer, refused, is_full}
+use Rattle.device_history.specs.Refusals.{Answer, stepped}
 use Rattle.device_history.specs.Steps.{Past}
 
 -- what a control's range is made of
@@ -65,11 +68,12 @@ abbrev pub settled_after : Step → List Control → Values → Values
 settled_after (ModifyRange c low high apart default_value) controls values = slice_set values c (settled_anew (control_with_range controls c low high apart default_value) (value_at values c))
 settled_after _ controls values = values
 
--- Giving a control another range: EINVAL where there is no such control; ERANGE where the control with this range, and else as its driver described it, has
--- a fault; ENOSPC where no further step is kept. Neither a grab nor a flag of the control refuses it.
+-- Why a control isn't given another range: there is no such control; the control with this range, and else as its driver described it, has a fault.
+abbrev pub range_check : PlanData → Past → ℕ → ℤ → ℤ → ℕ → ℤ → Option Check
+range_check plan past c low high apart default_value =
+    if nat_le (length plan.controls) c then Some ControlMissing
+    else option_map range_check_of (first_fault (control_with_range (ranges_now plan past) c low high apart default_value))
+
+-- Giving a control another range: neither a grab nor a flag of the control refuses it.
 abbrev pub range_answer : PlanData → Past → ℕ → ℤ → ℤ → ℕ → ℤ → Answer
-range_answer plan past c low high apart default_value =
-    if nat_le (length plan.controls) c then refused EINVAL
-    else if is_some (first_fault (control_with_range (ranges_now plan past) c low high apart default_value)) then refused ERANGE
-    else if is_full past then refused ENOSPC
-    else Ok Done
+range_answer plan past c low high apart default_value = stepped (range_check plan past c low high apart default_value) past Done

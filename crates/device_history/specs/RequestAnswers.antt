@@ -1,69 +1,61 @@
--- What requests and frames are answered (Linux userspace API, "Request API"; buffers, begins, cancellations and freeing are of this project):
--- each refusal in its order; for what adds a step, then ENOSPC where no further step is kept.
-use Rattle.std.specs.Prelude.{ℕ, if◌then◌else◌, length, Option, None, Some, Result, Ok, Err}
-use Rattle.ctrl_types.specs.declared.errno.Errno.{Errno}
-use Rattle.ctrl_types.specs.declared.errno.Errno.TheVariants.{EINVAL, ENOSPC}
+-- What requests and frames are answered (Linux userspace API, "Request API"; buffers, begins, cancellations and freeing are of this project).
+use Rattle.std.specs.Prelude.{ℕ, length, None, Result}
+use Rattle.std.specs.Option.{ok_or}
+use Rattle.ctrl_types.specs.declared.check.Check.{Check}
+use Rattle.ctrl_types.specs.declared.check.Check.TheVariants.{RequestMissing}
 use Rattle.ctrl_types.specs.declared.ids.RequestId.{RequestId}
 use Rattle.req_book.specs.declared.state.RequestState.{RequestState}
-use Rattle.req_book.specs.Refusals.{alloc_refusal, buffer_refusal, queue_refusal, clear_refusal}
-use Rattle.frame_queue.specs.Frames.{begin_answer, complete_refusal, cancel_refusal}
+use Rattle.req_book.specs.Refusals.{alloc_check, buffer_check, queue_check, clear_check}
+use Rattle.frame_queue.specs.Frames.{next_frame, complete_check, cancel_check}
 use Rattle.ctrl_calls.specs.Meanings.{Verdicts}
 use Rattle.ctrl_handlers.specs.Plan.{PlanData}
 use Rattle.device_history.specs.declared.ask.Reply.{Reply}
 use Rattle.device_history.specs.declared.ask.Reply.TheVariants as replies
 use Rattle.device_history.specs.Steps.{Past}
-use Rattle.device_history.specs.Refusals.{Answer, refused, is_full}
+use Rattle.device_history.specs.Refusals.{Answer, stepped, stepped_with, told_of}
 use Rattle.device_history.specs.Requests.{state}
 use Rattle.device_history.specs.Snapshots.{request, requests, frames, begun_refused}
 
--- an ask that adds a step: its own refusal, then that no further step is kept; else the reply
-abbrev pub stepped : Option Errno → Past → Reply → Answer
-stepped (Some errno) past reply = refused errno
-stepped None past reply = if is_full past then refused ENOSPC else Ok reply
-
--- Making a request: ENOSPC where there are 64. Its id is the number of this step.
+-- Making a request: its id is the number of this step.
 abbrev pub alloc_answer : Verdicts → PlanData → Past → Answer
-alloc_answer verdicts plan past = stepped (alloc_refusal (requests verdicts plan past)) past (replies.Request (record { 0 = length past }))
+alloc_answer verdicts plan past = stepped (alloc_check (requests verdicts plan past)) past (replies.Request (record { 0 = length past }))
 
--- Giving a request a buffer: EINVAL where there is no such request; EBUSY where it isn't idle, has a buffer, or where another request that
--- isn't complete holds the number.
+-- Giving a request a buffer.
 abbrev pub add_buffer_answer : Verdicts → PlanData → Past → RequestId → ℕ → Answer
-add_buffer_answer verdicts plan past r number = stepped (buffer_refusal (requests verdicts plan past) number (request verdicts plan past r.0)) past replies.Done
+add_buffer_answer verdicts plan past r number = stepped (buffer_check (requests verdicts plan past) number (request verdicts plan past r.0)) past replies.Done
 
--- Queueing a request: EINVAL where there is no such request; EBUSY where it isn't idle; ENOENT where it has no buffer.
+-- Queueing a request.
 abbrev pub queue_answer : Verdicts → PlanData → Past → RequestId → Answer
-queue_answer verdicts plan past r = stepped (queue_refusal (request verdicts plan past r.0)) past replies.Done
+queue_answer verdicts plan past r = stepped (queue_check (request verdicts plan past r.0)) past replies.Done
 
 -- a frame that is begun, of the first request that waits, with its buffer and the clusters that are refused
-abbrev pub frame_answer : Verdicts → PlanData → Past → Result (ℕ × ℕ) Errno → Answer
-frame_answer verdicts plan past (Err errno) = refused errno
-frame_answer verdicts plan past (Ok first) = stepped None past (replies.Frame (record { 0 = first.0 }) first.1 (begun_refused verdicts plan past first.0))
+abbrev pub frame_reply : Verdicts → PlanData → Past → ℕ × ℕ → Reply
+frame_reply verdicts plan past first = replies.Frame (record { 0 = first.0 }) first.1 (begun_refused verdicts plan past first.0)
 
--- Beginning a frame: EBUSY where one is being made; ENOENT where no request waits.
+-- Beginning a frame: the next one.
 abbrev pub begin_frame_answer : Verdicts → PlanData → Past → Answer
-begin_frame_answer verdicts plan past = frame_answer verdicts plan past (begin_answer (frames verdicts plan past))
+begin_frame_answer verdicts plan past = stepped_with (frame_reply verdicts plan past) (next_frame (frames verdicts plan past)) past
 
--- Ending a frame: ENOENT where none is being made.
+-- Ending the frame that is being made.
 abbrev pub complete_answer : Verdicts → PlanData → Past → Answer
-complete_answer verdicts plan past = stepped (complete_refusal (frames verdicts plan past)) past replies.Done
+complete_answer verdicts plan past = stepped (complete_check (frames verdicts plan past)) past replies.Done
 
--- Taking a request from the queue: EINVAL where there is no such request; EBUSY where its frame is being made; EINVAL where it doesn't wait.
+-- Taking a request from the queue.
 abbrev pub cancel_answer : Verdicts → PlanData → Past → RequestId → Answer
-cancel_answer verdicts plan past r = stepped (cancel_refusal (request verdicts plan past r.0)) past replies.Done
+cancel_answer verdicts plan past r = stepped (cancel_check (request verdicts plan past r.0)) past replies.Done
 
 -- Stopping the stream: nothing but the limit of steps refuses it.
 abbrev pub off_answer : Past → Answer
 off_answer past = stepped None past replies.Done
 
--- Making a request as new, or letting it go: EINVAL where there is no such request; EBUSY where it is queued or running.
+-- Making a request as new, or letting it go.
 abbrev pub clear_answer : Verdicts → PlanData → Past → RequestId → Answer
-clear_answer verdicts plan past r = stepped (clear_refusal (request verdicts plan past r.0)) past replies.Done
+clear_answer verdicts plan past r = stepped (clear_check (request verdicts plan past r.0)) past replies.Done
 
--- a request's state
-abbrev pub state_reply : Option RequestState → Answer
-state_reply None = refused EINVAL
-state_reply (Some s) = Ok (replies.State s)
+-- a request's state, where there is such a request
+abbrev pub state_found : Past → RequestId → Result RequestState Check
+state_found past r = ok_or (state past r.0) RequestMissing
 
--- Reading a request's state: EINVAL where there is no such request.
+-- Reading a request's state.
 abbrev pub state_answer : Past → RequestId → Answer
-state_answer past r = state_reply (state past r.0)
+state_answer past r = told_of (λ s. replies.State s) (state_found past r)

@@ -3,6 +3,7 @@
 
 ghost use Rattle.std.specs.Prelude.{◌≡◌, ◌<◌, ◌≤◌, ◌+◌, ◌*◌, ℕ, ℤ, Bool, Option, true, false, [], ◌∷◌, ◌++◌, List, length, map, is_some, slice_get, None, Some, Ok, Err};
 ghost use Rattle.std.specs.List.{list_any};
+ghost use Rattle.std.specs.Option.{option_map};
 ghost use Rattle.history.specs.declared.entry.Entry.{Entry};
 ghost use Rattle.history.specs.Past.{past};
 ghost use Rattle.ctrl_calls.specs.Meanings.{Verdicts};
@@ -28,9 +29,10 @@ ghost use Rattle.ctrl_clusters.specs.PresentFlags.{flags_under};
 ghost use Rattle.device_history.specs.Flags.{flags_now};
 ghost use Rattle.device_history.specs.Steps.{History, Past};
 ghost use Rattle.device_history.specs.Ranges.{ranges_after, ranges_now};
-ghost use Rattle.device_history.specs.Refusals.{fault_of};
+ghost use Rattle.device_history.specs.Refusals.{fault_by, fault_of};
 ghost use Rattle.device_history.specs.Handles.{opened, opened_after, handler_of};
 ghost use Rattle.device_history.specs.Values.{defaults, now, values_after};
+ghost use Rattle.device_history.specs.AskChecks.{check_of};
 ghost use Rattle.device_history.specs.Answers.{MayAnswer, answer_of, is_list, refusal, step_of};
 ghost use Rattle.device_history.specs.Lists.{list_pairs, meant, set_list_answer, values_set, which_or};
 ghost use Rattle.device_history.specs.Legal.{IsLegal, MayFollow};
@@ -125,6 +127,12 @@ pub fn told_words<D: Driver>()
 pub fn refusals()
     ensures index { (verdicts : Verdicts) (plan : PlanData) (older : Past) (words : List ℕ) (ask : Ask) (fault : Fault) → MayAnswer verdicts plan older words ask (Err fault) → is_some fault.index ≡ is_list ask }
     ensures words { (verdicts : Verdicts) (plan : PlanData) (older : Past) (words : List ℕ) (ask : Ask) → fault_of (answer_of verdicts plan older words ask) ≡ refusal verdicts plan older ask }
+{}
+
+/// An ask that is no list is refused exactly where a check refuses it, with the errno of this check and without an index.
+#[tactic(auto, using(crate::proofs::CheckLemmas::refused_by_checks))]
+pub fn refusals_by_checks()
+    ensures { (verdicts : Verdicts) (plan : PlanData) (older : Past) (ask : Ask) → is_list ask ≡ false → refusal verdicts plan older ask ≡ option_map fault_by (check_of verdicts plan older ask) }
 {}
 
 /// The empty history is legal; one more entry keeps it so where its step may follow. What a legal history begins with is legal.

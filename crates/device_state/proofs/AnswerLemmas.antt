@@ -1,74 +1,141 @@
--- What a list is answered once its first checks pass, as `ctrl_lists` answers it.
-use Rattle.std.proofs.Common.{◌≡◌, ℕ, true, false, List, length, None, Some, Option, Ok, Err, IsTrue, ◌⊎◌, inl, inr, refl, ap, sym, subst, ◌∙◌}
-use Rattle.ctrl_types.specs.declared.errno.Errno.{Errno}
-use Rattle.ctrl_types.specs.declared.errno.Errno.TheVariants.{ENOSPC}
-use Rattle.ctrl_types.specs.declared.errno.Fault.{Fault}
+-- What a list is answered once its first checks pass, as `ctrl_lists` finds it.
+use Rattle.std.proofs.Common.{◌≡◌, ℕ, true, false, List, [], ◌∷◌, ◌++◌, length, None, Some, Option, Ok, Err, IsTrue, ◌⊎◌, inl, inr, refl, ap, sym, subst, ◌∙◌}
+use Rattle.ctrl_types.specs.declared.check.Check.{Check}
+use Rattle.ctrl_types.specs.declared.check.Check.TheVariants.{NoRoomForSet}
 use Rattle.ctrl_types.specs.declared.ids.ExtControl.{ExtControl}
 use Rattle.ctrl_types.specs.declared.ids.FhId.{FhId}
 use Rattle.ctrl_types.specs.declared.ids.RequestId.{RequestId}
 use Rattle.ctrl_calls.specs.Meanings.{Verdicts}
 use Rattle.ctrl_handlers.specs.Plan.{PlanData}
+use Rattle.ctrl_lists.specs.declared.refusal.Refusal.{Refusal}
 use Rattle.ctrl_lists.specs.View.{ViewData}
-use Rattle.ctrl_lists.specs.Checks.{first_refusal}
-use Rattle.ctrl_lists.specs.Answers.{get_answer, set_answer, try_answer, may_lack, no_memory}
+use Rattle.ctrl_lists.specs.Checks.{first_refusal, memory_refusal, read_checks, refused_if, write_checks}
+use Rattle.ctrl_lists.specs.Answers.{answered, entries_judged, entries_read, fault_at_count, fault_at_entry, may_lack}
 use Rattle.device_history.specs.declared.ask.Ask.TheVariants as asks
 use Rattle.device_history.specs.declared.ask.Reply.TheVariants.{Controls}
 use Rattle.device_history.specs.Steps.{Past}
 use Rattle.device_history.specs.Refusals.{is_full, refused_at}
-use Rattle.device_history.specs.Lists.{controls_of, read_view, write_view, opening_checks}
+use Rattle.device_history.specs.Lists.{controls_of, get_checks, opening_checks, read_view, set_checks, set_list_answer, try_checks, write_view}
 use Rattle.device_history.specs.Answers.{MayAnswer}
-use Rattle.device_history.proofs.ListLemmas.{get_opened, get_unopened, try_opened, try_unopened, set_limited, set_refused}
+use Rattle.device_history.proofs.ListLemmas.{first_before, first_behind}
+
+-- what refuses a get, a set and a try
+get_by : (verdicts : Verdicts) (plan : PlanData) (older : Past) (words : List ℕ) (fh : FhId) (which : ℕ) (request : Option RequestId) (list : List ExtControl) (refusal : Refusal)
+    → first_refusal (get_checks verdicts plan older fh which request list) ≡ Some refusal → MayAnswer verdicts plan older words (asks.GetCtrls fh which request list) (Err (fault_at_count (length list) refusal))
+get_by verdicts plan older words fh which request list refusal is =
+    inl (sym (ap (λ (first : Option Refusal). controls_of (answered (fault_at_count (length list)) first (entries_read plan (read_view verdicts plan older fh which request) list))) is))
+
+set_by : (verdicts : Verdicts) (plan : PlanData) (older : Past) (words : List ℕ) (fh : FhId) (which : ℕ) (request : Option RequestId) (list : List ExtControl) (refusal : Refusal)
+    → first_refusal (set_checks verdicts plan older fh which request list) ≡ Some refusal → MayAnswer verdicts plan older words (asks.SetCtrls fh which request list) (Err (fault_at_count (length list) refusal))
+set_by verdicts plan older words fh which request list refusal is =
+    inl (sym (ap (λ (first : Option Refusal). controls_of (answered (fault_at_count (length list)) first (entries_judged verdicts plan (write_view verdicts plan older fh which request) list))) is))
+
+try_by : (verdicts : Verdicts) (plan : PlanData) (older : Past) (words : List ℕ) (fh : FhId) (which : ℕ) (request : Option RequestId) (list : List ExtControl) (refusal : Refusal)
+    → first_refusal (try_checks verdicts plan older fh which request list) ≡ Some refusal → MayAnswer verdicts plan older words (asks.TryCtrls fh which request list) (Err (fault_at_entry (length list) refusal))
+try_by verdicts plan older words fh which request list refusal is =
+    inl (sym (ap (λ (first : Option Refusal). controls_of (answered (fault_at_entry (length list)) first (entries_judged verdicts plan (write_view verdicts plan older fh which request) list))) is))
+
+-- a list whose first checks refuse it
+pub get_unread : (verdicts : Verdicts) (plan : PlanData) (older : Past) (words : List ℕ) (fh : FhId) (which : ℕ) (request : Option RequestId) (list : List ExtControl) (check : Check)
+    → first_refusal (opening_checks verdicts plan older fh which request false) ≡ Some (record { check = check; place = None }) → MayAnswer verdicts plan older words (asks.GetCtrls fh which request list) (refused_at check (length list))
+get_unread verdicts plan older words fh which request list check is =
+    get_by verdicts plan older words fh which request list _ (first_before (opening_checks verdicts plan older fh which request false) (read_checks plan (read_view verdicts plan older fh which request) list) _ is)
+
+pub set_unread : (verdicts : Verdicts) (plan : PlanData) (older : Past) (words : List ℕ) (fh : FhId) (which : ℕ) (request : Option RequestId) (list : List ExtControl) (check : Check)
+    → first_refusal (opening_checks verdicts plan older fh which request true) ≡ Some (record { check = check; place = None }) → MayAnswer verdicts plan older words (asks.SetCtrls fh which request list) (refused_at check (length list))
+set_unread verdicts plan older words fh which request list check is =
+    set_by verdicts plan older words fh which request list _
+    (first_before (opening_checks verdicts plan older fh which request true) (write_checks verdicts plan (write_view verdicts plan older fh which request) true list ++ refused_if (is_full older) NoRoomForSet ∷ []) _ is)
+
+pub try_unread : (verdicts : Verdicts) (plan : PlanData) (older : Past) (words : List ℕ) (fh : FhId) (which : ℕ) (request : Option RequestId) (list : List ExtControl) (check : Check)
+    → first_refusal (opening_checks verdicts plan older fh which request true) ≡ Some (record { check = check; place = None }) → MayAnswer verdicts plan older words (asks.TryCtrls fh which request list) (refused_at check (length list))
+try_unread verdicts plan older words fh which request list check is =
+    try_by verdicts plan older words fh which request list _ (first_before (opening_checks verdicts plan older fh which request true) (write_checks verdicts plan (write_view verdicts plan older fh which request) false list) _ is)
 
 -- a get that is answered
 pub get_read : (verdicts : Verdicts) (plan : PlanData) (older : Past) (words : List ℕ) (fh : FhId) (which : ℕ) (request : Option RequestId) (list : List ExtControl) (view : ViewData) (entries : List ExtControl)
-    → first_refusal (opening_checks verdicts plan older fh which request false) ≡ None → view ≡ read_view verdicts plan older fh which request → get_answer plan view list ≡ Ok entries
+    → first_refusal (opening_checks verdicts plan older fh which request false) ≡ None → view ≡ read_view verdicts plan older fh which request → first_refusal (read_checks plan view list) ≡ None → entries ≡ entries_read plan view list
     → MayAnswer verdicts plan older words (asks.GetCtrls fh which request list) (Ok (Controls entries))
-get_read verdicts plan older words fh which request list view entries opens read is =
-    inl (sym (get_opened verdicts plan older fh which request list opens ∙ ap controls_of (subst (λ (v : ViewData). get_answer plan v list ≡ Ok entries) read is)))
+get_read verdicts plan older words fh which request list view entries opens read passed is =
+    let own : first_refusal (get_checks verdicts plan older fh which request list) ≡ None =
+    first_behind (opening_checks verdicts plan older fh which request false) (read_checks plan (read_view verdicts plan older fh which request) list) opens ∙ subst (λ (v : ViewData). first_refusal (read_checks plan v list) ≡ None) read passed in
+    inl (ap (λ (l : List ExtControl). Ok (Controls l)) (is ∙ ap (λ (v : ViewData). entries_read plan v list) read)
+    ∙ sym (ap (λ (first : Option Refusal). controls_of (answered (fault_at_count (length list)) first (entries_read plan (read_view verdicts plan older fh which request) list))) own))
 
 -- a get that is refused
-pub get_denied : (verdicts : Verdicts) (plan : PlanData) (older : Past) (words : List ℕ) (fh : FhId) (which : ℕ) (request : Option RequestId) (list : List ExtControl) (view : ViewData) (fault : Fault)
-    → first_refusal (opening_checks verdicts plan older fh which request false) ≡ None → view ≡ read_view verdicts plan older fh which request → (get_answer plan view list ≡ Err fault) ⊎ (IsTrue (may_lack list) × (fault ≡ no_memory (length list)))
-    → MayAnswer verdicts plan older words (asks.GetCtrls fh which request list) (Err fault)
-get_denied verdicts plan older words fh which request list view fault opens read (inl is) =
-    inl (sym (get_opened verdicts plan older fh which request list opens ∙ ap controls_of (subst (λ (v : ViewData). get_answer plan v list ≡ Err fault) read is)))
-get_denied verdicts plan older words fh which request list view fault opens read (inr lacks) = inr ((opens, lacks.0), ap Err lacks.1)
-
--- a list whose first checks refuse it
-pub get_unread : (verdicts : Verdicts) (plan : PlanData) (older : Past) (words : List ℕ) (fh : FhId) (which : ℕ) (request : Option RequestId) (list : List ExtControl) (errno : Errno)
-    → first_refusal (opening_checks verdicts plan older fh which request false) ≡ Some (record { errno = errno; place = None }) → MayAnswer verdicts plan older words (asks.GetCtrls fh which request list) (refused_at errno (length list))
-get_unread verdicts plan older words fh which request list errno is = inl (sym (get_unopened verdicts plan older fh which request list errno is))
-
-pub try_unread : (verdicts : Verdicts) (plan : PlanData) (older : Past) (words : List ℕ) (fh : FhId) (which : ℕ) (request : Option RequestId) (list : List ExtControl) (errno : Errno)
-    → first_refusal (opening_checks verdicts plan older fh which request true) ≡ Some (record { errno = errno; place = None }) → MayAnswer verdicts plan older words (asks.TryCtrls fh which request list) (refused_at errno (length list))
-try_unread verdicts plan older words fh which request list errno is = inl (sym (try_unopened verdicts plan older fh which request list errno is))
+pub get_denied : (verdicts : Verdicts) (plan : PlanData) (older : Past) (words : List ℕ) (fh : FhId) (which : ℕ) (request : Option RequestId) (list : List ExtControl) (view : ViewData) (refusal : Refusal)
+    → first_refusal (opening_checks verdicts plan older fh which request false) ≡ None → view ≡ read_view verdicts plan older fh which request
+    → (first_refusal (read_checks plan view list) ≡ Some refusal) ⊎ (IsTrue (may_lack list) × (refusal ≡ memory_refusal))
+    → MayAnswer verdicts plan older words (asks.GetCtrls fh which request list) (Err (fault_at_count (length list) refusal))
+get_denied verdicts plan older words fh which request list view refusal opens read (inl is) =
+    get_by verdicts plan older words fh which request list refusal
+    (first_behind (opening_checks verdicts plan older fh which request false) (read_checks plan (read_view verdicts plan older fh which request) list) opens ∙ subst (λ (v : ViewData). first_refusal (read_checks plan v list) ≡ Some refusal) read is)
+get_denied verdicts plan older words fh which request list view refusal opens read (inr lacks) = inr ((opens, lacks.0), ap (λ (r : Refusal). Err (fault_at_count (length list) r)) lacks.1)
 
 -- a try that is answered
 pub try_judged : (verdicts : Verdicts) (plan : PlanData) (older : Past) (words : List ℕ) (fh : FhId) (which : ℕ) (request : Option RequestId) (list : List ExtControl) (view : ViewData) (entries : List ExtControl)
-    → first_refusal (opening_checks verdicts plan older fh which request true) ≡ None → view ≡ write_view verdicts plan older fh which request → try_answer verdicts plan view list ≡ Ok entries
+    → first_refusal (opening_checks verdicts plan older fh which request true) ≡ None → view ≡ write_view verdicts plan older fh which request
+    → first_refusal (write_checks verdicts plan view false list) ≡ None → entries ≡ entries_judged verdicts plan view list
     → MayAnswer verdicts plan older words (asks.TryCtrls fh which request list) (Ok (Controls entries))
-try_judged verdicts plan older words fh which request list view entries opens read is =
-    inl (sym (try_opened verdicts plan older fh which request list opens ∙ ap controls_of (subst (λ (v : ViewData). try_answer verdicts plan v list ≡ Ok entries) read is)))
+try_judged verdicts plan older words fh which request list view entries opens read passed is =
+    let own : first_refusal (try_checks verdicts plan older fh which request list) ≡ None =
+    first_behind (opening_checks verdicts plan older fh which request true) (write_checks verdicts plan (write_view verdicts plan older fh which request) false list) opens
+    ∙ subst (λ (v : ViewData). first_refusal (write_checks verdicts plan v false list) ≡ None) read passed in
+    inl (ap (λ (l : List ExtControl). Ok (Controls l)) (is ∙ ap (λ (v : ViewData). entries_judged verdicts plan v list) read)
+    ∙ sym (ap (λ (first : Option Refusal). controls_of (answered (fault_at_entry (length list)) first (entries_judged verdicts plan (write_view verdicts plan older fh which request) list))) own))
 
 -- a try that is refused
-pub try_denied : (verdicts : Verdicts) (plan : PlanData) (older : Past) (words : List ℕ) (fh : FhId) (which : ℕ) (request : Option RequestId) (list : List ExtControl) (view : ViewData) (fault : Fault)
-    → first_refusal (opening_checks verdicts plan older fh which request true) ≡ None → view ≡ write_view verdicts plan older fh which request → (try_answer verdicts plan view list ≡ Err fault) ⊎ (IsTrue (may_lack list) × (fault ≡ no_memory (length list)))
-    → MayAnswer verdicts plan older words (asks.TryCtrls fh which request list) (Err fault)
-try_denied verdicts plan older words fh which request list view fault opens read (inl is) =
-    inl (sym (try_opened verdicts plan older fh which request list opens ∙ ap controls_of (subst (λ (v : ViewData). try_answer verdicts plan v list ≡ Err fault) read is)))
-try_denied verdicts plan older words fh which request list view fault opens read (inr lacks) = inr ((opens, lacks.0), ap Err lacks.1)
+pub try_denied : (verdicts : Verdicts) (plan : PlanData) (older : Past) (words : List ℕ) (fh : FhId) (which : ℕ) (request : Option RequestId) (list : List ExtControl) (view : ViewData) (refusal : Refusal)
+    → first_refusal (opening_checks verdicts plan older fh which request true) ≡ None → view ≡ write_view verdicts plan older fh which request
+    → (first_refusal (write_checks verdicts plan view false list) ≡ Some refusal) ⊎ (IsTrue (may_lack list) × (refusal ≡ memory_refusal))
+    → MayAnswer verdicts plan older words (asks.TryCtrls fh which request list) (Err (fault_at_entry (length list) refusal))
+try_denied verdicts plan older words fh which request list view refusal opens read (inl is) =
+    try_by verdicts plan older words fh which request list refusal
+    (first_behind (opening_checks verdicts plan older fh which request true) (write_checks verdicts plan (write_view verdicts plan older fh which request) false list) opens
+    ∙ subst (λ (v : ViewData). first_refusal (write_checks verdicts plan v false list) ≡ Some refusal) read is)
+try_denied verdicts plan older words fh which request list view refusal opens read (inr lacks) = inr ((opens, lacks.0), ap (λ (r : Refusal). Err (fault_at_entry (length list) r)) lacks.1)
 
 -- a set that is refused by the list's own checks
-pub set_denied : (verdicts : Verdicts) (plan : PlanData) (older : Past) (words : List ℕ) (fh : FhId) (which : ℕ) (request : Option RequestId) (list : List ExtControl) (view : ViewData) (fault : Fault)
-    → first_refusal (opening_checks verdicts plan older fh which request true) ≡ None → view ≡ write_view verdicts plan older fh which request → (set_answer verdicts plan view list ≡ Err fault) ⊎ (IsTrue (may_lack list) × (fault ≡ no_memory (length list)))
-    → MayAnswer verdicts plan older words (asks.SetCtrls fh which request list) (Err fault)
-set_denied verdicts plan older words fh which request list view fault opens read (inl is) =
-    inl (sym (set_refused verdicts plan older fh which request list fault opens (subst (λ (v : ViewData). set_answer verdicts plan v list ≡ Err fault) read is)))
-set_denied verdicts plan older words fh which request list view fault opens read (inr lacks) = inr ((opens, inl lacks.0), ap Err lacks.1)
+pub set_denied : (verdicts : Verdicts) (plan : PlanData) (older : Past) (words : List ℕ) (fh : FhId) (which : ℕ) (request : Option RequestId) (list : List ExtControl) (view : ViewData) (refusal : Refusal)
+    → first_refusal (opening_checks verdicts plan older fh which request true) ≡ None → view ≡ write_view verdicts plan older fh which request
+    → (first_refusal (write_checks verdicts plan view true list) ≡ Some refusal) ⊎ (IsTrue (may_lack list) × (refusal ≡ memory_refusal))
+    → MayAnswer verdicts plan older words (asks.SetCtrls fh which request list) (Err (fault_at_count (length list) refusal))
+set_denied verdicts plan older words fh which request list view refusal opens read (inl is) =
+    set_by verdicts plan older words fh which request list refusal
+    (first_behind (opening_checks verdicts plan older fh which request true) (own ++ limit) opens ∙ first_before own limit refusal (subst (λ (v : ViewData). first_refusal (write_checks verdicts plan v true list) ≡ Some refusal) read is))
+  where
+    own : List (Option Refusal)
+    own = write_checks verdicts plan (write_view verdicts plan older fh which request) true list
 
--- a set that the limit of steps refuses
-pub set_full : (verdicts : Verdicts) (plan : PlanData) (older : Past) (words : List ℕ) (fh : FhId) (which : ℕ) (request : Option RequestId) (list : List ExtControl) (view : ViewData) (answers : List ExtControl)
-    → first_refusal (opening_checks verdicts plan older fh which request true) ≡ None → view ≡ write_view verdicts plan older fh which request → set_answer verdicts plan view list ≡ Ok answers → is_full older ≡ true
-    → MayAnswer verdicts plan older words (asks.SetCtrls fh which request list) (refused_at ENOSPC (length list))
-set_full verdicts plan older words fh which request list view answers opens read is full =
-    inl (sym (set_limited verdicts plan older fh which request list answers opens (subst (λ (v : ViewData). set_answer verdicts plan v list ≡ Ok answers) read is) ∙ rw full refl))
+    limit : List (Option Refusal)
+    limit = refused_if (is_full older) NoRoomForSet ∷ []
+set_denied verdicts plan older words fh which request list view refusal opens read (inr lacks) = inr ((opens, inl lacks.0), ap (λ (r : Refusal). Err (fault_at_count (length list) r)) lacks.1)
+
+-- a set that they don't refuse: the limit of steps decides
+set_left : (verdicts : Verdicts) (plan : PlanData) (older : Past) (fh : FhId) (which : ℕ) (request : Option RequestId) (list : List ExtControl) (view : ViewData)
+    → first_refusal (opening_checks verdicts plan older fh which request true) ≡ None → view ≡ write_view verdicts plan older fh which request → first_refusal (write_checks verdicts plan view true list) ≡ None
+    → first_refusal (set_checks verdicts plan older fh which request list) ≡ first_refusal (refused_if (is_full older) NoRoomForSet ∷ [])
+set_left verdicts plan older fh which request list view opens read passed =
+    first_behind (opening_checks verdicts plan older fh which request true) (own ++ limit) opens ∙ first_behind own limit (subst (λ (v : ViewData). first_refusal (write_checks verdicts plan v true list) ≡ None) read passed)
+  where
+    own : List (Option Refusal)
+    own = write_checks verdicts plan (write_view verdicts plan older fh which request) true list
+
+    limit : List (Option Refusal)
+    limit = refused_if (is_full older) NoRoomForSet ∷ []
+
+-- it refuses
+pub set_full : (verdicts : Verdicts) (plan : PlanData) (older : Past) (words : List ℕ) (fh : FhId) (which : ℕ) (request : Option RequestId) (list : List ExtControl) (view : ViewData)
+    → first_refusal (opening_checks verdicts plan older fh which request true) ≡ None → view ≡ write_view verdicts plan older fh which request → first_refusal (write_checks verdicts plan view true list) ≡ None → is_full older ≡ true
+    → MayAnswer verdicts plan older words (asks.SetCtrls fh which request list) (refused_at NoRoomForSet (length list))
+set_full verdicts plan older words fh which request list view opens read passed full =
+    set_by verdicts plan older words fh which request list (record { check = NoRoomForSet; place = None }) (set_left verdicts plan older fh which request list view opens read passed ∙ rw full refl)
+
+-- it doesn't
+pub set_accepted : (verdicts : Verdicts) (plan : PlanData) (older : Past) (fh : FhId) (which : ℕ) (request : Option RequestId) (list : List ExtControl) (view : ViewData) (answers : List ExtControl)
+    → first_refusal (opening_checks verdicts plan older fh which request true) ≡ None → view ≡ write_view verdicts plan older fh which request → first_refusal (write_checks verdicts plan view true list) ≡ None
+    → answers ≡ entries_judged verdicts plan view list → is_full older ≡ false → set_list_answer verdicts plan older fh which request list ≡ Ok (Controls answers)
+set_accepted verdicts plan older fh which request list view answers opens read passed is room =
+    let all : first_refusal (set_checks verdicts plan older fh which request list) ≡ None = set_left verdicts plan older fh which request list view opens read passed ∙ rw room refl in
+    ap (λ (first : Option Refusal). controls_of (answered (fault_at_count (length list)) first (entries_judged verdicts plan (write_view verdicts plan older fh which request) list))) all
+    ∙ ap (λ (l : List ExtControl). Ok (Controls l)) (sym (is ∙ ap (λ (v : ViewData). entries_judged verdicts plan v list) read))

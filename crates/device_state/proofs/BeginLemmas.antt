@@ -1,10 +1,12 @@
 -- The begin of a frame: what it is answered, and what it leaves.
-use Rattle.std.proofs.Common.{◌≡◌, ℕ, false, true, List, [], ◌∷◌, ◌++◌, ◌<◌, length, map, drop, slice_get, subst, Option, None, Some, Result, Ok, Err, refl, ap, sym, ◌∙◌, arith, inl, inr}
+use Rattle.std.proofs.Common.{◌≡◌, ℕ, false, List, [], ◌∷◌, ◌++◌, ◌<◌, length, map, drop, slice_get, subst, Option, None, Some, Result, Ok, Err, refl, ap, sym, ◌∙◌, arith, inl, inr}
 use Rattle.std.specs.List.{list_any}
 use Rattle.std.proofs.lemmas.List.{length-map}
 use Rattle.history.specs.Past.{past}
+use Rattle.ctrl_types.specs.Checks.{with_errno}
+use Rattle.ctrl_types.specs.declared.check.Check.{Check}
+use Rattle.ctrl_types.specs.declared.check.Check.TheVariants.{MemoryRefused}
 use Rattle.ctrl_types.specs.declared.errno.Errno.{Errno}
-use Rattle.ctrl_types.specs.declared.errno.Errno.TheVariants.{ENOMEM, ENOSPC}
 use Rattle.ctrl_types.specs.declared.ids.Pair.{Pair}
 use Rattle.ctrl_calls.specs.Meanings.{Verdicts, Words}
 use Rattle.ctrl_calls.specs.declared.work.Work.{Work}
@@ -20,18 +22,18 @@ use Rattle.ctrl_clusters.specs.Changes.{members_change}
 use Rattle.ctrl_clusters.specs.Notified.{AreNotified}
 use Rattle.ctrl_clusters.proofs.NotifyLemmas.{words_between}
 use Rattle.req_book.specs.Requests.{find}
-use Rattle.frame_queue.specs.Frames.{FramesData, after_begin, begin_answer, buffer_number}
+use Rattle.frame_queue.specs.Frames.{FramesData, after_begin, begin_answer, buffer_number, next_frame}
 use Rattle.device_history.specs.declared.ask.Ask.TheVariants as asks
 use Rattle.device_history.specs.declared.ask.Reply.{Reply}
 use Rattle.device_history.specs.declared.ask.Reply.TheVariants.{Frame}
 use Rattle.device_history.specs.declared.ask.Step.{Step}
 use Rattle.device_history.specs.declared.ask.Step.TheVariants.{Begin}
 use Rattle.device_history.specs.Steps.{History, Past}
-use Rattle.device_history.specs.Refusals.{is_full, refused, fault_of}
+use Rattle.device_history.specs.Refusals.{fault_of, is_full, refused, stepped, stepped_with}
 use Rattle.device_history.specs.Frames.{first_of, queue, running}
 use Rattle.device_history.specs.Values.{now}
 use Rattle.device_history.specs.Snapshots.{begun_pairs, begun_refused, begun_values, frames, requests}
-use Rattle.device_history.specs.RequestAnswers.{begin_frame_answer, frame_answer, stepped}
+use Rattle.device_history.specs.RequestAnswers.{begin_frame_answer, frame_reply}
 use Rattle.device_history.specs.Answers.{MayAnswer, step_of, taken}
 use Rattle.device_history.specs.Legal.{MayFollow}
 use Rattle.ctrl_clusters.proofs.OverlayLemmas.{length_overlay}
@@ -56,10 +58,10 @@ use Rattle.device_state.proofs.SetLemmas.{notified_same}
 
 -- what a begin is answered by its queue, where none runs
 answered_first : (verdicts : Verdicts) (plan : PlanData) (older : Past) (r : ℕ) → running older ≡ None → first_of (queue older) ≡ Some r
-    → begin_answer (frames verdicts plan older) ≡ Ok (r, buffer_number (find (requests verdicts plan older) r))
+    → next_frame (frames verdicts plan older) ≡ Ok (r, buffer_number (find (requests verdicts plan older) r))
 answered_first verdicts plan older r free first = by (running older) (queue older) free first
   where
-    by : (runs : Option ℕ) (waits : List ℕ) → runs ≡ None → first_of waits ≡ Some r → begin_answer (record (frames verdicts plan older) { queue = waits; running = runs }) ≡ Ok (r, buffer_number (find (requests verdicts plan older) r))
+    by : (runs : Option ℕ) (waits : List ℕ) → runs ≡ None → first_of waits ≡ Some r → next_frame (record (frames verdicts plan older) { queue = waits; running = runs }) ≡ Ok (r, buffer_number (find (requests verdicts plan older) r))
     by None [] f h = cc
     by None (k ∷ rest) f h = ap (λ (j : ℕ). Ok (j, buffer_number (find (requests verdicts plan older) j))) (same k r h)
       where
@@ -67,19 +69,10 @@ answered_first verdicts plan older r free first = by (running older) (queue olde
         same a b h = cc
     by (Some k) waits f h = cc
 
--- a refusal by the queue
-pub begin_refused : (verdicts : Verdicts) (plan : PlanData) (older : Past) (words : List ℕ) (errno : Errno) → begin_answer (frames verdicts plan older) ≡ Err errno → MayAnswer verdicts plan older words asks.Begin (refused errno)
-begin_refused verdicts plan older words errno is = inl (sym (ap (frame_answer verdicts plan older) is))
-
 -- the answer where a frame can begin
 begin_is : (verdicts : Verdicts) (plan : PlanData) (older : Past) (r : ℕ) → running older ≡ None → first_of (queue older) ≡ Some r
     → begin_frame_answer verdicts plan older ≡ stepped None older (Frame (record { 0 = r }) (buffer_number (find (requests verdicts plan older) r)) (begun_refused verdicts plan older r))
-begin_is verdicts plan older r free first = ap (frame_answer verdicts plan older) (answered_first verdicts plan older r free first)
-
--- no further step is kept
-pub begin_full : (verdicts : Verdicts) (plan : PlanData) (older : Past) (words : List ℕ) (r : ℕ) → running older ≡ None → first_of (queue older) ≡ Some r → is_full older ≡ true
-    → MayAnswer verdicts plan older words asks.Begin (refused ENOSPC)
-begin_full verdicts plan older words r free first full = inl (sym (begin_is verdicts plan older r free first ∙ rw full refl))
+begin_is verdicts plan older r free first = ap (λ (next : Result (ℕ × ℕ) Check). stepped_with (frame_reply verdicts plan older) next older) (answered_first verdicts plan older r free first)
 
 -- it is accepted where there is room
 begin_accepted : (verdicts : Verdicts) (plan : PlanData) (older : Past) (r : ℕ) → running older ≡ None → first_of (queue older) ≡ Some r → is_full older ≡ false
@@ -88,7 +81,7 @@ begin_accepted verdicts plan older r free first room = begin_is verdicts plan ol
 
 -- want of memory
 pub begin_lacks : (verdicts : Verdicts) (plan : PlanData) (older : Past) (words : List ℕ) (r : ℕ) → running older ≡ None → first_of (queue older) ≡ Some r → is_full older ≡ false
-    → MayAnswer verdicts plan older words asks.Begin (refused ENOMEM)
+    → MayAnswer verdicts plan older words asks.Begin (refused MemoryRefused)
 begin_lacks verdicts plan older words r free first room = inr (rw (begin_accepted verdicts plan older r free first room) refl, refl)
 
 -- the reply
@@ -96,7 +89,7 @@ pub begin_reply : (verdicts : Verdicts) (plan : PlanData) (older : Past) (r id b
     → f ≡ frames verdicts plan older → begin_answer f ≡ Ok (id, buffer) → begin_frame_answer verdicts plan older ≡ Ok (Frame (record { 0 = r }) buffer (begun_refused verdicts plan older r))
 begin_reply verdicts plan older r id buffer f free first room own is =
     begin_accepted verdicts plan older r free first room
-    ∙ ap (λ (n : ℕ). Ok (Frame (record { 0 = r }) n (begun_refused verdicts plan older r))) (same r (buffer_number (find (requests verdicts plan older) r)) id buffer (sym (answered_first verdicts plan older r free first) ∙ sym (ap begin_answer own) ∙ is))
+    ∙ ap (λ (n : ℕ). Ok (Frame (record { 0 = r }) n (begun_refused verdicts plan older r))) (same r (buffer_number (find (requests verdicts plan older) r)) id buffer (sym (ap with_errno (answered_first verdicts plan older r free first)) ∙ sym (ap begin_answer own) ∙ is))
   where
     number : Result (ℕ × ℕ) Errno → ℕ
     number (Ok p) = p.1

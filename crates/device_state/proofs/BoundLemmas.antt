@@ -3,7 +3,7 @@ use Rattle.std.proofs.Common.{◌≡◌, ◌∙◌, ◌≤◌, ◌+◌, ◌++◌
 use Rattle.std.specs.Option.{is_none}
 use Rattle.std.specs.Result.{is_ok}
 use Rattle.ctrl_types.specs.Classes.{which_of}
-use Rattle.ctrl_types.specs.declared.errno.Errno.TheVariants.{EBADF, EINVAL, ENOSPC}
+use Rattle.ctrl_types.specs.declared.check.Check.TheVariants.{DefaultsWritten, ListHandleClosed, ListRequestMissing, NoRoomForSet, WhichUnknown}
 use Rattle.ctrl_types.specs.declared.ids.ExtControl.{ExtControl}
 use Rattle.ctrl_types.specs.declared.ids.FhId.{FhId}
 use Rattle.ctrl_types.specs.declared.ids.RequestId.{RequestId}
@@ -14,14 +14,14 @@ use Rattle.ctrl_handlers.specs.Plan.{PlanData}
 use Rattle.ctrl_forecast.specs.Forecasts.{named_by_frames}
 use Rattle.ctrl_lists.specs.declared.refusal.Refusal.{Refusal}
 use Rattle.ctrl_lists.specs.Answers.{answered, entries_judged, fault_at_count}
-use Rattle.ctrl_lists.specs.Checks.{at_first, entry_checks, first_refusal, judging_refusal, pairs_judged, refused_if, write_checks}
+use Rattle.ctrl_lists.specs.Checks.{at_first, entry_checks, first_refusal, judging_check, pairs_judged, refused_if, write_checks}
 use Rattle.ctrl_lists.specs.Touched.{list_asks, none_where, touched}
 use Rattle.ctrl_lists.specs.View.{ViewData, pairs_of}
 use Rattle.device_history.specs.declared.ask.Ask.TheVariants as asks
 use Rattle.device_history.specs.declared.ask.Reply.TheVariants.{Controls}
 use Rattle.device_history.specs.Forecasts.{queued_frames}
 use Rattle.device_history.specs.Handles.{handler_of}
-use Rattle.device_history.specs.Lists.{checks_before_judging, controls_of, list_pairs, meant, opening_checks, refused_with, set_checks, set_list_answer, through_refusal, which_or, write_view, writes_defaults}
+use Rattle.device_history.specs.Lists.{checks_before_judging, controls_of, list_pairs, meant, meant_check, opening_checks, refused_by, set_checks, set_list_answer, which_or, write_view, writes_defaults}
 use Rattle.device_history.specs.Refusals.{is_full}
 use Rattle.device_history.specs.Steps.{Past}
 use Rattle.device_history.proofs.ListLemmas.{first_behind, none_of_both}
@@ -43,9 +43,9 @@ pub set_opened : (verdicts : Verdicts) (plan : PlanData) (older : Past) (fh : Fh
     → set_list_answer verdicts plan older fh which request list ≡ Ok (Controls answers)
     → (first_refusal (opening_checks verdicts plan older fh which request true) ≡ None) × (first_refusal (checks_before_judging verdicts plan older fh which request true list) ≡ None)
 set_opened verdicts plan older fh which request list answers is =
-    let all = none_of_both opening (write_checks verdicts plan view true list ++ refused_if (is_full older) ENOSPC ∷ []) (passed (first_refusal (set_checks verdicts plan older fh which request list)) is) in
-    let own = none_of_both (write_checks verdicts plan view true list) (refused_if (is_full older) ENOSPC ∷ []) all.1 in
-    (all.0, first_behind opening (entry_checks plan view true list) all.0 ∙ (none_of_both (entry_checks plan view true list) (at_first (judging_refusal verdicts plan view (pairs_judged plan view list)) (pairs_of plan view.handler view.which list) ∷ []) own.0).0)
+    let all = none_of_both opening (write_checks verdicts plan view true list ++ refused_if (is_full older) NoRoomForSet ∷ []) (passed (first_refusal (set_checks verdicts plan older fh which request list)) is) in
+    let own = none_of_both (write_checks verdicts plan view true list) (refused_if (is_full older) NoRoomForSet ∷ []) all.1 in
+    (all.0, first_behind opening (entry_checks plan view true list) all.0 ∙ (none_of_both (entry_checks plan view true list) (at_first (judging_check verdicts plan view (pairs_judged plan view list)) (pairs_of plan view.handler view.which list) ∷ []) own.0).0)
   where
     view : ViewData
     view = write_view verdicts plan older fh which request
@@ -63,24 +63,24 @@ names_request : (verdicts : Verdicts) (plan : PlanData) (older : Past) (fh : FhI
 names_request verdicts plan older fh which request opens through none = last (sym speaks ∙ (none_of_both (closed ∷ unread ∷ defaults ∷ []) (spoken ∷ []) opens).1)
   where
     closed : Option Refusal
-    closed = refused_if (is_none (handler_of older fh)) EBADF
+    closed = refused_if (is_none (handler_of older fh)) ListHandleClosed
 
     unread : Option Refusal
-    unread = refused_if (not (is_ok (which_of which))) EINVAL
+    unread = refused_if (not (is_ok (which_of which))) WhichUnknown
 
     defaults : Option Refusal
-    defaults = refused_if (writes_defaults true (which_or (which_of which))) EINVAL
+    defaults = refused_if (writes_defaults true (which_or (which_of which))) DefaultsWritten
 
     spoken : Option Refusal
-    spoken = refused_with (through_refusal verdicts plan older true (which_or (which_of which)) request)
+    spoken = refused_by (meant_check verdicts plan older true (which_or (which_of which)) request)
 
     nameless : Refusal
-    nameless = record { errno = EINVAL; place = None }
+    nameless = record { check = ListRequestMissing; place = None }
 
     speaks : first_refusal (spoken ∷ []) ≡ Some nameless
     speaks =
-        ap (λ (w : Which). first_refusal (refused_with (through_refusal verdicts plan older true w request) ∷ [])) through
-        ∙ ap (λ (r : Option RequestId). first_refusal (refused_with (through_refusal verdicts plan older true Request r) ∷ [])) none
+        ap (λ (w : Which). first_refusal (refused_by (meant_check verdicts plan older true w request) ∷ [])) through
+        ∙ ap (λ (r : Option RequestId). first_refusal (refused_by (meant_check verdicts plan older true Request r) ∷ [])) none
 
     last : Some nameless ≡ None → ⊥
     last h = cc

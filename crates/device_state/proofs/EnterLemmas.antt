@@ -1,20 +1,21 @@
 -- Steps that leave file handles, grabs, ranges and values: when they may follow, and what a call that adds one does.
-use Rattle.std.proofs.Common.{◌≡◌, ℕ, ◌+◌, ◌≤◌, Bool, true, false, List, [], length, is_some, if◌then◌else◌, Option, None, Some, Ok, Err, IsOk, refl, ap, sym, subst, ◌∙◌, arith, inl, inr, Result}
+use Rattle.std.proofs.Common.{◌≡◌, ℕ, ◌+◌, ◌≤◌, Bool, true, false, List, [], length, is_some, if◌then◌else◌, Option, None, Some, Ok, Err, IsOk, refl, ap, sym, subst, ◌∙◌, arith, inl, inr}
 use Rattle.history.specs.Past.{past}
-use Rattle.ctrl_types.specs.declared.errno.Errno.{Errno}
-use Rattle.ctrl_types.specs.declared.errno.Errno.TheVariants.{EINVAL, ENOMEM, ENOSPC}
+use Rattle.ctrl_types.specs.declared.check.Check.{Check}
+use Rattle.ctrl_types.specs.declared.check.Check.TheVariants.{ListRequestNotComplete, MemoryRefused, NotComplete}
+use Rattle.ctrl_types.specs.Checks.{errno_of}
 use Rattle.ctrl_types.specs.declared.ids.Pair.{Pair}
 use Rattle.ctrl_calls.specs.Meanings.{Verdicts, Words}
 use Rattle.ctrl_calls.specs.declared.work.Work.{Work}
 use Rattle.ctrl_handlers.specs.Plan.{PlanData}
-use Rattle.req_book.specs.Requests.{RequestData, find}
+use Rattle.req_book.specs.Requests.{RequestData, find, is_complete}
 use Rattle.frame_queue.specs.Frames.{FramesData}
 use Rattle.device_history.specs.declared.ask.Ask.{Ask}
 use Rattle.device_history.specs.declared.ask.Reply.{Reply}
 use Rattle.device_history.specs.declared.ask.Step.{Step}
 use Rattle.device_history.specs.declared.ask.Step.TheVariants as steps
 use Rattle.device_history.specs.Steps.{History, Past}
-use Rattle.device_history.specs.Refusals.{is_full, refused, fault_of}
+use Rattle.device_history.specs.Refusals.{fault_of, refused, step_check, stepped}
 use Rattle.device_history.specs.Values.{now, values_after}
 use Rattle.device_history.specs.Words.{changes}
 use Rattle.device_history.specs.Forecasts.{queued_frames}
@@ -23,8 +24,7 @@ use Rattle.device_history.specs.Requests.{asked, state}
 use Rattle.std.specs.Option.{option_map}
 use Rattle.req_book.specs.Refusals as book
 use Rattle.req_book.specs.declared.state.RequestState.{RequestState}
-use Rattle.device_history.specs.declared.ask.Reply.TheVariants.{Controls, State}
-use Rattle.device_history.specs.RequestAnswers.{stepped, state_reply}
+use Rattle.device_history.specs.declared.ask.Reply.TheVariants.{Controls}
 use Rattle.device_history.specs.Answers.{MayAnswer, MayLackMemory, answer_of, step_of, no_memory}
 use Rattle.device_history.specs.Legal.{MayFollow}
 use Rattle.device_history.proofs.FrameLaw.{found_request}
@@ -37,8 +37,9 @@ use Rattle.device_state.specs.Kept.{Caches, IsKept}
 use Rattle.device_state.proofs.HandleLemmas.{at_rest, asked_since, handles_asked, handles_set, told_since}
 use Rattle.device_state.proofs.BoundLemmas.{set_at_least}
 use Rattle.device_state.proofs.SettingLemmas.{store_adds}
+use Rattle.device_state.proofs.StepLemmas.{step_accepted, step_answered, step_passes, step_refused}
 use Rattle.device_state.specs.Setting.{IsSettable, SetsList}
-use Rattle.device_history.specs.Lists.{list_pairs, meant, which_or}
+use Rattle.device_history.specs.Lists.{list_pairs, meant, request_check, which_or}
 use Rattle.ctrl_lists.specs.Touched.{TouchedData, touched, judged_count}
 use Rattle.ctrl_types.specs.Classes.{which_of}
 use Rattle.ctrl_types.specs.declared.ids.ExtControl.{ExtControl}
@@ -50,41 +51,32 @@ use Rattle.req_book.specs.declared.state.RequestState.TheVariants.{Idle, Queued,
 use Rattle.ctrl_types.specs.declared.value.CtrlValue.{CtrlValue}
 use Rattle.req_book.proofs.SettingLemmas.{snapshot_long}
 use Rattle.device_history.proofs.PresentLemmas.{length_now}
-use Rattle.ctrl_lists.specs.Checks.{errno_if_refused}
 use Rattle.step_effects.proofs.LeavingLemmas.{acted_controls_left}
 
 -- an ask that adds such a step, where its refusal was read
-pub entered : (verdicts : Verdicts) (plan : PlanData) (older : Past) (words : List ℕ) (ask : Ask) (refusal own : Option Errno) (step : Step) (reply : Reply) → refusal ≡ own → leaves_controls step ≡ true
+pub entered : (verdicts : Verdicts) (plan : PlanData) (older : Past) (words : List ℕ) (ask : Ask) (check own : Option Check) (step : Step) (reply : Reply) → check ≡ own → leaves_controls step ≡ true
     → answer_of verdicts plan older words ask ≡ stepped own older reply → answer_of verdicts plan older [] ask ≡ stepped own older reply → (own ≡ None → step_of verdicts plan older ask ≡ Some step)
-    → (IsOk (stepped own older reply) → MayLackMemory verdicts plan older ask) → no_memory ask ≡ refused ENOMEM → must_ask plan older ask ≡ 0 → (own ≡ None → NamesKnown (length plan.controls) step)
-    → asks_at_most plan (frames verdicts plan older) step (queued_frames plan older) ≤ may_ask verdicts plan older ask → AddsStep verdicts plan older words ask refusal step reply
-entered verdicts plan older words ask refusal own step reply is leaves answers alone adds lacks plain nobody known most =
-    subst (λ (o : Option Errno). AddsStep verdicts plan older words ask o step reply) (sym is)
+    → (IsOk (stepped own older reply) → MayLackMemory verdicts plan older ask) → no_memory ask ≡ refused MemoryRefused → must_ask plan older ask ≡ 0 → (own ≡ None → NamesKnown (length plan.controls) step)
+    → asks_at_most plan (frames verdicts plan older) step (queued_frames plan older) ≤ may_ask verdicts plan older ask → AddsStep verdicts plan older words ask check step reply
+entered verdicts plan older words ask check own step reply is leaves answers alone adds lacks plain nobody known most =
+    subst (λ (o : Option Check). AddsStep verdicts plan older words ask o step reply) (sym is)
     (record { leaves = leaves; answers = answers; answers_alone = alone; adds = adds; lacks = lacks; plain = plain; asks_nobody = nobody; known = known; most = most })
 
--- its own refusal
-pub entered_refused : (verdicts : Verdicts) (plan : PlanData) (older : Past) (words : List ℕ) (ask : Ask) (errno : Errno) (step : Step) (reply : Reply)
-    → AddsStep verdicts plan older words ask (Some errno) step reply → MayAnswer verdicts plan older words ask (refused errno)
-entered_refused verdicts plan older words ask errno step reply is = inl (sym is.answers)
-
--- no further step is kept
-pub entered_full : (verdicts : Verdicts) (plan : PlanData) (older : Past) (words : List ℕ) (ask : Ask) (step : Step) (reply : Reply)
-    → AddsStep verdicts plan older words ask None step reply → is_full older ≡ true → MayAnswer verdicts plan older words ask (refused ENOSPC)
-entered_full verdicts plan older words ask step reply is full = inl (sym (is.answers ∙ rw full refl))
+-- a check refuses it
+pub entered_refused : (verdicts : Verdicts) (plan : PlanData) (older : Past) (words : List ℕ) (ask : Ask) (own : Option Check) (check : Check) (step : Step) (reply : Reply)
+    → AddsStep verdicts plan older words ask own step reply → step_check older own ≡ Some check → MayAnswer verdicts plan older words ask (refused check)
+entered_refused verdicts plan older words ask own check step reply is refuses = inl (sym (is.answers ∙ step_refused older own check reply refuses))
 
 -- want of memory
-pub entered_lacks : (verdicts : Verdicts) (plan : PlanData) (older : Past) (words : List ℕ) (ask : Ask) (step : Step) (reply : Reply)
-    → AddsStep verdicts plan older words ask None step reply → is_full older ≡ false → MayAnswer verdicts plan older words ask (refused ENOMEM)
-entered_lacks verdicts plan older words ask step reply is room = inr (is.lacks (rw room refl), sym is.plain)
+pub entered_lacks : (verdicts : Verdicts) (plan : PlanData) (older : Past) (words : List ℕ) (ask : Ask) (own : Option Check) (step : Step) (reply : Reply)
+    → AddsStep verdicts plan older words ask own step reply → step_check older own ≡ None → MayAnswer verdicts plan older words ask (refused MemoryRefused)
+entered_lacks verdicts plan older words ask own step reply is free = inr (is.lacks (step_accepted older own reply free), sym is.plain)
 
 -- else its step may follow
-pub entered_follows : (verdicts : Verdicts) (plan : PlanData) (older : Past) (words : List ℕ) (ask : Ask) (step : Step) (reply : Reply)
-    → AddsStep verdicts plan older words ask None step reply → is_full older ≡ false → MayFollow verdicts plan older step
-entered_follows verdicts plan older words ask step reply is room = (ask, ap fault_of is.answers_alone ∙ nothing (is_full older) room, is.adds refl)
-  where
-    nothing : (b : Bool) → b ≡ false → fault_of (if b then refused ENOSPC else Ok reply) ≡ None
-    nothing true h = cc
-    nothing false h = refl
+pub entered_follows : (verdicts : Verdicts) (plan : PlanData) (older : Past) (words : List ℕ) (ask : Ask) (own : Option Check) (step : Step) (reply : Reply)
+    → AddsStep verdicts plan older words ask own step reply → step_check older own ≡ None → MayFollow verdicts plan older step
+entered_follows verdicts plan older words ask own step reply is free =
+    (ask, ap fault_of (is.answers_alone ∙ step_answered older own reply free), is.adds (step_passes older own free).0)
 
 -- such a step changes no control
 left_unchanged : (verdicts : Verdicts) (plan : PlanData) (older : Past) (step : Step) (c : ℕ) → leaves_controls step ≡ true → step_changes verdicts plan older (Some step) c ≡ false
@@ -107,39 +99,45 @@ handles_controls_left verdicts old work seat ask step reply told asked all may a
   asked_all = λ _. all;
 }
 
-pub handles_entered : (verdicts : Verdicts) (old : DeviceData) (start work : Work) (seat : ℕ) (ask : Ask) (step : Step) (reply : Reply) → start ≡ at_rest → work.told ≡ start.told
-    → work.asked ≤ start.asked + asks_at_most old.plan (frames verdicts old.plan (past old.steps)) step (queued_frames old.plan (past old.steps)) → AddsStep verdicts old.plan (past old.steps) old.words ask None step reply → is_full (past old.steps) ≡ false
+pub handles_entered : (verdicts : Verdicts) (old : DeviceData) (start work : Work) (seat : ℕ) (ask : Ask) (own : Option Check) (step : Step) (reply : Reply) → start ≡ at_rest → work.told ≡ start.told
+    → work.asked ≤ start.asked + asks_at_most old.plan (frames verdicts old.plan (past old.steps)) step (queued_frames old.plan (past old.steps)) → AddsStep verdicts old.plan (past old.steps) old.words ask own step reply → step_check (past old.steps) own ≡ None
     → Handles verdicts old (with_step (record old { work = work }) seat step) seat ask (Ok reply)
-handles_entered verdicts old start work seat ask step reply rest untold asked is room =
-    handles_controls_left verdicts old work seat ask step reply (told_since start work rest untold) (omega (arith, asked_since start work _ rest asked, is.most)) (rw is.asks_nobody (omega arith)) (inl (sym (is.answers ∙ rw room refl))) (is.adds refl) is.leaves
+handles_entered verdicts old start work seat ask own step reply rest untold asked is free =
+    handles_controls_left verdicts old work seat ask step reply (told_since start work rest untold) (omega (arith, asked_since start work _ rest asked, is.most)) (rw is.asks_nobody (omega arith))
+    (inl (sym (is.answers ∙ step_answered (past old.steps) own reply free))) (is.adds (step_passes (past old.steps) own free).0) is.leaves
 
 -- one for which there is no memory
-pub handles_lacking : (verdicts : Verdicts) (old new : DeviceData) (start work : Work) (seat : ℕ) (ask : Ask) (step : Step) (reply : Reply) → new ≡ record old { work = work } → start ≡ at_rest → work.told ≡ start.told
-    → work.asked ≤ start.asked + asks_at_most old.plan (frames verdicts old.plan (past old.steps)) step (queued_frames old.plan (past old.steps)) → AddsStep verdicts old.plan (past old.steps) old.words ask None step reply → is_full (past old.steps) ≡ false → Handles verdicts old new seat ask (refused ENOMEM)
-handles_lacking verdicts old new start work seat ask step reply begin rest untold asked is room =
-    handles_asked verdicts old new start work seat ask (refused ENOMEM) begin rest untold (omega (arith, asked, is.most)) (λ e. cc) refl (entered_lacks verdicts old.plan (past old.steps) old.words ask step reply is room)
+pub handles_lacking : (verdicts : Verdicts) (old new : DeviceData) (start work : Work) (seat : ℕ) (ask : Ask) (own : Option Check) (step : Step) (reply : Reply) → new ≡ record old { work = work } → start ≡ at_rest → work.told ≡ start.told
+    → work.asked ≤ start.asked + asks_at_most old.plan (frames verdicts old.plan (past old.steps)) step (queued_frames old.plan (past old.steps)) → AddsStep verdicts old.plan (past old.steps) old.words ask own step reply → step_check (past old.steps) own ≡ None
+    → Handles verdicts old new seat ask (refused MemoryRefused)
+handles_lacking verdicts old new start work seat ask own step reply begin rest untold asked is free =
+    handles_asked verdicts old new start work seat ask (refused MemoryRefused) begin rest untold (omega (arith, asked, is.most)) (λ e. cc) refl (entered_lacks verdicts old.plan (past old.steps) old.words ask own step reply is free)
 
 -- the request that is kept under an id
 pub found : (verdicts : Verdicts) (told : Words) (plan : PlanData) (entries : History) (caches : Caches) (r : ℕ) → IsKept verdicts told plan entries caches
     → find caches.frames.requests.all r ≡ request verdicts plan (past entries) r
 found verdicts told plan entries caches r kept = ap (λ (f : FramesData). find f.requests.all r) kept.frames ∙ found_request verdicts plan (past entries) r kept.legal
 
--- a state that was read
-pub state_read : (verdicts : Verdicts) (plan : PlanData) (older : Past) (r : ℕ) (s : RequestState) → Ok s ≡ book.state_answer (request verdicts plan older r) → Ok (State s) ≡ state_reply (state older r)
+-- its state
+pub state_is : (verdicts : Verdicts) (plan : PlanData) (older : Past) (r : ℕ) → option_map (λ (q : RequestData). q.state) (request verdicts plan older r) ≡ state older r
 unfolding request
-state_read verdicts plan older r s is = by (state older r) is
+state_is verdicts plan older r = by (state older r)
   where
-    by : (o : Option RequestState) → Ok s ≡ book.state_answer (option_map (request_in verdicts plan older r) o) → Ok (State s) ≡ state_reply o
-    by None h = cc
-    by (Some t) h = cc
+    by : (o : Option RequestState) → option_map (λ (q : RequestData). q.state) (option_map (request_in verdicts plan older r) o) ≡ o
+    by None = refl
+    by (Some s) = refl
 
-pub state_unread : (verdicts : Verdicts) (plan : PlanData) (older : Past) (r : ℕ) (errno : Errno) → Err errno ≡ book.state_answer (request verdicts plan older r) → refused EINVAL ≡ state_reply (state older r)
-unfolding request
-state_unread verdicts plan older r errno is = by (state older r) is
+-- whether it takes a list is told by its state
+pub list_taken : (writes : Bool) (o : Option RequestData) (s : RequestState) (check : Option Check) → Some s ≡ option_map (λ (q : RequestData). q.state) o → ((q : RequestData) → q.state ≡ s → check ≡ request_check writes (Some q)) → check ≡ request_check writes o
+list_taken writes None s check is each = cc
+list_taken writes (Some q) s check is each = each q (own q.state s is)
   where
-    by : (o : Option RequestState) → Err errno ≡ book.state_answer (option_map (request_in verdicts plan older r) o) → refused EINVAL ≡ state_reply o
-    by None h = refl
-    by (Some t) h = cc
+    own : (a b : RequestState) → Some b ≡ Some a → a ≡ b
+    own a b h = cc
+
+pub list_missing : (writes : Bool) (o : Option RequestData) → None ≡ option_map (λ (q : RequestData). q.state) o → request_check writes None ≡ request_check writes o
+list_missing writes None is = refl
+list_missing writes (Some q) is = cc
 
 -- a list that stores its pairs in a request
 pub handles_store : (verdicts : Verdicts) (old : DeviceData) (start work : Work) (seat : ℕ) (fh : FhId) (which : ℕ) (request : Option RequestId) (stored : RequestId) (list : List ExtControl) (touch : TouchedData) (controls : List ExtControl)
@@ -190,15 +188,16 @@ asked_is verdicts plan older r pairs is = by (state older r) is
     by (Some s) h = cc
 
 -- a request that refuses no list that reads has values to be read
-pub granted : (o : Option RequestData) → errno_if_refused (book.snapshot_answer o) ≡ None → IsOk (book.snapshot_answer o)
-granted o passes = by (book.snapshot_answer o) passes
+pub granted : (o : Option RequestData) → request_check false o ≡ None → IsOk (book.snapshot_answer o)
+granted None passes = cc
+granted (Some r) passes = by (is_complete r.state) passes
   where
-    by : (answer : Result (List CtrlValue) Errno) → errno_if_refused answer ≡ None → IsOk answer
-    by (Ok values) h = refl
-    by (Err errno) h = cc
+    by : (b : Bool) → (if b then None else Some ListRequestNotComplete) ≡ None → IsOk (if b then Ok r.snapshot else Err (errno_of NotComplete))
+    by true h = refl
+    by false h = cc
 
 -- one that refuses no list that writes is there
-pub storable_there : (o : Option RequestData) → book.store_refusal o ≡ None → is_some o ≡ true
+pub storable_there : (o : Option RequestData) → request_check true o ≡ None → is_some o ≡ true
 storable_there None h = cc
 storable_there (Some r) h = refl
 

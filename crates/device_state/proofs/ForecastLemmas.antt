@@ -1,24 +1,18 @@
 -- The queued frames, and what a forecast is answered.
-use Rattle.std.proofs.Common.{◌≡◌, ℕ, suc, zero, ◌<◌, ◌≤◌, Bool, true, false, cond, List, [], ◌∷◌, length, filter, is_some, slice_get, Option, None, Some, Ok, Err, IsOk, refl, ap, sym, subst, ◌∙◌, arith, inl, inr}
+use Rattle.std.proofs.Common.{◌≡◌, ℕ, suc, zero, ◌<◌, Bool, true, false, cond, List, [], ◌∷◌, length, filter, is_some, slice_get, Option, None, Some, Ok, Err, refl, ap, sym, subst, ◌∙◌, arith}
 use Rattle.std.specs.Option.{option_map}
 use Rattle.std.proofs.lemmas.List.{length-map}
-use Rattle.std.proofs.lemmas.Option.{slice_get_past}
 use Rattle.ctrl_types.specs.declared.errno.Errno.{Errno}
-use Rattle.ctrl_types.specs.declared.errno.Errno.TheVariants.{ENOENT, ENOMEM}
 use Rattle.ctrl_calls.specs.Meanings.{Verdicts}
 use Rattle.ctrl_handlers.specs.Plan.{PlanData}
-use Rattle.ctrl_forecast.specs.declared.board.Forecast.{Forecast}
 use Rattle.req_book.specs.Refusals as book
 use Rattle.req_book.specs.declared.state.RequestState.{RequestState}
 use Rattle.frame_queue.specs.Frames.{is_queued}
-use Rattle.device_history.specs.declared.ask.Ask.TheVariants as asks
 use Rattle.device_history.specs.Steps.{Past}
-use Rattle.device_history.specs.Refusals.{refused}
 use Rattle.device_history.specs.Requests.{buffer, is_there, state}
 use Rattle.device_history.specs.Frames.{ever_queued, queue}
 use Rattle.device_history.specs.Snapshots.{request, request_in}
-use Rattle.device_history.specs.Forecasts.{forecast, forecast_reply}
-use Rattle.device_history.specs.Answers.{MayAnswer}
+use Rattle.device_history.specs.Forecasts.{forecast}
 use Rattle.device_history.proofs.StretchLemmas.{rows_queued}
 
 -- what is left of numbers passes the test
@@ -68,15 +62,3 @@ pub none_within : {A : Type 0} (xs : List A) (i : ℕ) → i < length xs → sli
 none_within [] i lt h = omega (arith, lt)
 none_within (x ∷ xs) zero lt h = cc
 none_within (x ∷ xs) (suc i) lt h = none_within xs i (omega (arith, lt)) h
-
--- nothing is queued at a place
-pub none_queued : (verdicts : Verdicts) (plan : PlanData) (older : Past) (words : List ℕ) (place : ℕ) → length (queue older) ≤ place → MayAnswer verdicts plan older words (asks.Forecast place) (refused ENOENT)
-none_queued verdicts plan older words place past = inl (sym (ap forecast_reply (slice_get_past (forecast verdicts plan older) place (subst (λ (n : ℕ). n ≤ place) (sym (forecast_each verdicts plan older)) past))))
-
--- want of memory
-pub forecast_lacks : (verdicts : Verdicts) (plan : PlanData) (older : Past) (words : List ℕ) (place : ℕ) → place < length (queue older) → MayAnswer verdicts plan older words (asks.Forecast place) (refused ENOMEM)
-forecast_lacks verdicts plan older words place within = inr (by (slice_get (forecast verdicts plan older) place) refl, refl)
-  where
-    by : (o : Option Forecast) → slice_get (forecast verdicts plan older) place ≡ o → IsOk (forecast_reply o)
-    by (Some row) is = refl
-    by None is = absurd (none_within (forecast verdicts plan older) place (subst (λ (n : ℕ). place < n) (sym (forecast_each verdicts plan older)) within) is)

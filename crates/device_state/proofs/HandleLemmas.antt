@@ -6,6 +6,7 @@ use Rattle.history.specs.Past.{past}
 use Rattle.history.proofs.Pasts.{length_past}
 use Rattle.ctrl_calls.specs.Meanings.{Verdicts, Words}
 use Rattle.ctrl_calls.specs.declared.work.Work.{Work}
+use Rattle.ctrl_types.specs.declared.check.Check.{Check}
 use Rattle.ctrl_types.specs.declared.errno.Fault.{Fault}
 use Rattle.ctrl_types.specs.declared.ids.CtrlId.{CtrlId}
 use Rattle.ctrl_types.specs.declared.ids.ExtControl.{ExtControl}
@@ -21,15 +22,15 @@ use Rattle.device_history.specs.declared.ask.Reply.TheVariants.{Fh, Done, Contro
 use Rattle.device_history.specs.declared.ask.Step.TheVariants.{OpenFh, CloseFh, Set, Grab}
 use Rattle.ctrl_handlers.specs.Plan.{PlanData, cluster_of, members}
 use Rattle.ctrl_lists.specs.Touched.{TouchedData, none_where, touched}
-use Rattle.device_history.specs.Grabs.{grabbed, grab_answer}
+use Rattle.device_history.specs.Grabs.{grabbed, grab_check}
 use Rattle.device_history.specs.Steps.{Past}
 use Rattle.device_history.specs.Values.{now}
-use Rattle.device_history.specs.Refusals.{Answer}
-use Rattle.device_history.specs.Handles.{open_answer, close_answer}
+use Rattle.device_history.specs.Refusals.{Answer, refused, step_check, stepped}
+use Rattle.device_history.specs.Handles.{open_check, through}
 use Rattle.device_history.specs.RequestAnswers.{state_answer}
 use Rattle.device_history.specs.Queries.{query_answer, next_answer, told_answer}
 use Rattle.device_history.specs.Lists.{list_pairs, meant, which_or}
-use Rattle.device_history.specs.Answers.{MayAnswer, taken}
+use Rattle.device_history.specs.Answers.{MayAnswer, answer_of, taken}
 use Rattle.device_history.specs.Forecasts.{queued_frames}
 use Rattle.ctrl_forecast.specs.Forecasts.{named_by_frames}
 use Rattle.ctrl_clusters.specs.NewRows.{clusters_of}
@@ -43,6 +44,7 @@ use Rattle.device_history.proofs.PresentLemmas.{length_now}
 use Rattle.device_state.proofs.SettingLemmas.{own_judged, set_step}
 use Rattle.device_history.specs.Ranges.{ranges_now}
 use Rattle.device_state.proofs.SetLemmas.{changes_written, notified_none, notified_same}
+use Rattle.device_state.proofs.StepLemmas.{own_refused, step_answered, step_refused}
 
 -- no call yet
 abbrev pub at_rest : Work
@@ -141,6 +143,19 @@ pub handles_refused : (verdicts : Verdicts) (old new : DeviceData) (work : Work)
 handles_refused verdicts old new work seat ask fault begin rest may =
     rw begin (handles_none verdicts old work seat ask (Err fault) (ap (λ (w : Work). w.told) rest) (asked_at_rest work _ rest) (λ e. cc) refl may)
 
+-- a refusal of an ask that adds a step: by a check of its own, or as no further step is kept
+pub handles_unstepped : (verdicts : Verdicts) (old new : DeviceData) (work : Work) (seat : ℕ) (ask : Ask) (own : Option Check) (check : Check) (reply : Reply) → new ≡ record old { work = work } → work ≡ at_rest
+    → answer_of verdicts old.plan (past old.steps) old.words ask ≡ stepped own (past old.steps) reply → step_check (past old.steps) own ≡ Some check
+    → Handles verdicts old new seat ask (refused check)
+handles_unstepped verdicts old new work seat ask own check reply begin rest answers refuses =
+    handles_refused verdicts old new work seat ask _ begin rest (inl (sym (answers ∙ step_refused (past old.steps) own check reply refuses)))
+
+pub handles_unowned : (verdicts : Verdicts) (old new : DeviceData) (work : Work) (seat : ℕ) (ask : Ask) (own : Option Check) (check : Check) (reply : Reply) → new ≡ record old { work = work } → work ≡ at_rest
+    → answer_of verdicts old.plan (past old.steps) old.words ask ≡ stepped own (past old.steps) reply → own ≡ Some check
+    → Handles verdicts old new seat ask (refused check)
+handles_unowned verdicts old new work seat ask own check reply begin rest answers refuses =
+    handles_refused verdicts old new work seat ask _ begin rest (inl (sym (answers ∙ own_refused (past old.steps) own check reply refuses)))
+
 -- what was counted since the start of a call
 pub told_since : (start work : Work) → start ≡ at_rest → work.told ≡ start.told → work.told ≡ 0
 told_since start work rest told = told ∙ ap (λ (w : Work). w.told) rest
@@ -153,11 +168,11 @@ opened_as n = Ok (Fh (record { 0 = n }))
 
 -- an opening tells nobody
 pub handles_open : (verdicts : Verdicts) (old : DeviceData) (work : Work) (seat handler : ℕ) (fh : FhId) → work ≡ at_rest
-    → open_answer old.plan (past old.steps) handler ≡ Ok (Fh (record { 0 = length (past old.steps) })) → fh.0 ≡ length old.steps
+    → step_check (past old.steps) (open_check old.plan (past old.steps) handler) ≡ None → fh.0 ≡ length old.steps
     → Handles verdicts old (with_step (record old { work = work }) seat (OpenFh handler)) seat (asks.OpenFh handler) (Ok (Fh fh))
 handles_open verdicts old work seat handler fh rest is number = record {
   plan = refl;
-  answers = inl (sym (is ∙ ap opened_as (length_past old.steps ∙ sym number)));
+  answers = inl (sym (step_answered (past old.steps) _ _ is ∙ ap opened_as (length_past old.steps ∙ sym number)));
   refused = λ e. cc;
   steps = refl;
   words = λ k lt same. refl;
@@ -168,11 +183,11 @@ handles_open verdicts old work seat handler fh rest is number = record {
 
 -- a close tells nobody
 pub handles_close : (verdicts : Verdicts) (old : DeviceData) (work : Work) (seat : ℕ) (fh : FhId) → work ≡ at_rest
-    → close_answer (past old.steps) fh ≡ Ok Done
+    → step_check (past old.steps) (through (past old.steps) fh None) ≡ None
     → Handles verdicts old (with_step (record old { work = work }) seat (CloseFh fh)) seat (asks.CloseFh fh) (Ok Done)
 handles_close verdicts old work seat fh rest is = record {
   plan = refl;
-  answers = inl (sym is);
+  answers = inl (sym (step_answered (past old.steps) _ _ is));
   refused = λ e. cc;
   steps = refl;
   words = λ k lt same. refl;
@@ -183,11 +198,11 @@ handles_close verdicts old work seat fh rest is = record {
 
 -- a grab tells nobody
 pub handles_grab : (verdicts : Verdicts) (old : DeviceData) (start work : Work) (seat c : ℕ) (on : Bool) → start ≡ at_rest → work.told ≡ start.told → work.asked ≤ start.asked + cluster_asks old.plan (past old.steps) (cluster_of old.plan c)
-    → grab_answer old.plan (past old.steps) c ≡ Ok Done
+    → step_check (past old.steps) (grab_check old.plan c) ≡ None
     → Handles verdicts old (with_step (record old { work = work }) seat (Grab c on)) seat (asks.Grab c on) (Ok Done)
 handles_grab verdicts old start work seat c on rest untold asked is = record {
   plan = refl;
-  answers = inl (sym is);
+  answers = inl (sym (step_answered (past old.steps) _ _ is));
   refused = λ e. cc;
   steps = refl;
   words = λ k lt same. refl;

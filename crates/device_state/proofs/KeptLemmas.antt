@@ -1,20 +1,15 @@
 -- Each kind of step keeps the device's parts what they are defined to be.
-use Rattle.std.proofs.Common.{◌≡◌, ℕ, nat_eq, ◌<◌, ◌≤◌, ◌+◌, Bool, false, map, List, [], ◌∷◌, ◌++◌, length, Option, Some, None, true, IsOk, Ok, slice_set, refl, ap, sym, ◌∙◌, subst, arith, length-append}
+use Rattle.std.proofs.Common.{◌≡◌, ℕ, nat_eq, ◌<◌, ◌≤◌, ◌+◌, Bool, false, List, [], ◌∷◌, ◌++◌, length, Some, None, true, if◌then◌else◌, nat_le, slice_set, refl, ap, sym, ◌∙◌, subst, arith, length-append}
 use Rattle.std.specs.Map.{lookup, remove_entry}
-use Rattle.std.proofs.lemmas.Grind.{common_steps}
 use Rattle.std.proofs.lemmas.Bool.Decides.{nat_tests}
 use Rattle.history.specs.declared.entry.Entry.{Entry}
 use Rattle.history.specs.Past.{past}
 use Rattle.history.proofs.Pasts.{length_past}
-use Rattle.ctrl_types.specs.declared.ids.ExtControl.{ExtControl}
 use Rattle.ctrl_types.specs.declared.ids.FhId.{FhId}
-use Rattle.ctrl_types.specs.declared.ids.Pair.{Pair}
 use Rattle.ctrl_calls.specs.Meanings.{Verdicts, Words}
 use Rattle.ctrl_clusters.specs.ControlsData.{ControlsData, as_one, at_start}
 use Rattle.device_history.specs.declared.limits.TheConstants.{MAX_STEPS}
 use Rattle.device_history.specs.declared.ask.Ask.TheVariants as asks
-use Rattle.device_history.specs.declared.ask.Reply.{Reply}
-use Rattle.device_history.specs.declared.ask.Reply.TheVariants.{Controls}
 use Rattle.device_history.specs.declared.ask.Step.{Step}
 use Rattle.device_history.specs.declared.ask.Step.TheVariants.{OpenFh, CloseFh, Set, Grab}
 use Rattle.ctrl_events.specs.Events.{EventsData, FileEvents, events_of, no_events, only_at}
@@ -23,12 +18,12 @@ use Rattle.device_history.specs.EventSteps.{AreAround, AreEvents, events_after}
 use Rattle.device_history.proofs.EventLemmas.{events_add, events_start}
 use Rattle.device_history.proofs.RaiseLaw.{numbers_left}
 use Rattle.ctrl_settle.specs.Control.{Control}
-use Rattle.ctrl_handlers.specs.Plan.{IsFinished, IsPlan, PlanData}
+use Rattle.ctrl_handlers.specs.Plan.{IsFinished, PlanData}
 use Rattle.ctrl_lists.specs.Touched.{TouchedData, AreJudged}
-use Rattle.device_history.specs.Steps.{History, Past}
-use Rattle.device_history.specs.Handles.{opened, ever_opened, open_answer, close_answer, opened_after}
+use Rattle.device_history.specs.Steps.{History}
+use Rattle.device_history.specs.Handles.{opened, ever_opened, open_check, opened_after, through}
 use Rattle.ctrl_clusters.specs.Rows.{AreControlsOf, Grabs, Values}
-use Rattle.device_history.specs.Grabs.{grabbed, grab_answer, grabbed_after}
+use Rattle.device_history.specs.Grabs.{grabbed, grab_check, grabbed_after}
 use Rattle.device_history.specs.Snapshots.{frames}
 use Rattle.ctrl_forecast.specs.Boards.{BoardData, board_of, no_board}
 use Rattle.step_effects.specs.QueuedFrames.{queued_after}
@@ -40,11 +35,8 @@ use Rattle.device_history.specs.Values.{now, defaults, values_after}
 use Rattle.ctrl_clusters.specs.Notified.{HaveWords, AreNotified}
 use Rattle.ctrl_clusters.specs.Changes.{cluster_changes}
 use Rattle.ctrl_clusters.specs.NewRows.{row_or_empty, written}
-use Rattle.device_history.specs.Refusals.{Answer, is_full}
-use Rattle.device_history.specs.Lists.{set_list_answer, list_pairs, meant, which_or}
-use Rattle.ctrl_types.specs.Classes.{which_of}
-use Rattle.ctrl_types.specs.declared.ids.RequestId.{RequestId}
-use Rattle.device_history.specs.Answers.{step_of}
+use Rattle.ctrl_types.specs.declared.check.Check.TheVariants.{ControlMissing}
+use Rattle.device_history.specs.Refusals.{fault_of, is_full, step_check}
 use Rattle.device_history.specs.Legal.{IsLegal, MayFollow}
 use Rattle.device_state.specs.Kept.{Caches, IsKept}
 use Rattle.device_state.specs.Setting.{CanBeSet}
@@ -52,9 +44,9 @@ use Rattle.step_effects.specs.Leaving.{leaves_controls}
 use Rattle.step_effects.proofs.LeavingLemmas.{opened_controls_left, grabbed_controls_left, ranges_left, values_left}
 use Rattle.device_history.proofs.PastLemmas.{opened_add, opened_fresh, opened_rising, drops_one, now_add, now_more, legal_add}
 use Rattle.device_history.proofs.GrabLemmas.{grabbed_start, grabbed_add, grabbed_more}
-use Rattle.device_history.proofs.LegalLemmas.{unrefused}
 use Rattle.device_history.proofs.PresentLemmas.{length_grabbed, length_now}
 use Rattle.device_state.proofs.SetLemmas.{laid_written, words_after}
+use Rattle.device_state.proofs.StepLemmas.{step_answered, step_passes}
 use Rattle.device_history.proofs.RangeLemmas.{ranges_add, ranges_more, ranges_own, ranges_start}
 
 -- a device without steps
@@ -104,51 +96,62 @@ kept_add verdicts told plan steps steps' caches caches' e kept room may s h r v 
   words = w;
 })
 
+-- where a list is set, one more step is kept
+pub set_room : (steps : History) → is_full (past steps) ≡ false → length steps < MAX_STEPS
+set_room steps room = grind (arith, nat_tests, length_past steps, room)
+
 -- where an opening is accepted, one more step is kept
-open_room : (plan : PlanData) (steps : History) (handler : ℕ) → IsOk (open_answer plan (past steps) handler) → length steps < MAX_STEPS
-open_room plan steps handler accepted = grind (arith, common_steps, nat_tests, length_past steps)
+open_room : (plan : PlanData) (steps : History) (handler : ℕ) → step_check (past steps) (open_check plan (past steps) handler) ≡ None → length steps < MAX_STEPS
+open_room plan steps handler accepted = set_room steps (step_passes (past steps) _ accepted).1
 
 -- an opening
 pub kept_open : (verdicts : Verdicts) (told : Words) (plan : PlanData) (steps steps' : History) (caches : Caches) (handles : List (ℕ × ℕ)) (seat handler : ℕ)
-    → IsKept verdicts told plan steps caches → IsOk (open_answer plan (past steps) handler) → steps' ≡ steps ++ record { seat = seat; step = OpenFh handler } ∷ []
+    → IsKept verdicts told plan steps caches → step_check (past steps) (open_check plan (past steps) handler) ≡ None → steps' ≡ steps ++ record { seat = seat; step = OpenFh handler } ∷ []
     → handles ≡ caches.file_handles ++ (length steps, handler) ∷ [] → IsKept verdicts told plan steps' (record caches { file_handles = handles })
 kept_open verdicts told plan steps steps' caches handles seat handler kept accepted s h =
     kept_add verdicts told plan steps steps' caches (record caches { file_handles = handles }) (record { seat = seat; step = OpenFh handler }) kept (open_room plan steps handler accepted)
-    (asks.OpenFh handler, unrefused (open_answer plan (past steps) handler) accepted, refl) s
+    (asks.OpenFh handler, ap fault_of (step_answered (past steps) _ _ accepted), refl) s
     (h ∙ ap (λ (os : List (ℕ × ℕ)). os ++ (length steps, handler) ∷ []) kept.file_handles) kept.ranges kept.values kept.grabs kept.frames kept.words (λ fh. refl) kept.board
 
 -- where a close is accepted, one more step is kept
-close_room : (steps : History) (fh : FhId) → IsOk (close_answer (past steps) fh) → length steps < MAX_STEPS
-close_room steps fh accepted = grind (arith, common_steps, nat_tests, length_past steps)
+close_room : (steps : History) (fh : FhId) → step_check (past steps) (through (past steps) fh None) ≡ None → length steps < MAX_STEPS
+close_room steps fh accepted = set_room steps (step_passes (past steps) _ accepted).1
 
 -- a close
 pub kept_close : (verdicts : Verdicts) (told : Words) (plan : PlanData) (steps steps' : History) (caches : Caches) (handles : List (ℕ × ℕ)) (events : EventsData) (seat : ℕ) (fh : FhId)
-    → IsKept verdicts told plan steps caches → IsOk (close_answer (past steps) fh) → steps' ≡ steps ++ record { seat = seat; step = CloseFh fh } ∷ []
+    → IsKept verdicts told plan steps caches → step_check (past steps) (through (past steps) fh None) ≡ None → steps' ≡ steps ++ record { seat = seat; step = CloseFh fh } ∷ []
     → handles ≡ remove_entry (nat_eq fh.0) caches.file_handles → ((j : ℕ) → events_of events j ≡ only_at fh.0 (λ f. no_events) j (events_of caches.events j))
     → IsKept verdicts told plan steps' (record caches { file_handles = handles; events = events })
 kept_close verdicts told plan steps steps' caches handles events seat fh kept accepted s h ev =
     kept_add verdicts told plan steps steps' caches (record caches { file_handles = handles; events = events }) (record { seat = seat; step = CloseFh fh }) kept (close_room steps fh accepted)
-    (asks.CloseFh fh, unrefused (close_answer (past steps) fh) accepted, refl) s
+    (asks.CloseFh fh, ap fault_of (step_answered (past steps) _ _ accepted), refl) s
     (h ∙ ap (remove_entry (nat_eq fh.0)) kept.file_handles ∙ drops_one fh.0 (opened (past steps)) (opened_rising (past steps))) kept.ranges kept.values kept.grabs kept.frames kept.words (λ j. ev j.0) kept.board
 
 -- where a grab is accepted, one more step is kept
-grab_room : (plan : PlanData) (steps : History) (c : ℕ) → IsOk (grab_answer plan (past steps) c) → length steps < MAX_STEPS
-grab_room plan steps c accepted = grind (arith, common_steps, nat_tests, length_past steps)
+grab_room : (plan : PlanData) (steps : History) (c : ℕ) → step_check (past steps) (grab_check plan c) ≡ None → length steps < MAX_STEPS
+grab_room plan steps c accepted = set_room steps (step_passes (past steps) _ accepted).1
 
 -- and the control is there
-pub grab_known : (plan : PlanData) (steps : History) (c : ℕ) → IsOk (grab_answer plan (past steps) c) → c < length plan.controls
-grab_known plan steps c accepted = grind (arith, common_steps, nat_tests)
+pub grab_known : (plan : PlanData) (steps : History) (c : ℕ) → step_check (past steps) (grab_check plan c) ≡ None → c < length plan.controls
+grab_known plan steps c accepted = below c (length plan.controls) (by (nat_le (length plan.controls) c) (step_passes (past steps) _ accepted).0)
+  where
+    by : (b : Bool) → (if b then Some ControlMissing else None) ≡ None → b ≡ false
+    by true h = cc
+    by false h = refl
+
+    below : (a b : ℕ) → nat_le b a ≡ false → a < b
+    below a b h = grind (arith, nat_tests, h)
 
 -- a grab
 pub kept_grab : (verdicts : Verdicts) (told : Words) (plan : PlanData) (steps steps' : History) (caches : Caches) (controls : ControlsData) (b : BoardData) (events : EventsData) (seat c : ℕ) (on : Bool)
-    → IsKept verdicts told plan steps caches → IsOk (grab_answer plan (past steps) c) → steps' ≡ steps ++ record { seat = seat; step = Grab c on } ∷ []
+    → IsKept verdicts told plan steps caches → step_check (past steps) (grab_check plan c) ≡ None → steps' ≡ steps ++ record { seat = seat; step = Grab c on } ∷ []
     → controls ≡ record caches.controls { grabs = slice_set caches.controls.grabs c on }
     → ((fh : FhId) → events_of events fh.0 ≡ events_after verdicts plan (record { seat = seat; step = Grab c on }) (past steps) fh (events_of caches.events fh.0))
     → b ≡ board_of verdicts plan controls.ranges controls.values controls.grabs caches.board.queued
     → IsKept verdicts told plan steps' (record caches { controls = controls; board = b; events = events })
 kept_grab verdicts told plan steps steps' caches controls b events seat c on kept accepted s g ev renewed =
     kept_add verdicts told plan steps steps' caches (record caches { controls = controls; board = b; events = events }) (record { seat = seat; step = Grab c on }) kept (grab_room plan steps c accepted)
-    (asks.Grab c on, unrefused (grab_answer plan (past steps) c) accepted, refl) s
+    (asks.Grab c on, ap fault_of (step_answered (past steps) _ _ accepted), refl) s
     kept.file_handles ranges values grabs kept.frames (subst (λ (vs : Values). HaveWords told plan vs caches.words) (sym (ap (λ (m : ControlsData). m.values) g)) kept.words) ev
     (renewed ∙ board_same verdicts plan ranges values grabs (ap (λ (x : BoardData). x.queued) kept.board))
   where
@@ -160,10 +163,6 @@ kept_grab verdicts told plan steps steps' caches controls b events seat c on kep
 
     grabs : controls.grabs ≡ slice_set (grabbed plan (past steps)) c on
     grabs = ap (λ (m : ControlsData). m.grabs) g ∙ ap (λ (gs : Grabs). slice_set gs c on) kept.grabs
-
--- where a list is set, one more step is kept
-pub set_room : (steps : History) → is_full (past steps) ≡ false → length steps < MAX_STEPS
-set_room steps room = grind (arith, nat_tests, length_past steps, room)
 
 -- a set
 pub kept_set : (verdicts : Verdicts) (told : Words) (plan : PlanData) (steps steps' : History) (caches : Caches) (controls : ControlsData) (b : BoardData) (events : EventsData) (words : List ℕ) (seat : ℕ) (fh : FhId)

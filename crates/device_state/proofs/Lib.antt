@@ -1,6 +1,7 @@
 pub mod ForecastLemmas
 pub mod EnterLemmas
 pub mod EventLemmas
+pub mod StepLemmas
 pub mod BeginLemmas
 pub mod SetLemmas
 pub mod AnswerLemmas
@@ -9,6 +10,7 @@ pub mod SettingLemmas
 pub mod BoardLemmas
 pub mod RenewLemmas
 pub mod KeptLemmas
+pub mod QueueLemmas
 pub mod HandleLemmas
 pub mod RangingLemmas
 pub mod RunLemmas

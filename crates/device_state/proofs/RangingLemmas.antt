@@ -1,6 +1,7 @@
 -- Another range for a control: what it is answered, whom it is told, and what is kept after it.
 use Rattle.std.proofs.Common.{◌≡◌, ◌≢◌, ℕ, zero, suc, ◌<◌, ◌≤◌, ◌+◌, ◌⊎◌, ◌==◌, ◌&&◌, ◌||◌, not, cond, ℤ, Bool, true, false, nat_eq, nat_le, if◌then◌else◌, List, [], ◌∷◌, ◌++◌, length, Option, None, Some, is_some, Ok, slice_index, slice_set, count_by, inl, inr, refl, ap, sym, subst, ◌∙◌, arith}
 use Rattle.std.specs.List.{list_any, range_with_len}
+use Rattle.std.specs.Option.{option_map}
 use Rattle.std.proofs.Math.Dec.{leb}
 use Rattle.std.proofs.lemmas.Bool.Decides.{eqb_tells, leb_tells, nat_tests}
 use Rattle.std.proofs.lemmas.List.{get_or-set_other, get_or_past}
@@ -11,14 +12,15 @@ use Rattle.history.specs.Past.{past}
 use Rattle.ctrl_types.specs.Flags.{contains}
 use Rattle.ctrl_types.specs.declared.value.CtrlValue.{CtrlValue}
 use Rattle.ctrl_types.specs.declared.flags.TheConstants.Flags.{EXECUTE_ON_WRITE}
-use Rattle.ctrl_types.specs.declared.errno.Errno.TheVariants.{EINVAL, ENOSPC, ERANGE}
+use Rattle.ctrl_types.specs.declared.check.Check.{Check}
+use Rattle.ctrl_types.specs.declared.check.Check.TheVariants.{ControlMissing}
 use Rattle.ctrl_types.specs.declared.ids.FhId.{FhId}
 use Rattle.ctrl_calls.specs.Meanings.{Verdicts, Words}
 use Rattle.ctrl_calls.specs.declared.relation.Relation.{Relation}
 use Rattle.ctrl_calls.specs.declared.work.Work.{Work}
 use Rattle.ctrl_events.specs.Events.{EventsData, events_of}
 use Rattle.ctrl_settle.specs.Control.{Control, with_range}
-use Rattle.ctrl_settle.specs.Faults.{IsFirstFault, IsWellFormed}
+use Rattle.ctrl_settle.specs.Faults.{IsFirstFault, IsWellFormed, range_check_of}
 use Rattle.ctrl_settle.specs.FirstFault.{first_fault}
 use Rattle.ctrl_settle.specs.Settle.{settled_anew}
 use Rattle.ctrl_settle.specs.declared.fault.CtrlFault.{CtrlFault}
@@ -38,8 +40,8 @@ use Rattle.device_history.specs.declared.ask.Ask.TheVariants as asks
 use Rattle.device_history.specs.declared.ask.Reply.TheVariants.{Done}
 use Rattle.device_history.specs.declared.limits.TheConstants.{MAX_STEPS}
 use Rattle.device_history.specs.Steps.{History, Past}
-use Rattle.device_history.specs.Ranges.{range_answer, ranges_after, ranges_now}
-use Rattle.device_history.specs.Refusals.{fault_of, is_full, refused}
+use Rattle.device_history.specs.Ranges.{range_answer, range_check, ranges_after, ranges_now}
+use Rattle.device_history.specs.Refusals.{fault_of, is_full, step_check, unless_refused}
 use Rattle.device_history.specs.Grabs.{grabbed}
 use Rattle.device_history.specs.Values.{now}
 use Rattle.device_history.specs.Words.{changes}
@@ -52,6 +54,7 @@ use Rattle.device_state.proofs.BoardLemmas.{board_same}
 use Rattle.device_state.proofs.KeptLemmas.{kept_add, set_room}
 use Rattle.device_state.proofs.HandleLemmas.{at_rest}
 use Rattle.device_state.proofs.SetLemmas.{and_false, none_from, notified_same, unchanged}
+use Rattle.device_state.proofs.StepLemmas.{step_answered, step_free, step_passes}
 
 -- a control that is there is no unknown one
 there : (plan : PlanData) (c : ℕ) → c < length plan.controls → nat_le (length plan.controls) c ≡ false
@@ -59,39 +62,44 @@ there plan c known = grind (arith, nat_tests)
 
 -- a range with which the control has a fault
 pub range_faulty : (plan : PlanData) (older : Past) (c : ℕ) (low high : ℤ) (apart : ℕ) (default_value : ℤ) (fault : CtrlFault) → c < length plan.controls → IsFirstFault (with_range (control_in (ranges_now plan older) c) low high apart default_value) fault
-    → range_answer plan older c low high apart default_value ≡ refused ERANGE
+    → range_check plan older c low high apart default_value ≡ Some (range_check_of fault)
 range_faulty plan older c low high apart default_value fault known is =
     rw (there plan c known, fault_found (with_range (control_in (ranges_now plan older) c) low high apart default_value) fault is) refl
 
 -- one with which nothing is wrong
-sound_range : (plan : PlanData) (older : Past) (c : ℕ) (low high : ℤ) (apart : ℕ) (default_value : ℤ) → c < length plan.controls → IsWellFormed (with_range (control_in (ranges_now plan older) c) low high apart default_value)
-    → range_answer plan older c low high apart default_value ≡ (if is_full older then refused ENOSPC else Ok Done)
-sound_range plan older c low high apart default_value known well =
+pub range_sound : (plan : PlanData) (older : Past) (c : ℕ) (low high : ℤ) (apart : ℕ) (default_value : ℤ) → c < length plan.controls → IsWellFormed (with_range (control_in (ranges_now plan older) c) low high apart default_value)
+    → range_check plan older c low high apart default_value ≡ None
+range_sound plan older c low high apart default_value known well =
     rw (there plan c known, nothing_found (with_range (control_in (ranges_now plan older) c) low high apart default_value) well) refl
 
-pub range_full : (plan : PlanData) (older : Past) (c : ℕ) (low high : ℤ) (apart : ℕ) (default_value : ℤ) → c < length plan.controls → IsWellFormed (with_range (control_in (ranges_now plan older) c) low high apart default_value)
-    → is_full older ≡ true → range_answer plan older c low high apart default_value ≡ refused ENOSPC
-range_full plan older c low high apart default_value known well full = sound_range plan older c low high apart default_value known well ∙ rw full refl
+-- one that no check refuses is accepted where there is room
+pub range_accepted : (plan : PlanData) (older : Past) (c : ℕ) (low high : ℤ) (apart : ℕ) (default_value : ℤ) → range_check plan older c low high apart default_value ≡ None → step_check older None ≡ None
+    → range_answer plan older c low high apart default_value ≡ Ok Done
+range_accepted plan older c low high apart default_value own room = step_answered older _ Done (step_free older _ own (step_passes older None room).1)
 
-pub range_accepted : (plan : PlanData) (older : Past) (c : ℕ) (low high : ℤ) (apart : ℕ) (default_value : ℤ) → c < length plan.controls → IsWellFormed (with_range (control_in (ranges_now plan older) c) low high apart default_value)
-    → is_full older ≡ false → range_answer plan older c low high apart default_value ≡ Ok Done
-range_accepted plan older c low high apart default_value known well room = sound_range plan older c low high apart default_value known well ∙ rw room refl
+-- and refused where there is none
+pub range_full : (plan : PlanData) (older : Past) (c : ℕ) (low high : ℤ) (apart : ℕ) (default_value : ℤ) (check : Check) → range_check plan older c low high apart default_value ≡ None → step_check older None ≡ Some check
+    → step_check older (range_check plan older c low high apart default_value) ≡ Some check
+range_full plan older c low high apart default_value check own full = ap (step_check older) own ∙ full
 
 -- a control that was read with its new range can be given it
 pub ranged : (plan : PlanData) (older : Past) (c : ℕ) (low high : ℤ) (apart : ℕ) (default_value : ℤ) (changed : Control) → changed ≡ with_range (control_in (ranges_now plan older) c) low high apart default_value
     → range_answer plan older c low high apart default_value ≡ Ok Done → IsRanged plan older c changed
 ranged plan older c low high apart default_value changed is accepted = rw is (record { accepted = accepted; its_own = refl })
 
--- what isn't refused at three tests passes the first and the last
-accepted_parts : (x y z : Bool) → (if x then refused EINVAL else if y then refused ERANGE else if z then refused ENOSPC else Ok Done) ≡ Ok Done → (x ≡ false) × (z ≡ false)
-accepted_parts true y z h = cc
-accepted_parts false true z h = cc
-accepted_parts false false true h = cc
-accepted_parts false false false h = (refl, refl)
+-- what is accepted, nothing refuses
+accepted_free : (o : Option Check) → unless_refused o Done ≡ Ok Done → o ≡ None
+accepted_free None h = refl
+accepted_free (Some check) h = cc
+
+known_parts : (b : Bool) (fault : Option CtrlFault) → (if b then Some ControlMissing else option_map range_check_of fault) ≡ None → b ≡ false
+known_parts true fault h = cc
+known_parts false fault h = refl
 
 range_parts : (plan : PlanData) (older : Past) (c : ℕ) (changed : Control) → IsRanged plan older c changed → (nat_le (length plan.controls) c ≡ false) × (is_full older ≡ false)
 range_parts plan older c changed is =
-    accepted_parts (nat_le (length plan.controls) c) (is_some (first_fault (with_range (control_in (ranges_now plan older) c) changed.minimum changed.maximum changed.step changed.default_value))) (is_full older) is.accepted
+    let passes = step_passes older (range_check plan older c changed.minimum changed.maximum changed.step changed.default_value) (accepted_free _ is.accepted) in
+    (known_parts (nat_le (length plan.controls) c) (first_fault (with_range (control_in (ranges_now plan older) c) changed.minimum changed.maximum changed.step changed.default_value)) passes.0, passes.1)
 
 -- where a range change is accepted, one more step is kept
 range_room : (plan : PlanData) (steps : History) (c : ℕ) (changed : Control) → IsRanged plan (past steps) c changed → length steps < MAX_STEPS

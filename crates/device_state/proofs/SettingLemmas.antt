@@ -1,7 +1,7 @@
 -- A set that is accepted can be made.
-use Rattle.std.proofs.Common.{◌≡◌, ℕ, true, false, List, ◌++◌, length, None, Some, Option, Ok, inr, refl, ap, sym, subst, ◌∙◌}
+use Rattle.std.proofs.Common.{◌≡◌, ℕ, true, false, List, ◌++◌, length, None, Some, Option, inr, refl, ap, sym, subst, ◌∙◌}
 use Rattle.std.specs.List.{list_any}
-use Rattle.ctrl_types.specs.declared.errno.Errno.TheVariants.{ENOMEM}
+use Rattle.ctrl_types.specs.declared.check.Check.TheVariants.{MemoryRefused}
 use Rattle.ctrl_types.specs.declared.ids.ExtControl.{ExtControl}
 use Rattle.ctrl_types.specs.declared.ids.FhId.{FhId}
 use Rattle.ctrl_types.specs.declared.ids.Pair.{Pair}
@@ -13,9 +13,9 @@ use Rattle.device_history.specs.Legal.{MayFollow}
 use Rattle.ctrl_calls.specs.Meanings.{Verdicts}
 use Rattle.ctrl_handlers.specs.Plan.{PlanData, IsPlan}
 use Rattle.ctrl_lists.specs.View.{ViewData, pairs_of}
-use Rattle.ctrl_lists.specs.Checks.{first_refusal}
+use Rattle.ctrl_lists.specs.Checks.{first_refusal, write_checks}
 use Rattle.ctrl_lists.specs.Touched.{TouchedData, AreJudged, IsTouched, touched, judged_count, with_calls}
-use Rattle.ctrl_lists.specs.Answers.{set_answer}
+use Rattle.ctrl_lists.specs.Answers.{entries_judged}
 use Rattle.device_history.specs.declared.ask.Ask.TheVariants as asks
 use Rattle.device_history.specs.Steps.{Past}
 use Rattle.ctrl_clusters.specs.Rows.{is_grabbed}
@@ -25,29 +25,30 @@ use Rattle.device_history.specs.Refusals.{is_full, refused_at, fault_of}
 use Rattle.device_history.specs.Lists.{write_view, earlier_pairs, list_pairs, meant, opening_checks, pairs_step, which_or}
 use Rattle.device_history.specs.Answers.{MayAnswer, step_of}
 use Rattle.device_state.specs.Setting.{CanBeSet, IsSettable}
-use Rattle.device_history.proofs.ListLemmas.{accepted_free, set_limited, set_passes}
+use Rattle.device_history.proofs.ListLemmas.{accepted_free}
+use Rattle.device_state.proofs.AnswerLemmas.{set_accepted}
+use Rattle.device_state.proofs.BoundLemmas.{set_opened}
 
 -- an accepted set for which there is no memory
 pub set_lacks : (verdicts : Verdicts) (plan : PlanData) (older : Past) (words : List ℕ) (fh : FhId) (which : ℕ) (request : Option RequestId) (list : List ExtControl) (touch : TouchedData)
-    → IsSettable verdicts plan older fh which request list touch → MayAnswer verdicts plan older words (asks.SetCtrls fh which request list) (refused_at ENOMEM (length list))
-set_lacks verdicts plan older words fh which request list touch sets = inr (((set_passes verdicts plan older fh which request list touch.answers sets.accepted).0, inr (rw sets.accepted refl)), refl)
+    → IsSettable verdicts plan older fh which request list touch → MayAnswer verdicts plan older words (asks.SetCtrls fh which request list) (refused_at MemoryRefused (length list))
+set_lacks verdicts plan older words fh which request list touch sets = inr (((set_opened verdicts plan older fh which request list touch.answers sets.accepted).0, inr (rw sets.accepted refl)), refl)
 
 -- a set that is accepted can be made
 pub settable : (verdicts : Verdicts) (plan : PlanData) (older : Past) (fh : FhId) (which : ℕ) (request : Option RequestId) (list : List ExtControl) (view : ViewData) (touch : TouchedData) → IsPlan plan
-    → first_refusal (opening_checks verdicts plan older fh which request true) ≡ None → view ≡ write_view verdicts plan older fh which request → set_answer verdicts plan view list ≡ Ok touch.answers → IsTouched verdicts plan view list touch
-    → is_full older ≡ false → IsSettable verdicts plan older fh which request list touch
-settable verdicts plan older fh which request list view touch plans opens read is touching room =
-    let own : List Pair = list_pairs plan older fh which list in
-    let answered : set_answer verdicts plan (write_view verdicts plan older fh which request) list ≡ Ok touch.answers = subst (λ (v : ViewData). set_answer verdicts plan v list ≡ Ok touch.answers) read is in
+    → first_refusal (opening_checks verdicts plan older fh which request true) ≡ None → view ≡ write_view verdicts plan older fh which request → first_refusal (write_checks verdicts plan view true list) ≡ None
+    → touch.answers ≡ entries_judged verdicts plan view list → IsTouched verdicts plan view list touch → is_full older ≡ false → IsSettable verdicts plan older fh which request list touch
+settable verdicts plan older fh which request list view touch plans opens read passed answers touching room =
     let it : IsTouched verdicts plan (write_view verdicts plan older fh which request) list touch = subst (λ (v : ViewData). IsTouched verdicts plan v list touch) read touching in
+    let own : first_refusal (write_checks verdicts plan (write_view verdicts plan older fh which request) true list) ≡ None = subst (λ (v : ViewData). first_refusal (write_checks verdicts plan v true list) ≡ None) read passed in
     record {
       plans = plans;
       own_pairs = it.own_pairs;
       known = it.known;
       judged = subst (λ (l : List Pair). AreJudged verdicts plan (ranges_now plan older) (now verdicts plan older) (earlier_pairs plan older (meant (which_or (which_of which)) request) ++ l) l touch.rows) (sym it.own_pairs) it.judged;
-      free = subst (λ (l : List Pair). list_any (λ p. is_grabbed (grabbed plan older) p.control) l ≡ false) (sym it.own_pairs) (accepted_free verdicts plan (write_view verdicts plan older fh which request) list touch.answers answered);
+      free = subst (λ (l : List Pair). list_any (λ p. is_grabbed (grabbed plan older) p.control) l ≡ false) (sym it.own_pairs) (accepted_free verdicts plan (write_view verdicts plan older fh which request) list own);
       room = room;
-      accepted = set_limited verdicts plan older fh which request list touch.answers opens answered ∙ rw room refl;
+      accepted = set_accepted verdicts plan older fh which request list view touch.answers opens read passed answers room;
     }
 
 -- whatever list it is of

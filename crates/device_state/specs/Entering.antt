@@ -1,7 +1,7 @@
 -- The asks whose steps leave file handles, grabs, ranges and values (of this project).
 use Rattle.std.specs.Prelude.{◌≡◌, ◌≤◌, ℕ, true, List, [], length, Option, None, Some, IsOk}
-use Rattle.ctrl_types.specs.declared.errno.Errno.{Errno}
-use Rattle.ctrl_types.specs.declared.errno.Errno.TheVariants.{ENOMEM}
+use Rattle.ctrl_types.specs.declared.check.Check.{Check}
+use Rattle.ctrl_types.specs.declared.check.Check.TheVariants.{MemoryRefused}
 use Rattle.ctrl_calls.specs.Meanings.{Verdicts}
 use Rattle.ctrl_handlers.specs.Plan.{PlanData}
 use Rattle.device_history.specs.declared.ask.Ask.{Ask}
@@ -11,22 +11,21 @@ use Rattle.device_history.specs.Steps.{Past}
 use Rattle.device_history.specs.Snapshots.{frames}
 use Rattle.device_history.specs.Forecasts.{queued_frames}
 use Rattle.step_effects.specs.QueuedFrames.{asks_at_most}
-use Rattle.device_history.specs.Refusals.{refused}
-use Rattle.device_history.specs.RequestAnswers.{stepped}
+use Rattle.device_history.specs.Refusals.{refused, stepped}
 use Rattle.device_history.specs.Answers.{answer_of, step_of, no_memory, MayLackMemory}
 use Rattle.step_effects.specs.Leaving.{NamesKnown, leaves_controls}
 use Rattle.device_state.specs.Device.{may_ask, must_ask}
 
--- An ask that adds a step which leaves file handles, grabs, ranges and values: it is answered its own refusal, then that no further step is kept, and else
+-- An ask that adds a step which leaves file handles, grabs, ranges and values: its own check refuses it, then that no further step is kept, and else it is answered
 -- the reply; want of memory may take the place of the reply.
-pub record AddsStep (verdicts : Verdicts) (plan : PlanData) (past : Past) (words : List ℕ) (ask : Ask) (refusal : Option Errno) (step : Step) (reply : Reply) : Type 0 where
+pub record AddsStep (verdicts : Verdicts) (plan : PlanData) (past : Past) (words : List ℕ) (ask : Ask) (check : Option Check) (step : Step) (reply : Reply) : Type 0 where
   pub leaves : leaves_controls step ≡ true
-  pub answers : answer_of verdicts plan past words ask ≡ stepped refusal past reply
-  pub answers_alone : answer_of verdicts plan past [] ask ≡ stepped refusal past reply
-  pub adds : refusal ≡ None → step_of verdicts plan past ask ≡ Some step
-  pub lacks : IsOk (stepped refusal past reply) → MayLackMemory verdicts plan past ask
-  pub plain : no_memory ask ≡ refused ENOMEM
+  pub answers : answer_of verdicts plan past words ask ≡ stepped check past reply
+  pub answers_alone : answer_of verdicts plan past [] ask ≡ stepped check past reply
+  pub adds : check ≡ None → step_of verdicts plan past ask ≡ Some step
+  pub lacks : IsOk (stepped check past reply) → MayLackMemory verdicts plan past ask
+  pub plain : no_memory ask ≡ refused MemoryRefused
   pub asks_nobody : must_ask plan past ask ≡ 0
   -- validators are asked as often as for the step, at most
   pub most : asks_at_most plan (frames verdicts plan past) step (queued_frames plan past) ≤ may_ask verdicts plan past ask
-  pub known : refusal ≡ None → NamesKnown (length plan.controls) step
+  pub known : check ≡ None → NamesKnown (length plan.controls) step

@@ -1,19 +1,19 @@
-ghost use Rattle.std.specs.Prelude.{◌≡◌, ◌<◌, ◌≤◌, ◌+◌, ◌↔◌, ℕ, [], length, Ok, Err, IsOk, IsTrue, IfOk, IfErr, IfSome, OnOk, OnErr};
+ghost use Rattle.std.specs.Prelude.{◌≡◌, ◌<◌, ◌≤◌, ◌+◌, ◌↔◌, ℕ, [], length, None, Ok, Err, IsTrue, IfOk, IfErr, IfSome, MatchResult, OnOk, OnErr};
 ghost use Rattle.history.specs.Past.{past};
+ghost use Rattle.ctrl_types.specs.Checks.{errno_of};
 ghost use Rattle.ctrl_types.specs.declared.errno.Errno.TheVariants.{ENOMEM};
 ghost use Rattle.device_history.specs.declared.ask.Ask.TheVariants as asks;
-ghost use Rattle.device_history.specs.declared.ask.Reply.TheVariants as replies;
 ghost use Rattle.device_history.specs.declared.ask.Step.TheVariants as steps;
 ghost use Rattle.ctrl_clusters.specs.Rows.{is_grabbed};
 ghost use Rattle.device_history.specs.Ranges.{ranges_now};
-ghost use Rattle.device_history.specs.Grabs.{grabbed, grab_answer};
+ghost use Rattle.device_history.specs.Grabs.{grabbed, grab_check};
 ghost use Rattle.device_history.specs.Flags.{flags_now};
-ghost use Rattle.device_history.specs.Handles.{opened, handler_of, shown, open_answer, close_answer};
+ghost use Rattle.device_history.specs.Handles.{opened, handler_of, open_check, shown, through};
 ghost use Rattle.device_history.specs.Values.{defaults, now};
 ghost use Rattle.ctrl_clusters.specs.Notified.{HaveWords};
-ghost use Rattle.device_history.specs.Refusals.{refused, is_full};
-ghost use Rattle.device_history.specs.Queries.{has_index, query_answer, next_answer, told_answer};
-ghost use Rattle.device_history.specs.RequestAnswers.{state_answer};
+ghost use Rattle.device_history.specs.Refusals.{is_full, refused, step_check};
+ghost use Rattle.device_history.specs.Queries.{control_shown, has_index, id_behind, item_found, next_answer, query_answer, told_answer, word_of};
+ghost use Rattle.device_history.specs.RequestAnswers.{state_answer, state_found};
 ghost use Rattle.device_history.specs.Answers.{MayAnswer};
 ghost use Rattle.device_history.specs.Legal.{IsLegal};
 ghost use Rattle.history_audit.specs.Scratch.{Agrees};
@@ -21,6 +21,7 @@ ghost use Rattle.ctrl_handlers.specs.Plan.{cluster_of, control_in};
 ghost use Rattle.device_state.specs.Device.{Handles, cluster_asks, with_step};
 
 mod begin;
+mod checks;
 mod events;
 mod forecasts;
 mod lists;
@@ -31,11 +32,11 @@ use ctrl_calls::{Driver, Work};
 use ctrl_clusters::{Controls, Moment, first_words, flags_under};
 use ctrl_events::Events;
 use ctrl_forecast::Board;
-use ctrl_handlers::Plan;
+use ctrl_handlers::{MenuItem, Plan};
 use ctrl_settle::Ctrl;
-use ctrl_types::{CtrlId, CtrlValue, Errno, Fault, FhId, Flags, RequestId};
+use ctrl_types::{Check, CtrlId, CtrlValue, Errno, Fault, FhId, Flags, RequestId};
 use device_history::{Ask, CtrlInfo, MAX_FILE_HANDLES, MAX_STEPS, Reply, Step};
-use frame_queue::Frames;
+use frame_queue::{Frames, RequestState};
 use history::Entry;
 use history_audit::Scratch;
 use indexmap::IndexMap;
@@ -333,46 +334,46 @@ impl<D: Driver> Device<D> {
                 default_value,
             } => self.modify_range(seat, *control, *min, *max, *step, *default_value),
             Ask::Alloc => {
-                let refusal = self.alloc_refusal();
+                let check = self.alloc_refusal();
                 let request = RequestId(self.steps.len() as u32);
-                self.enter(seat, ask, refusal, Step::Alloc, Reply::Request(request))
+                self.enter(seat, ask, check, Step::Alloc, Reply::Request(request))
             }
             Ask::AddBuffer { request, buffer } => {
                 let (request, buffer) = (*request, *buffer);
-                let refusal = self.buffer_refusal(request, buffer);
+                let check = self.buffer_refusal(request, buffer);
                 let step = Step::Buffer { request, buffer };
-                self.enter(seat, ask, refusal, step, Reply::Done)
+                self.enter(seat, ask, check, step, Reply::Done)
             }
             Ask::Queue { request } => {
                 let request = *request;
-                let refusal = self.queue_refusal(request);
-                self.enter(seat, ask, refusal, Step::Queue { request }, Reply::Done)
+                let check = self.queue_refusal(request);
+                self.enter(seat, ask, check, Step::Queue { request }, Reply::Done)
             }
             Ask::Begin => self.begin(seat),
             Ask::Complete => self.complete(seat),
             Ask::Cancel { request } => {
                 let request = *request;
-                let refusal = self.cancel_refusal(request);
-                self.enter(seat, ask, refusal, Step::Cancel { request }, Reply::Done)
+                let check = self.cancel_refusal(request);
+                self.enter(seat, ask, check, Step::Cancel { request }, Reply::Done)
             }
             Ask::StreamOff => self.enter(seat, ask, None, Step::StreamOff, Reply::Done),
             Ask::Reinit { request } => {
                 let request = *request;
-                let refusal = self.clear_refusal(request);
-                self.enter(seat, ask, refusal, Step::Reinit { request }, Reply::Done)
+                let check = self.clear_refusal(request);
+                self.enter(seat, ask, check, Step::Reinit { request }, Reply::Done)
             }
             Ask::Free { request } => {
                 let request = *request;
-                let refusal = self.clear_refusal(request);
-                self.enter(seat, ask, refusal, Step::Free { request }, Reply::Done)
+                let check = self.clear_refusal(request);
+                self.enter(seat, ask, check, Step::Free { request }, Reply::Done)
             }
             Ask::Subscribe { fh, id, flags } => self.subscribe(seat, *fh, *id, *flags),
             Ask::Unsubscribe { fh, id } => {
                 let (fh, id) = (*fh, *id);
-                let refusal = self.unsubscribe_refusal(fh);
+                let check = self.through(fh);
                 let control = self.shown(fh, id);
                 let step = Step::Unsubscribe { fh, control };
-                self.enter(seat, ask, refusal, step, Reply::Done)
+                self.enter(seat, ask, check, step, Reply::Done)
             }
             Ask::Take { fh } => self.take(seat, *fh),
             Ask::StateOf { request } => self.read_state(*request),
@@ -427,9 +428,19 @@ impl<D: Driver> Device<D> {
     fn state(&self, request: RequestId) -> Result<Reply, Fault>
         ensures { result ≡ state_answer (past self.now.steps) request }
     {
-        match self.state_of(request) {
+        match self.state_found(request) {
             Ok(state) => Ok(Reply::State(state)),
-            Err(_) => refused(Errno::EINVAL),
+            Err(check) => refused(check),
+        }
+    }
+
+    // A request's state, or why there is none.
+    fn state_found(&self, request: RequestId) -> Result<RequestState, Check>
+        ensures { result ≡ state_found (past self.now.steps) request }
+    {
+        match self.frames.state(request) {
+            Some(state) => Ok(state),
+            None => Err(Check::RequestMissing),
         }
     }
 
@@ -453,32 +464,31 @@ impl<D: Driver> Device<D> {
         ensures { Handles D.verdict self.old self.new seat (asks.OpenFh handler) result }
     {
         self.work = Work::new();
-        if let Err(fault) = self.read_open(handler) {
-            return Err(fault);
+        if let Some(check) = self.step_check(self.open_check(handler)) {
+            return refused(check);
         }
         match self.accept_open(seat, handler) {
             Ok(fh) => Ok(Reply::Fh(fh)),
-            Err(_) => refused(Errno::ENOMEM),
+            Err(_) => refused(Check::MemoryRefused),
         }
     }
 
-    // The refusals of an opening.
-    fn read_open(&self, handler: u32) -> Result<(), Fault>
-        ensures ok { IfOk result (λ _. open_answer self.now.plan (past self.now.steps) handler ≡ Ok (replies.Fh (record { 0 = length (past self.now.steps) }))) }
-        ensures err { IfErr result (λ fault. open_answer self.now.plan (past self.now.steps) handler ≡ Err fault) }
+    // Why no file handle is opened.
+    fn open_check(&self, handler: u32) -> Option<Check>
+        ensures { result ≡ open_check self.now.plan (past self.now.steps) handler }
     {
         if !self.plan.has_handler(handler) {
-            return Err(plain(Errno::EINVAL));
+            return Some(Check::HandlerMissing);
         }
-        if self.file_handles.len() >= MAX_FILE_HANDLES || self.is_full() {
-            return Err(plain(Errno::ENOSPC));
+        if self.file_handles.len() >= MAX_FILE_HANDLES {
+            return Some(Check::TooManyHandles);
         }
-        Ok(())
+        None
     }
 
     // Opens a file handle, after the refusals.
     fn accept_open(&mut self, seat: u32, handler: u32) -> Result<FhId, AllocError>
-        requires { IsOk (open_answer self.old.plan (past self.old.steps) handler) }
+        requires { step_check (past self.old.steps) (open_check self.old.plan (past self.old.steps) handler) ≡ None }
         ensures ok { IfOk result (λ fh. (fh.0 ≡ length self.old.steps) × (self.new ≡ with_step self.old seat (steps.OpenFh handler))) }
         ensures err { OnErr result (self.new ≡ self.old) }
     {
@@ -496,32 +506,28 @@ impl<D: Driver> Device<D> {
         ensures { Handles D.verdict self.old self.new seat (asks.CloseFh fh) result }
     {
         self.work = Work::new();
-        if let Err(fault) = self.read_close(fh) {
-            return Err(fault);
+        if let Some(check) = self.step_check(self.through(fh)) {
+            return refused(check);
         }
         match self.accept_close(seat, fh) {
             Ok(()) => Ok(Reply::Done),
-            Err(_) => refused(Errno::ENOMEM),
+            Err(_) => refused(Check::MemoryRefused),
         }
     }
 
-    // The refusals of a close.
-    fn read_close(&self, fh: FhId) -> Result<(), Fault>
-        ensures ok { IfOk result (λ _. close_answer (past self.now.steps) fh ≡ Ok replies.Done) }
-        ensures err { IfErr result (λ fault. close_answer (past self.now.steps) fh ≡ Err fault) }
+    // Why nothing is asked through a file handle.
+    fn through(&self, fh: FhId) -> Option<Check>
+        ensures { result ≡ through (past self.now.steps) fh None }
     {
-        if self.handler_of(fh).is_none() {
-            return Err(plain(Errno::EBADF));
+        match self.handler_of(fh) {
+            Some(_) => None,
+            None => Some(Check::HandleClosed),
         }
-        if self.is_full() {
-            return Err(plain(Errno::ENOSPC));
-        }
-        Ok(())
     }
 
     // Closes a file handle, after the refusals.
     fn accept_close(&mut self, seat: u32, fh: FhId) -> Result<(), AllocError>
-        requires { IsOk (close_answer (past self.old.steps) fh) }
+        requires { step_check (past self.old.steps) (through (past self.old.steps) fh None) ≡ None }
         ensures ok { OnOk result (self.new ≡ with_step self.old seat (steps.CloseFh fh)) }
         ensures err { OnErr result (self.new ≡ self.old) }
     {
@@ -539,32 +545,28 @@ impl<D: Driver> Device<D> {
         ensures { Handles D.verdict self.old self.new seat (asks.Grab control on) result }
     {
         self.work = Work::new();
-        if let Err(fault) = self.read_grab(control) {
-            return Err(fault);
+        if let Some(check) = self.step_check(self.grab_check(control)) {
+            return refused(check);
         }
         match self.accept_grab(seat, control, on) {
             Ok(()) => Ok(Reply::Done),
-            Err(_) => refused(Errno::ENOMEM),
+            Err(_) => refused(Check::MemoryRefused),
         }
     }
 
-    // The refusals of a grab.
-    fn read_grab(&self, control: u32) -> Result<(), Fault>
-        ensures ok { IfOk result (λ _. grab_answer self.now.plan (past self.now.steps) control ≡ Ok replies.Done) }
-        ensures err { IfErr result (λ fault. grab_answer self.now.plan (past self.now.steps) control ≡ Err fault) }
+    // Why a control is neither grabbed nor let go.
+    fn grab_check(&self, control: u32) -> Option<Check>
+        ensures { result ≡ grab_check self.now.plan control }
     {
         if control >= self.plan.control_count() {
-            return Err(plain(Errno::EINVAL));
+            return Some(Check::ControlMissing);
         }
-        if self.is_full() {
-            return Err(plain(Errno::ENOSPC));
-        }
-        Ok(())
+        None
     }
 
     // Grabs a control or lets it go, after the refusals.
     fn accept_grab(&mut self, seat: u32, control: u32, on: bool) -> Result<(), AllocError>
-        requires { IsOk (grab_answer self.old.plan (past self.old.steps) control) }
+        requires { step_check (past self.old.steps) (grab_check self.old.plan control) ≡ None }
         ensures ok { OnOk result (self.new ≡ with_step (record self.old { work = self.new.work }) seat (steps.Grab control on)) }
         ensures asked { OnOk result (self.new.work.asked ≤ self.old.work.asked + cluster_asks self.old.plan (past self.old.steps) (cluster_of self.old.plan control)) }
         ensures told { OnOk result (self.new.work.told ≡ self.old.work.told) }
@@ -593,13 +595,32 @@ impl<D: Driver> Device<D> {
         self.steps.len() >= MAX_STEPS
     }
 
+    // Why an ask that adds a step is refused: by its own check, or as no further step is kept.
+    fn step_check(&self, own: Option<Check>) -> Option<Check>
+        ensures { result ≡ step_check (past self.now.steps) own }
+    {
+        match own {
+            Some(check) => Some(check),
+            None => self.room_check(),
+        }
+    }
+
+    // Why no further step is kept.
+    fn room_check(&self) -> Option<Check>
+        ensures { result ≡ step_check (past self.now.steps) None }
+    {
+        if self.is_full() {
+            return Some(Check::HistoryFull);
+        }
+        None
+    }
+
     // The control that is shown to a file handle under an id.
     fn shown(&self, fh: FhId, id: CtrlId) -> Option<u32>
         ensures shown { result ≡ shown self.now.plan (past self.now.steps) fh id }
         ensures known { IfSome result (λ c. c < length self.now.plan.controls) }
     {
-        let handler = self.handler_of(fh)?;
-        self.plan.find(handler, id).ok()
+        self.control_shown(fh, id).ok()
     }
 
     // The present moment.
@@ -612,54 +633,81 @@ impl<D: Driver> Device<D> {
         self.controls.at(&self.plan)
     }
 
+    // The control that is shown to a file handle under an id, or why there is none.
+    fn control_shown(&self, fh: FhId, id: CtrlId) -> Result<u32, Check>
+        ensures shown { result ≡ control_shown self.now.plan (past self.now.steps) fh id }
+        ensures known { IfOk result (λ c. c < length self.now.plan.controls) }
+    {
+        let Some(handler) = self.handler_of(fh) else {
+            return Err(Check::HandleClosed);
+        };
+        match self.plan.find(handler, id) {
+            Ok(control) => Ok(control),
+            Err(_) => Err(Check::IdNotShown),
+        }
+    }
+
     // What the control that is shown to a file handle under an id is like.
     fn info(&self, fh: FhId, id: CtrlId) -> Result<Reply, Fault>
         ensures { result ≡ query_answer D.verdict self.now.plan (past self.now.steps) fh id }
     {
-        if self.handler_of(fh).is_none() {
-            return refused(Errno::EBADF);
-        }
-        match self.shown(fh, id) {
-            Some(number) => {
+        match self.control_shown(fh, id) {
+            Ok(number) => {
                 let ctrl = self.range(number);
                 Ok(Reply::Info(CtrlInfo::of(ctrl, self.flags(number))))
             }
-            None => refused(Errno::EINVAL),
+            Err(check) => refused(check),
         }
     }
 
-    // The least id that is shown to a file handle and greater than another.
+    // The least id that is shown to a file handle and greater than another, or why there is none.
+    fn id_behind(&self, fh: FhId, id: CtrlId) -> Result<CtrlId, Check>
+        ensures { result ≡ id_behind self.now.plan (past self.now.steps) fh id }
+    {
+        let Some(handler) = self.handler_of(fh) else {
+            return Err(Check::HandleClosed);
+        };
+        match self.plan.next_id(handler, id) {
+            Ok(next) => Ok(next),
+            Err(_) => Err(Check::NoGreaterId),
+        }
+    }
+
+    // The same, as the reply.
     fn next_id(&self, fh: FhId, id: CtrlId) -> Result<Reply, Fault>
         ensures { result ≡ next_answer self.now.plan (past self.now.steps) fh id }
     {
-        let Some(handler) = self.handler_of(fh) else {
-            return refused(Errno::EBADF);
-        };
-        match self.plan.next_id(handler, id) {
+        match self.id_behind(fh, id) {
             Ok(next) => Ok(Reply::Id(next)),
-            Err(_) => refused(Errno::EINVAL),
+            Err(check) => refused(check),
         }
     }
 
-    // The item at an index of a menu that is shown to a file handle, where the index lies within the range of the moment.
+    // The item at an index of a menu that is shown to a file handle, where the index lies within the range of the moment, or why there is none.
+    fn item_found(&self, fh: FhId, id: CtrlId, index: u32) -> Result<&MenuItem, Check>
+        ensures { MatchResult result (λ item. item_found self.now.plan (past self.now.steps) fh id index ≡ Ok item.now) (λ check. item_found self.now.plan (past self.now.steps) fh id index ≡ Err check) }
+    {
+        let number = self.control_shown(fh, id)?;
+        if !self.has_index(number, index) {
+            return Err(Check::ItemMissing);
+        }
+        match self.plan.menu_item(number, index) {
+            Ok(item) => Ok(item),
+            Err(_) => Err(Check::ItemMissing),
+        }
+    }
+
+    // The same, as the reply.
     fn menu_item(&self, fh: FhId, id: CtrlId, index: u32) -> Result<Reply, Fault>
         ensures { MayAnswer D.verdict self.now.plan (past self.now.steps) self.now.words (asks.MenuItem fh id index) result }
     {
-        if self.handler_of(fh).is_none() {
-            return refused(Errno::EBADF);
-        }
-        let Some(number) = self.shown(fh, id) else {
-            return refused(Errno::EINVAL);
-        };
-        if !self.has_index(number, index) {
-            return refused(Errno::EINVAL);
-        }
-        let Ok(item) = self.plan.menu_item(number, index) else {
-            return refused(Errno::EINVAL);
+        let item = match self.item_found(fh, id, index) {
+            Ok(item) => item,
+            Err(check) => return refused(check),
         };
         match item.copied(self.alloc) {
             Ok(item) => Ok(Reply::Item(item)),
-            Err(_) => refused(Errno::ENOMEM),
+            Err(_) => refused(Check::MemoryRefused),
         }
     }
 
@@ -673,26 +721,39 @@ impl<D: Driver> Device<D> {
         ctrl.minimum() <= index && index <= ctrl.maximum()
     }
 
-    // The word that a cluster was told last.
+    // The word that a cluster was told last, or why there is none.
+    fn word_of(&self, cluster: u32) -> Result<u64, Check>
+        ensures { result ≡ word_of self.now.plan self.now.words cluster }
+    {
+        match self.words.get(cluster as usize) {
+            Some(word) => Ok(*word),
+            None => Err(Check::ClusterMissing),
+        }
+    }
+
+    // The same, as the reply.
     fn word(&self, cluster: u32) -> Result<Reply, Fault>
         ensures { result ≡ told_answer self.now.plan self.now.words cluster }
     {
-        match self.words.get(cluster as usize) {
-            Some(word) => Ok(Reply::Word(*word)),
-            None => refused(Errno::EINVAL),
+        match self.word_of(cluster) {
+            Ok(word) => Ok(Reply::Word(word)),
+            Err(check) => refused(check),
         }
     }
 }
 
-// A fault without an index.
-fn plain(errno: Errno) -> Fault
-    ensures { result ≡ record { errno = errno; index = None } }
+// The fault of a check, without an index.
+fn plain(check: Check) -> Fault
+    ensures { result ≡ record { errno = errno_of check; index = None } }
 {
-    Fault { errno, index: None }
+    Fault {
+        errno: check.errno(),
+        index: None,
+    }
 }
 
-fn refused(errno: Errno) -> Result<Reply, Fault>
-    ensures { result ≡ refused errno }
+fn refused(check: Check) -> Result<Reply, Fault>
+    ensures { result ≡ refused check }
 {
-    Err(plain(errno))
+    Err(plain(check))
 }

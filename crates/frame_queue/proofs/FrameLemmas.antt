@@ -8,14 +8,14 @@ use Rattle.std.proofs.lemmas.List.Folds.{list_any-append}
 use Rattle.std.proofs.lemmas.Map.Views.{any-filter_same}
 use Rattle.ctrl_types.specs.declared.value.CtrlValue.{CtrlValue}
 use Rattle.ctrl_types.specs.declared.ids.Pair.{Pair}
-use Rattle.ctrl_types.specs.declared.errno.Errno.TheVariants.{EBUSY, EINVAL, ENOENT}
+use Rattle.ctrl_types.specs.declared.check.Check.TheVariants.{NotIdle, BufferMissing, RequestRunning, NotQueued, StillPending}
 use Rattle.req_book.specs.declared.state.RequestState.{RequestState}
 use Rattle.req_book.specs.declared.state.RequestState.TheVariants.{Idle, Queued, Running, Complete}
 use Rattle.req_book.specs.Requests.{RequestData, RequestsData, HaveOwnIds, find, with_request, with_changed, queued, begun, completed, cleared, new_request, without, is_pending, is_number}
-use Rattle.req_book.specs.Refusals.{queue_refusal, clear_refusal}
+use Rattle.req_book.specs.Refusals.{queue_check, clear_check}
 use Rattle.req_book.proofs.ObjectLemmas.{Tells}
 use Rattle.req_book.proofs.FindLemmas.{find_added, find_changed, find_without}
-use Rattle.frame_queue.specs.Frames.{FramesData, QueueFitsRequests, AreOnce, is_in, is_queued, is_running, queued_last, cancelled, cancel_refusal, running_done, after_complete, ended_request, after_off}
+use Rattle.frame_queue.specs.Frames.{FramesData, QueueFitsRequests, AreOnce, is_in, is_queued, is_running, queued_last, cancelled, cancel_check, running_done, after_complete, ended_request, after_off}
 
 clash : {X : Type 0} → true ≡ false → X
 clash h = cc
@@ -102,17 +102,17 @@ once_filter test (k ∷ ks) once = by (test k) (once_filter test ks once.1)
     by false rest = rest
 
 -- an idle request waits, the last
-pub queued_kept : (old : FramesData) (id : ℕ) → QueueFitsRequests old → queue_refusal (find old.requests.all id) ≡ None → QueueFitsRequests (queued_last old id)
+pub queued_kept : (old : FramesData) (id : ℕ) → QueueFitsRequests old → queue_check (find old.requests.all id) ≡ None → QueueFitsRequests (queued_last old id)
 queued_kept old id kept passes = by (find old.requests.all id) refl passes
   where
-    by : (o : Option RequestData) → find old.requests.all id ≡ o → queue_refusal o ≡ None → QueueFitsRequests (queued_last old id)
+    by : (o : Option RequestData) → find old.requests.all id ≡ o → queue_check o ≡ None → QueueFitsRequests (queued_last old id)
     by None is passes = cc
     by (Some r) is passes = idle r.state refl
       where
         same : (a b : RequestData) → Some a ≡ Some b → a ≡ b
         same a b h = cc
 
-        buffered : (b : Option ℕ) → (if is_none b then Some ENOENT else None) ≡ None → is_some b ≡ true
+        buffered : (b : Option ℕ) → (if is_none b then Some BufferMissing else None) ≡ None → is_some b ≡ true
         buffered None h = cc
         buffered (Some n) h = refl
 
@@ -128,15 +128,15 @@ queued_kept old id kept passes = by (find old.requests.all id) refl passes
             (λ q there waiting. ap (λ (x : RequestData). is_some x.buffer) (same q r (sym there ∙ is)) ∙ buffered r.buffer (rw state at passes))
         idle Queued state = absurd (refused (rw state at passes))
           where
-            refused : Some EBUSY ≡ None → ⊥
+            refused : Some NotIdle ≡ None → ⊥
             refused h = cc
         idle Running state = absurd (refused (rw state at passes))
           where
-            refused : Some EBUSY ≡ None → ⊥
+            refused : Some NotIdle ≡ None → ⊥
             refused h = cc
         idle Complete state = absurd (refused (rw state at passes))
           where
-            refused : Some EBUSY ≡ None → ⊥
+            refused : Some NotIdle ≡ None → ⊥
             refused h = cc
 
 -- a request that is made to be complete neither waits nor runs
@@ -223,7 +223,7 @@ completed_kept old id values kept running =
     other (inr differs) differ = differs.0
 
 -- one that waits is taken from the queue
-pub cancelled_kept : (old : FramesData) (id : ℕ) (values : List CtrlValue) → QueueFitsRequests old → cancel_refusal (find old.requests.all id) ≡ None → QueueFitsRequests (cancelled old id values)
+pub cancelled_kept : (old : FramesData) (id : ℕ) (values : List CtrlValue) → QueueFitsRequests old → cancel_check (find old.requests.all id) ≡ None → QueueFitsRequests (cancelled old id values)
 cancelled_kept old id values kept passes =
     let was : is_in is_queued (find old.requests.all id) ≡ true = waiting (find old.requests.all id) passes in
     kept_changed old id (completed values) (filter (λ j. not (nat_eq id j)) old.queue) old.running kept (λ r. refl) (once_filter (λ j. not (nat_eq id j)) old.queue kept.once)
@@ -233,11 +233,11 @@ cancelled_kept old id values kept passes =
     (kept.runs id ∙ waits_only (find old.requests.all id) was ∙ sym (not_running values (find old.requests.all id)))
     (λ r there waiting. clash (sym waiting))
   where
-    waiting : (o : Option RequestData) → cancel_refusal o ≡ None → is_in is_queued o ≡ true
+    waiting : (o : Option RequestData) → cancel_check o ≡ None → is_in is_queued o ≡ true
     waiting None h = cc
     waiting (Some r) h = by r.state h
       where
-        by : (s : RequestState) → (if is_running s then Some EBUSY else if is_queued s then None else Some EINVAL) ≡ None → is_queued s ≡ true
+        by : (s : RequestState) → (if is_running s then Some RequestRunning else if is_queued s then None else Some NotQueued) ≡ None → is_queued s ≡ true
         by Idle h = cc
         by Queued h = refl
         by Running h = cc
@@ -263,18 +263,18 @@ state_kept old id f kept keeps same holds =
     is test (Some r) = ap test (sym (same r))
 
 -- a request that may be emptied neither waits nor runs
-pub rests : (o : Option RequestData) → clear_refusal o ≡ None → (is_in is_queued o ≡ false) × (is_in is_running o ≡ false)
+pub rests : (o : Option RequestData) → clear_check o ≡ None → (is_in is_queued o ≡ false) × (is_in is_running o ≡ false)
 rests None h = (refl, refl)
 rests (Some r) h = by r.state h
   where
-    by : (s : RequestState) → (if is_pending s then Some EBUSY else None) ≡ None → (is_queued s ≡ false) × (is_running s ≡ false)
+    by : (s : RequestState) → (if is_pending s then Some StillPending else None) ≡ None → (is_queued s ≡ false) × (is_running s ≡ false)
     by Idle h = (refl, refl)
     by Queued h = cc
     by Running h = cc
     by Complete h = (refl, refl)
 
 -- one that neither waits nor runs is as new
-pub cleared_kept : (old : FramesData) (id : ℕ) → QueueFitsRequests old → clear_refusal (find old.requests.all id) ≡ None → QueueFitsRequests (record { requests = with_changed old.requests id cleared; queue = old.queue; running = old.running })
+pub cleared_kept : (old : FramesData) (id : ℕ) → QueueFitsRequests old → clear_check (find old.requests.all id) ≡ None → QueueFitsRequests (record { requests = with_changed old.requests id cleared; queue = old.queue; running = old.running })
 cleared_kept old id kept passes =
     kept_changed old id cleared old.queue old.running kept (λ r. refl) kept.once (λ j differ. refl)
     (kept.waits id ∙ (rests (find old.requests.all id) passes).0 ∙ sym (idle (find old.requests.all id)).0) (λ j differ. refl)
@@ -286,7 +286,7 @@ cleared_kept old id kept passes =
     idle (Some r) = (refl, refl)
 
 -- one that neither waits nor runs is let go
-pub freed_kept : (old : FramesData) (id : ℕ) → QueueFitsRequests old → clear_refusal (find old.requests.all id) ≡ None
+pub freed_kept : (old : FramesData) (id : ℕ) → QueueFitsRequests old → clear_check (find old.requests.all id) ≡ None
     → QueueFitsRequests (record { requests = record old.requests { all = without id old.requests.all }; queue = old.queue; running = old.running })
 freed_kept old id kept passes = record { once = kept.once; waits = λ j. waits j (eqb_tells id j); runs = λ j. runs j (eqb_tells id j); buffers = λ j r there. buffers j r (eqb_tells id j) there }
   where

@@ -3,10 +3,10 @@ use Rattle.std.proofs.Common.{◌≡◌, ℕ, suc, ◌+◌, ◌<◌, ◌≤◌, 
 use Rattle.std.specs.List.{list_any}
 use Rattle.std.specs.declared.alloc.AllocError.{AllocError}
 use Rattle.std.proofs.lemmas.Bool.Decides.{eqb_tells, nat_tests}
-use Rattle.ctrl_types.specs.declared.errno.Errno.TheVariants.{ENOSPC}
+use Rattle.ctrl_types.specs.declared.check.Check.TheVariants.{TooManyRequests}
 use Rattle.req_book.specs.declared.limits.TheConstants.{MAX_REQUESTS}
 use Rattle.req_book.specs.Requests.{RequestData, RequestsData, HaveOwnIds, with_changed, find, new_request, queued, with_request, without}
-use Rattle.req_book.specs.Refusals.{alloc_refusal, queue_refusal}
+use Rattle.req_book.specs.Refusals.{alloc_check, queue_check}
 use Rattle.req_book.proofs.ObjectLemmas.{Tells}
 use Rattle.req_book.proofs.FindLemmas.{find_without}
 use Rattle.frame_queue.specs.Frames.{FramesData, QueueFitsRequests, AreOnce, is_in, is_queued, queued_last, with_requests}
@@ -80,7 +80,7 @@ waiting_few f kept = named_few f.queue f.requests.all kept.once (λ j among. the
     there (Some r) h = refl
 
 -- one that is queued is one of those that there can be, and didn't wait before
-pub one_fits : (old : FramesData) (room id : ℕ) → HasQueueRoom old room → queue_refusal (find old.requests.all id) ≡ None → length old.queue + 1 ≤ MAX_REQUESTS
+pub one_fits : (old : FramesData) (room id : ℕ) → HasQueueRoom old room → queue_check (find old.requests.all id) ≡ None → length old.queue + 1 ≤ MAX_REQUESTS
 one_fits old room id kept passes =
     let few = waiting_few (queued_last old id) (queued_kept old id kept.frames passes) in
     omega (arith, few, length-append old.queue (id ∷ []), many_changed old.requests.all id (queued old.requests.controls), kept.few)
@@ -96,9 +96,9 @@ either_places old room requests new (Ok done) kept made ok err = subst (λ (x : 
 either_places old room requests new (Err error) kept made ok err = subst (λ (x : RequestsData). HasQueueRoom (with_requests old x) room) (sym err) kept
 
 -- a request that is made is one of those that there can be
-pub made_few : (rs : List RequestData) (id : ℕ) → alloc_refusal rs ≡ None → length (rs ++ new_request id ∷ []) ≤ MAX_REQUESTS
+pub made_few : (rs : List RequestData) (id : ℕ) → alloc_check rs ≡ None → length (rs ++ new_request id ∷ []) ≤ MAX_REQUESTS
 made_few rs id passes = by (nat_le MAX_REQUESTS (length rs)) refl passes
   where
-    by : (b : Bool) → nat_le MAX_REQUESTS (length rs) ≡ b → (if b then Some ENOSPC else None) ≡ None → length (rs ++ new_request id ∷ []) ≤ MAX_REQUESTS
+    by : (b : Bool) → nat_le MAX_REQUESTS (length rs) ≡ b → (if b then Some TooManyRequests else None) ≡ None → length (rs ++ new_request id ∷ []) ≤ MAX_REQUESTS
     by true is h = cc
     by false is h = let less : length rs < MAX_REQUESTS = grind (arith, nat_tests, is) in omega (arith, less, length-append rs (new_request id ∷ []))

@@ -5,7 +5,9 @@ use Rattle.std.specs.Option.{is_none}
 use Rattle.std.specs.Result.{result_err}
 use Rattle.ctrl_types.specs.declared.value.CtrlValue.{CtrlValue}
 use Rattle.ctrl_types.specs.declared.errno.Errno.{Errno}
-use Rattle.ctrl_types.specs.declared.errno.Errno.TheVariants.{EBUSY, EINVAL, ENOENT}
+use Rattle.ctrl_types.specs.declared.check.Check.{Check}
+use Rattle.ctrl_types.specs.declared.check.Check.TheVariants.{RequestMissing, FrameRunning, QueueEmpty, NoFrameRunning, RequestRunning, NotQueued}
+use Rattle.ctrl_types.specs.Checks.{with_errno}
 use Rattle.ctrl_types.specs.declared.ids.Pair.{Pair}
 use Rattle.req_book.specs.declared.state.RequestState.{RequestState}
 use Rattle.req_book.specs.declared.state.RequestState.TheVariants.{Queued, Running}
@@ -43,9 +45,9 @@ pub record QueueFitsRequests (f : FramesData) : Type 0 where
   pub buffers : (id : ℕ) (r : RequestData) → find f.requests.all id ≡ Some r → is_queued r.state ≡ true → is_some r.buffer ≡ true
 
 -- what is left: what was there, where a call is refused
-abbrev pub unless_refused : Option Errno → FramesData → FramesData → FramesData
+abbrev pub unless_refused : Option Check → FramesData → FramesData → FramesData
 unless_refused None old new = new
-unless_refused (Some errno) old new = old
+unless_refused (Some check) old new = old
 
 -- other requests, with the same queue
 abbrev pub with_requests : FramesData → RequestsData → FramesData
@@ -61,17 +63,21 @@ buffer_number None = 0
 buffer_number (Some r) = unwrap_or r.buffer 0
 
 -- the first that waits, with its buffer
-abbrev pub first_waiting : List RequestData → List ℕ → Result (ℕ × ℕ) Errno
-first_waiting rs [] = Err ENOENT
+abbrev pub first_waiting : List RequestData → List ℕ → Result (ℕ × ℕ) Check
+first_waiting rs [] = Err QueueEmpty
 first_waiting rs (id ∷ ids) = Ok (id, buffer_number (find rs id))
 
--- What a begin answers: EBUSY where one runs, ENOENT where none waits; else the first that waits, with its buffer.
-abbrev pub begin_answer : FramesData → Result (ℕ × ℕ) Errno
-begin_answer f = if is_some f.running then Err EBUSY else first_waiting f.requests.all f.queue
+-- The frame that is begun next: none where one runs, or none waits; else that of the first that waits, with its buffer.
+abbrev pub next_frame : FramesData → Result (ℕ × ℕ) Check
+next_frame f = if is_some f.running then Err FrameRunning else first_waiting f.requests.all f.queue
 
--- why no frame is begun: one runs, or none waits
-abbrev pub begin_refusal : FramesData → Option Errno
-begin_refusal f = result_err (begin_answer f)
+-- what a begin answers
+abbrev pub begin_answer : FramesData → Result (ℕ × ℕ) Errno
+begin_answer f = with_errno (next_frame f)
+
+-- why no frame is begun
+abbrev pub begin_check : FramesData → Option Check
+begin_check f = result_err (next_frame f)
 
 -- what it leaves: the first that waits runs, and its controls got these values
 abbrev pub first_begun : List Pair → RequestsData → List ℕ → FramesData
@@ -82,8 +88,8 @@ abbrev pub after_begin : FramesData → List Pair → FramesData
 after_begin f applied = if is_some f.running then f else first_begun applied f.requests f.queue
 
 -- why no frame is completed: none runs
-abbrev pub complete_refusal : FramesData → Option Errno
-complete_refusal f = if is_none f.running then Some ENOENT else None
+abbrev pub complete_check : FramesData → Option Check
+complete_check f = if is_none f.running then Some NoFrameRunning else None
 
 -- what is left once the frame that runs, where one does, ended at these values
 abbrev pub running_done : List CtrlValue → RequestsData → List ℕ → Option ℕ → FramesData
@@ -94,9 +100,9 @@ abbrev pub after_complete : FramesData → List CtrlValue → FramesData
 after_complete f values = running_done values f.requests f.queue f.running
 
 -- Why a request isn't taken from the queue: it isn't there; it runs; it doesn't wait.
-abbrev pub cancel_refusal : Option RequestData → Option Errno
-cancel_refusal None = Some EINVAL
-cancel_refusal (Some r) = if is_running r.state then Some EBUSY else if is_queued r.state then None else Some EINVAL
+abbrev pub cancel_check : Option RequestData → Option Check
+cancel_check None = Some RequestMissing
+cancel_check (Some r) = if is_running r.state then Some RequestRunning else if is_queued r.state then None else Some NotQueued
 
 -- what is left once it was taken from the queue, at these values
 abbrev pub cancelled : FramesData → ℕ → List CtrlValue → FramesData

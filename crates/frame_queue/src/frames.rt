@@ -2,12 +2,13 @@ ghost use Rattle.std.specs.Prelude.{◌≡◌, ◌↔◌, IsTrue, ◌++◌, ◌<
 ghost use Rattle.std.specs.Option.{option_map};
 ghost use Rattle.std.specs.List.{All};
 ghost use Rattle.req_book.specs.Requests.{HaveOwnIds, RequestData, buffer_in, find, with_changed, completed, with_pairs, with_buffer, cleared, without, new_request};
-ghost use Rattle.req_book.specs.Refusals.{alloc_refusal, store_refusal, buffer_refusal, queue_refusal, clear_refusal, state_answer, buffer_answer, asked_answer, snapshot_answer, value_answer, done_unless, unless, IsRefusedBy};
-ghost use Rattle.ctrl_types.specs.declared.errno.Errno.TheVariants.{ENOENT, ENOMEM};
-ghost use Rattle.frame_queue.specs.Frames.{QueueFitsRequests, is_queued, with_requests, queued_last, begin_answer, begin_refusal, after_begin, buffer_number, first_begun, complete_refusal, after_complete, cancel_refusal, cancelled, unless_refused, after_off};
+ghost use Rattle.req_book.specs.Refusals.{alloc_check, store_check, buffer_check, queue_check, clear_check, state_answer, buffer_answer, asked_answer, snapshot_answer, value_answer, done_unless, unless, IsRefusedBy};
+ghost use Rattle.ctrl_types.specs.declared.check.Check.TheVariants.{MemoryRefused};
+ghost use Rattle.ctrl_types.specs.Checks.{errno_of};
+ghost use Rattle.frame_queue.specs.Frames.{QueueFitsRequests, is_queued, with_requests, queued_last, next_frame, begin_answer, begin_check, after_begin, buffer_number, first_begun, complete_check, after_complete, cancel_check, cancelled, unless_refused, after_off};
 ghost use Rattle.frame_queue.specs.Like.{IsLike};
 
-use ctrl_types::{CtrlValue, Errno, Pair, RequestId};
+use ctrl_types::{Check, CtrlValue, Errno, Pair, RequestId};
 use req_book::{FrameRoom, MAX_REQUESTS, RequestState, Requests};
 use std::alloc::{AllocError, Global};
 use std::marker::Model;
@@ -41,7 +42,7 @@ impl Frames {
     ///
     /// Refused by check 34 (ENOMEM, 12).
     pub fn new(alloc: Global, controls: u32) -> Result<Frames, Errno>
-        ensures { MatchResult result (λ frames. frames ≡ record { requests = record { controls = controls; all = [] }; queue = []; running = None }) (λ errno. errno ≡ ENOMEM) }
+        ensures { MatchResult result (λ frames. frames ≡ record { requests = record { controls = controls; all = [] }; queue = []; running = None }) (λ errno. errno ≡ errno_of MemoryRefused) }
     {
         match Vec::with_capacity(alloc, MAX_REQUESTS) {
             Ok(queue) => Ok(Frames {
@@ -49,7 +50,7 @@ impl Frames {
                 queue,
                 running: None,
             }),
-            Err(_) => Err(Errno::ENOMEM),
+            Err(_) => Err(Check::MemoryRefused.errno()),
         }
     }
 
@@ -116,7 +117,7 @@ impl Frames {
     ///
     /// It takes no memory.
     pub fn queue(&mut self, id: RequestId, room: FrameRoom)
-        requires passes { queue_refusal (find self.old.requests.all id.0) ≡ None }
+        requires passes { queue_check (find self.old.requests.all id.0) ≡ None }
         requires room { room ≡ self.old.requests.controls }
         ensures { self.new ≡ queued_last self.old id.0 }
     {
@@ -131,32 +132,42 @@ impl Frames {
     ///
     /// Refused by check 19 (EINVAL, 22), 20 (EBUSY, 16), 23 (ENOENT, 2) or 34 (ENOMEM, 12), which changes nothing.
     pub fn try_queue(&mut self, id: RequestId) -> Result<(), Errno>
-        ensures ok { OnOk result ((queue_refusal (find self.old.requests.all id.0) ≡ None) × (self.new ≡ queued_last self.old id.0)) }
-        ensures err { IfErr result (λ errno. IsRefusedBy (queue_refusal (find self.old.requests.all id.0)) errno × (self.new ≡ self.old)) }
+        ensures ok { OnOk result ((queue_check (find self.old.requests.all id.0) ≡ None) × (self.new ≡ queued_last self.old id.0)) }
+        ensures err { IfErr result (λ errno. IsRefusedBy (queue_check (find self.old.requests.all id.0)) errno × (self.new ≡ self.old)) }
     {
         match self.queue_refusal(id) {
-            Some(errno) => Err(errno),
+            Some(check) => Err(check.errno()),
             None => match self.reserve() {
                 Ok(room) => {
                     self.queue(id, room);
                     Ok(())
                 }
-                Err(_) => Err(Errno::ENOMEM),
+                Err(_) => Err(Check::MemoryRefused.errno()),
             },
         }
     }
 
-    /// Why no frame is begun (of this project): check 24 (EBUSY, 16) or 25 (ENOENT, 2); none where nothing refuses it. It takes no memory.
-    pub fn begin_refusal(&self) -> Option<Errno>
-        ensures { result ≡ begin_refusal self.now }
+    /// The request whose frame is begun next, the first that waits, or why no frame is begun (Linux userspace API, "Request API": requests run in the
+    /// order of queueing; begins as calls are of this project): check 24 (EBUSY, 16) or 25 (ENOENT, 2). It takes no memory.
+    pub fn next_frame(&self) -> Result<RequestId, Check>
+        ensures answer { MatchResult result (λ id. next_frame self.now ≡ Ok (id.0, buffer_number (find self.now.requests.all id.0))) (λ check. next_frame self.now ≡ Err check) }
+        ensures free { OnOk result (self.now.running ≡ None) }
+        ensures first { IfOk result (λ id. slice_get self.now.queue 0 ≡ Some id.0) }
     {
         if self.running.is_some() {
-            Some(Errno::EBUSY)
-        } else if self.queue.is_empty() {
-            Some(Errno::ENOENT)
-        } else {
-            None
+            return Err(Check::FrameRunning);
         }
+        match self.queued(0) {
+            Some(id) => Ok(id),
+            None => Err(Check::QueueEmpty),
+        }
+    }
+
+    /// Why no frame is begun (of this project): check 24 (EBUSY, 16) or 25 (ENOENT, 2); none where nothing refuses it. It takes no memory.
+    pub fn begin_refusal(&self) -> Option<Check>
+        ensures { result ≡ begin_check self.now }
+    {
+        self.next_frame().err()
     }
 
     /// Has the frame of the first request that waits be made, in which controls get these values, and answers the request and the number of
@@ -167,7 +178,7 @@ impl Frames {
     ///
     /// The caller owes that `begin_refusal` doesn't refuse it. It takes no memory.
     pub fn begin(&mut self, applied: &[Pair]) -> (RequestId, u32)
-        requires { begin_refusal self.old ≡ None }
+        requires { begin_check self.old ≡ None }
         ensures answer { begin_answer self.old ≡ Ok (result.0.0, result.1) }
         ensures frames { self.new ≡ after_begin self.old applied.now }
     {
@@ -189,14 +200,14 @@ impl Frames {
         ensures frames { self.new ≡ after_begin self.old applied.now }
     {
         match self.begin_refusal() {
-            Some(errno) => Err(errno),
+            Some(check) => Err(check.errno()),
             None => Ok(self.begin(applied)),
         }
     }
 
     // The first request that waits. The caller owes that a frame can begin.
     fn first(&self) -> u32
-        requires { begin_refusal self.now ≡ None }
+        requires { begin_check self.now ≡ None }
         ensures idle { self.now.running ≡ None }
         ensures first { slice_get self.now.queue 0 ≡ Some result }
         ensures buffer { is_some (buffer_in (find self.now.requests.all result)) ≡ true }
@@ -216,12 +227,12 @@ impl Frames {
     }
 
     /// Why no frame is ended (of this project): check 26 (ENOENT, 2); none where nothing refuses it. It takes no memory.
-    pub fn complete_refusal(&self) -> Option<Errno>
-        ensures { result ≡ complete_refusal self.now }
+    pub fn complete_refusal(&self) -> Option<Check>
+        ensures { result ≡ complete_check self.now }
     {
         match self.running {
             Some(_) => None,
-            None => Some(Errno::ENOENT),
+            None => Some(Check::NoFrameRunning),
         }
     }
 
@@ -233,7 +244,7 @@ impl Frames {
     /// The caller owes that `complete_refusal` doesn't refuse it. It takes no memory.
     pub fn complete(&mut self, values: &[CtrlValue])
         requires values { length values.now ≡ self.old.requests.controls }
-        requires runs { complete_refusal self.old ≡ None }
+        requires runs { complete_check self.old ≡ None }
         ensures { self.new ≡ after_complete self.old values.now }
     {
         let id = self.running.unwrap();
@@ -249,11 +260,11 @@ impl Frames {
     /// Refused by check 26 (ENOENT, 2), which changes nothing. It takes no memory.
     pub fn try_complete(&mut self, values: &[CtrlValue]) -> Result<(), Errno>
         requires { length values.now ≡ self.old.requests.controls }
-        ensures answer { result ≡ done_unless (complete_refusal self.old) }
+        ensures answer { result ≡ done_unless (complete_check self.old) }
         ensures frames { self.new ≡ after_complete self.old values.now }
     {
         match self.complete_refusal() {
-            Some(errno) => Err(errno),
+            Some(check) => Err(check.errno()),
             None => {
                 self.complete(values);
                 Ok(())
@@ -277,13 +288,14 @@ impl Frames {
     /// it. It takes no memory.
     ///
     /// - `id`: any request, there or not.
-    pub fn cancel_refusal(&self, id: RequestId) -> Option<Errno>
-        ensures { result ≡ cancel_refusal (find self.now.requests.all id.0) }
+    pub fn cancel_refusal(&self, id: RequestId) -> Option<Check>
+        ensures { result ≡ cancel_check (find self.now.requests.all id.0) }
     {
-        match self.requests.state_of(id) {
-            Ok(RequestState::Queued) => None,
-            Ok(RequestState::Running) => Some(Errno::EBUSY),
-            _ => Some(Errno::EINVAL),
+        match self.requests.state(id) {
+            None => Some(Check::RequestMissing),
+            Some(RequestState::Running) => Some(Check::RequestRunning),
+            Some(RequestState::Queued) => None,
+            Some(_) => Some(Check::NotQueued),
         }
     }
 
@@ -296,7 +308,7 @@ impl Frames {
     /// It takes no memory.
     pub fn cancel(&mut self, id: RequestId, values: &[CtrlValue])
         requires values { length values.now ≡ self.old.requests.controls }
-        requires waits { cancel_refusal (find self.old.requests.all id.0) ≡ None }
+        requires waits { cancel_check (find self.old.requests.all id.0) ≡ None }
         ensures { self.new ≡ cancelled self.old id.0 values.now }
     {
         leave(&mut self.queue, id.0);
@@ -312,11 +324,11 @@ impl Frames {
     /// Refused by check 19 (EINVAL, 22), 27 (EBUSY, 16) or 28 (EINVAL, 22), which changes nothing. It takes no memory.
     pub fn try_cancel(&mut self, id: RequestId, values: &[CtrlValue]) -> Result<(), Errno>
         requires { length values.now ≡ self.old.requests.controls }
-        ensures answer { result ≡ done_unless (cancel_refusal (find self.old.requests.all id.0)) }
-        ensures frames { self.new ≡ unless_refused (cancel_refusal (find self.old.requests.all id.0)) self.old (cancelled self.old id.0 values.now) }
+        ensures answer { result ≡ done_unless (cancel_check (find self.old.requests.all id.0)) }
+        ensures frames { self.new ≡ unless_refused (cancel_check (find self.old.requests.all id.0)) self.old (cancelled self.old id.0 values.now) }
     {
         match self.cancel_refusal(id) {
-            Some(errno) => Err(errno),
+            Some(check) => Err(check.errno()),
             None => {
                 self.cancel(id, values);
                 Ok(())
@@ -378,6 +390,15 @@ impl Frames {
         ensures { result ≡ state_answer (find self.now.requests.all id.0) }
     {
         self.requests.state_of(id)
+    }
+
+    /// A request's state, none where there is no such request (Linux userspace API, "Request API"). It takes no memory and refuses nothing.
+    ///
+    /// - `id`: any request, there or not.
+    pub fn state(&self, id: RequestId) -> Option<RequestState>
+        ensures { result ≡ option_map (λ r. r.state) (find self.now.requests.all id.0) }
+    {
+        self.requests.state(id)
     }
 
     /// The number of the buffer that a request was given, where it was given one since it was made, or made as new; a complete one keeps it (Linux
@@ -457,8 +478,8 @@ impl Frames {
 
     /// Why no further request is made: check 18 (ENOSPC, 28), the limit of 64 (of this project); none where nothing but want of memory refuses it. It
     /// takes no memory.
-    pub fn alloc_refusal(&self) -> Option<Errno>
-        ensures { result ≡ alloc_refusal self.now.requests.all }
+    pub fn alloc_refusal(&self) -> Option<Check>
+        ensures { result ≡ alloc_check self.now.requests.all }
     {
         self.requests.alloc_refusal()
     }
@@ -467,8 +488,8 @@ impl Frames {
     /// none where nothing but want of memory refuses them. It takes no memory.
     ///
     /// - `id`: any request, there or not.
-    pub fn store_refusal(&self, id: RequestId) -> Option<Errno>
-        ensures { result ≡ store_refusal (find self.now.requests.all id.0) }
+    pub fn store_refusal(&self, id: RequestId) -> Option<Check>
+        ensures { result ≡ store_check (find self.now.requests.all id.0) }
     {
         self.requests.store_refusal(id)
     }
@@ -478,8 +499,8 @@ impl Frames {
     ///
     /// - `id`: any request, there or not.
     /// - `number`: any number.
-    pub fn buffer_refusal(&self, id: RequestId, number: u32) -> Option<Errno>
-        ensures { result ≡ buffer_refusal self.now.requests.all number (find self.now.requests.all id.0) }
+    pub fn buffer_refusal(&self, id: RequestId, number: u32) -> Option<Check>
+        ensures { result ≡ buffer_check self.now.requests.all number (find self.now.requests.all id.0) }
     {
         self.requests.buffer_refusal(id, number)
     }
@@ -488,8 +509,8 @@ impl Frames {
     /// (EBUSY, 16) or 23 (ENOENT, 2); none where nothing but want of memory refuses it. It takes no memory.
     ///
     /// - `id`: any request, there or not.
-    pub fn queue_refusal(&self, id: RequestId) -> Option<Errno>
-        ensures { result ≡ queue_refusal (find self.now.requests.all id.0) }
+    pub fn queue_refusal(&self, id: RequestId) -> Option<Check>
+        ensures { result ≡ queue_check (find self.now.requests.all id.0) }
     {
         self.requests.queue_refusal(id)
     }
@@ -498,8 +519,8 @@ impl Frames {
     /// this project): check 19 (EINVAL, 22) or 29 (EBUSY, 16); none where nothing refuses it. It takes no memory.
     ///
     /// - `id`: any request, there or not.
-    pub fn clear_refusal(&self, id: RequestId) -> Option<Errno>
-        ensures { result ≡ clear_refusal (find self.now.requests.all id.0) }
+    pub fn clear_refusal(&self, id: RequestId) -> Option<Check>
+        ensures { result ≡ clear_check (find self.now.requests.all id.0) }
     {
         self.requests.clear_refusal(id)
     }
@@ -511,7 +532,7 @@ impl Frames {
     /// The error is that a growth was refused; nothing is changed then.
     pub fn alloc(&mut self, id: RequestId) -> Result<(), AllocError>
         requires unused { find self.old.requests.all id.0 ≡ None }
-        requires passes { alloc_refusal self.old.requests.all ≡ None }
+        requires passes { alloc_check self.old.requests.all ≡ None }
         ensures ok { OnOk result (self.new ≡ with_requests self.old (record self.old.requests { all = self.old.requests.all ++ new_request id.0 ∷ [] })) }
         ensures err { OnErr result (self.new ≡ self.old) }
     {
@@ -525,14 +546,14 @@ impl Frames {
     /// Refused by check 18 (ENOSPC, 28) or 34 (ENOMEM, 12), which changes nothing.
     pub fn try_alloc(&mut self, id: RequestId) -> Result<(), Errno>
         requires { find self.old.requests.all id.0 ≡ None }
-        ensures ok { OnOk result ((alloc_refusal self.old.requests.all ≡ None) × (self.new ≡ with_requests self.old (record self.old.requests { all = self.old.requests.all ++ new_request id.0 ∷ [] }))) }
-        ensures err { IfErr result (λ errno. IsRefusedBy (alloc_refusal self.old.requests.all) errno × (self.new ≡ self.old)) }
+        ensures ok { OnOk result ((alloc_check self.old.requests.all ≡ None) × (self.new ≡ with_requests self.old (record self.old.requests { all = self.old.requests.all ++ new_request id.0 ∷ [] }))) }
+        ensures err { IfErr result (λ errno. IsRefusedBy (alloc_check self.old.requests.all) errno × (self.new ≡ self.old)) }
     {
         match self.alloc_refusal() {
-            Some(errno) => Err(errno),
+            Some(check) => Err(check.errno()),
             None => match self.alloc(id) {
                 Ok(()) => Ok(()),
-                Err(_) => Err(Errno::ENOMEM),
+                Err(_) => Err(Check::MemoryRefused.errno()),
             },
         }
     }
@@ -546,7 +567,7 @@ impl Frames {
     /// The error is that a growth was refused; nothing is changed then.
     pub fn store(&mut self, id: RequestId, pairs: &[Pair]) -> Result<(), AllocError>
         requires known { All (λ p. p.control < self.old.requests.controls) pairs.now }
-        requires passes { store_refusal (find self.old.requests.all id.0) ≡ None }
+        requires passes { store_check (find self.old.requests.all id.0) ≡ None }
         ensures ok { OnOk result (self.new ≡ with_requests self.old (with_changed self.old.requests id.0 (with_pairs self.old.requests.controls pairs.now))) }
         ensures err { OnErr result (self.new ≡ self.old) }
     {
@@ -562,14 +583,14 @@ impl Frames {
     /// Refused by check 19 (EINVAL, 22), 20 (EBUSY, 16) or 34 (ENOMEM, 12), which changes nothing.
     pub fn try_store(&mut self, id: RequestId, pairs: &[Pair]) -> Result<(), Errno>
         requires { All (λ p. p.control < self.old.requests.controls) pairs.now }
-        ensures ok { OnOk result ((store_refusal (find self.old.requests.all id.0) ≡ None) × (self.new ≡ with_requests self.old (with_changed self.old.requests id.0 (with_pairs self.old.requests.controls pairs.now)))) }
-        ensures err { IfErr result (λ errno. IsRefusedBy (store_refusal (find self.old.requests.all id.0)) errno × (self.new ≡ self.old)) }
+        ensures ok { OnOk result ((store_check (find self.old.requests.all id.0) ≡ None) × (self.new ≡ with_requests self.old (with_changed self.old.requests id.0 (with_pairs self.old.requests.controls pairs.now)))) }
+        ensures err { IfErr result (λ errno. IsRefusedBy (store_check (find self.old.requests.all id.0)) errno × (self.new ≡ self.old)) }
     {
         match self.store_refusal(id) {
-            Some(errno) => Err(errno),
+            Some(check) => Err(check.errno()),
             None => match self.store(id, pairs) {
                 Ok(()) => Ok(()),
-                Err(_) => Err(Errno::ENOMEM),
+                Err(_) => Err(Check::MemoryRefused.errno()),
             },
         }
     }
@@ -581,7 +602,7 @@ impl Frames {
     ///
     /// It takes no memory.
     pub fn add_buffer(&mut self, id: RequestId, number: u32)
-        requires { buffer_refusal self.old.requests.all number (find self.old.requests.all id.0) ≡ None }
+        requires { buffer_check self.old.requests.all number (find self.old.requests.all id.0) ≡ None }
         ensures { self.new ≡ with_requests self.old (with_changed self.old.requests id.0 (with_buffer number)) }
     {
         self.requests.add_buffer(id, number);
@@ -595,11 +616,11 @@ impl Frames {
     ///
     /// Refused by check 19 (EINVAL, 22), or one of 20 to 22 (EBUSY, 16), which changes nothing. It takes no memory.
     pub fn try_add_buffer(&mut self, id: RequestId, number: u32) -> Result<(), Errno>
-        ensures answer { result ≡ done_unless (buffer_refusal self.old.requests.all number (find self.old.requests.all id.0)) }
-        ensures frames { self.new ≡ with_requests self.old (unless (buffer_refusal self.old.requests.all number (find self.old.requests.all id.0)) self.old.requests (with_changed self.old.requests id.0 (with_buffer number))) }
+        ensures answer { result ≡ done_unless (buffer_check self.old.requests.all number (find self.old.requests.all id.0)) }
+        ensures frames { self.new ≡ with_requests self.old (unless (buffer_check self.old.requests.all number (find self.old.requests.all id.0)) self.old.requests (with_changed self.old.requests id.0 (with_buffer number))) }
     {
         match self.buffer_refusal(id, number) {
-            Some(errno) => Err(errno),
+            Some(check) => Err(check.errno()),
             None => {
                 self.add_buffer(id, number);
                 Ok(())
@@ -614,7 +635,7 @@ impl Frames {
     ///
     /// It takes no memory.
     pub fn reinit(&mut self, id: RequestId)
-        requires { clear_refusal (find self.old.requests.all id.0) ≡ None }
+        requires { clear_check (find self.old.requests.all id.0) ≡ None }
         ensures { self.new ≡ with_requests self.old (with_changed self.old.requests id.0 cleared) }
     {
         self.requests.reinit(id);
@@ -627,11 +648,11 @@ impl Frames {
     ///
     /// Refused by check 19 (EINVAL, 22) or 29 (EBUSY, 16), which changes nothing. It takes no memory.
     pub fn try_reinit(&mut self, id: RequestId) -> Result<(), Errno>
-        ensures answer { result ≡ done_unless (clear_refusal (find self.old.requests.all id.0)) }
-        ensures frames { self.new ≡ with_requests self.old (unless (clear_refusal (find self.old.requests.all id.0)) self.old.requests (with_changed self.old.requests id.0 cleared)) }
+        ensures answer { result ≡ done_unless (clear_check (find self.old.requests.all id.0)) }
+        ensures frames { self.new ≡ with_requests self.old (unless (clear_check (find self.old.requests.all id.0)) self.old.requests (with_changed self.old.requests id.0 cleared)) }
     {
         match self.clear_refusal(id) {
-            Some(errno) => Err(errno),
+            Some(check) => Err(check.errno()),
             None => {
                 self.reinit(id);
                 Ok(())
@@ -645,7 +666,7 @@ impl Frames {
     ///
     /// It takes no memory.
     pub fn free(&mut self, id: RequestId)
-        requires { clear_refusal (find self.old.requests.all id.0) ≡ None }
+        requires { clear_check (find self.old.requests.all id.0) ≡ None }
         ensures { self.new ≡ with_requests self.old (record self.old.requests { all = without id.0 self.old.requests.all }) }
     {
         self.requests.free(id);
@@ -657,11 +678,11 @@ impl Frames {
     ///
     /// Refused by check 19 (EINVAL, 22) or 29 (EBUSY, 16), which changes nothing. It takes no memory.
     pub fn try_free(&mut self, id: RequestId) -> Result<(), Errno>
-        ensures answer { result ≡ done_unless (clear_refusal (find self.old.requests.all id.0)) }
-        ensures frames { self.new ≡ with_requests self.old (unless (clear_refusal (find self.old.requests.all id.0)) self.old.requests (record self.old.requests { all = without id.0 self.old.requests.all })) }
+        ensures answer { result ≡ done_unless (clear_check (find self.old.requests.all id.0)) }
+        ensures frames { self.new ≡ with_requests self.old (unless (clear_check (find self.old.requests.all id.0)) self.old.requests (record self.old.requests { all = without id.0 self.old.requests.all })) }
     {
         match self.clear_refusal(id) {
-            Some(errno) => Err(errno),
+            Some(check) => Err(check.errno()),
             None => {
                 self.free(id);
                 Ok(())

@@ -1,7 +1,7 @@
 -- What the judgement of a list says of a set and of a store.
 use Rattle.std.proofs.Common.{◌≡◌, ℕ, ◌↔◌, true, false, List, [], Option, None, Some, is_some, Result, Ok, Err, IfOk, IsTrue, MatchOption, refl, ap, sym, ◌∙◌, subst}
 use Rattle.std.specs.Option.{option_map}
-use Rattle.ctrl_types.specs.declared.errno.Errno.{Errno}
+use Rattle.ctrl_types.specs.declared.check.Check.{Check}
 use Rattle.ctrl_types.specs.declared.ids.ExtControl.{ExtControl}
 use Rattle.ctrl_types.specs.declared.ids.FhId.{FhId}
 use Rattle.ctrl_types.specs.declared.ids.Pair.{Pair}
@@ -12,8 +12,9 @@ use Rattle.ctrl_calls.specs.Meanings.{Verdicts}
 use Rattle.ctrl_settle.specs.Control.{Control}
 use Rattle.ctrl_handlers.specs.Plan.{PlanData}
 use Rattle.ctrl_clusters.specs.Rows.{Grabs, Values}
-use Rattle.req_book.specs.Refusals.{store_refusal}
-use Rattle.ctrl_lists.specs.Answers.{set_answer}
+use Rattle.req_book.specs.Refusals.{store_check}
+use Rattle.ctrl_lists.specs.Answers.{entries_judged}
+use Rattle.ctrl_lists.specs.Checks.{first_refusal, write_checks}
 use Rattle.ctrl_lists.specs.Touched.{IsTouched, TouchedData}
 use Rattle.ctrl_lists.specs.Lists.{ListData}
 use Rattle.ctrl_lists.specs.View.{ViewData}
@@ -65,9 +66,9 @@ pub store_full : (verdicts : Verdicts) (plan : PlanData) (past : Past) (r : Requ
 store_full verdicts plan past r pairs full may =
     let room = (store_needs verdicts plan past r pairs may).0 in cc
 
-pub store_refused : (verdicts : Verdicts) (plan : PlanData) (past : Past) (r : RequestId) (pairs : List Pair) → is_some (store_refusal (request verdicts plan past r.0)) ≡ true → MayFollow verdicts plan past (steps.Store r pairs) → ⊥
+pub store_refused : (verdicts : Verdicts) (plan : PlanData) (past : Past) (r : RequestId) (pairs : List Pair) → is_some (store_check (request verdicts plan past r.0)) ≡ true → MayFollow verdicts plan past (steps.Store r pairs) → ⊥
 store_refused verdicts plan past r pairs refused may =
-    let idle : is_some (store_refusal (request verdicts plan past r.0)) ≡ false = ap (λ (o : Option Errno). is_some o) (store_needs verdicts plan past r pairs may).1 in cc
+    let idle : is_some (store_check (request verdicts plan past r.0)) ≡ false = ap (λ (o : Option Check). is_some o) (store_needs verdicts plan past r pairs may).1 in cc
 
 -- nor where no open file handle's handler shows its pairs
 pub store_unshown : (verdicts : Verdicts) (plan : PlanData) (past : Past) (r : RequestId) (pairs : List Pair) → None ≡ option_map (λ h. h.1) (first_storer plan pairs (opened past)) → MayFollow verdicts plan past (steps.Store r pairs) → ⊥
@@ -80,7 +81,7 @@ store_unshown verdicts plan past r pairs none may = (store_needs verdicts plan p
 -- a store through the first file handle whose handler shows its pairs may follow exactly where its list can be set
 pub store_judged : (verdicts : Verdicts) (plan : PlanData) (past : Past) (r : RequestId) (handler : ℕ) (pairs : List Pair) (touched : Option TouchedData)
     → Some handler ≡ option_map (λ h. h.1) (first_storer plan pairs (opened past)) → is_full past ≡ false
-    → store_refusal (request verdicts plan past r.0) ≡ None → Judged verdicts plan (view_of verdicts plan past handler Request (asked plan past r.0)) pairs touched → IsTrue (is_some touched) ↔ MayFollow verdicts plan past (steps.Store r pairs)
+    → store_check (request verdicts plan past r.0) ≡ None → Judged verdicts plan (view_of verdicts plan past handler Request (asked plan past r.0)) pairs touched → IsTrue (is_some touched) ↔ MayFollow verdicts plan past (steps.Store r pairs)
 store_judged verdicts plan past r handler pairs touched is room idle judged = by (first_storer plan pairs (opened past)) refl is
   where
     own : (h : ℕ × ℕ) (o : Option TouchedData) → first_storer plan pairs (opened past) ≡ Some h → Judged verdicts plan (view_of verdicts plan past h.1 Request (asked plan past r.0)) pairs o → IsTrue (is_some o) ↔ MayFollow verdicts plan past (steps.Store r pairs)
@@ -101,9 +102,10 @@ seen verdicts plan own past handler which controls values grabs asked_before vie
 
 -- a list that is set, with the pairs' own controls
 pub is_set : (verdicts : Verdicts) (plan : PlanData) (view : ListData) (to : ViewData) (list : List ExtControl) (pairs : List Pair) (touch : TouchedData) → ◌≡◌ {A = ListData} view (record { plan = plan; parts = to }) → list ≡ entries_of plan pairs
-    → set_answer verdicts view.plan view.parts list ≡ Ok touch.answers → IsTouched verdicts view.plan view.parts list touch → touch.pairs ≡ pairs → IsSet verdicts plan to pairs touch
-is_set verdicts plan view to list pairs touch at is accepted touches own = record {
-  accepted = subst (λ (l : List ExtControl). set_answer verdicts plan to l ≡ Ok touch.answers) is (subst (λ (v : ListData). set_answer verdicts v.plan v.parts list ≡ Ok touch.answers) at accepted);
+    → first_refusal (write_checks verdicts view.plan view.parts true list) ≡ None → touch.answers ≡ entries_judged verdicts view.plan view.parts list → IsTouched verdicts view.plan view.parts list touch → touch.pairs ≡ pairs → IsSet verdicts plan to pairs touch
+is_set verdicts plan view to list pairs touch at is accepted answers touches own = record {
+  accepted = subst (λ (l : List ExtControl). first_refusal (write_checks verdicts plan to true l) ≡ None) is (subst (λ (v : ListData). first_refusal (write_checks verdicts v.plan v.parts true list) ≡ None) at accepted);
+  answers = subst (λ (l : List ExtControl). touch.answers ≡ entries_judged verdicts plan to l) is (subst (λ (v : ListData). touch.answers ≡ entries_judged verdicts v.plan v.parts list) at answers);
   touches = subst (λ (l : List ExtControl). IsTouched verdicts plan to l touch) is (subst (λ (v : ListData). IsTouched verdicts v.plan v.parts list touch) at touches);
   own_pairs = own;
 }
@@ -114,4 +116,4 @@ pub is_other : (verdicts : Verdicts) (plan : PlanData) (view : ListData) (to : V
 is_other verdicts plan view to list pairs touch at is touches other =
     let own : IsTouched verdicts plan to (entries_of plan pairs) touch =
     subst (λ (l : List ExtControl). IsTouched verdicts plan to l touch) is (subst (λ (v : ListData). IsTouched verdicts v.plan v.parts list touch) at touches) in
-    λ answers accepted names. other (own.own_pairs ∙ names)
+    λ accepted names. other (own.own_pairs ∙ names)

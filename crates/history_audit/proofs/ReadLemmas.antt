@@ -22,11 +22,11 @@ asked_is verdicts plan older r pairs is = by (state older r) is
     by (Some s) h = cc
 
 -- a request that doesn't refuse pairs is there
-pub store_there : (verdicts : Verdicts) (plan : PlanData) (older : Past) (r : ℕ) → book.store_refusal (request verdicts plan older r) ≡ None → is_some (state older r) ≡ true
+pub store_there : (verdicts : Verdicts) (plan : PlanData) (older : Past) (r : ℕ) → book.store_check (request verdicts plan older r) ≡ None → is_some (state older r) ≡ true
 unfolding request
 store_there verdicts plan older r idle = by (state older r) idle
   where
-    by : (o : Option RequestState) → book.store_refusal (option_map (request_in verdicts plan older r) o) ≡ None → is_some o ≡ true
+    by : (o : Option RequestState) → book.store_check (option_map (request_in verdicts plan older r) o) ≡ None → is_some o ≡ true
     by None h = cc
     by (Some s) h = refl
 

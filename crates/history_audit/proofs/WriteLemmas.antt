@@ -33,7 +33,7 @@ set_free : (verdicts : Verdicts) (plan : PlanData) (past : Past) (fh : FhId) (pa
     → list_any (λ p. is_grabbed (grabbed plan past) p.control) pairs ≡ false
 set_free verdicts plan past fh pairs touch sets =
     subst (λ (l : List Pair). list_any (λ p. is_grabbed (grabbed plan past) p.control) l ≡ false) (sym sets.touches.own_pairs ∙ sets.own_pairs)
-    (accepted_free verdicts plan (write_view verdicts plan past fh 0 None) (entries_of plan pairs) touch.answers sets.accepted)
+    (accepted_free verdicts plan (write_view verdicts plan past fh 0 None) (entries_of plan pairs) sets.accepted)
 
 -- its rows are of other clusters each
 pub set_rows : (verdicts : Verdicts) (plan : PlanData) (past : Past) (fh : FhId) (pairs : List Pair) (touch : TouchedData) → IsSet verdicts plan (write_view verdicts plan past fh 0 None) pairs touch → AreNewRows plan touch.rows

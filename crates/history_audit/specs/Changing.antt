@@ -2,8 +2,8 @@
 use Rattle.std.specs.Prelude.{ℕ, ◌<◌, Bool, true, false, not, ◌&&◌, nat_lt, length, Option, None, Some, is_some}
 use Rattle.std.specs.List.{All}
 use Rattle.req_book.specs.Requests.{is_number}
-use Rattle.req_book.specs.Refusals.{alloc_refusal, buffer_refusal, queue_refusal, clear_refusal}
-use Rattle.frame_queue.specs.Frames.{cancel_refusal}
+use Rattle.req_book.specs.Refusals.{alloc_check, buffer_check, queue_check, clear_check}
+use Rattle.frame_queue.specs.Frames.{cancel_check}
 use Rattle.ctrl_calls.specs.Meanings.{Verdicts}
 use Rattle.ctrl_types.specs.declared.ids.FhId.{FhId}
 use Rattle.ctrl_handlers.specs.Plan.{PlanData, control}
@@ -30,15 +30,15 @@ abbrev pub fits_parts : Verdicts → PlanData → Past → Step → Bool
 fits_parts verdicts plan past (steps.OpenFh handler) = nat_lt handler (length plan.handlers) && not (are_all_open past)
 fits_parts verdicts plan past (steps.CloseFh fh) = is_some (handler_of past fh)
 fits_parts verdicts plan past (steps.Grab c on) = nat_lt c (length plan.controls)
-fits_parts verdicts plan past steps.Alloc = lacks (alloc_refusal (requests verdicts plan past))
-fits_parts verdicts plan past (steps.Buffer r number) = lacks (buffer_refusal (requests verdicts plan past) number (request verdicts plan past r.0))
-fits_parts verdicts plan past (steps.Queue r) = lacks (queue_refusal (request verdicts plan past r.0))
+fits_parts verdicts plan past steps.Alloc = lacks (alloc_check (requests verdicts plan past))
+fits_parts verdicts plan past (steps.Buffer r number) = lacks (buffer_check (requests verdicts plan past) number (request verdicts plan past r.0))
+fits_parts verdicts plan past (steps.Queue r) = lacks (queue_check (request verdicts plan past r.0))
 fits_parts verdicts plan past (steps.Begin r) = lacks (running past) && is_number (first_of (queue past)) r.0
 fits_parts verdicts plan past (steps.Complete r) = is_number (running past) r.0
-fits_parts verdicts plan past (steps.Cancel r) = lacks (cancel_refusal (request verdicts plan past r.0))
+fits_parts verdicts plan past (steps.Cancel r) = lacks (cancel_check (request verdicts plan past r.0))
 fits_parts verdicts plan past steps.StreamOff = true
-fits_parts verdicts plan past (steps.Reinit r) = lacks (clear_refusal (request verdicts plan past r.0))
-fits_parts verdicts plan past (steps.Free r) = lacks (clear_refusal (request verdicts plan past r.0))
+fits_parts verdicts plan past (steps.Reinit r) = lacks (clear_check (request verdicts plan past r.0))
+fits_parts verdicts plan past (steps.Free r) = lacks (clear_check (request verdicts plan past r.0))
 fits_parts verdicts plan past (steps.Subscribe fh c flags) = shows_it plan past fh c
 fits_parts verdicts plan past (steps.Unsubscribe fh (Some c)) = shows_it plan past fh c
 fits_parts verdicts plan past (steps.Unsubscribe fh None) = is_some (handler_of past fh)

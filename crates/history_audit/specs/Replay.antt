@@ -44,6 +44,14 @@ abbrev pub Replayed : Verdicts → ReplayData → ReplayData → Entry Step → 
 Replayed verdicts old new e true = MayFollow verdicts old.plan (past old.steps) e.step × (new ≡ with_next old e)
 Replayed verdicts old new e false = (MayFollow verdicts old.plan (past old.steps) e.step → ⊥) × (new ≡ old)
 
+-- The next entry is replayed.
+abbrev pub AddsNext : ReplayData → ReplayData → Type 0
+AddsNext old new = (e : Entry Step) → IsNextEntry old e → new ≡ with_next old e
+
+-- A try is made to replay the next entry.
+abbrev pub TriesNext : Verdicts → ReplayData → ReplayData → Bool → Type 0
+TriesNext verdicts old new is = (e : Entry Step) → IsNextEntry old e → Replayed verdicts old new e is
+
 -- what a replay keeps of the device
 pub record Parts : Type 0 where
   -- the open file handles, each with its handler

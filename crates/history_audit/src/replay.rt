@@ -1,14 +1,12 @@
 ghost use Rattle.std.specs.Prelude.{◌≡◌, ◌<◌, false, [], length, IfOk, OnOk, OnErr};
 ghost use Rattle.history.specs.Past.{past};
-ghost use Rattle.history.specs.declared.entry.Entry.{Entry as EntryOf};
-ghost use Rattle.device_history.specs.declared.ask.Step.{Step as StepOf};
 ghost use Rattle.device_history.specs.Ranges.{ranges_now};
 ghost use Rattle.device_history.specs.Grabs.{grabbed};
 ghost use Rattle.device_history.specs.Handles.{handler_of};
 ghost use Rattle.device_history.specs.Legal.{IsLegal};
 ghost use Rattle.device_history.specs.Refusals.{is_full};
 ghost use Rattle.device_history.specs.Values.{now};
-ghost use Rattle.history_audit.specs.Replay.{IsNextEntry, IsNextStep, Replayed, is_judged};
+ghost use Rattle.history_audit.specs.Replay.{IsNextStep, TriesNext, is_judged};
 ghost use Rattle.history_audit.specs.Scratch.{scratch};
 
 mod begins;
@@ -122,7 +120,7 @@ impl<'a, D: Driver> Replay<'a, D> {
     /// The error is that a growth was refused; nothing was changed then.
     pub fn next(&mut self) -> Result<bool, AllocError>
         requires { length self.old.steps < length self.old.all }
-        ensures replayed { IfOk result (λ is. (e : EntryOf StepOf) → IsNextEntry self.old e → Replayed D.verdict self.old self.new e is) }
+        ensures replayed { IfOk result (TriesNext D.verdict self.old self.new) }
         ensures err { OnErr result (self.new ≡ self.old) }
         ensures legal { IsLegal D.verdict self.new.plan (past self.new.steps) }
     {
@@ -133,7 +131,7 @@ impl<'a, D: Driver> Replay<'a, D> {
     // Replays a step, which is the next one.
     fn replay(&mut self, step: &Step) -> Result<bool, AllocError>
         requires { IsNextStep self.old step.now }
-        ensures ok { IfOk result (λ is. (e : EntryOf StepOf) → IsNextEntry self.old e → Replayed D.verdict self.old self.new e is) }
+        ensures ok { IfOk result (TriesNext D.verdict self.old self.new) }
         ensures err { OnErr result (self.new ≡ self.old) }
     {
         match step {
@@ -154,7 +152,7 @@ impl<'a, D: Driver> Replay<'a, D> {
     fn replay_plain(&mut self, step: &Step) -> Result<bool, AllocError>
         requires next { IsNextStep self.old step.now }
         requires plain { is_judged step.now ≡ false }
-        ensures ok { IfOk result (λ is. (e : EntryOf StepOf) → IsNextEntry self.old e → Replayed D.verdict self.old self.new e is) }
+        ensures ok { IfOk result (TriesNext D.verdict self.old self.new) }
         ensures err { OnErr result (self.new ≡ self.old) }
     {
         if !self.fits(step) {

@@ -4,79 +4,84 @@ use Rattle.std.specs.Prelude.{◌≡◌, ℕ, not, List, length, nat_le, Option,
 use Rattle.std.specs.Option.{is_none}
 use Rattle.ctrl_types.specs.declared.value.CtrlValue.{CtrlValue}
 use Rattle.ctrl_types.specs.declared.errno.Errno.{Errno}
-use Rattle.ctrl_types.specs.declared.errno.Errno.TheVariants.{EACCES, EBUSY, EINVAL, ENOENT, ENOMEM, ENOSPC}
+use Rattle.ctrl_types.specs.declared.check.Check.{Check}
+use Rattle.ctrl_types.specs.declared.check.Check.TheVariants.{ControlMissing, TooManyRequests, RequestMissing, NotIdle, AlreadyHasBuffer, BufferHeld, BufferMissing, StillPending, NotComplete, MemoryRefused}
+use Rattle.ctrl_types.specs.Checks.{errno_of}
 use Rattle.ctrl_types.specs.declared.ids.Pair.{Pair}
 use Rattle.req_book.specs.declared.state.RequestState.{RequestState}
 use Rattle.req_book.specs.declared.limits.TheConstants.{MAX_REQUESTS}
 use Rattle.req_book.specs.Requests.{RequestData, RequestsData, value_of_control, is_idle, is_complete, is_pending, is_number_held}
 
 -- Why no further request is made: there are as many as there can be.
-abbrev pub alloc_refusal : List RequestData → Option Errno
-alloc_refusal rs = if nat_le MAX_REQUESTS (length rs) then Some ENOSPC else None
+abbrev pub alloc_check : List RequestData → Option Check
+alloc_check rs = if nat_le MAX_REQUESTS (length rs) then Some TooManyRequests else None
 
 -- Why a request takes no settings: it isn't there; it isn't idle.
-abbrev pub store_refusal : Option RequestData → Option Errno
-store_refusal None = Some EINVAL
-store_refusal (Some r) = if is_idle r.state then None else Some EBUSY
+abbrev pub store_check : Option RequestData → Option Check
+store_check None = Some RequestMissing
+store_check (Some r) = if is_idle r.state then None else Some NotIdle
 
 -- Why a request takes no buffer: it isn't there; it isn't idle; it has one; another holds the number.
-abbrev pub buffer_refusal : List RequestData → ℕ → Option RequestData → Option Errno
-buffer_refusal rs number None = Some EINVAL
-buffer_refusal rs number (Some r) =
-    if not (is_idle r.state) then Some EBUSY
-    else if is_some r.buffer then Some EBUSY
-    else if is_number_held rs number then Some EBUSY
+abbrev pub buffer_check : List RequestData → ℕ → Option RequestData → Option Check
+buffer_check rs number None = Some RequestMissing
+buffer_check rs number (Some r) =
+    if not (is_idle r.state) then Some NotIdle
+    else if is_some r.buffer then Some AlreadyHasBuffer
+    else if is_number_held rs number then Some BufferHeld
     else None
 
 -- Why a request isn't queued: it isn't there; it isn't idle; it has no buffer.
-abbrev pub queue_refusal : Option RequestData → Option Errno
-queue_refusal None = Some EINVAL
-queue_refusal (Some r) =
-    if not (is_idle r.state) then Some EBUSY
-    else if is_none r.buffer then Some ENOENT
+abbrev pub queue_check : Option RequestData → Option Check
+queue_check None = Some RequestMissing
+queue_check (Some r) =
+    if not (is_idle r.state) then Some NotIdle
+    else if is_none r.buffer then Some BufferMissing
     else None
 
 -- Why a request is neither emptied nor freed: it isn't there; it is queued or running.
-abbrev pub clear_refusal : Option RequestData → Option Errno
-clear_refusal None = Some EINVAL
-clear_refusal (Some r) = if is_pending r.state then Some EBUSY else None
+abbrev pub clear_check : Option RequestData → Option Check
+clear_check None = Some RequestMissing
+clear_check (Some r) = if is_pending r.state then Some StillPending else None
 
 -- a request's state
 abbrev pub state_answer : Option RequestData → Result RequestState Errno
-state_answer None = Err EINVAL
+state_answer None = Err (errno_of RequestMissing)
 state_answer (Some r) = Ok r.state
 
 -- the number of its buffer, where it has one
 abbrev pub buffer_answer : Option RequestData → Result (Option ℕ) Errno
-buffer_answer None = Err EINVAL
+buffer_answer None = Err (errno_of RequestMissing)
 buffer_answer (Some r) = Ok r.buffer
 
 -- what it asks for
 abbrev pub asked_answer : Option RequestData → Result (List Pair) Errno
-asked_answer None = Err EINVAL
+asked_answer None = Err (errno_of RequestMissing)
 asked_answer (Some r) = Ok r.pairs
 
 -- The values that a frame had: of a complete request alone.
 abbrev pub snapshot_answer : Option RequestData → Result (List CtrlValue) Errno
-snapshot_answer None = Err EINVAL
-snapshot_answer (Some r) = if is_complete r.state then Ok r.snapshot else Err EACCES
+snapshot_answer None = Err (errno_of RequestMissing)
+snapshot_answer (Some r) = if is_complete r.state then Ok r.snapshot else Err (errno_of NotComplete)
 
--- the same, of a control: EINVAL where there is no such request or no such control, then EACCES where the request isn't complete
+-- the same, of a control: there is such a request, and such a control, and then the request is complete
 abbrev pub value_answer : ℕ → ℕ → Option RequestData → Result CtrlValue Errno
-value_answer controls c None = Err EINVAL
-value_answer controls c (Some r) = if nat_le controls c then Err EINVAL else if is_complete r.state then Ok (value_of_control r.snapshot c) else Err EACCES
+value_answer controls c None = Err (errno_of RequestMissing)
+value_answer controls c (Some r) =
+    if nat_le controls c then Err (errno_of ControlMissing)
+    else if is_complete r.state then Ok (value_of_control r.snapshot c)
+    else Err (errno_of NotComplete)
 
 -- what a call answers that only its refusal can stop
-abbrev pub done_unless : Option Errno → Result (Unit {0}) Errno
+abbrev pub done_unless : Option Check → Result (Unit {0}) Errno
 done_unless None = Ok tt
-done_unless (Some errno) = Err errno
+done_unless (Some check) = Err (errno_of check)
 
 -- what it leaves: what was there, where it is refused
-abbrev pub unless : Option Errno → RequestsData → RequestsData → RequestsData
+abbrev pub unless : Option Check → RequestsData → RequestsData → RequestsData
 unless None old new = new
-unless (Some errno) old new = old
+unless (Some check) old new = old
 
--- A call answers its refusal where it has one; where it has none it can only want memory.
-abbrev pub IsRefusedBy : Option Errno → Errno → Type 0
-IsRefusedBy (Some refusal) errno = errno ≡ refusal
-IsRefusedBy None errno = errno ≡ ENOMEM
+-- A call answers the errno of the check that refuses it, where one does; where none does it can only want memory.
+abbrev pub IsRefusedBy : Option Check → Errno → Type 0
+IsRefusedBy (Some check) errno = errno ≡ errno_of check
+IsRefusedBy None errno = errno ≡ errno_of MemoryRefused

@@ -1,13 +1,14 @@
 ghost use Rattle.std.specs.Prelude.{◌≡◌, ◌&&◌, ◌<◌, ◌↔◌, IsTrue, length, not, [], None, Some, Ok, Err, is_some, if◌then◌else◌, MatchResult};
-ghost use Rattle.ctrl_types.specs.declared.errno.Errno.TheVariants.{EACCES, EBUSY};
-ghost use Rattle.req_book.specs.Refusals.{store_refusal, queue_refusal, clear_refusal, snapshot_answer};
+ghost use Rattle.ctrl_types.specs.declared.check.Check.TheVariants as checks;
+ghost use Rattle.ctrl_types.specs.Checks.{errno_of};
+ghost use Rattle.req_book.specs.Refusals.{store_check, queue_check, clear_check, snapshot_answer};
 ghost use Rattle.req_book.specs.Objects.{request_at, snapshot_seen};
 ghost use Rattle.req_book.specs.Alike.{compared};
 ghost use Rattle.req_book.specs.Requests.{is_number, is_idle, is_complete, value_of_control};
 ghost use Rattle.req_book.specs.declared.state.RequestState.TheVariants as states;
 
 use crate::state::RequestState;
-use ctrl_types::{CtrlValue, Errno, Pair};
+use ctrl_types::{Check, CtrlValue, Errno, Pair};
 use std::alloc::Global;
 
 /// What is kept of a media request.
@@ -81,45 +82,49 @@ impl Object {
     }
 
     /// Why it takes no settings.
-    pub(crate) fn store_refusal(&self) -> Option<Errno>
-        ensures { result ≡ store_refusal (Some (request_at 0 self.now)) }
+    pub(crate) fn store_refusal(&self) -> Option<Check>
+        ensures { result ≡ store_check (Some (request_at 0 self.now)) }
     {
         match self.state {
             RequestState::Idle => None,
-            _ => Some(Errno::EBUSY),
+            _ => Some(Check::NotIdle),
         }
     }
 
     /// Why it takes no buffer, where the number is held or not.
-    pub(crate) fn buffer_refusal(&self, is_number_held: bool) -> Option<Errno>
-        ensures { result ≡ (if not (is_idle self.now.state) then Some EBUSY else if is_some self.now.buffer then Some EBUSY else if is_number_held then Some EBUSY else None) }
+    pub(crate) fn buffer_refusal(&self, is_number_held: bool) -> Option<Check>
+        ensures { result ≡ (if not (is_idle self.now.state) then Some checks.NotIdle else if is_some self.now.buffer then Some checks.AlreadyHasBuffer else if is_number_held then Some checks.BufferHeld else None) }
     {
-        if self.state != RequestState::Idle || self.buffer.is_some() || is_number_held {
-            Some(Errno::EBUSY)
+        if self.state != RequestState::Idle {
+            Some(Check::NotIdle)
+        } else if self.buffer.is_some() {
+            Some(Check::AlreadyHasBuffer)
+        } else if is_number_held {
+            Some(Check::BufferHeld)
         } else {
             None
         }
     }
 
     /// Why it isn't queued.
-    pub(crate) fn queue_refusal(&self) -> Option<Errno>
-        ensures { result ≡ queue_refusal (Some (request_at 0 self.now)) }
+    pub(crate) fn queue_refusal(&self) -> Option<Check>
+        ensures { result ≡ queue_check (Some (request_at 0 self.now)) }
     {
         if self.state != RequestState::Idle {
-            Some(Errno::EBUSY)
+            Some(Check::NotIdle)
         } else if self.buffer.is_none() {
-            Some(Errno::ENOENT)
+            Some(Check::BufferMissing)
         } else {
             None
         }
     }
 
     /// Why it is neither made as new nor freed.
-    pub(crate) fn clear_refusal(&self) -> Option<Errno>
-        ensures { result ≡ clear_refusal (Some (request_at 0 self.now)) }
+    pub(crate) fn clear_refusal(&self) -> Option<Check>
+        ensures { result ≡ clear_check (Some (request_at 0 self.now)) }
     {
         match self.state {
-            RequestState::Queued | RequestState::Running => Some(Errno::EBUSY),
+            RequestState::Queued | RequestState::Running => Some(Check::StillPending),
             _ => None,
         }
     }
@@ -130,18 +135,18 @@ impl Object {
     {
         match self.state {
             RequestState::Complete => Ok(self.values.as_slice()),
-            _ => Err(Errno::EACCES),
+            _ => Err(Check::NotComplete.errno()),
         }
     }
 
     /// The value of a control that its frame had. The caller owes a number below that of the device's controls.
     pub(crate) fn value_of(&self, control: u32) -> Result<CtrlValue, Errno>
         requires { self.now.state ≡ states.Complete → control < length self.now.values.items }
-        ensures { result ≡ (if is_complete self.now.state then Ok (value_of_control self.now.values.items control) else Err EACCES) }
+        ensures { result ≡ (if is_complete self.now.state then Ok (value_of_control self.now.values.items control) else Err (errno_of checks.NotComplete)) }
     {
         match self.state {
             RequestState::Complete => Ok(self.values[control as usize]),
-            _ => Err(Errno::EACCES),
+            _ => Err(Check::NotComplete.errno()),
         }
     }
 }

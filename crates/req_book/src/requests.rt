@@ -1,8 +1,9 @@
 ghost use Rattle.std.specs.Prelude.{◌≡◌, ◌↔◌, IsTrue, ◌++◌, ◌<◌, ◌∷◌, [], length, None, Ok, Err, true, IfErr, IfSome, OnErr, OnOk, MatchResult, is_some, IfOk, IsOk, Some};
 ghost use Rattle.std.specs.List.{All};
+ghost use Rattle.std.specs.Option.{option_map};
 ghost use Rattle.req_book.specs.declared.state.RequestState.TheVariants as states;
 ghost use Rattle.req_book.specs.Requests.{HaveOwnIds, find, buffer_in, with_changed, with_pairs, with_buffer, cleared, queued, begun, completed, is_pending, is_number_held, without, new_request};
-ghost use Rattle.req_book.specs.Refusals.{alloc_refusal, store_refusal, buffer_refusal, queue_refusal, clear_refusal, state_answer, buffer_answer, asked_answer, snapshot_answer, value_answer, IsRefusedBy, done_unless, unless};
+ghost use Rattle.req_book.specs.Refusals.{alloc_check, store_check, buffer_check, queue_check, clear_check, state_answer, buffer_answer, asked_answer, snapshot_answer, value_answer, IsRefusedBy, done_unless, unless};
 ghost use Rattle.req_book.specs.Alike.{AreLike};
 
 use crate::limits::MAX_REQUESTS;
@@ -10,7 +11,7 @@ use crate::objects::Objects;
 use crate::room::FrameRoom;
 use crate::settings::latest;
 use crate::state::RequestState;
-use ctrl_types::{CtrlValue, Errno, Pair, RequestId};
+use ctrl_types::{Check, CtrlValue, Errno, Pair, RequestId};
 use std::alloc::{AllocError, Global};
 use std::marker::Model;
 
@@ -76,9 +77,21 @@ impl Requests {
     pub fn state_of(&self, id: RequestId) -> Result<RequestState, Errno>
         ensures { result ≡ state_answer (find self.now.all id.0) }
     {
+        match self.state(id) {
+            Some(state) => Ok(state),
+            None => Err(Check::RequestMissing.errno()),
+        }
+    }
+
+    /// A request's state, none where there is no such request (Linux userspace API, "Request API"). It takes no memory and refuses nothing.
+    ///
+    /// - `id`: any request, there or not.
+    pub fn state(&self, id: RequestId) -> Option<RequestState>
+        ensures { result ≡ option_map (λ r. r.state) (find self.now.all id.0) }
+    {
         match self.objects.get(id.0) {
-            Some(object) => Ok(object.state),
-            None => Err(Errno::EINVAL),
+            Some(object) => Some(object.state),
+            None => None,
         }
     }
 
@@ -91,7 +104,7 @@ impl Requests {
     {
         match self.objects.get(id.0) {
             Some(object) => Ok(object.buffer),
-            None => Err(Errno::EINVAL),
+            None => Err(Check::RequestMissing.errno()),
         }
     }
 
@@ -113,7 +126,7 @@ impl Requests {
     {
         match self.objects.get(id.0) {
             Some(object) => Ok(object.pairs.as_slice()),
-            None => Err(Errno::EINVAL),
+            None => Err(Check::RequestMissing.errno()),
         }
     }
 
@@ -146,7 +159,7 @@ impl Requests {
     {
         match self.objects.get(id.0) {
             Some(object) => object.snapshot(),
-            None => Err(Errno::EINVAL),
+            None => Err(Check::RequestMissing.errno()),
         }
     }
 
@@ -163,11 +176,11 @@ impl Requests {
 
     /// Why no further request is made: check 18 (ENOSPC, 28), the limit of 64 (of this project); none where nothing but want of memory refuses it. It
     /// takes no memory.
-    pub fn alloc_refusal(&self) -> Option<Errno>
-        ensures { result ≡ alloc_refusal self.now.all }
+    pub fn alloc_refusal(&self) -> Option<Check>
+        ensures { result ≡ alloc_check self.now.all }
     {
         if self.objects.count() >= MAX_REQUESTS {
-            Some(Errno::ENOSPC)
+            Some(Check::TooManyRequests)
         } else {
             None
         }
@@ -177,12 +190,12 @@ impl Requests {
     /// none where nothing but want of memory refuses them. It takes no memory.
     ///
     /// - `id`: any request, there or not.
-    pub fn store_refusal(&self, id: RequestId) -> Option<Errno>
-        ensures { result ≡ store_refusal (find self.now.all id.0) }
+    pub fn store_refusal(&self, id: RequestId) -> Option<Check>
+        ensures { result ≡ store_check (find self.now.all id.0) }
     {
         match self.objects.get(id.0) {
             Some(object) => object.store_refusal(),
-            None => Some(Errno::EINVAL),
+            None => Some(Check::RequestMissing),
         }
     }
 
@@ -191,12 +204,12 @@ impl Requests {
     ///
     /// - `id`: any request, there or not.
     /// - `number`: any number.
-    pub fn buffer_refusal(&self, id: RequestId, number: u32) -> Option<Errno>
-        ensures { result ≡ buffer_refusal self.now.all number (find self.now.all id.0) }
+    pub fn buffer_refusal(&self, id: RequestId, number: u32) -> Option<Check>
+        ensures { result ≡ buffer_check self.now.all number (find self.now.all id.0) }
     {
         match self.objects.get(id.0) {
             Some(object) => object.buffer_refusal(self.objects.is_number_held(number)),
-            None => Some(Errno::EINVAL),
+            None => Some(Check::RequestMissing),
         }
     }
 
@@ -204,12 +217,12 @@ impl Requests {
     /// (EBUSY, 16) or 23 (ENOENT, 2); none where nothing but want of memory refuses it. It takes no memory.
     ///
     /// - `id`: any request, there or not.
-    pub fn queue_refusal(&self, id: RequestId) -> Option<Errno>
-        ensures { result ≡ queue_refusal (find self.now.all id.0) }
+    pub fn queue_refusal(&self, id: RequestId) -> Option<Check>
+        ensures { result ≡ queue_check (find self.now.all id.0) }
     {
         match self.objects.get(id.0) {
             Some(object) => object.queue_refusal(),
-            None => Some(Errno::EINVAL),
+            None => Some(Check::RequestMissing),
         }
     }
 
@@ -217,12 +230,12 @@ impl Requests {
     /// this project): check 19 (EINVAL, 22) or 29 (EBUSY, 16); none where nothing refuses it. It takes no memory.
     ///
     /// - `id`: any request, there or not.
-    pub fn clear_refusal(&self, id: RequestId) -> Option<Errno>
-        ensures { result ≡ clear_refusal (find self.now.all id.0) }
+    pub fn clear_refusal(&self, id: RequestId) -> Option<Check>
+        ensures { result ≡ clear_check (find self.now.all id.0) }
     {
         match self.objects.get(id.0) {
             Some(object) => object.clear_refusal(),
-            None => Some(Errno::EINVAL),
+            None => Some(Check::RequestMissing),
         }
     }
 
@@ -237,8 +250,9 @@ impl Requests {
         ensures { result ≡ value_answer self.now.controls control (find self.now.all id.0) }
     {
         match self.objects.get(id.0) {
-            Some(object) if control < self.objects.controls() => object.value_of(control),
-            _ => Err(Errno::EINVAL),
+            None => Err(Check::RequestMissing.errno()),
+            Some(_) if control >= self.objects.controls() => Err(Check::ControlMissing.errno()),
+            Some(object) => object.value_of(control),
         }
     }
 
@@ -249,7 +263,7 @@ impl Requests {
     /// The error is that a growth was refused; nothing is changed then.
     pub fn alloc(&mut self, id: RequestId) -> Result<(), AllocError>
         requires unused { find self.old.all id.0 ≡ None }
-        requires passes { alloc_refusal self.old.all ≡ None }
+        requires passes { alloc_check self.old.all ≡ None }
         ensures ok { OnOk result (self.new ≡ record self.old { all = self.old.all ++ new_request id.0 ∷ [] }) }
         ensures err { OnErr result (self.new ≡ self.old) }
     {
@@ -263,14 +277,14 @@ impl Requests {
     /// Refused by check 18 (ENOSPC, 28) or 34 (ENOMEM, 12), which changes nothing.
     pub fn try_alloc(&mut self, id: RequestId) -> Result<(), Errno>
         requires { find self.old.all id.0 ≡ None }
-        ensures ok { OnOk result ((alloc_refusal self.old.all ≡ None) × (self.new ≡ record self.old { all = self.old.all ++ new_request id.0 ∷ [] })) }
-        ensures err { IfErr result (λ errno. IsRefusedBy (alloc_refusal self.old.all) errno × (self.new ≡ self.old)) }
+        ensures ok { OnOk result ((alloc_check self.old.all ≡ None) × (self.new ≡ record self.old { all = self.old.all ++ new_request id.0 ∷ [] })) }
+        ensures err { IfErr result (λ errno. IsRefusedBy (alloc_check self.old.all) errno × (self.new ≡ self.old)) }
     {
         match self.alloc_refusal() {
-            Some(errno) => Err(errno),
+            Some(check) => Err(check.errno()),
             None => match self.alloc(id) {
                 Ok(()) => Ok(()),
-                Err(_) => Err(Errno::ENOMEM),
+                Err(_) => Err(Check::MemoryRefused.errno()),
             },
         }
     }
@@ -284,7 +298,7 @@ impl Requests {
     /// The error is that a growth was refused; nothing is changed then.
     pub fn store(&mut self, id: RequestId, pairs: &[Pair]) -> Result<(), AllocError>
         requires known { All (λ p. p.control < self.old.controls) pairs.now }
-        requires passes { store_refusal (find self.old.all id.0) ≡ None }
+        requires passes { store_check (find self.old.all id.0) ≡ None }
         ensures ok { OnOk result (self.new ≡ with_changed self.old id.0 (with_pairs self.old.controls pairs.now)) }
         ensures err { OnErr result (self.new ≡ self.old) }
     {
@@ -300,14 +314,14 @@ impl Requests {
     /// Refused by check 19 (EINVAL, 22), 20 (EBUSY, 16) or 34 (ENOMEM, 12), which changes nothing.
     pub fn try_store(&mut self, id: RequestId, pairs: &[Pair]) -> Result<(), Errno>
         requires { All (λ p. p.control < self.old.controls) pairs.now }
-        ensures ok { OnOk result ((store_refusal (find self.old.all id.0) ≡ None) × (self.new ≡ with_changed self.old id.0 (with_pairs self.old.controls pairs.now))) }
-        ensures err { IfErr result (λ errno. IsRefusedBy (store_refusal (find self.old.all id.0)) errno × (self.new ≡ self.old)) }
+        ensures ok { OnOk result ((store_check (find self.old.all id.0) ≡ None) × (self.new ≡ with_changed self.old id.0 (with_pairs self.old.controls pairs.now))) }
+        ensures err { IfErr result (λ errno. IsRefusedBy (store_check (find self.old.all id.0)) errno × (self.new ≡ self.old)) }
     {
         match self.store_refusal(id) {
-            Some(errno) => Err(errno),
+            Some(check) => Err(check.errno()),
             None => match self.store(id, pairs) {
                 Ok(()) => Ok(()),
-                Err(_) => Err(Errno::ENOMEM),
+                Err(_) => Err(Check::MemoryRefused.errno()),
             },
         }
     }
@@ -319,7 +333,7 @@ impl Requests {
     ///
     /// It takes no memory.
     pub fn add_buffer(&mut self, id: RequestId, number: u32)
-        requires { buffer_refusal self.old.all number (find self.old.all id.0) ≡ None }
+        requires { buffer_check self.old.all number (find self.old.all id.0) ≡ None }
         ensures { self.new ≡ with_changed self.old id.0 (with_buffer number) }
     {
         self.objects.set_buffer(id.0, number);
@@ -333,11 +347,11 @@ impl Requests {
     ///
     /// Refused by check 19 (EINVAL, 22), or one of 20 to 22 (EBUSY, 16), which changes nothing. It takes no memory.
     pub fn try_add_buffer(&mut self, id: RequestId, number: u32) -> Result<(), Errno>
-        ensures answer { result ≡ done_unless (buffer_refusal self.old.all number (find self.old.all id.0)) }
-        ensures requests { self.new ≡ unless (buffer_refusal self.old.all number (find self.old.all id.0)) self.old (with_changed self.old id.0 (with_buffer number)) }
+        ensures answer { result ≡ done_unless (buffer_check self.old.all number (find self.old.all id.0)) }
+        ensures requests { self.new ≡ unless (buffer_check self.old.all number (find self.old.all id.0)) self.old (with_changed self.old id.0 (with_buffer number)) }
     {
         match self.buffer_refusal(id, number) {
-            Some(errno) => Err(errno),
+            Some(check) => Err(check.errno()),
             None => {
                 self.add_buffer(id, number);
                 Ok(())
@@ -352,7 +366,7 @@ impl Requests {
     ///
     /// It takes no memory.
     pub fn reinit(&mut self, id: RequestId)
-        requires { clear_refusal (find self.old.all id.0) ≡ None }
+        requires { clear_check (find self.old.all id.0) ≡ None }
         ensures { self.new ≡ with_changed self.old id.0 cleared }
     {
         self.objects.clear(id.0);
@@ -365,11 +379,11 @@ impl Requests {
     ///
     /// Refused by check 19 (EINVAL, 22) or 29 (EBUSY, 16), which changes nothing. It takes no memory.
     pub fn try_reinit(&mut self, id: RequestId) -> Result<(), Errno>
-        ensures answer { result ≡ done_unless (clear_refusal (find self.old.all id.0)) }
-        ensures requests { self.new ≡ unless (clear_refusal (find self.old.all id.0)) self.old (with_changed self.old id.0 cleared) }
+        ensures answer { result ≡ done_unless (clear_check (find self.old.all id.0)) }
+        ensures requests { self.new ≡ unless (clear_check (find self.old.all id.0)) self.old (with_changed self.old id.0 cleared) }
     {
         match self.clear_refusal(id) {
-            Some(errno) => Err(errno),
+            Some(check) => Err(check.errno()),
             None => {
                 self.reinit(id);
                 Ok(())
@@ -383,7 +397,7 @@ impl Requests {
     ///
     /// It takes no memory.
     pub fn free(&mut self, id: RequestId)
-        requires { clear_refusal (find self.old.all id.0) ≡ None }
+        requires { clear_check (find self.old.all id.0) ≡ None }
         ensures { self.new ≡ record self.old { all = without id.0 self.old.all } }
     {
         self.objects.remove(id.0);
@@ -395,11 +409,11 @@ impl Requests {
     ///
     /// Refused by check 19 (EINVAL, 22) or 29 (EBUSY, 16), which changes nothing. It takes no memory.
     pub fn try_free(&mut self, id: RequestId) -> Result<(), Errno>
-        ensures answer { result ≡ done_unless (clear_refusal (find self.old.all id.0)) }
-        ensures requests { self.new ≡ unless (clear_refusal (find self.old.all id.0)) self.old (record self.old { all = without id.0 self.old.all }) }
+        ensures answer { result ≡ done_unless (clear_check (find self.old.all id.0)) }
+        ensures requests { self.new ≡ unless (clear_check (find self.old.all id.0)) self.old (record self.old { all = without id.0 self.old.all }) }
     {
         match self.clear_refusal(id) {
-            Some(errno) => Err(errno),
+            Some(check) => Err(check.errno()),
             None => {
                 self.free(id);
                 Ok(())
@@ -422,7 +436,7 @@ impl Requests {
     ///
     /// It takes no memory.
     pub fn mark_queued(&mut self, id: RequestId, room: FrameRoom)
-        requires passes { queue_refusal (find self.old.all id.0) ≡ None }
+        requires passes { queue_check (find self.old.all id.0) ≡ None }
         requires room { room ≡ self.old.controls }
         ensures { self.new ≡ with_changed self.old id.0 (queued self.old.controls) }
     {
@@ -437,17 +451,17 @@ impl Requests {
     ///
     /// Refused by check 19 (EINVAL, 22), 20 (EBUSY, 16), 23 (ENOENT, 2) or 34 (ENOMEM, 12), which changes nothing.
     pub fn try_mark_queued(&mut self, id: RequestId) -> Result<(), Errno>
-        ensures ok { OnOk result ((queue_refusal (find self.old.all id.0) ≡ None) × (self.new ≡ with_changed self.old id.0 (queued self.old.controls))) }
-        ensures err { IfErr result (λ errno. IsRefusedBy (queue_refusal (find self.old.all id.0)) errno × (self.new ≡ self.old)) }
+        ensures ok { OnOk result ((queue_check (find self.old.all id.0) ≡ None) × (self.new ≡ with_changed self.old id.0 (queued self.old.controls))) }
+        ensures err { IfErr result (λ errno. IsRefusedBy (queue_check (find self.old.all id.0)) errno × (self.new ≡ self.old)) }
     {
         match self.queue_refusal(id) {
-            Some(errno) => Err(errno),
+            Some(check) => Err(check.errno()),
             None => match self.reserve() {
                 Ok(room) => {
                     self.mark_queued(id, room);
                     Ok(())
                 }
-                Err(_) => Err(Errno::ENOMEM),
+                Err(_) => Err(Check::MemoryRefused.errno()),
             },
         }
     }

@@ -132,52 +132,62 @@ fn first_controls<D: Driver>(alloc: Global) -> Result<PlanBuilder<D>, PlanFault>
 fn autogain() -> Result<Ctrl, CtrlFault>
     ensures { result ≡ Ok autogain_of }
 {
-    plain(0x0098_0912, Kind::Boolean, 0, 1, 1, 1, 0, false)
+    plain(0x0098_0912, Kind::Boolean, 0, 1, 1, 1, false)
 }
 
 fn gain() -> Result<Ctrl, CtrlFault>
     ensures { result ≡ Ok gain_of }
 {
-    plain(0x0098_0913, Kind::Integer, 0, 255, 1, 16, 0, false)
+    plain(0x0098_0913, Kind::Integer, 0, 255, 1, 16, false)
 }
 
 fn flip(id: u32) -> Result<Ctrl, CtrlFault>
     ensures { result ≡ Ok (flip_of id) }
 {
-    plain(id, Kind::Boolean, 0, 1, 1, 0, 0, false)
+    plain(id, Kind::Boolean, 0, 1, 1, 0, false)
 }
 
 fn hue() -> Result<Ctrl, CtrlFault>
     ensures { result ≡ Ok hue_of }
 {
-    plain(0x0098_0903, Kind::Integer, 0, 10, 3, 0, 0, true)
+    plain(0x0098_0903, Kind::Integer, 0, 10, 3, 0, true)
 }
 
 fn brightness() -> Result<Ctrl, CtrlFault>
     ensures { result ≡ Ok brightness_of }
 {
-    plain(0x0098_0900, Kind::Integer, -64, 64, 4, 0, 0, false)
+    plain(0x0098_0900, Kind::Integer, -64, 64, 4, 0, false)
 }
 
 fn power() -> Result<Ctrl, CtrlFault>
     ensures { result ≡ Ok power_of }
 {
-    plain(0x0098_0918, Kind::Menu, 0, 3, 1, 1, 8, false)
+    Ctrl::new(
+        CtrlId(0x0098_0918),
+        Kind::Menu,
+        0,
+        3,
+        1,
+        1,
+        8,
+        Flags::empty(),
+        false,
+    )
 }
 
 fn button() -> Result<Ctrl, CtrlFault>
     ensures { result ≡ Ok button_of }
 {
-    plain(0x0098_090d, Kind::Button, 0, 0, 0, 0, 0, false)
+    plain(0x0098_090d, Kind::Button, 0, 0, 0, 0, false)
 }
 
 fn balance(id: u32) -> Result<Ctrl, CtrlFault>
     ensures { result ≡ Ok (balance_of id) }
 {
-    plain(id, Kind::Integer, 0, 255, 1, 128, 0, false)
+    plain(id, Kind::Integer, 0, 255, 1, 128, false)
 }
 
-// A control with no flag given.
+// A control with no skipped items, and no flag given.
 fn plain(
     id: u32,
     kind: Kind,
@@ -185,11 +195,10 @@ fn plain(
     maximum: i64,
     step: u64,
     default_value: i64,
-    skip: u64,
     is_private: bool,
 ) -> Result<Ctrl, CtrlFault>
-    requires { IsWellFormed (described (record { 0 = id }) kind minimum maximum step default_value skip no_flags is_private) }
-    ensures { result ≡ Ok (described (record { 0 = id }) kind minimum maximum step default_value skip no_flags is_private) }
+    requires { IsWellFormed (described (record { 0 = id }) kind minimum maximum step default_value 0 no_flags is_private) }
+    ensures { result ≡ Ok (described (record { 0 = id }) kind minimum maximum step default_value 0 no_flags is_private) }
 {
     Ctrl::new(
         CtrlId(id),
@@ -198,7 +207,7 @@ fn plain(
         maximum,
         step,
         default_value,
-        skip,
+        0,
         Flags::empty(),
         is_private,
     )

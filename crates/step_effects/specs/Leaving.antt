@@ -3,8 +3,8 @@
 use Rattle.std.specs.Prelude.{◌≡◌, ◌<◌, ℕ, Bool, true, false, None, Some}
 use Rattle.std.specs.List.{All}
 use Rattle.req_book.specs.Requests.{find}
-use Rattle.req_book.specs.Refusals.{alloc_refusal, store_refusal, buffer_refusal, queue_refusal, clear_refusal}
-use Rattle.frame_queue.specs.Frames.{FramesData, cancel_refusal}
+use Rattle.req_book.specs.Refusals.{alloc_check, store_check, buffer_check, queue_check, clear_check}
+use Rattle.frame_queue.specs.Frames.{FramesData, cancel_check}
 use Rattle.device_history.specs.declared.ask.Step.{Step}
 use Rattle.device_history.specs.declared.ask.Step.TheVariants as steps
 
@@ -38,15 +38,15 @@ NamesKnown controls _ = Unit {0}
 -- What lets such a step change requests and a queue: nothing refuses it; the number of an allocation is new, what is stored names controls that
 -- are there, and a frame that is ended is the one that is being made.
 abbrev pub FitsIn : ℕ → Step → FramesData → Type 0
-FitsIn n steps.Alloc f = (find f.requests.all n ≡ None) × (alloc_refusal f.requests.all ≡ None)
-FitsIn n (steps.Store r pairs) f = All (λ p. p.control < f.requests.controls) pairs × (store_refusal (find f.requests.all r.0) ≡ None)
-FitsIn n (steps.Buffer r number) f = buffer_refusal f.requests.all number (find f.requests.all r.0) ≡ None
-FitsIn n (steps.Queue r) f = queue_refusal (find f.requests.all r.0) ≡ None
+FitsIn n steps.Alloc f = (find f.requests.all n ≡ None) × (alloc_check f.requests.all ≡ None)
+FitsIn n (steps.Store r pairs) f = All (λ p. p.control < f.requests.controls) pairs × (store_check (find f.requests.all r.0) ≡ None)
+FitsIn n (steps.Buffer r number) f = buffer_check f.requests.all number (find f.requests.all r.0) ≡ None
+FitsIn n (steps.Queue r) f = queue_check (find f.requests.all r.0) ≡ None
 FitsIn n (steps.Complete r) f = f.running ≡ Some r.0
-FitsIn n (steps.Cancel r) f = cancel_refusal (find f.requests.all r.0) ≡ None
+FitsIn n (steps.Cancel r) f = cancel_check (find f.requests.all r.0) ≡ None
 FitsIn n steps.StreamOff f = Unit {0}
-FitsIn n (steps.Reinit r) f = clear_refusal (find f.requests.all r.0) ≡ None
-FitsIn n (steps.Free r) f = clear_refusal (find f.requests.all r.0) ≡ None
+FitsIn n (steps.Reinit r) f = clear_check (find f.requests.all r.0) ≡ None
+FitsIn n (steps.Free r) f = clear_check (find f.requests.all r.0) ≡ None
 FitsIn n (steps.Subscribe fh c flags) f = Unit {0}
 FitsIn n (steps.Unsubscribe fh c) f = Unit {0}
 FitsIn n (steps.Take fh c) f = Unit {0}

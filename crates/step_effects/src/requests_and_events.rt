@@ -139,10 +139,7 @@ fn subscribe<D: Driver>(
 {
     let payload = payload_at(at, control);
     let changes = initial_changes(at.plan, control);
-    match events.subscribe(fh, control, flags, changes, &payload) {
-        Ok(()) => Ok(()),
-        Err(_) => Err(AllocError),
-    }
+    events.subscribe(fh, control, flags, changes, &payload)
 }
 
 // Ends the subscription of a file handle, where a control is named.

@@ -9,7 +9,7 @@ ghost use Rattle.ctrl_events.specs.Events.{events_of};
 ghost use Rattle.ctrl_forecast.specs.Boards.{board_at};
 ghost use Rattle.ctrl_forecast.specs.Touched.{touched_count};
 ghost use Rattle.req_book.specs.Requests.{buffer_in, find};
-ghost use Rattle.req_book.specs.Refusals.{queue_refusal};
+ghost use Rattle.req_book.specs.Refusals.{queue_check};
 ghost use Rattle.frame_queue.specs.Frames.{AreOnce};
 ghost use Rattle.device_history.specs.declared.ask.Step.{Step as StepOf};
 ghost use Rattle.device_history.specs.Steps.{Past};
@@ -96,7 +96,7 @@ fn put_frame<D: Driver>(
     board: &mut Board,
     work: &mut Work,
 ) -> Result<(), AllocError>
-    requires passes { queue_refusal (find frames.now.requests.all request.0) ≡ None }
+    requires passes { queue_check (find frames.now.requests.all request.0) ≡ None }
     requires board { board.old ≡ board_at D.verdict at.now board.old.queued }
     ensures ok { OnOk result (board.new ≡ board_at D.verdict at.now (board.old.queued ++ frame_in frames.now request.0 ∷ [])) }
     ensures err { OnErr result (board.new ≡ board.old) }

@@ -1,22 +1,24 @@
 //! How a device begins a frame.
 
-ghost use Rattle.std.specs.Prelude.{◌≡◌, true, None, Some, Ok, Err, is_some, IfOk, IfErr, OnOk, OnErr};
+ghost use Rattle.std.specs.Prelude.{◌≡◌, true, None, Some, Ok, is_some, IfOk, IfErr, OnOk, OnErr};
+ghost use Rattle.std.specs.Result.{result_err};
 ghost use Rattle.history.specs.Past.{past};
-ghost use Rattle.frame_queue.specs.Frames.{begin_answer};
+ghost use Rattle.frame_queue.specs.Frames.{begin_check};
 ghost use Rattle.device_history.specs.declared.ask.Ask.TheVariants as asks;
 ghost use Rattle.device_history.specs.Answers.{MayAnswer};
 ghost use Rattle.device_history.specs.Frames.{first_of, queue, running};
+ghost use Rattle.device_history.specs.Refusals.{refused};
 ghost use Rattle.device_history.specs.RequestAnswers.{begin_frame_answer};
 ghost use Rattle.device_history.specs.Requests.{asked as asked_of, state};
 ghost use Rattle.device_history.specs.Snapshots.{begun_pairs, frames};
 ghost use Rattle.device_state.specs.Beginning.{BeginsAll, IsBegun};
 ghost use Rattle.device_state.specs.Device.{Handles};
 
-use super::{Device, plain, refused};
+use super::{Device, refused};
 use ctrl_calls::{Driver, Work};
 use ctrl_clusters::notify_between;
 use ctrl_forecast::{Forecast, applied};
-use ctrl_types::{Errno, Fault, Pair, RequestId};
+use ctrl_types::{Check, Fault, Pair, RequestId};
 use device_history::{Reply, Step};
 use history::Entry;
 use std::alloc::AllocError;
@@ -37,45 +39,39 @@ impl<D: Driver> Device<D> {
         self.work = Work::new();
         let begun = match self.plan_begin() {
             Ok(begun) => begun,
-            Err(fault) => return Err(fault),
+            Err(check) => return refused(check),
         };
         match self.accept_begin(seat, begun) {
             Ok(reply) => Ok(reply),
-            Err(_) => refused(Errno::ENOMEM),
+            Err(_) => refused(Check::MemoryRefused),
         }
     }
 
-    // The refusals of a begin; else what it applies.
-    fn plan_begin(&self) -> Result<Begun, Fault>
+    // The checks of a begin; else what it applies.
+    fn plan_begin(&self) -> Result<Begun, Check>
         ensures ok { IfOk result (λ b. IsBegun D.verdict self.now.plan (past self.now.steps) b.request.0 b.applied.items) }
-        ensures err { IfErr result (λ fault. MayAnswer D.verdict self.now.plan (past self.now.steps) self.now.words asks.Begin (Err fault)) }
+        ensures err { IfErr result (λ check. MayAnswer D.verdict self.now.plan (past self.now.steps) self.now.words asks.Begin (refused check)) }
     {
         let request = match self.next_frame() {
             Ok(request) => request,
-            Err(errno) => return Err(plain(errno)),
+            Err(check) => return Err(check),
         };
-        if self.is_full() {
-            return Err(plain(Errno::ENOSPC));
+        if let Some(check) = self.room_check() {
+            return Err(check);
         }
         match self.applied_first(request) {
             Ok(applied) => Ok(Begun { request, applied }),
-            Err(_) => Err(plain(Errno::ENOMEM)),
+            Err(_) => Err(Check::MemoryRefused),
         }
     }
 
     // The request whose frame is next, or why none can begin.
-    fn next_frame(&self) -> Result<RequestId, Errno>
+    pub(super) fn next_frame(&self) -> Result<RequestId, Check>
         ensures free { OnOk result (running (past self.now.steps) ≡ None) }
         ensures first { IfOk result (λ request. first_of (queue (past self.now.steps)) ≡ Some request.0) }
-        ensures err { IfErr result (λ errno. begin_answer (frames D.verdict self.now.plan (past self.now.steps)) ≡ Err errno) }
+        ensures check { result_err result ≡ begin_check (frames D.verdict self.now.plan (past self.now.steps)) }
     {
-        if self.frames.running().is_some() {
-            return Err(Errno::EBUSY);
-        }
-        match self.frames.queued(0) {
-            Some(request) => Ok(request),
-            None => Err(Errno::ENOENT),
-        }
+        self.frames.next_frame()
     }
 
     // What a request asks for, which the caller owes to be there.

@@ -1,20 +1,19 @@
 //! What a device answers about control events.
 
-ghost use Rattle.std.specs.Prelude.{◌≡◌, None};
+ghost use Rattle.std.specs.Prelude.{◌≡◌, Some, IfOk};
+ghost use Rattle.std.specs.Result.{result_map_both};
 ghost use Rattle.history.specs.Past.{past};
 ghost use Rattle.ctrl_events.specs.Events.{event_at};
 ghost use Rattle.device_history.specs.declared.ask.Ask.TheVariants as asks;
-ghost use Rattle.device_history.specs.EventAnswers.{unless_open};
-ghost use Rattle.ctrl_types.specs.declared.errno.Errno.TheVariants.{EBADF, ENOENT};
-ghost use Rattle.device_history.specs.Handles.{handler_of};
+ghost use Rattle.device_history.specs.EventAnswers.{first_control, first_event};
 ghost use Rattle.device_history.specs.Events.{next_sequence, pending};
 ghost use Rattle.device_history.specs.Subscriptions.{subscribed};
 ghost use Rattle.device_state.specs.Device.{Handles};
 
-use super::{Device, refused};
-use ctrl_calls::{Driver, Work};
+use super::Device;
+use ctrl_calls::Driver;
 use ctrl_events::Event;
-use ctrl_types::{CtrlId, Errno, Fault, FhId, SubFlags};
+use ctrl_types::{Check, CtrlId, Fault, FhId, SubFlags};
 use device_history::{Ask, Reply, Step};
 
 impl<D: Driver> Device<D> {
@@ -64,18 +63,26 @@ impl<D: Driver> Device<D> {
     pub fn take(&mut self, seat: u32, fh: FhId) -> Result<Reply, Fault>
         ensures { Handles D.verdict self.old self.new seat (asks.Take fh) result }
     {
-        match self.waiting(fh, 0) {
-            Some((control, event)) => {
+        match self.first_event(fh) {
+            Ok((control, event)) => {
                 let step = Step::Take { fh, control };
                 self.enter(seat, &Ask::Take { fh }, None, step, Reply::Event(event))
             }
-            None => {
-                self.work = Work::new();
-                match self.handler_of(fh) {
-                    Some(_) => refused(Errno::ENOENT),
-                    None => refused(Errno::EBADF),
-                }
-            }
+            Err(check) => self.refuse(check),
+        }
+    }
+
+    // The first event that waits for a file handle, with its control's number, or why there is none.
+    pub(super) fn first_event(&self, fh: FhId) -> Result<(u32, Event), Check>
+        ensures event { result_map_both (λ first. first.1) (λ check. check) result ≡ first_event D.verdict self.now.plan (past self.now.steps) fh }
+        ensures control { IfOk result (λ first. first_control (pending D.verdict self.now.plan (past self.now.steps) fh) ≡ Some first.0) }
+    {
+        if let Some(check) = self.through(fh) {
+            return Err(check);
+        }
+        match self.waiting(fh, 0) {
+            Some(first) => Ok(first),
+            None => Err(Check::NoEventWaits),
         }
     }
 
@@ -89,29 +96,13 @@ impl<D: Driver> Device<D> {
     ) -> Result<Reply, Fault>
         ensures { Handles D.verdict self.old self.new seat (asks.Subscribe fh id flags) result }
     {
-        match self.shown(fh, id) {
-            Some(control) => {
+        match self.control_shown(fh, id) {
+            Ok(control) => {
                 let ask = Ask::Subscribe { fh, id, flags };
                 let step = Step::Subscribe { fh, control, flags };
                 self.enter(seat, &ask, None, step, Reply::Done)
             }
-            None => {
-                self.work = Work::new();
-                match self.handler_of(fh) {
-                    Some(_) => refused(Errno::EINVAL),
-                    None => refused(Errno::EBADF),
-                }
-            }
-        }
-    }
-
-    // Why no subscription of a file handle is ended.
-    pub(super) fn unsubscribe_refusal(&self, fh: FhId) -> Option<Errno>
-        ensures { result ≡ unless_open (past self.now.steps) fh None }
-    {
-        match self.handler_of(fh) {
-            Some(_) => None,
-            None => Some(Errno::EBADF),
+            Err(check) => self.refuse(check),
         }
     }
 }

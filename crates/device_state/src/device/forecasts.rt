@@ -2,17 +2,18 @@
 
 ghost use Rattle.std.specs.Prelude.{◌≡◌, ℕ, slice_get};
 ghost use Rattle.std.specs.Option.{option_map};
+ghost use Rattle.std.specs.Result.{result_map_both};
 ghost use Rattle.history.specs.Past.{past};
 ghost use Rattle.ctrl_forecast.specs.Looks.{seen};
 ghost use Rattle.device_history.specs.declared.ask.Ask.TheVariants as asks;
 ghost use Rattle.device_history.specs.Answers.{MayAnswer};
-ghost use Rattle.device_history.specs.Forecasts.{forecast};
+ghost use Rattle.device_history.specs.Forecasts.{forecast, forecast_at};
 ghost use Rattle.device_state.specs.Device.{Handles};
 
 use super::{Device, refused};
 use ctrl_calls::{Driver, Work};
 use ctrl_forecast::Row;
-use ctrl_types::{Errno, Fault};
+use ctrl_types::{Check, Fault};
 use device_history::Reply;
 
 impl<D: Driver> Device<D> {
@@ -40,18 +41,30 @@ impl<D: Driver> Device<D> {
         ensures { (seat : ℕ) → Handles D.verdict self.old self.new seat (asks.Forecast place) result }
     {
         self.work = Work::new();
-        self.forecast_at(place)
+        self.forecast_read(place)
     }
 
-    fn forecast_at(&self, place: u32) -> Result<Reply, Fault>
+    // What the queued frame at a place will have, or why there is none.
+    pub(super) fn forecast_at(&self, place: u32) -> Result<Row<'_>, Check>
+        ensures { result_map_both seen (λ check. check) result ≡ forecast_at D.verdict self.now.plan (past self.now.steps) place }
+    {
+        match self.row(place as usize) {
+            Some(row) => Ok(row),
+            None => Err(Check::NothingQueuedThere),
+        }
+    }
+
+    // The same, as the reply.
+    fn forecast_read(&self, place: u32) -> Result<Reply, Fault>
         ensures { MayAnswer D.verdict self.now.plan (past self.now.steps) self.now.words (asks.Forecast place) result }
     {
-        let Some(row) = self.row(place as usize) else {
-            return refused(Errno::ENOENT);
+        let row = match self.forecast_at(place) {
+            Ok(row) => row,
+            Err(check) => return refused(check),
         };
         match row.to_forecast(self.alloc) {
             Ok(row) => Ok(Reply::Forecast(row)),
-            Err(_) => refused(Errno::ENOMEM),
+            Err(_) => refused(Check::MemoryRefused),
         }
     }
 }

@@ -3,9 +3,11 @@
 ghost use Rattle.std.specs.Prelude.{◌≡◌, ◌≢◌, ◌<◌, ◌≤◌, ◌+◌, ℕ, true, false, length, Option, None, Some, Ok, Err, IfOk, IfErr, IfSome, OnOk, OnErr};
 ghost use Rattle.std.specs.List.{All};
 ghost use Rattle.history.specs.Past.{past};
+ghost use Rattle.ctrl_types.specs.Checks.{errno_of};
 ghost use Rattle.ctrl_types.specs.Classes.{which_of};
 ghost use Rattle.ctrl_types.specs.declared.which.Which.TheVariants.{Defaults};
 ghost use Rattle.ctrl_clusters.specs.NewRows.{clusters_of};
+ghost use Rattle.req_book.specs.Requests.{RequestData};
 ghost use Rattle.ctrl_lists.specs.Checks.{first_refusal};
 ghost use Rattle.ctrl_lists.specs.Touched.{touched, judged_count, with_calls};
 ghost use Rattle.device_history.specs.declared.ask.Ask.TheVariants as asks;
@@ -15,7 +17,7 @@ ghost use Rattle.device_history.specs.declared.ask.Step.TheVariants as steps;
 ghost use Rattle.device_history.specs.Handles.{handler_of};
 ghost use Rattle.device_history.specs.Legal.{MayFollow};
 ghost use Rattle.device_history.specs.Refusals.{is_full};
-ghost use Rattle.device_history.specs.Lists.{earlier_pairs, handler_or, list_pairs, meant, opening_checks, read_view, request_refusal, through_refusal, values_read, which_or, write_view, writes_defaults};
+ghost use Rattle.device_history.specs.Lists.{earlier_pairs, handler_or, list_pairs, meant, meant_check, opening_checks, read_view, request_check, values_read, which_or, write_view, writes_defaults};
 ghost use Rattle.device_history.specs.Snapshots.{request as request_of};
 ghost use Rattle.device_history.specs.Answers.{MayAnswer};
 ghost use Rattle.device_state.specs.Device.{Handles, list_most, list_touches, with_step};
@@ -25,8 +27,9 @@ use super::Device;
 use ctrl_calls::{Driver, Work};
 use ctrl_clusters::{Moment, notify_changed, write_rows};
 use ctrl_lists::{ControlList, Touched, View, plan_set, read_list, try_list};
-use ctrl_types::{CtrlValue, Errno, Fault, FhId, Pair, RequestId, Which};
+use ctrl_types::{Check, CtrlValue, Fault, FhId, Pair, RequestId, Which};
 use device_history::{PairList, Reply, Step};
+use frame_queue::RequestState;
 use history::Entry;
 use std::alloc::AllocError;
 use step_effects::{clusters_of, copied_values, raise_step};
@@ -133,54 +136,46 @@ impl<D: Driver> Device<D> {
         which: u32,
         request: Option<RequestId>,
         writes: bool,
-    ) -> Result<(u32, Which), Errno>
+    ) -> Result<(u32, Which), Check>
         ensures passed { OnOk result (first_refusal (opening_checks D.verdict self.now.plan (past self.now.steps) fh which request writes) ≡ None) }
-        ensures err { IfErr result (λ errno. first_refusal (opening_checks D.verdict self.now.plan (past self.now.steps) fh which request writes) ≡ Some (record { errno = errno; place = None })) }
+        ensures err { IfErr result (λ check. first_refusal (opening_checks D.verdict self.now.plan (past self.now.steps) fh which request writes) ≡ Some (record { check = check; place = None })) }
         ensures handler { IfOk result (λ r. r.0 ≡ handler_or (handler_of (past self.now.steps) fh)) }
         ensures which { IfOk result (λ r. r.1 ≡ which_or (which_of which)) }
         ensures writable { IfOk result (λ r. writes ≡ true → r.1 ≢ Defaults) }
     {
         let Some(handler) = self.handler_of(fh) else {
-            return Err(Errno::EBADF);
+            return Err(Check::ListHandleClosed);
         };
-        let Ok(which) = Which::read(which) else {
-            return Err(Errno::EINVAL);
-        };
+        let which = Which::read(which)?;
         if writes_defaults(writes, which) {
-            return Err(Errno::EINVAL);
+            return Err(Check::DefaultsWritten);
         }
-        match self.through_refusal(writes, which, request) {
-            Some(errno) => Err(errno),
+        match self.meant_check(writes, which, request) {
+            Some(check) => Err(check),
             None => Ok((handler, which)),
         }
     }
 
     // Why the request that a list speaks of refuses it.
-    fn through_refusal(
-        &self,
-        writes: bool,
-        which: Which,
-        request: Option<RequestId>,
-    ) -> Option<Errno>
-        ensures { result ≡ through_refusal D.verdict self.now.plan (past self.now.steps) writes which request }
+    fn meant_check(&self, writes: bool, which: Which, request: Option<RequestId>) -> Option<Check>
+        ensures { result ≡ meant_check D.verdict self.now.plan (past self.now.steps) writes which request }
     {
-        match (which, request) {
-            (Which::Request, Some(request)) => self.request_refusal(writes, request),
-            (Which::Request, None) => Some(Errno::EINVAL),
-            _ => None,
+        match which {
+            Which::Request => match request {
+                Some(request) => self.request_check(writes, request),
+                None => Some(Check::ListRequestMissing),
+            },
+            Which::Current | Which::Class(_) | Which::Defaults => None,
         }
     }
 
     // Why a request refuses a list.
-    fn request_refusal(&self, writes: bool, request: RequestId) -> Option<Errno>
-        ensures { result ≡ request_refusal writes (request_of D.verdict self.now.plan (past self.now.steps) request.0) }
+    fn request_check(&self, writes: bool, request: RequestId) -> Option<Check>
+        ensures { result ≡ request_check writes (request_of D.verdict self.now.plan (past self.now.steps) request.0) }
     {
-        if writes {
-            return self.store_refusal(request);
-        }
-        match self.frames.snapshot_values(request) {
-            Ok(_) => None,
-            Err(errno) => Some(errno),
+        match self.frames.state(request) {
+            Some(state) => state_check(writes, state),
+            None => Some(Check::ListRequestMissing),
         }
     }
 
@@ -196,9 +191,9 @@ impl<D: Driver> Device<D> {
         fh: FhId,
         which: u32,
         request: Option<RequestId>,
-    ) -> Result<View<'_, D>, Errno>
+    ) -> Result<View<'_, D>, Check>
         ensures passed { OnOk result (first_refusal (opening_checks D.verdict self.now.plan (past self.now.steps) fh which request false) ≡ None) }
-        ensures err { IfErr result (λ errno. first_refusal (opening_checks D.verdict self.now.plan (past self.now.steps) fh which request false) ≡ Some (record { errno = errno; place = None })) }
+        ensures err { IfErr result (λ check. first_refusal (opening_checks D.verdict self.now.plan (past self.now.steps) fh which request false) ≡ Some (record { check = check; place = None })) }
         ensures plan { IfOk result (λ view. view.plan ≡ self.now.plan) }
         ensures view { IfOk result (λ view. view.parts ≡ read_view D.verdict self.now.plan (past self.now.steps) fh which request) }
     {
@@ -215,7 +210,7 @@ impl<D: Driver> Device<D> {
 
     // The values that a get reads: the snapshot of the request that it speaks of, which the caller owes to be complete, or the present ones.
     fn values_read(&self, request: Option<RequestId>) -> &[CtrlValue]
-        requires { IfSome request (λ r. request_refusal false (request_of D.verdict self.now.plan (past self.now.steps) r.0) ≡ None) }
+        requires { IfSome request (λ r. request_check false (request_of D.verdict self.now.plan (past self.now.steps) r.0) ≡ None) }
         ensures values { result.now ≡ values_read D.verdict self.now.plan (past self.now.steps) request }
         ensures long { length result.now ≡ length self.now.plan.controls }
     {
@@ -236,9 +231,9 @@ impl<D: Driver> Device<D> {
         fh: FhId,
         which: u32,
         request: Option<RequestId>,
-    ) -> Result<View<'_, D>, Errno>
+    ) -> Result<View<'_, D>, Check>
         ensures passed { OnOk result (first_refusal (opening_checks D.verdict self.now.plan (past self.now.steps) fh which request true) ≡ None) }
-        ensures err { IfErr result (λ errno. first_refusal (opening_checks D.verdict self.now.plan (past self.now.steps) fh which request true) ≡ Some (record { errno = errno; place = None })) }
+        ensures err { IfErr result (λ check. first_refusal (opening_checks D.verdict self.now.plan (past self.now.steps) fh which request true) ≡ Some (record { check = check; place = None })) }
         ensures plan { IfOk result (λ view. view.plan ≡ self.now.plan) }
         ensures view { IfOk result (λ view. view.parts ≡ write_view D.verdict self.now.plan (past self.now.steps) fh which request) }
         ensures which { IfOk result (λ view. view.parts.which ≢ Defaults) }
@@ -250,7 +245,7 @@ impl<D: Driver> Device<D> {
 
     // The pairs that are laid before those of a list: what the request asks for that it speaks of, which the caller owes to be there.
     fn earlier_pairs(&self, request: Option<RequestId>) -> &[Pair]
-        requires { IfSome request (λ r. request_refusal true (request_of D.verdict self.now.plan (past self.now.steps) r.0) ≡ None) }
+        requires { IfSome request (λ r. request_check true (request_of D.verdict self.now.plan (past self.now.steps) r.0) ≡ None) }
         ensures { result.now ≡ earlier_pairs self.now.plan (past self.now.steps) request }
     {
         match request {
@@ -271,11 +266,11 @@ impl<D: Driver> Device<D> {
     {
         let view = match self.read_view(fh, which, request) {
             Ok(view) => view,
-            Err(errno) => return Err(at(errno, list.len())),
+            Err(check) => return Err(at(check, list.len())),
         };
         let controls = match read_list(self.alloc, &view, list) {
             Ok(controls) => controls,
-            Err(refusal) => return Err(refusal),
+            Err(refusal) => return Err(refusal.at_count(list.len())),
         };
         Ok(Reply::Controls(controls))
     }
@@ -296,11 +291,11 @@ impl<D: Driver> Device<D> {
     {
         let view = match self.write_view(fh, which, request) {
             Ok(view) => view,
-            Err(errno) => return Err(at(errno, list.len())),
+            Err(check) => return Err(at(check, list.len())),
         };
         let touch = match try_list(self.alloc, &view, list, work) {
             Ok(touch) => touch,
-            Err(refusal) => return Err(refusal),
+            Err(refusal) => return Err(refusal.at_entry(list.len())),
         };
         Ok(Reply::Controls(touch.into_parts().0))
     }
@@ -325,7 +320,7 @@ impl<D: Driver> Device<D> {
         };
         match self.accept_set(seat, fh, spoken(which, request), touch) {
             Ok(controls) => Ok(Reply::Controls(controls)),
-            Err(_) => Err(at(Errno::ENOMEM, list.len())),
+            Err(_) => Err(at(Check::MemoryRefused, list.len())),
         }
     }
 
@@ -346,14 +341,14 @@ impl<D: Driver> Device<D> {
     {
         let view = match self.write_view(fh, which, request) {
             Ok(view) => view,
-            Err(errno) => return Err(at(errno, list.len())),
+            Err(check) => return Err(at(check, list.len())),
         };
         let touch = match plan_set(self.alloc, &view, list, work) {
             Ok(touch) => touch,
-            Err(refused) => return Err(refused),
+            Err(refused) => return Err(refused.at_count(list.len())),
         };
         if self.is_full() {
-            return Err(at(Errno::ENOSPC, list.len()));
+            return Err(at(Check::NoRoomForSet, list.len()));
         }
         Ok(touch)
     }
@@ -491,12 +486,33 @@ fn writes_defaults(writes: bool, which: Which) -> bool
     }
 }
 
-// A fault of a list, with its index.
-fn at(errno: Errno, index: u32) -> Fault
-    ensures { result ≡ record { errno = errno; index = Some index } }
+// Why a request in this state refuses a list: for one that writes it isn't idle, for one that reads it isn't complete.
+fn state_check(writes: bool, state: RequestState) -> Option<Check>
+    ensures { (r : RequestData) → r.state ≡ state → result ≡ request_check writes (Some r) }
+{
+    if writes {
+        match state {
+            RequestState::Idle => None,
+            RequestState::Queued | RequestState::Running | RequestState::Complete => {
+                Some(Check::ListRequestNotIdle)
+            }
+        }
+    } else {
+        match state {
+            RequestState::Complete => None,
+            RequestState::Idle | RequestState::Queued | RequestState::Running => {
+                Some(Check::ListRequestNotComplete)
+            }
+        }
+    }
+}
+
+// The fault of a check of a list, with its index.
+fn at(check: Check, index: u32) -> Fault
+    ensures { result ≡ record { errno = errno_of check; index = Some index } }
 {
     Fault {
-        errno,
+        errno: check.errno(),
         index: Some(index),
     }
 }

@@ -1,18 +1,18 @@
 //! How a device gives a control another range.
 
-ghost use Rattle.std.specs.Prelude.{◌≡◌, Ok, Err, IfOk, IfErr, OnOk, OnErr};
+ghost use Rattle.std.specs.Prelude.{◌≡◌, IfOk, OnOk, OnErr};
+ghost use Rattle.std.specs.Result.{result_err};
 ghost use Rattle.history.specs.Past.{past};
 ghost use Rattle.device_history.specs.declared.ask.Ask.TheVariants as asks;
-ghost use Rattle.device_history.specs.declared.ask.Reply.TheVariants as replies;
-ghost use Rattle.device_history.specs.Ranges.{control_with_range, range_answer, ranges_now};
+ghost use Rattle.device_history.specs.Ranges.{control_with_range, range_check, ranges_now};
 ghost use Rattle.device_state.specs.Device.{Handles};
 ghost use Rattle.device_state.specs.Ranging.{GivesRange, IsRanged};
 
-use super::{Device, plain, refused};
+use super::{Device, refused};
 use ctrl_calls::{Driver, Work};
 use ctrl_clusters::notify_cluster;
 use ctrl_settle::Ctrl;
-use ctrl_types::{Errno, Fault};
+use ctrl_types::{Check, Fault};
 use device_history::{Reply, Step};
 use history::Entry;
 use std::alloc::AllocError;
@@ -32,40 +32,39 @@ impl<D: Driver> Device<D> {
         ensures { Handles D.verdict self.old self.new seat (asks.ModifyRange control min max step default_value) result }
     {
         self.work = Work::new();
-        let changed = match self.read_range(control, min, max, step, default_value) {
+        let changed = match self.range_made(control, min, max, step, default_value) {
             Ok(changed) => changed,
-            Err(fault) => return Err(fault),
+            Err(check) => return refused(check),
         };
+        if let Some(check) = self.room_check() {
+            return refused(check);
+        }
         match self.accept_range(seat, control, changed) {
             Ok(()) => Ok(Reply::Done),
-            Err(_) => refused(Errno::ENOMEM),
+            Err(_) => refused(Check::MemoryRefused),
         }
     }
 
-    // The refusals of a range change; else the control with its new range.
-    fn read_range(
+    // A control with another range, or why it isn't given it.
+    pub(super) fn range_made(
         &self,
         control: u32,
         min: i64,
         max: i64,
         step: u64,
         default_value: i64,
-    ) -> Result<Ctrl, Fault>
-        ensures ok { OnOk result (range_answer self.now.plan (past self.now.steps) control min max step default_value ≡ Ok replies.Done) }
+    ) -> Result<Ctrl, Check>
         ensures changed { IfOk result (λ changed. changed ≡ control_with_range (ranges_now self.now.plan (past self.now.steps)) control min max step default_value) }
-        ensures err { IfErr result (λ fault. range_answer self.now.plan (past self.now.steps) control min max step default_value ≡ Err fault) }
+        ensures check { result_err result ≡ range_check self.now.plan (past self.now.steps) control min max step default_value }
     {
         if control >= self.plan.control_count() {
-            return Err(plain(Errno::EINVAL));
+            return Err(Check::ControlMissing);
         }
         let ctrl = self.range(control);
-        let Ok(changed) = ctrl.with_range(min, max, step, default_value) else {
-            return Err(plain(Errno::ERANGE));
-        };
-        if self.is_full() {
-            return Err(plain(Errno::ENOSPC));
+        match ctrl.with_range(min, max, step, default_value) {
+            Ok(changed) => Ok(changed),
+            Err(fault) => Err(fault.range_check()),
         }
-        Ok(changed)
     }
 
     // Gives a control another range, after the refusals.

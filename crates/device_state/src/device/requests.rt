@@ -1,14 +1,16 @@
 //! What a device answers about media requests and its queue of frames, but for the begin of a frame.
 
-ghost use Rattle.std.specs.Prelude.{◌≡◌, ◌≤◌, ◌+◌, false, true, length, None, Some, Ok, Err, MatchResult, OnOk, OnErr, slice_get};
+ghost use Rattle.std.specs.Prelude.{◌≡◌, ◌≤◌, ◌+◌, false, true, length, Some, Ok, Err, IfOk, MatchResult, OnOk, OnErr, slice_get};
 ghost use Rattle.std.specs.Option.{option_map};
+ghost use Rattle.std.specs.Result.{result_err};
 ghost use Rattle.history.specs.Past.{past};
-ghost use Rattle.req_book.specs.Refusals.{alloc_refusal, store_refusal, buffer_refusal, queue_refusal, clear_refusal, state_answer, buffer_answer, asked_answer, value_answer};
-ghost use Rattle.frame_queue.specs.Frames.{cancel_refusal};
+ghost use Rattle.req_book.specs.Refusals.{alloc_check, buffer_check, queue_check, clear_check, state_answer, buffer_answer, asked_answer, value_answer};
+ghost use Rattle.frame_queue.specs.Frames.{cancel_check, complete_check};
 ghost use Rattle.device_history.specs.declared.ask.Ask.TheVariants as asks;
 ghost use Rattle.device_history.specs.Frames.{queue, running};
+ghost use Rattle.device_history.specs.declared.limits.TheConstants.{MAX_STEPS};
 ghost use Rattle.device_history.specs.Legal.{MayFollow};
-ghost use Rattle.device_history.specs.Refusals.{is_full};
+ghost use Rattle.device_history.specs.Refusals.{is_full, refused};
 ghost use Rattle.device_history.specs.Snapshots.{frames, request as request_of, requests};
 ghost use Rattle.device_state.specs.Device.{Handles, with_step};
 ghost use Rattle.device_history.specs.Forecasts.{queued_frames};
@@ -18,7 +20,7 @@ ghost use Rattle.device_state.specs.Entering.{AddsStep};
 
 use super::{Device, refused};
 use ctrl_calls::{Driver, Work};
-use ctrl_types::{CtrlValue, Errno, Fault, Pair, RequestId};
+use ctrl_types::{Check, CtrlValue, Errno, Fault, Pair, RequestId};
 use device_history::{Ask, Reply, Step};
 use frame_queue::RequestState;
 use history::Entry;
@@ -80,9 +82,10 @@ impl<D: Driver> Device<D> {
         self.frames.queued(place)
     }
 
-    /// How many requests wait, for a driver's own use. It takes no memory.
+    /// How many requests wait, for a driver's own use: no more than steps are kept. It takes no memory.
     pub fn queued_count(&self) -> usize
-        ensures { result ≡ length (queue (past self.now.steps)) }
+        ensures count { result ≡ length (queue (past self.now.steps)) }
+        ensures few { result ≤ MAX_STEPS }
     {
         self.frames.queue_len()
     }
@@ -94,91 +97,93 @@ impl<D: Driver> Device<D> {
         self.frames.running()
     }
 
-    /// Why no further request is made, for a driver's own use: check 18 (ENOSPC, 28); none where nothing but the limit of steps or want of memory refuses
-    /// it. It takes no memory.
-    pub fn alloc_refusal(&self) -> Option<Errno>
-        ensures { result ≡ alloc_refusal (requests D.verdict self.now.plan (past self.now.steps)) }
+    // Why no further request is made.
+    pub(super) fn alloc_refusal(&self) -> Option<Check>
+        ensures { result ≡ alloc_check (requests D.verdict self.now.plan (past self.now.steps)) }
     {
         self.frames.alloc_refusal()
     }
 
-    // Why a request takes no settings.
-    pub(super) fn store_refusal(&self, request: RequestId) -> Option<Errno>
-        ensures { result ≡ store_refusal (request_of D.verdict self.now.plan (past self.now.steps) request.0) }
-    {
-        self.frames.store_refusal(request)
-    }
-
-    /// Why a request takes no buffer, for a driver's own use: check 19 (EINVAL, 22), 20, 21 or 22 (EBUSY, 16); none where nothing but the limit of steps or
-    /// want of memory refuses it. It takes no memory.
-    ///
-    /// - `request`: any request, there or not.
-    /// - `buffer`: any number.
-    pub fn buffer_refusal(&self, request: RequestId, buffer: u32) -> Option<Errno>
-        ensures { result ≡ buffer_refusal (requests D.verdict self.now.plan (past self.now.steps)) buffer (request_of D.verdict self.now.plan (past self.now.steps) request.0) }
+    // Why a request takes no buffer.
+    pub(super) fn buffer_refusal(&self, request: RequestId, buffer: u32) -> Option<Check>
+        ensures { result ≡ buffer_check (requests D.verdict self.now.plan (past self.now.steps)) buffer (request_of D.verdict self.now.plan (past self.now.steps) request.0) }
     {
         self.frames.buffer_refusal(request, buffer)
     }
 
     // Why a request isn't queued.
-    pub(super) fn queue_refusal(&self, request: RequestId) -> Option<Errno>
-        ensures { result ≡ queue_refusal (request_of D.verdict self.now.plan (past self.now.steps) request.0) }
+    pub(super) fn queue_refusal(&self, request: RequestId) -> Option<Check>
+        ensures { result ≡ queue_check (request_of D.verdict self.now.plan (past self.now.steps) request.0) }
     {
         self.frames.queue_refusal(request)
     }
 
     // Why a request is neither made as new nor let go.
-    pub(super) fn clear_refusal(&self, request: RequestId) -> Option<Errno>
-        ensures { result ≡ clear_refusal (request_of D.verdict self.now.plan (past self.now.steps) request.0) }
+    pub(super) fn clear_refusal(&self, request: RequestId) -> Option<Check>
+        ensures { result ≡ clear_check (request_of D.verdict self.now.plan (past self.now.steps) request.0) }
     {
         self.frames.clear_refusal(request)
     }
 
     // Why a request isn't taken from the queue.
-    pub(super) fn cancel_refusal(&self, request: RequestId) -> Option<Errno>
-        ensures { result ≡ cancel_refusal (request_of D.verdict self.now.plan (past self.now.steps) request.0) }
+    pub(super) fn cancel_refusal(&self, request: RequestId) -> Option<Check>
+        ensures { result ≡ cancel_check (request_of D.verdict self.now.plan (past self.now.steps) request.0) }
     {
         self.frames.cancel_refusal(request)
+    }
+
+    // The request whose frame is being made, or why no frame is ended.
+    pub(super) fn frame_running(&self) -> Result<RequestId, Check>
+        ensures running { IfOk result (λ request. running (past self.now.steps) ≡ Some request.0) }
+        ensures check { result_err result ≡ complete_check (frames D.verdict self.now.plan (past self.now.steps)) }
+    {
+        match self.frames.running() {
+            Some(request) => Ok(request),
+            None => Err(Check::NoFrameRunning),
+        }
     }
 
     // Ends the frame that is being made.
     pub(super) fn complete(&mut self, seat: u32) -> Result<Reply, Fault>
         ensures { Handles D.verdict self.old self.new seat asks.Complete result }
     {
-        match self.frames.running() {
-            Some(request) => {
+        match self.frame_running() {
+            Ok(request) => {
                 let step = Step::Complete { request };
                 self.enter(seat, &Ask::Complete, None, step, Reply::Done)
             }
-            None => {
-                self.work = Work::new();
-                refused(Errno::ENOENT)
-            }
+            Err(check) => self.refuse(check),
         }
     }
 
-    // Answers an ask whose step leaves file handles, grabs, ranges and values: its own refusal, that no further step is kept, or the reply.
+    // Refuses an ask before anything else is done.
+    pub(super) fn refuse(&mut self, check: Check) -> Result<Reply, Fault>
+        ensures answer { result ≡ refused check }
+        ensures kept { self.new ≡ record self.old { work = record { asked = 0; told = 0 } } }
+    {
+        self.work = Work::new();
+        refused(check)
+    }
+
+    // Answers an ask whose step leaves file handles, grabs, ranges and values: its own check, that no further step is kept, or the reply.
     pub(super) fn enter(
         &mut self,
         seat: u32,
         ask: &Ask,
-        refusal: Option<Errno>,
+        check: Option<Check>,
         step: Step,
         reply: Reply,
     ) -> Result<Reply, Fault>
-        requires { AddsStep D.verdict self.old.plan (past self.old.steps) self.old.words ask.now refusal step reply }
+        requires { AddsStep D.verdict self.old.plan (past self.old.steps) self.old.words ask.now check step reply }
         ensures { Handles D.verdict self.old self.new seat ask.now result }
     {
         self.work = Work::new();
-        if let Some(errno) = refusal {
-            return refused(errno);
-        }
-        if self.is_full() {
-            return refused(Errno::ENOSPC);
+        if let Some(check) = self.step_check(check) {
+            return refused(check);
         }
         match self.accept(seat, step) {
             Ok(()) => Ok(reply),
-            Err(_) => refused(Errno::ENOMEM),
+            Err(_) => refused(Check::MemoryRefused),
         }
     }
 

@@ -2,14 +2,12 @@
 
 ghost use Rattle.std.specs.Prelude.{◌≡◌, true, false, is_some, length, IfOk, OnOk, OnErr};
 ghost use Rattle.history.specs.Past.{past};
-ghost use Rattle.history.specs.declared.entry.Entry.{Entry as EntryOf};
-ghost use Rattle.device_history.specs.declared.ask.Step.{Step as StepOf};
 ghost use Rattle.device_history.specs.declared.ask.Step.TheVariants as steps;
 ghost use Rattle.device_history.specs.Legal.{MayFollow};
 ghost use Rattle.device_history.specs.Refusals.{is_full};
 ghost use Rattle.device_history.specs.Requests.{asked as asked_of, state};
 ghost use Rattle.device_history.specs.Snapshots.{begun_pairs, begun_refused, begun_values};
-ghost use Rattle.history_audit.specs.Replay.{IsNextEntry, IsNextStep, with_next};
+ghost use Rattle.history_audit.specs.Replay.{AddsNext, IsNextStep};
 
 use super::Replay;
 use ctrl_calls::{Driver, Work};
@@ -24,7 +22,7 @@ impl<'a, D: Driver> Replay<'a, D> {
         requires next { IsNextStep self.old (steps.Begin request) }
         requires room { is_full (past self.old.steps) ≡ false }
         requires follows { MayFollow D.verdict self.old.plan (past self.old.steps) (steps.Begin request) }
-        ensures ok { OnOk result ((e : EntryOf StepOf) → IsNextEntry self.old e → self.new ≡ with_next self.old e) }
+        ensures ok { OnOk result (AddsNext self.old self.new) }
         ensures err { OnErr result (self.new ≡ self.old) }
     {
         let overlaid = self.lay(request)?;

@@ -5,10 +5,8 @@ ghost use Rattle.std.specs.List.{All};
 ghost use Rattle.std.specs.Option.{option_map};
 ghost use Rattle.history.specs.Past.{past};
 ghost use Rattle.ctrl_types.specs.declared.which.Which.TheVariants.{Defaults};
-ghost use Rattle.req_book.specs.Refusals.{store_refusal};
+ghost use Rattle.req_book.specs.Refusals.{store_check};
 ghost use Rattle.ctrl_lists.specs.declared.limits.TheConstants.{MAX_ENTRIES};
-ghost use Rattle.history.specs.declared.entry.Entry.{Entry as EntryOf};
-ghost use Rattle.device_history.specs.declared.ask.Step.{Step as StepOf};
 ghost use Rattle.device_history.specs.declared.ask.Step.TheVariants as steps;
 ghost use Rattle.device_history.specs.Asking.{entries_of, first_storer, shows_pair, shows_pairs};
 ghost use Rattle.device_history.specs.Handles.{opened};
@@ -17,14 +15,14 @@ ghost use Rattle.device_history.specs.Lists.{write_view};
 ghost use Rattle.device_history.specs.Refusals.{is_full};
 ghost use Rattle.device_history.specs.Snapshots.{request as request_of};
 ghost use Rattle.history_audit.specs.Judged.{IsSet, IsUnset, view_of};
-ghost use Rattle.history_audit.specs.Replay.{IsNextEntry, IsNextStep, Replayed, with_next};
+ghost use Rattle.history_audit.specs.Replay.{AddsNext, IsNextStep, TriesNext};
 
 use super::Replay;
 use bitflags::Flags as FlagSet;
 use ctrl_calls::{Driver, Work};
 use ctrl_clusters::write_rows;
 use ctrl_lists::{ControlList, MAX_ENTRIES, Touched, View, plan_set};
-use ctrl_types::{Errno, ExtControl, FhId, Flags, Pair, RequestId, Which};
+use ctrl_types::{Check, ExtControl, FhId, Flags, Pair, RequestId, Which};
 use device_history::Step;
 use std::alloc::AllocError;
 use step_effects::{copied_values, raise_step};
@@ -33,7 +31,7 @@ impl<'a, D: Driver> Replay<'a, D> {
     // Replays a set.
     pub(super) fn set(&mut self, fh: FhId, pairs: &[Pair]) -> Result<bool, AllocError>
         requires { IsNextStep self.old (steps.Set fh pairs.now) }
-        ensures ok { IfOk result (λ is. (e : EntryOf StepOf) → IsNextEntry self.old e → Replayed D.verdict self.old self.new e is) }
+        ensures ok { IfOk result (TriesNext D.verdict self.old self.new) }
         ensures err { OnErr result (self.new ≡ self.old) }
     {
         let Some(touch) = self.touched_by_set(fh, pairs)? else {
@@ -63,7 +61,7 @@ impl<'a, D: Driver> Replay<'a, D> {
         requires room { is_full (past self.old.steps) ≡ false }
         requires follows { MayFollow D.verdict self.old.plan (past self.old.steps) (steps.Set fh touch.now.pairs) }
         requires touched { IsSet D.verdict self.old.plan (write_view D.verdict self.old.plan (past self.old.steps) fh 0 None) touch.now.pairs touch.now }
-        ensures ok { OnOk result ((e : EntryOf StepOf) → IsNextEntry self.old e → self.new ≡ with_next self.old e) }
+        ensures ok { OnOk result (AddsNext self.old self.new) }
         ensures err { OnErr result (self.new ≡ self.old) }
     {
         let mut values = copied_values(self.alloc, self.controls.values())?;
@@ -84,7 +82,7 @@ impl<'a, D: Driver> Replay<'a, D> {
     ) -> Result<bool, AllocError>
         requires next { IsNextStep self.old step.now }
         requires step { step.now ≡ steps.Store request pairs.now }
-        ensures ok { IfOk result (λ is. (e : EntryOf StepOf) → IsNextEntry self.old e → Replayed D.verdict self.old self.new e is) }
+        ensures ok { IfOk result (TriesNext D.verdict self.old self.new) }
         ensures err { OnErr result (self.new ≡ self.old) }
     {
         if !self.is_storable(request, pairs)? {
@@ -114,8 +112,8 @@ impl<'a, D: Driver> Replay<'a, D> {
     }
 
     // Why pairs can't be stored in a request.
-    fn store_refusal(&self, request: RequestId) -> Option<Errno>
-        ensures { result ≡ store_refusal (request_of D.verdict self.now.plan (past self.now.steps) request.0) }
+    fn store_refusal(&self, request: RequestId) -> Option<Check>
+        ensures { result ≡ store_check (request_of D.verdict self.now.plan (past self.now.steps) request.0) }
     {
         self.frames.store_refusal(request)
     }
@@ -177,8 +175,8 @@ impl<'a, D: Driver> Replay<'a, D> {
                     Ok(None)
                 }
             }
-            Err(fault) => match fault.errno {
-                Errno::ENOMEM => Err(AllocError),
+            Err(refusal) => match refusal.check {
+                Check::MemoryRefused => Err(AllocError),
                 _ => Ok(None),
             },
         }

@@ -2,14 +2,12 @@
 
 ghost use Rattle.std.specs.Prelude.{◌≡◌, ◌<◌, ◌≤◌, true, false, length, MatchOption, OnOk, OnErr};
 ghost use Rattle.history.specs.Past.{past};
-ghost use Rattle.history.specs.declared.entry.Entry.{Entry as EntryOf};
-ghost use Rattle.device_history.specs.declared.ask.Step.{Step as StepOf};
 ghost use Rattle.device_history.specs.declared.ask.Step.TheVariants as steps;
 ghost use Rattle.ctrl_handlers.specs.Plan.{control_in};
 ghost use Rattle.device_history.specs.Legal.{MayFollow};
 ghost use Rattle.device_history.specs.Ranges.{ranges_now};
 ghost use Rattle.device_history.specs.Refusals.{is_full};
-ghost use Rattle.history_audit.specs.Replay.{IsNextEntry, IsNextStep, Replayed, with_next};
+ghost use Rattle.history_audit.specs.Replay.{AddsNext, IsNextStep, TriesNext};
 ghost use Rattle.history_audit.specs.Changing.{StoresKnown};
 ghost use Rattle.step_effects.specs.Leaving.{leaves_controls};
 
@@ -27,7 +25,7 @@ impl<'a, D: Driver> Replay<'a, D> {
         requires next { IsNextStep self.old (steps.OpenFh handler) }
         requires room { is_full (past self.old.steps) ≡ false }
         requires follows { MayFollow D.verdict self.old.plan (past self.old.steps) (steps.OpenFh handler) }
-        ensures ok { OnOk result ((e : EntryOf StepOf) → IsNextEntry self.old e → self.new ≡ with_next self.old e) }
+        ensures ok { OnOk result (AddsNext self.old self.new) }
         ensures err { OnErr result (self.new ≡ self.old) }
     {
         self.file_handles.insert(self.count as u32, handler)?;
@@ -40,7 +38,7 @@ impl<'a, D: Driver> Replay<'a, D> {
         requires next { IsNextStep self.old (steps.CloseFh fh) }
         requires room { is_full (past self.old.steps) ≡ false }
         requires follows { MayFollow D.verdict self.old.plan (past self.old.steps) (steps.CloseFh fh) }
-        ensures { (e : EntryOf StepOf) → IsNextEntry self.old e → self.new ≡ with_next self.old e }
+        ensures { AddsNext self.old self.new }
     {
         self.file_handles.shift_remove(&fh.0);
         self.events.drop_fh(fh);
@@ -52,7 +50,7 @@ impl<'a, D: Driver> Replay<'a, D> {
         requires next { IsNextStep self.old (steps.Grab control on) }
         requires room { is_full (past self.old.steps) ≡ false }
         requires follows { MayFollow D.verdict self.old.plan (past self.old.steps) (steps.Grab control on) }
-        ensures ok { OnOk result ((e : EntryOf StepOf) → IsNextEntry self.old e → self.new ≡ with_next self.old e) }
+        ensures ok { OnOk result (AddsNext self.old self.new) }
         ensures err { OnErr result (self.new ≡ self.old) }
     {
         let mut grabs = copied_grabs(self.alloc, self.controls.grabs())?;
@@ -74,7 +72,7 @@ impl<'a, D: Driver> Replay<'a, D> {
         default_value: i64,
     ) -> bool
         requires { IsNextStep self.old (steps.ModifyRange control min max apart default_value) }
-        ensures { (e : EntryOf StepOf) → IsNextEntry self.old e → Replayed D.verdict self.old self.new e result }
+        ensures { TriesNext D.verdict self.old self.new result }
     {
         if self.is_full() {
             return false;
@@ -113,7 +111,7 @@ impl<'a, D: Driver> Replay<'a, D> {
         requires room { is_full (past self.old.steps) ≡ false }
         requires follows { MayFollow D.verdict self.old.plan (past self.old.steps) step.now }
         requires known { StoresKnown (length self.old.plan.controls) step.now }
-        ensures ok { OnOk result ((e : EntryOf StepOf) → IsNextEntry self.old e → self.new ≡ with_next self.old e) }
+        ensures ok { OnOk result (AddsNext self.old self.new) }
         ensures err { OnErr result (self.new ≡ self.old) }
     {
         let number = self.count as u32;

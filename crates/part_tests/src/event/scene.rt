@@ -69,7 +69,10 @@ impl Scene {
             &payload(control, value),
         );
         self.calls += 1;
-        answer
+        match answer {
+            Ok(()) => Ok(()),
+            Err(_) => Err(Errno::ENOMEM),
+        }
     }
 
     fn raise(&mut self, control: u32, changes: u32, value: i64, from: Option<u32>) {
@@ -94,7 +97,10 @@ impl Scene {
     }
 
     fn take(&mut self, fh: u32) -> Result<Event, Errno> {
-        self.events.take(FhId(fh))
+        match self.events.take(FhId(fh)) {
+            Ok(event) => Ok(event),
+            Err(check) => Err(check.errno()),
+        }
     }
 
     fn drop_fh(&mut self, fh: u32) {

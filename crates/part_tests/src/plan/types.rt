@@ -1,17 +1,19 @@
-//! The numbers of errors, kinds, flags and classes.
+//! The numbers of errors, checks, kinds, flags and classes.
 
 use bitflags::Flags as FlagSet;
-use ctrl_types::{CtrlId, Errno, Flags, Kind, Which};
+use ctrl_types::{Check, CtrlId, Errno, Flags, Kind, Which};
 use std::process::Abort;
 
 #[derive(Clone, Copy)]
 enum Case {
     // The error has this number.
     Error(Errno, u32),
+    // The check has this number and this part, and an ask that it refuses this errno.
+    Check(Check, u32, Option<u32>, Errno),
     // The kind has this number.
     Kind(Kind, u32),
     // The number is read as this.
-    Which(u32, Result<Which, Errno>),
+    Which(u32, Result<Which, Check>),
     // The id lies in this class.
     Class(u32, u32),
     // The bits are kept, and have both flags or not, and any of the two or not.
@@ -39,15 +41,27 @@ const NUMBERS: &[Case] = &[
     Case::Kind(Kind::U8, 256),
 ];
 
+// those that no command of a script meets, and one of each kind that has parts
+const CHECKS: &[Case] = &[
+    Case::Check(Check::NoRoomForSet, 9, None, Errno::ENOSPC),
+    Case::Check(Check::ControlMissing, 13, None, Errno::EINVAL),
+    Case::Check(Check::NotComplete, 30, None, Errno::EACCES),
+    Case::Check(Check::HistoryFull, 33, None, Errno::ENOSPC),
+    Case::Check(Check::MemoryRefused, 34, None, Errno::ENOMEM),
+    Case::Check(Check::ValueNotOfKind, 7, Some(57), Errno::EINVAL),
+    Case::Check(Check::RangeStepZero, 55, Some(36), Errno::ERANGE),
+    Case::Check(Check::RowRefused(Errno::EBUSY), 8, None, Errno::EBUSY),
+];
+
 const CLASSES: &[Case] = &[
     Case::Which(0, Ok(Which::Current)),
     Case::Which(0x0f00_0000, Ok(Which::Defaults)),
     Case::Which(0x0f01_0000, Ok(Which::Request)),
     Case::Which(0x0098_0000, Ok(Which::Class(0x0098_0000))),
     Case::Which(0x0f02_0000, Ok(Which::Class(0x0f02_0000))),
-    Case::Which(1, Err(Errno::EINVAL)),
-    Case::Which(0x0098_0900, Err(Errno::EINVAL)),
-    Case::Which(0x1098_0000, Err(Errno::EINVAL)),
+    Case::Which(1, Err(Check::WhichUnknown)),
+    Case::Which(0x0098_0900, Err(Check::WhichUnknown)),
+    Case::Which(0x1098_0000, Err(Check::WhichUnknown)),
     Case::Class(0xf098_0900, 0x0098_0000),
 ];
 
@@ -66,6 +80,9 @@ const FLAGS: &[Case] = &[
 fn holds(case: Case) -> bool {
     match case {
         Case::Error(errno, number) => errno.number() == number,
+        Case::Check(check, number, part, errno) => {
+            check.number() == number && check.part() == part && check.errno() == errno
+        }
         Case::Kind(kind, number) => kind.number() == number,
         Case::Which(number, which) => Which::read(number) == which,
         Case::Class(id, class) => CtrlId(id).class() == class,
@@ -87,6 +104,11 @@ fn check(rt: &impl Abort, cases: &[Case]) {
 #[test]
 fn numbers_are_those_of_linux(rt: HostRuntime) {
     check(&rt, NUMBERS);
+}
+
+#[test]
+fn checks_are_those_of_the_rules(rt: HostRuntime) {
+    check(&rt, CHECKS);
 }
 
 #[test]

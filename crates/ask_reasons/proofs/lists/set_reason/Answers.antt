@@ -1,29 +1,17 @@
-use Rattle.std.proofs.Common.{◌≡◌, Some, true, false, rules, ap, sym, ◌∙◌}
-use Rattle.std.specs.Option.{is_none}
+use Rattle.std.proofs.Common.{rules}
 use Rattle.history.specs.Past.{past}
-use Rattle.device_history.specs.Refusals.{is_full}
-use Rattle.ask_reasons.specs.declared.check.Check.TheVariants as checks
-use Rattle.ask_reasons.specs.Reasons.{as_whole}
-use Rattle.ask_reasons.proofs.Failed.{fails_before, has_room, lacks_room, set_last}
+use Rattle.ask_reasons.proofs.ListReasons.{set_opening, set_refused}
 use Rattle.ask_reasons.proofs.lists.set_reason.Goals as goal
-use Rattle.ask_reasons.proofs.lists.set_reason.Goals.{else-is_none-via-then-is_none+else-is_full, else-is_none-via-else-is_none}
 
-pub returns-else-is_none : goal.returns-else-is_none
-returns-else-is_none g c =
-    let steps = past c.args.device.now.steps in
-    let last = set_last g.D.Validates.verdict c.args.device.now.plan steps c.args.fh c.args.which c.args.request c.args.list.now c.in_ok-reason.reason c.in_ok-reason.ensures in
-    elim c.else-is_none.branch [
-      | else-is_none-via-then-is_none+else-is_full w ↦
-          has_room (is_full steps) c.in_ok-reason.reason (Some (as_whole checks.RoomForSet)) _ (sym w.is_full.ensures ∙ w.if-is_full.false) last
-      | else-is_none-via-else-is_none w ↦
-          let some : is_none c.in_ok-reason.reason ≡ false = search rules in
-          fails_before c.in_ok-reason.reason _ _ some last
-    ]
+pub returns-in-Err : goal.returns-in-Err
+returns-in-Err g c =
+    set_opening g.D.Validates.verdict c.args.device.now.plan (past c.args.device.now.steps) c.args.fh c.args.which c.args.request c.args.list.now c.in-Err.check c.as_whole.result c.in-Err.ensures.err c.as_whole.ensures
+
+pub returns : goal.returns
+returns g c =
+    set_refused g.D.Validates.verdict c.args.device.now.plan (past c.args.device.now.steps) c.args.fh c.args.which c.args.request c.args.list.now c.in-Ok.view.plan c.in-Ok.view.parts c.in-Err-plan_set.refusal c.in_ok-reason_at-in-Err-plan_set.field-0
+    c.in-Ok.ensures.passed c.in-Ok.ensures.plan c.in-Ok.ensures.view c.in-Err-plan_set.ensures.err c.in_ok-reason_at-in-Err-plan_set.ensures.own c.in_ok-reason_at-in-Err-plan_set.ensures.reason
 
 -- written out so that a wrong body is refused soon (docs/GATE.md)
-pub returns-then-is_full : goal.returns-then-is_full
-returns-then-is_full g c =
-    let steps = past c.args.device.now.steps in
-    let last = set_last g.D.Validates.verdict c.args.device.now.plan steps c.args.fh c.args.which c.args.request c.args.list.now c.in_ok-reason.reason c.in_ok-reason.ensures in
-    let none : is_none c.in_ok-reason.reason ≡ true = search rules in
-    ap Some c.as_whole.ensures ∙ lacks_room (is_full steps) c.in_ok-reason.reason (Some (as_whole checks.RoomForSet)) _ none (sym c.is_full.ensures ∙ c.if-is_full.true) last
+pub returns-in-Ok-plan_set : goal.returns-in-Ok-plan_set
+returns-in-Ok-plan_set g c = search rules

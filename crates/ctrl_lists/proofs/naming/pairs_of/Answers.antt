@@ -1,7 +1,7 @@
 use Rattle.std.proofs.Common.{◌<◌, length, ap, sym, ◌∙◌}
 use Rattle.ctrl_types.specs.declared.ids.Pair.{Pair}
 use Rattle.ctrl_lists.specs.View.{pair_of}
-use Rattle.ctrl_lists.specs.Checks.{at_first, naming_refusal}
+use Rattle.ctrl_lists.specs.Checks.{at_first, naming_check}
 use Rattle.ctrl_lists.proofs.ListLemmas.{all_pushed, gave, gives_pushed, names_one, passes, pushed_length}
 use Rattle.ctrl_lists.proofs.naming.pairs_of.Goals as goal
 
@@ -17,7 +17,7 @@ loop-place-preserved g c =
       so_far = gives_pushed (pair_of c.args.view.now.plan c.args.view.now.parts.handler c.args.view.now.parts.which) c.args.list.now c.loop-place.place d c.in-Some.pair c.loop-place.pairs.items c.push_reserved.new.self.items
           c.loop-place-test.true old.so_far c.push_reserved.ensures.items gives;
       each = pushed_length c.loop-place.pairs.items c.push_reserved.new.self.items c.in-Some.pair c.loop-place.place c.push_reserved.ensures.items old.each;
-      none = passes (naming_refusal c.args.view.now.plan c.args.view.now.parts) (at_first (naming_refusal c.args.view.now.plan c.args.view.now.parts) c.args.list.now) c.args.list.now c.loop-place.place d c.loop-place-test.true
+      none = passes (naming_check c.args.view.now.plan c.args.view.now.parts) (at_first (naming_check c.args.view.now.plan c.args.view.now.parts) c.args.list.now) c.args.list.now c.loop-place.place d c.loop-place-test.true
           (names_one c.args.view.now.plan c.args.view.now.parts _ c.in-Some.pair gives) old.none;
       known = all_pushed P c.loop-place.pairs.items c.push_reserved.new.self.items c.in-Some.pair c.push_reserved.ensures.items old.known c.in-Some.ensures.known;
       room = rw c.push_reserved.ensures.capacity old.room;

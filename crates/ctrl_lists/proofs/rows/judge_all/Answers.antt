@@ -1,18 +1,19 @@
 use Rattle.std.proofs.Common.{◌≤◌, ◌+◌, length, inl, ap, subst, sym, ◌∙◌}
+use Rattle.ctrl_types.specs.declared.check.Check.TheVariants.{RowRefused}
 use Rattle.ctrl_types.specs.declared.ids.Pair.{Pair}
 use Rattle.ctrl_clusters.specs.NewRows.{clusters_of}
 use Rattle.ctrl_handlers.specs.Plan.{cluster_of}
 use Rattle.ctrl_lists.specs.Touched.{with_cluster}
-use Rattle.ctrl_lists.specs.Checks.{at_first, judging_refusal}
+use Rattle.ctrl_lists.specs.Checks.{at_first, judging_check}
 use Rattle.ctrl_lists.proofs.ListLemmas.{passes, stops, each_next, few_more, asked_more, asked_within}
 use Rattle.ctrl_lists.proofs.rows.judge_all.Goals as goal
 
 -- the first pair whose cluster is refused
 pub returns-in-Err-clause-err : goal.returns-in-Err-clause-err
 returns-in-Err-clause-err g c =
-    let refused = judging_refusal g.D.Validates.verdict c.args.view.now.plan c.args.view.now.parts c.args.laid.now in
+    let refused = judging_check g.D.Validates.verdict c.args.view.now.plan c.args.view.now.parts c.args.laid.now in
     let d = c.index-pairs-place.result in
-    inl (rw c.at.ensures (stops refused (at_first refused c.args.pairs.now) c.args.pairs.now c.loop-place.place d c.in-Err.errno c.loop-place-test.true (sym (ap refused c.index-pairs-place.is) ∙ c.in-Err.ensures.err) c.loop-place.invariant.none))
+    inl (rw c.at.ensures (stops refused (at_first refused c.args.pairs.now) c.args.pairs.now c.loop-place.place d (RowRefused c.in-Err.errno) c.loop-place-test.true (sym (ap refused c.index-pairs-place.is) ∙ c.in-Err.ensures.err) c.loop-place.invariant.none))
 
 pub returns-in-Err-clause-at_most : goal.returns-in-Err-clause-at_most
 returns-in-Err-clause-at_most g c =
@@ -28,7 +29,7 @@ pub loop-place-preserved : goal.loop-place-preserved
 loop-place-preserved g c =
     let old = c.loop-place.invariant in
     let does = c.in_default-judge_next.ensures in
-    let refused = judging_refusal g.D.Validates.verdict c.args.view.now.plan c.args.view.now.parts c.args.laid.now in
+    let refused = judging_check g.D.Validates.verdict c.args.view.now.plan c.args.view.now.parts c.args.laid.now in
     let d = c.index-pairs-place.result in
     let is = c.index-pairs-place.is in
     record {

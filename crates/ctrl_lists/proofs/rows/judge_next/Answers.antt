@@ -1,4 +1,4 @@
-use Rattle.std.proofs.Common.{◌≡◌, ◌∙◌, ap, true, false, is_some, length, Ok, Err, sym}
+use Rattle.std.proofs.Common.{◌≡◌, ap, true, false, is_some, length, Ok, Err, sym}
 use Rattle.ctrl_handlers.specs.Plan.{members}
 use Rattle.ctrl_clusters.specs.NewRows.{row_among}
 use Rattle.ctrl_clusters.specs.declared.new_row.NewRow.{NewRow}

@@ -1,4 +1,4 @@
-use Rattle.device_history.proofs.StretchLemmas.{rows_queued, rows_stand, frame_request, frame_values, frame_reply}
+use Rattle.device_history.proofs.StretchLemmas.{rows_queued, rows_stand, frame_request, frame_values, frame_answered}
 use Rattle.device_history.proofs.laws.frames_as_forecast.Goals as goal
 
 pub returns-clause-rows : goal.returns-clause-rows
@@ -14,4 +14,4 @@ pub returns-clause-values : goal.returns-clause-values
 returns-clause-values c = frame_values
 
 pub returns-clause-reply : goal.returns-clause-reply
-returns-clause-reply c = frame_reply
+returns-clause-reply c = frame_answered

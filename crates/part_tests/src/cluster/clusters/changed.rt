@@ -69,30 +69,11 @@ fn is_written_singly(
     are_numbers(values.as_slice(), want)
 }
 
-// The same into the controls of the plan.
-fn is_written_into(plan: &Plan<Strict>, controls: &mut Controls, two: Two, want: &[i64]) -> bool
-    requires { AreControlsOf plan.now controls.old.ranges }
-{
-    let Some(rows) = rows_of(two) else {
-        return false;
-    };
-    if !are_rows(plan, &rows) {
-        return false;
-    }
-    controls.write_rows(plan, &rows);
-    are_numbers(controls.values(), want)
-}
-
 // Whether the values are these, whichever way the rows are written.
 fn are_written(alloc: Global, plan: &Plan<Strict>, two: Two, want: &[i64]) -> Result<bool, Fail> {
     let mut values = values_of(alloc, VALUES)?;
     let mut singly = values_of(alloc, VALUES)?;
-    let mut controls = controls_of(alloc, plan, VALUES)?;
-    Ok(
-        is_written(plan, &mut values, two, want)
-            && is_written_singly(plan, &mut singly, two, want)
-            && is_written_into(plan, &mut controls, two, want),
-    )
+    Ok(is_written(plan, &mut values, two, want) && is_written_singly(plan, &mut singly, two, want))
 }
 
 #[test]

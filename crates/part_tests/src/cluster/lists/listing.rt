@@ -132,8 +132,12 @@ fn answer(
 ) -> Result<ControlList, Fault>
     requires { view.now.parts.which ≡ which }
 {
+    let count = list.len();
     if call == Call::Read || which == Which::Defaults {
-        return read_list(alloc, view, list);
+        return match read_list(alloc, view, list) {
+            Ok(answers) => Ok(answers),
+            Err(refusal) => Err(refusal.at_count(count)),
+        };
     }
     let judged = if call == Call::Set {
         plan_set(alloc, view, list, work)
@@ -145,7 +149,8 @@ fn answer(
             let (answers, _) = touched.into_parts();
             Ok(answers)
         }
-        Err(fault) => Err(fault),
+        Err(refusal) if call == Call::Set => Err(refusal.at_count(count)),
+        Err(refusal) => Err(refusal.at_entry(count)),
     }
 }
 

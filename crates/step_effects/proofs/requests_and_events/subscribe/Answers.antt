@@ -1,4 +1,5 @@
 use Rattle.std.proofs.Common.{◌∙◌, ap}
+use Rattle.std.proofs.lemmas.Result.{on_ok_weaker}
 use Rattle.ctrl_types.specs.declared.changes.Changes.{Changes}
 use Rattle.ctrl_clusters.specs.Moments.{parts}
 use Rattle.ctrl_events.specs.declared.event.Payload.{Payload}
@@ -9,9 +10,9 @@ use Rattle.step_effects.proofs.RaisedLemmas.{subscribed_step}
 use Rattle.step_effects.proofs.requests_and_events.subscribe.Goals as goal
 
 -- the file handle is subscribed, and told where it asks for it
-pub returns-in-Ok-clause-ok : goal.returns-in-Ok-clause-ok
-returns-in-Ok-clause-ok g c verdicts e older is r v gs j =
-    c.in-Ok.ensures.ok j.0
+pub returns-clause-ok : goal.returns-clause-ok
+returns-clause-ok g c = on_ok_weaker c.subscribe.result (λ done verdicts e older is r v gs j.
+    done j.0
     ∙ ap (λ (x : Changes). only_at c.args.fh.0 (after_subscribe c.args.control c.args.flags x c.payload_at-payload.result) j.0 (events_of c.args.events.now j.0)) c.initial_changes-changes.ensures
     ∙ ap (λ (x : Payload). only_at c.args.fh.0 (after_subscribe c.args.control c.args.flags (initial_changes (control c.args.at.now.plan.now c.args.control).flags) x) j.0 (events_of c.args.events.now j.0)) c.payload_at-payload.ensures
-    ∙ subscribed_step verdicts c.args.at.now.plan.now e older (parts c.args.at.now) c.args.fh c.args.control c.args.flags j (events_of c.args.events.now j.0) is r v gs
+    ∙ subscribed_step verdicts c.args.at.now.plan.now e older (parts c.args.at.now) c.args.fh c.args.control c.args.flags j (events_of c.args.events.now j.0) is r v gs) c.subscribe.ensures.ok

@@ -23,7 +23,6 @@ pub returns-after-subscribe-clause-err : goal.returns-after-subscribe-clause-err
 returns-after-subscribe-clause-err c = elim c.match-subscribe.branch [
   | in-Ok w ↦ rw w.result-is tt
   | in-Err w ↦ rw w.result-is (
-    refl,
-    ap seen ((c.get_mut.follows.holds c.subscribe.new.self).0 ∙ rewritten c.self.inside.files.entries c.args.fh.0 c.in-Some.queue.now c.subscribe.new.self c.in-Some.ensures.value w.in-Err.ensures.err) ∙ c.self.view_is,
-  )
+      ap seen ((c.get_mut.follows.holds c.subscribe.new.self).0 ∙ rewritten c.self.inside.files.entries c.args.fh.0 c.in-Some.queue.now c.subscribe.new.self c.in-Some.ensures.value w.in-Err.ensures.err) ∙ c.self.view_is
+      )
 ]

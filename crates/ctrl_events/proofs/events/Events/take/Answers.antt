@@ -1,5 +1,5 @@
 use Rattle.std.proofs.Common.{◌∙◌, sym, ap, refl, is_some}
-use Rattle.ctrl_events.specs.Events.{FileEvents, take_answer, after_take}
+use Rattle.ctrl_events.specs.Events.{FileEvents, first_waiting, after_take}
 use Rattle.ctrl_events.proofs.FileLemmas.{found, missing, written, unwritten}
 use Rattle.ctrl_events.proofs.events.Events.take.Goals as goal
 use Rattle.ctrl_events.proofs.events.Events.take.Goals.{in-Some, in-None}
@@ -15,6 +15,6 @@ returns-clause-events c = elim c.match-get_mut.branch [
 
 pub returns-clause-answer : goal.returns-clause-answer
 returns-clause-answer c = elim c.match-get_mut.branch [
-  | in-Some w ↦ w.result-is ∙ w.take.ensures.answer ∙ ap (λ (f : FileEvents). take_answer f.waiting) (found c.self.inside.files.entries c.args.self.now c.args.fh.0 w.in-Some.queue.now c.self.view_is w.in-Some.ensures.value)
-  | in-None w ↦ w.result-is ∙ ap (λ (f : FileEvents). take_answer f.waiting) (missing c.self.inside.files.entries c.args.self.now c.args.fh.0 c.self.view_is w.in-None.ensures.value)
+  | in-Some w ↦ w.result-is ∙ w.take.ensures.answer ∙ ap (λ (f : FileEvents). first_waiting f.waiting) (found c.self.inside.files.entries c.args.self.now c.args.fh.0 w.in-Some.queue.now c.self.view_is w.in-Some.ensures.value)
+  | in-None w ↦ w.result-is ∙ ap (λ (f : FileEvents). first_waiting f.waiting) (missing c.self.inside.files.entries c.args.self.now c.args.fh.0 c.self.view_is w.in-None.ensures.value)
 ]

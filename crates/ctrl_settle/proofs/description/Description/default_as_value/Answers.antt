@@ -1,7 +1,6 @@
-use Rattle.std.proofs.Common.{rules, arith, ◌≡◌, ap, ◌∙◌, ℤ, FitsSigned, Option, Some, refl, to_z, of_z, w64}
+use Rattle.std.proofs.Common.{rules, arith, ◌≡◌, FitsSigned, Some, refl, to_z, of_z, w64}
 use Rattle.std.proofs.Math.Facts.{to_z-of_z}
 use Rattle.std.proofs.lemmas.Int.{ints}
-use Rattle.ctrl_settle.specs.Control.{Control}
 use Rattle.ctrl_settle.proofs.Settling.{default_fits}
 use Rattle.ctrl_settle.proofs.description.Description.default_as_value.Goals as goal
 

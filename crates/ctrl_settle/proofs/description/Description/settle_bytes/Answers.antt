@@ -1,4 +1,4 @@
-use Rattle.std.proofs.Common.{rules, arith}
+use Rattle.std.proofs.Common.{rules}
 use Rattle.ctrl_settle.specs.Settle.{settled_byte}
 use Rattle.ctrl_settle.proofs.Settling.{bytes_more_set}
 use Rattle.ctrl_settle.proofs.description.Description.settle_bytes.Goals as goal

@@ -1,4 +1,4 @@
-use Rattle.std.proofs.Common.{rules, arith, ◌≡◌, ap, ◌∙◌, ◌≤ℤ◌, FitsSigned, pos, to_z, of_z, w64}
+use Rattle.std.proofs.Common.{rules, arith, ◌≡◌, FitsSigned, pos, to_z, of_z, w64}
 use Rattle.std.proofs.Math.Facts.{to_z-of_z}
 use Rattle.std.proofs.lemmas.Int.{ints}
 use Rattle.ctrl_settle.specs.Grid.{nearest}

@@ -1,4 +1,4 @@
-use Rattle.std.proofs.Common.{◌≡◌, ◌<◌, ℕ, Ok, Some, List, [], ◌∷◌, ◌++◌, length, slice_get, refl, ap, sym, subst, ◌∙◌}
+use Rattle.std.proofs.Common.{◌≡◌, ◌<◌, ℕ, Ok, List, [], ◌∷◌, ◌++◌, length, slice_get, refl, ap, sym, subst, ◌∙◌}
 use Rattle.history.specs.declared.entry.Entry.{Entry}
 use Rattle.history.specs.Past.{past}
 use Rattle.ctrl_types.specs.declared.ids.Pair.{Pair}
@@ -13,7 +13,7 @@ use Rattle.frame_queue.specs.Frames.{after_begin}
 use Rattle.device_history.specs.declared.ask.Reply.TheVariants.{Frame}
 use Rattle.device_history.specs.declared.ask.Step.{Step}
 use Rattle.device_history.specs.declared.ask.Step.TheVariants.{Begin}
-use Rattle.device_history.specs.Snapshots.{begun_pairs, begun_refused, begun_values}
+use Rattle.device_history.specs.Snapshots.{begun_pairs, begun_values}
 use Rattle.device_history.specs.Values.{now}
 use Rattle.step_effects.proofs.FitLemmas.{begin_passes}
 use Rattle.device_state.proofs.BeginLemmas.{begin_reply, begun_board, begun_first, frames_queued, kept_begin, length_begun}

@@ -1,4 +1,4 @@
-use Rattle.std.proofs.Common.{ℕ, false, List, [], ◌∷◌, ◌++◌, ◌≡◌, ◌<◌, length, slice_set, IsOk, refl, sym, ap, subst, ◌∙◌, arith}
+use Rattle.std.proofs.Common.{ℕ, false, List, [], ◌∷◌, ◌++◌, ◌≡◌, ◌<◌, length, slice_set, None, refl, sym, ap, subst, ◌∙◌, arith}
 use Rattle.history.specs.declared.entry.Entry.{Entry}
 use Rattle.history.specs.Past.{past}
 use Rattle.std.proofs.lemmas.List.{length-set}
@@ -11,7 +11,8 @@ use Rattle.ctrl_forecast.specs.Boards.{BoardData}
 use Rattle.ctrl_forecast.specs.Forecasts.{named_by_frames}
 use Rattle.device_history.specs.declared.ask.Step.{Step}
 use Rattle.device_history.specs.declared.ask.Step.TheVariants.{Grab}
-use Rattle.device_history.specs.Grabs.{grab_answer, grabbed}
+use Rattle.device_history.specs.Grabs.{grab_check, grabbed}
+use Rattle.device_history.specs.Refusals.{step_check}
 use Rattle.device_history.specs.Ranges.{ranges_now}
 use Rattle.device_history.specs.Values.{now}
 use Rattle.device_history.specs.Forecasts.{queued_frames}
@@ -26,7 +27,7 @@ pub index_mut-requires : goal.index_mut-requires
 index_mut-requires g c =
     let device = c.self.inside in
     let known : c.args.control < length device.plan.controls =
-    grab_known device.plan device.steps.items c.args.control (subst (λ (d : DeviceData). IsOk (grab_answer d.plan (past d.steps) c.args.control)) (sym c.self.view_is) c.requires) in
+    grab_known device.plan device.steps.items c.args.control (subst (λ (d : DeviceData). step_check (past d.steps) (grab_check d.plan c.args.control) ≡ None) (sym c.self.view_is) c.requires) in
     let many : length c.in_ok-grabs.grabs.items ≡ length device.plan.controls =
     ap length (c.in_ok-grabs.ensures ∙ c.grabs.ensures.grabs) ∙ grabs_kept g.D.Validates.verdict g.D.Notifies.told device.plan device.steps.items _ c.self.invariant in
     omega (arith, known, many, c.in_ok-grabs.grabs.ok.0)
@@ -47,8 +48,8 @@ pub invariant_of-self-2 : goal.invariant_of-self-2
 invariant_of-self-2 g c =
     let device = c.self.inside in
     let entry : Entry Step = record { seat = c.args.seat; step = Grab c.args.control c.args.on } in
-    let accepted : IsOk (grab_answer device.plan (past device.steps.items) c.args.control) =
-    subst (λ (d : DeviceData). IsOk (grab_answer d.plan (past d.steps) c.args.control)) (sym c.self.view_is) c.requires in
+    let accepted : step_check (past device.steps.items) (grab_check device.plan c.args.control) ≡ None =
+    subst (λ (d : DeviceData). step_check (past d.steps) (grab_check d.plan c.args.control) ≡ None) (sym c.self.view_is) c.requires in
     let grabs : c.as_slice.result.now ≡ slice_set device.controls.grabs c.args.control c.args.on =
     c.as_slice.ensures.value ∙ ap (λ (gs : Grabs). slice_set gs c.args.control c.args.on) (c.in_ok-grabs.ensures ∙ c.grabs.ensures.grabs) in
     let after : parts_after c.to_grabs-change.result ≡ c.grab.new.self = c.to_grabs-change.ensures.after ∙ ap (λ (gs : Grabs). record device.controls { grabs = gs }) grabs ∙ sym c.grab.ensures in

@@ -5,7 +5,7 @@ use Rattle.device_state.proofs.BeginLemmas.{handles_begin, begin_lacks}
 use Rattle.device_state.proofs.device.Device.begin.Goals as goal
 
 pub returns-in-Err : goal.returns-in-Err
-returns-in-Err g c = rw (← c.self.view_is) (handles_refused g.D.Validates.verdict _ _ _ c.args.seat _ _ refl c.new-self-inside.ensures c.in-Err.ensures.err)
+returns-in-Err g c = rw (← c.self.view_is, c.refused.ensures) (handles_refused g.D.Validates.verdict _ _ _ c.args.seat _ _ refl c.new-self-inside.ensures c.in-Err.ensures.err)
 
 pub returns-in-Ok-accept_begin : goal.returns-in-Ok-accept_begin
 returns-in-Ok-accept_begin g c =
@@ -17,6 +17,6 @@ pub returns-in-Err-accept_begin : goal.returns-in-Err-accept_begin
 returns-in-Err-accept_begin g c =
     let device = c.self.inside in
     let begun = c.in-Ok.ensures.ok in
-    rw (← c.self.view_is, c.refused.ensures)
+    rw (← c.self.view_is, c.refused-in-Err-accept_begin.ensures)
     (handles_refused g.D.Validates.verdict _ _ _ c.args.seat _ _ c.in-Err-accept_begin.ensures.err c.new-self-inside.ensures
     (begin_lacks g.D.Validates.verdict device.plan (past device.steps.items) device.words.items c.in-Ok.begun.request.0 begun.free begun.first begun.room))

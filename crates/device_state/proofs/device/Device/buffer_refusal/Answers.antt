@@ -1,7 +1,7 @@
 use Rattle.std.proofs.Common.{ap, ◌∙◌}
 use Rattle.history.specs.Past.{past}
 use Rattle.req_book.specs.Requests.{find}
-use Rattle.req_book.specs.Refusals.{buffer_refusal}
+use Rattle.req_book.specs.Refusals.{buffer_check}
 use Rattle.frame_queue.specs.Frames.{FramesData}
 use Rattle.device_history.specs.Snapshots.{requests}
 use Rattle.device_state.proofs.EnterLemmas.{found}
@@ -12,5 +12,5 @@ returns g c =
     let device = c.self.inside in
     rw (← c.self.view_is)
     (c.buffer_refusal.ensures
-    ∙ ap (λ (f : FramesData). buffer_refusal f.requests.all c.args.buffer (find device.frames.requests.all c.args.request.0)) c.self.invariant.frames
-    ∙ ap (buffer_refusal (requests g.D.Validates.verdict device.plan (past device.steps.items)) c.args.buffer) (found g.D.Validates.verdict g.D.Notifies.told device.plan device.steps.items _ c.args.request.0 c.self.invariant))
+    ∙ ap (λ (f : FramesData). buffer_check f.requests.all c.args.buffer (find device.frames.requests.all c.args.request.0)) c.self.invariant.frames
+    ∙ ap (buffer_check (requests g.D.Validates.verdict device.plan (past device.steps.items)) c.args.buffer) (found g.D.Validates.verdict g.D.Notifies.told device.plan device.steps.items _ c.args.request.0 c.self.invariant))

@@ -1,16 +1,21 @@
-use Rattle.std.proofs.Common.{refl, inl, inr, sym}
-use Rattle.device_state.proofs.HandleLemmas.{handles_refused, handles_close}
+use Rattle.std.proofs.Common.{refl, inr, ap, sym, ◌∙◌}
+use Rattle.history.specs.Past.{past}
+use Rattle.device_history.specs.declared.ask.Ask.TheVariants as asks
+use Rattle.device_history.specs.Refusals.{step_check}
+use Rattle.device_state.proofs.HandleLemmas.{handles_refused, handles_close, handles_unstepped}
+use Rattle.device_state.proofs.StepLemmas.{step_accepted}
 use Rattle.device_state.proofs.device.Device.close.Goals as goal
 
-pub returns-in-Err : goal.returns-in-Err
-returns-in-Err g c =
-    rw (← c.self.view_is) (handles_refused g.D.Validates.verdict _ _ _ c.args.seat _ _ refl c.new-self-inside.ensures (inl (sym c.in-Err.ensures.err)))
+pub returns-in-Some : goal.returns-in-Some
+returns-in-Some g c =
+    rw (← c.self.view_is, c.refused.ensures)
+    (handles_unstepped g.D.Validates.verdict _ _ _ c.args.seat (asks.CloseFh c.args.fh) _ c.in-Some.check _ refl c.new-self-inside.ensures refl (sym (c.in-Some.ensures ∙ ap (step_check (past c.self.inside.steps.items)) c.through.ensures)))
 
 pub returns-in-Ok : goal.returns-in-Ok
 returns-in-Ok g c =
-    rw (← c.self.view_is, c.in-Ok.ensures.ok) (handles_close g.D.Validates.verdict _ _ c.args.seat c.args.fh c.new-self-inside.ensures c.in_default.ensures.ok)
+    rw (← c.self.view_is, c.in-Ok.ensures.ok) (handles_close g.D.Validates.verdict _ _ c.args.seat c.args.fh c.new-self-inside.ensures (sym (c.in_default.ensures ∙ ap (step_check (past c.self.inside.steps.items)) c.through.ensures)))
 
-pub returns-in-Err-accept_close : goal.returns-in-Err-accept_close
-returns-in-Err-accept_close g c =
-    rw (← c.self.view_is, c.refused.ensures)
-    (handles_refused g.D.Validates.verdict _ _ _ c.args.seat _ _ c.in-Err-accept_close.ensures.err c.new-self-inside.ensures (inr (rw c.in_default.ensures.ok refl, refl)))
+pub returns-in-Err : goal.returns-in-Err
+returns-in-Err g c =
+    rw (← c.self.view_is, c.refused-in-Err.ensures)
+    (handles_refused g.D.Validates.verdict _ _ _ c.args.seat _ _ c.in-Err.ensures.err c.new-self-inside.ensures (inr (step_accepted (past c.self.inside.steps.items) _ _ (sym (c.in_default.ensures ∙ ap (step_check (past c.self.inside.steps.items)) c.through.ensures)), refl)))

@@ -1,27 +1,22 @@
-use Rattle.std.proofs.Common.{refl, sym, ◌∙◌}
+use Rattle.std.proofs.Common.{refl, sym}
 use Rattle.device_state.proofs.HandleLemmas.{handles_refused}
-use Rattle.device_state.proofs.EnterLemmas.{entered_refused, entered_full, handles_entered, handles_lacking}
+use Rattle.device_state.proofs.EnterLemmas.{entered_refused, handles_entered, handles_lacking}
 use Rattle.device_state.proofs.device.Device.enter.Goals as goal
 
 pub returns-in-Some : goal.returns-in-Some
 returns-in-Some g c =
     rw (← c.self.view_is, c.refused.ensures)
-    (handles_refused g.D.Validates.verdict _ _ _ c.args.seat _ _ refl c.new-self-inside.ensures (entered_refused g.D.Validates.verdict _ _ _ _ _ c.args.step c.args.reply (rw (← c.self.view_is, c.in-Some.is) at c.requires)))
-
-pub returns-then-is_full : goal.returns-then-is_full
-returns-then-is_full g c =
-    rw (← c.self.view_is, c.refused-then-is_full.ensures)
     (handles_refused g.D.Validates.verdict _ _ _ c.args.seat _ _ refl c.new-self-inside.ensures
-    (entered_full g.D.Validates.verdict _ _ _ _ c.args.step c.args.reply (rw (← c.self.view_is, c.in_default.is) at c.requires) (sym c.is_full.ensures ∙ c.if-is_full.true)))
+    (entered_refused g.D.Validates.verdict _ _ _ _ c.args.check c.in-Some.check c.args.step c.args.reply (rw (← c.self.view_is) at c.requires) (sym c.in-Some.ensures)))
 
 pub returns-in-Ok : goal.returns-in-Ok
 returns-in-Ok g c =
     rw (← c.self.view_is, c.in-Ok.ensures.ok)
-    (handles_entered g.D.Validates.verdict _ c.new-self-inside.result c.accept.new.self.work c.args.seat c.args.ask.now c.args.step c.args.reply c.new-self-inside.ensures c.accept.ensures.told c.accept.ensures.asked
-    (rw (← c.self.view_is, c.in_default.is) at c.requires) (sym c.is_full.ensures ∙ c.if-is_full.false))
+    (handles_entered g.D.Validates.verdict _ c.new-self-inside.result c.accept.new.self.work c.args.seat c.args.ask.now c.args.check c.args.step c.args.reply c.new-self-inside.ensures c.accept.ensures.told c.accept.ensures.asked
+    (rw (← c.self.view_is) at c.requires) (sym c.in_default.ensures))
 
 pub returns-in-Err : goal.returns-in-Err
 returns-in-Err g c =
     rw (← c.self.view_is, c.refused-in-Err.ensures)
-    (handles_lacking g.D.Validates.verdict _ _ c.new-self-inside.result c.accept.new.self.work c.args.seat c.args.ask.now c.args.step c.args.reply c.in-Err.ensures.err c.new-self-inside.ensures c.accept.ensures.told c.accept.ensures.asked
-    (rw (← c.self.view_is, c.in_default.is) at c.requires) (sym c.is_full.ensures ∙ c.if-is_full.false))
+    (handles_lacking g.D.Validates.verdict _ _ c.new-self-inside.result c.accept.new.self.work c.args.seat c.args.ask.now c.args.check c.args.step c.args.reply c.in-Err.ensures.err c.new-self-inside.ensures c.accept.ensures.told c.accept.ensures.asked
+    (rw (← c.self.view_is) at c.requires) (sym c.in_default.ensures))

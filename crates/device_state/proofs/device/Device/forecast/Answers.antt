@@ -4,4 +4,4 @@ use Rattle.device_state.proofs.device.Device.forecast.Goals as goal
 -- a forecast adds no step
 pub returns : goal.returns
 returns g c = λ seat.
-    rw (← c.self.view_is) (handles_forecast g.D.Validates.verdict _ _ seat c.args.place _ c.new-self-inside.ensures c.forecast_at.ensures)
+    rw (← c.self.view_is) (handles_forecast g.D.Validates.verdict _ _ seat c.args.place _ c.new-self-inside.ensures c.forecast_read.ensures)

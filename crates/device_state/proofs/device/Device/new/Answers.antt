@@ -1,4 +1,4 @@
-use Rattle.std.proofs.Common.{List, [], None, ◌≡◌, ℕ, ap, subst, sym, ◌∙◌}
+use Rattle.std.proofs.Common.{[], None, ◌≡◌, ℕ, ap, subst, sym, ◌∙◌}
 use Rattle.history.specs.Past.{past}
 use Rattle.ctrl_handlers.specs.Plan.{IsFinished}
 use Rattle.ctrl_clusters.specs.ControlsData.{ControlsData}

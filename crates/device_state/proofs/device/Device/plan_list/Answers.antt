@@ -1,15 +1,20 @@
 use Rattle.std.proofs.Common.{◌≡◌, true, sym, ◌∙◌}
 use Rattle.history.specs.Past.{past}
-use Rattle.device_state.proofs.AnswerLemmas.{set_denied, set_full}
+use Rattle.device_state.proofs.AnswerLemmas.{set_denied, set_full, set_unread}
 use Rattle.device_state.proofs.BoundLemmas.{read_bound}
 use Rattle.device_state.proofs.SettingLemmas.{settable, read_asked}
 use Rattle.device_state.proofs.device.Device.plan_list.Goals as goal
+
+-- the first checks refuse it
+pub returns-in-Err-clause-err : goal.returns-in-Err-clause-err
+returns-in-Err-clause-err g c =
+    rw (c.at.ensures, c.len.ensures) (set_unread g.D.Validates.verdict c.args.self.now.plan (past c.args.self.now.steps) c.args.self.now.words c.args.fh c.args.which c.args.request c.args.list.now c.in-Err.check c.in-Err.ensures.err)
 
 pub returns-in-Err-plan_set-clause-err : goal.returns-in-Err-plan_set-clause-err
 returns-in-Err-plan_set-clause-err g c =
     let device = c.self.inside in
     let plan : c.in-Ok.view.plan ≡ device.plan = rw (← c.self.view_is) at c.in-Ok.ensures.plan in
-    rw (← c.self.view_is)
+    rw (← c.self.view_is, c.at_count.ensures, c.len-in-Err-plan_set.ensures)
     (set_denied g.D.Validates.verdict device.plan (past device.steps.items) device.words.items c.args.fh c.args.which c.args.request c.args.list.now c.in-Ok.view.parts c.in-Err-plan_set.refused
     (rw (← c.self.view_is) at c.in-Ok.ensures.passed) (rw (← c.self.view_is) at c.in-Ok.ensures.view) (rw plan at c.in-Err-plan_set.ensures.err))
 
@@ -18,7 +23,7 @@ returns-then-is_full-clause-err g c =
     let device = c.self.inside in
     let plan : c.in-Ok.view.plan ≡ device.plan = rw (← c.self.view_is) at c.in-Ok.ensures.plan in
     rw (← c.self.view_is, c.at-then-is_full.ensures, c.len-then-is_full.ensures)
-    (set_full g.D.Validates.verdict device.plan (past device.steps.items) device.words.items c.args.fh c.args.which c.args.request c.args.list.now c.in-Ok.view.parts c.in-Ok-plan_set.touch.answers
+    (set_full g.D.Validates.verdict device.plan (past device.steps.items) device.words.items c.args.fh c.args.which c.args.request c.args.list.now c.in-Ok.view.parts
     (rw (← c.self.view_is) at c.in-Ok.ensures.passed) (rw (← c.self.view_is) at c.in-Ok.ensures.view) (rw plan at c.in-Ok-plan_set.ensures.ok)
     (sym (rw (← c.self.view_is) at c.is_full.ensures) ∙ c.if-is_full.true))
 
@@ -29,7 +34,7 @@ returns-clause-ok g c =
     let plan : c.in-Ok.view.plan ≡ device.plan = rw (← c.self.view_is) at c.in-Ok.ensures.plan in
     rw (← c.self.view_is)
     (settable g.D.Validates.verdict device.plan (past device.steps.items) c.args.fh c.args.which c.args.request c.args.list.now c.in-Ok.view.parts c.in-Ok-plan_set.touch c.self.invariant.plans.is_plan
-    (rw (← c.self.view_is) at c.in-Ok.ensures.passed) (rw (← c.self.view_is) at c.in-Ok.ensures.view) (rw plan at c.in-Ok-plan_set.ensures.ok) (rw plan at c.in-Ok-plan_set.ensures.touched)
+    (rw (← c.self.view_is) at c.in-Ok.ensures.passed) (rw (← c.self.view_is) at c.in-Ok.ensures.view) (rw plan at c.in-Ok-plan_set.ensures.ok) (rw plan at c.in-Ok-plan_set.ensures.answers) (rw plan at c.in-Ok-plan_set.ensures.touched)
     (sym (rw (← c.self.view_is) at c.is_full.ensures) ∙ c.if-is_full.false))
 
 pub returns-clause-asked : goal.returns-clause-asked

@@ -11,13 +11,13 @@ returns-clause-answers g c =
     let plan : c.in-Ok.view.plan ≡ device.plan = rw (← c.self.view_is) at c.in-Ok.ensures.plan in
     rw (← c.self.view_is, c.into_parts.ensures.answers)
     (try_judged g.D.Validates.verdict device.plan (past device.steps.items) device.words.items c.args.fh c.args.which c.args.request c.args.list.now c.in-Ok.view.parts _
-    (rw (← c.self.view_is) at c.in-Ok.ensures.passed) (rw (← c.self.view_is) at c.in-Ok.ensures.view) (rw plan at c.in-Ok-try_list.ensures.ok))
+    (rw (← c.self.view_is) at c.in-Ok.ensures.passed) (rw (← c.self.view_is) at c.in-Ok.ensures.view) (rw plan at c.in-Ok-try_list.ensures.ok) (rw plan at c.in-Ok-try_list.ensures.answers))
 
 pub returns-in-Err-try_list-clause-answers : goal.returns-in-Err-try_list-clause-answers
 returns-in-Err-try_list-clause-answers g c =
     let device = c.self.inside in
     let plan : c.in-Ok.view.plan ≡ device.plan = rw (← c.self.view_is) at c.in-Ok.ensures.plan in
-    rw (← c.self.view_is)
+    rw (← c.self.view_is, c.at_entry.ensures, c.len-in-Err-try_list.ensures)
     (try_denied g.D.Validates.verdict device.plan (past device.steps.items) device.words.items c.args.fh c.args.which c.args.request c.args.list.now c.in-Ok.view.parts c.in-Err-try_list.refusal
     (rw (← c.self.view_is) at c.in-Ok.ensures.passed) (rw (← c.self.view_is) at c.in-Ok.ensures.view) (rw plan at c.in-Err-try_list.ensures.err))
 
@@ -31,7 +31,7 @@ returns-clause-asked g c =
 
 pub returns-in-Err-clause-answers : goal.returns-in-Err-clause-answers
 returns-in-Err-clause-answers g c =
-    rw (c.at.ensures, c.len.ensures) (try_unread g.D.Validates.verdict c.args.self.now.plan (past c.args.self.now.steps) c.args.self.now.words c.args.fh c.args.which c.args.request c.args.list.now c.in-Err.errno c.in-Err.ensures.err)
+    rw (c.at.ensures, c.len.ensures) (try_unread g.D.Validates.verdict c.args.self.now.plan (past c.args.self.now.steps) c.args.self.now.words c.args.fh c.args.which c.args.request c.args.list.now c.in-Err.check c.in-Err.ensures.err)
 
 -- validators are asked as often as is said
 pub returns-clause-at_most : goal.returns-clause-at_most

@@ -1,4 +1,4 @@
-use Rattle.std.proofs.Common.{IsOk, length, ap, sym, subst, ◌∙◌}
+use Rattle.std.proofs.Common.{length, ap, sym, ◌∙◌}
 use Rattle.history.specs.Past.{past}
 use Rattle.req_book.specs.Refusals.{snapshot_answer}
 use Rattle.device_state.proofs.EnterLemmas.{found, granted, snapshot_is, snapshot_each}

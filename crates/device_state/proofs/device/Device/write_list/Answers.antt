@@ -1,11 +1,10 @@
-use Rattle.std.proofs.Common.{◌≡◌, ◌<◌, ◌≤◌, ℕ, false, subst, List, [], ◌∷◌, ◌++◌, length, refl, sym, ap, ◌∙◌, arith}
-use Rattle.std.specs.List.{All}
+use Rattle.std.proofs.Common.{◌≡◌, ◌<◌, ◌≤◌, ℕ, List, [], ◌∷◌, ◌++◌, length, refl, sym, ap, ◌∙◌, arith}
 use Rattle.std.proofs.lemmas.List.Elements.{All-map}
 use Rattle.history.specs.declared.entry.Entry.{Entry}
 use Rattle.history.specs.Past.{past}
 use Rattle.ctrl_types.specs.declared.ids.Pair.{Pair}
 use Rattle.ctrl_calls.specs.declared.work.Work.{Work}
-use Rattle.ctrl_handlers.specs.Plan.{PlanData, cluster_of, control_in}
+use Rattle.ctrl_handlers.specs.Plan.{PlanData, control_in}
 use Rattle.ctrl_clusters.specs.Changes.{cluster_changes}
 use Rattle.ctrl_clusters.specs.ControlsData.{ControlsData}
 use Rattle.ctrl_clusters.specs.Moments.{parts_after}
@@ -14,7 +13,7 @@ use Rattle.ctrl_clusters.specs.Notified.{notified_count}
 use Rattle.ctrl_clusters.specs.Rows.{Values, is_grabbed, value_at}
 use Rattle.ctrl_clusters.specs.declared.new_row.NewRow.{NewRow}
 use Rattle.ctrl_clusters.proofs.NewRowLemmas.{length_written}
-use Rattle.ctrl_forecast.specs.Boards.{BoardData, is_in_one_of}
+use Rattle.ctrl_forecast.specs.Boards.{BoardData}
 use Rattle.ctrl_forecast.specs.Forecasts.{QueuedData, named_by_frames}
 use Rattle.device_history.specs.declared.ask.Step.{Step}
 use Rattle.device_history.specs.declared.ask.Step.TheVariants.{Set}

@@ -2,5 +2,5 @@
 use Rattle.std.proofs.Common.{rules}
 use Rattle.frame_queue.proofs.frames.Frames.cancel_refusal.Goals as goal
 
-pub returns-in-Ok-Running : goal.returns-in-Ok-Running
-returns-in-Ok-Running c = search rules
+pub returns-in-Some-Running : goal.returns-in-Some-Running
+returns-in-Some-Running c = search rules

@@ -1,5 +1,5 @@
 use Rattle.std.proofs.Common.{◌≡◌, List, Option, None, Some, false, is_some, sym, refl, ap, subst, ◌∙◌}
-use Rattle.ctrl_types.specs.declared.errno.Errno.{Errno}
+use Rattle.ctrl_types.specs.declared.check.Check.{Check}
 use Rattle.ctrl_types.specs.declared.ids.Pair.{Pair}
 use Rattle.ctrl_types.specs.declared.which.Which.TheVariants.{Request}
 use Rattle.history.specs.Past.{past}
@@ -8,9 +8,9 @@ use Rattle.history_audit.proofs.JudgedLemmas.{Judged, store_full, store_judged, 
 use Rattle.history_audit.proofs.ReadLemmas.{store_there}
 use Rattle.history_audit.proofs.replay.Replay.is_storable.Goals as goal
 
-nothing : (o : Option Errno) → is_some o ≡ false → o ≡ None
+nothing : (o : Option Check) → is_some o ≡ false → o ≡ None
 nothing None h = refl
-nothing (Some errno) h = cc
+nothing (Some check) h = cc
 
 -- no further step is kept
 pub returns-then-is_full-clause-follows : goal.returns-then-is_full-clause-follows
@@ -19,7 +19,7 @@ returns-then-is_full-clause-follows g c = (λ none. cc, λ may. absurd (store_fu
 -- the request refuses pairs
 pub returns-then-is_some-clause-follows : goal.returns-then-is_some-clause-follows
 returns-then-is_some-clause-follows g c =
-    let refused = ap (λ (o : Option Errno). is_some o) (sym c.store_refusal.ensures) ∙ sym c.is_some.ensures ∙ c.if-is_some.true in
+    let refused = ap (λ (o : Option Check). is_some o) (sym c.store_refusal.ensures) ∙ sym c.is_some.ensures ∙ c.if-is_some.true in
     (λ none. cc, λ may. absurd (store_refused g.D.Validates.verdict c.args.self.now.plan (past c.args.self.now.steps) c.args.request c.args.pairs.now refused may))
 
 -- no open file handle's handler shows the pairs

@@ -18,7 +18,7 @@ pub returns-then-are_same : goal.returns-then-are_same
 returns-then-are_same g c =
     let view = seen g.D.Validates.verdict c.args.self.now.plan c.at-at.result.plan.now (past c.args.self.now.steps) c.args.handler c.args.which c.at-at.result.ranges.now c.at-at.result.values.now c.at-at.result.grabs.now c.args.asked.now c.new-view.result
     c.new-view.ensures c.at-at.ensures.plan c.at-at.ensures.ranges c.at-at.ensures.values c.at-at.ensures.grabs in
-    is_set g.D.Validates.verdict c.args.self.now.plan c.new-view.result _ c.in-Some.list c.args.pairs.now c.in-Ok.touch view (rw c.in-Some.is at c.in_ok-list.ensures.list) c.in-Ok.ensures.ok c.in-Ok.ensures.touched
+    is_set g.D.Validates.verdict c.args.self.now.plan c.new-view.result _ c.in-Some.list c.args.pairs.now c.in-Ok.touch view (rw c.in-Some.is at c.in_ok-list.ensures.list) c.in-Ok.ensures.ok c.in-Ok.ensures.answers c.in-Ok.ensures.touched
     (sym c.pairs.ensures ∙ c.are_same.ensures.0 c.if-are_same.true)
 
 -- it names other controls

@@ -1,0 +1,49 @@
+-- The check that refuses an ask that is no list (of this project).
+use Rattle.std.specs.Prelude.{[], Option, None}
+use Rattle.std.specs.Result.{result_err}
+use Rattle.ctrl_types.specs.declared.check.Check.{Check}
+use Rattle.req_book.specs.Refusals.{alloc_check, buffer_check, queue_check, clear_check}
+use Rattle.frame_queue.specs.Frames.{next_frame, complete_check, cancel_check}
+use Rattle.ctrl_calls.specs.Meanings.{Verdicts}
+use Rattle.ctrl_handlers.specs.Plan.{PlanData}
+use Rattle.device_history.specs.declared.ask.Ask.{Ask}
+use Rattle.device_history.specs.declared.ask.Ask.TheVariants as asks
+use Rattle.device_history.specs.Steps.{Past}
+use Rattle.device_history.specs.Refusals.{step_check}
+use Rattle.device_history.specs.Handles.{open_check, through}
+use Rattle.device_history.specs.Grabs.{grab_check}
+use Rattle.device_history.specs.Ranges.{range_check}
+use Rattle.device_history.specs.Snapshots.{request, requests, frames}
+use Rattle.device_history.specs.RequestAnswers.{state_found}
+use Rattle.device_history.specs.EventAnswers.{subscribe_check, first_event}
+use Rattle.device_history.specs.Forecasts.{forecast_at}
+use Rattle.device_history.specs.Queries.{control_shown, id_behind, item_found, word_of}
+
+-- The first check that refuses the ask where memory suffices, as the law `refusals_by_checks` says: its own, and then, where it adds a step, that no
+-- further step is kept. The checks of a list are told entry by entry (specs/Lists). The words that were told don't matter.
+abbrev pub check_of : Verdicts → PlanData → Past → Ask → Option Check
+check_of verdicts plan past (asks.OpenFh handler) = step_check past (open_check plan past handler)
+check_of verdicts plan past (asks.CloseFh fh) = step_check past (through past fh None)
+check_of verdicts plan past (asks.GetCtrls fh which request list) = None
+check_of verdicts plan past (asks.SetCtrls fh which request list) = None
+check_of verdicts plan past (asks.TryCtrls fh which request list) = None
+check_of verdicts plan past (asks.Grab c on) = step_check past (grab_check plan c)
+check_of verdicts plan past (asks.ModifyRange c low high apart default_value) = step_check past (range_check plan past c low high apart default_value)
+check_of verdicts plan past asks.Alloc = step_check past (alloc_check (requests verdicts plan past))
+check_of verdicts plan past (asks.AddBuffer r number) = step_check past (buffer_check (requests verdicts plan past) number (request verdicts plan past r.0))
+check_of verdicts plan past (asks.Queue r) = step_check past (queue_check (request verdicts plan past r.0))
+check_of verdicts plan past asks.Begin = step_check past (result_err (next_frame (frames verdicts plan past)))
+check_of verdicts plan past asks.Complete = step_check past (complete_check (frames verdicts plan past))
+check_of verdicts plan past (asks.Cancel r) = step_check past (cancel_check (request verdicts plan past r.0))
+check_of verdicts plan past asks.StreamOff = step_check past None
+check_of verdicts plan past (asks.Reinit r) = step_check past (clear_check (request verdicts plan past r.0))
+check_of verdicts plan past (asks.Free r) = step_check past (clear_check (request verdicts plan past r.0))
+check_of verdicts plan past (asks.StateOf r) = result_err (state_found past r)
+check_of verdicts plan past (asks.Forecast place) = result_err (forecast_at verdicts plan past place)
+check_of verdicts plan past (asks.Subscribe fh id flags) = step_check past (subscribe_check plan past fh id)
+check_of verdicts plan past (asks.Unsubscribe fh id) = step_check past (through past fh None)
+check_of verdicts plan past (asks.Take fh) = step_check past (result_err (first_event verdicts plan past fh))
+check_of verdicts plan past (asks.Query fh id) = result_err (control_shown plan past fh id)
+check_of verdicts plan past (asks.NextId fh id) = result_err (id_behind plan past fh id)
+check_of verdicts plan past (asks.MenuItem fh id index) = result_err (item_found plan past fh id index)
+check_of verdicts plan past (asks.Told cluster) = result_err (word_of plan [] cluster)

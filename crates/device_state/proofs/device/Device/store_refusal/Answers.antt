@@ -1,9 +1,0 @@
-use Rattle.std.proofs.Common.{ap, ◌∙◌}
-use Rattle.req_book.specs.Refusals.{store_refusal}
-use Rattle.device_state.proofs.EnterLemmas.{found}
-use Rattle.device_state.proofs.device.Device.store_refusal.Goals as goal
-
-pub returns : goal.returns
-returns g c =
-    let device = c.self.inside in
-    rw (← c.self.view_is) (c.store_refusal.ensures ∙ ap store_refusal (found g.D.Validates.verdict g.D.Notifies.told device.plan device.steps.items _ c.args.request.0 c.self.invariant))
