@@ -2,7 +2,7 @@
 use Rattle.std.proofs.Common.{◌≡◌, ◌≢◌, ◌⊎◌, inl, inr, ℕ, true, false, IsTrue, List, [], ◌∷◌, ◌++◌, Option, None, Some, ap, sym, ◌∙◌}
 use Rattle.std.specs.Option.{option_map}
 use Rattle.ctrl_types.specs.declared.check.Check.{Check}
-use Rattle.ctrl_types.specs.declared.check.Check.TheVariants.{NoRoomForSet}
+use Rattle.ctrl_types.specs.declared.check.Check.TheVariants.{ListHistoryFull}
 use Rattle.ctrl_types.specs.declared.ids.ExtControl.{ExtControl}
 use Rattle.ctrl_types.specs.declared.ids.FhId.{FhId}
 use Rattle.ctrl_types.specs.declared.ids.RequestId.{RequestId}
@@ -34,7 +34,7 @@ pub set_opening : (verdicts : Verdicts) (plan : PlanData) (past : Past) (fh : Fh
     → first_refusal (opening_checks verdicts plan past fh which request true) ≡ Some (record { check = check; place = None }) → reason ≡ as_whole check
     → Some reason ≡ option_map reason_at (first_refusal (set_checks verdicts plan past fh which request list))
 set_opening verdicts plan past fh which request list check reason first is =
-    before (opening_checks verdicts plan past fh which request true) (write_checks verdicts plan (write_view verdicts plan past fh which request) true list ++ refused_if (is_full past) NoRoomForSet ∷ []) check reason first is
+    before (opening_checks verdicts plan past fh which request true) (write_checks verdicts plan (write_view verdicts plan past fh which request) true list ++ refused_if (is_full past) ListHistoryFull ∷ []) check reason first is
 
 pub try_opening : (verdicts : Verdicts) (plan : PlanData) (past : Past) (fh : FhId) (which : ℕ) (request : Option RequestId) (list : List ExtControl) (check : Check) (reason : Reason)
     → first_refusal (opening_checks verdicts plan past fh which request true) ≡ Some (record { check = check; place = None }) → reason ≡ as_whole check
@@ -49,7 +49,7 @@ set_behind : (verdicts : Verdicts) (plan : PlanData) (past : Past) (fh : FhId) (
 set_behind verdicts plan past fh which request list refusal reason opens first is =
     let opening = opening_checks verdicts plan past fh which request true in
     let writing = write_checks verdicts plan (write_view verdicts plan past fh which request) true list in
-    let last = refused_if (is_full past) NoRoomForSet ∷ [] in
+    let last = refused_if (is_full past) ListHistoryFull ∷ [] in
     ap Some is ∙ sym (ap (option_map reason_at) (first_behind opening (writing ++ last) opens ∙ first_before writing last refusal first))
 
 pub set_refused : (verdicts : Verdicts) (plan : PlanData) (past : Past) (fh : FhId) (which : ℕ) (request : Option RequestId) (list : List ExtControl) (seen : PlanData) (view : ViewData) (refusal : Refusal) (reason : Reason)

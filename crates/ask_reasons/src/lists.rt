@@ -52,7 +52,7 @@ pub(crate) fn set_reason<D: Driver>(
     };
     let mut work = Work::new();
     match plan_set(alloc, &view, list, &mut work) {
-        Ok(_) if device.is_full() => Ok(Some(Reason::as_whole(Check::NoRoomForSet))),
+        Ok(_) if device.is_full() => Ok(Some(Reason::as_whole(Check::ListHistoryFull))),
         Ok(_) => Ok(None),
         Err(refusal) => Ok(Some(reason_at(refusal)?)),
     }

@@ -3,7 +3,7 @@ use ctrl_types::Check;
 /// What an ask didn't meet, as a sentence: of check 7 the part that is meant, of check 55 the first fault of the range.
 pub fn text_of(check: Check) -> &'static str {
     match check {
-        Check::ListHandleClosed | Check::HandleClosed => "the file handle isn't open",
+        Check::ListHandleNotOpen | Check::HandleNotOpen => "the file handle isn't open",
         Check::WhichUnknown => "WHICH is none of the numbers that it can be",
         Check::DefaultsWritten => "the defaults can't be written",
         Check::ListRequestMissing | Check::RequestMissing => "there is no such request",
@@ -11,7 +11,7 @@ pub fn text_of(check: Check) -> &'static str {
         Check::ListRequestNotComplete => "the request isn't complete, so it can't be read",
         Check::TooManyEntries => "there are more than 64 entries",
         Check::ClassNotShown => "no control of this class is shown",
-        Check::EntryNotShown =>
+        Check::EntryNamesNone =>
             "the id isn't shown to the file handle, is of another class, or its control is DISABLED",
         Check::EntryWriteOnly => "the control is WRITE_ONLY",
         Check::EntryReadOnly => "the control is READ_ONLY",
@@ -20,7 +20,7 @@ pub fn text_of(check: Check) -> &'static str {
         Check::ValueSkipped => "the menu skips this item",
         Check::ValueNotOfKind => "the control takes no value of this form",
         Check::RowRefused(_) => "the cluster doesn't take the row",
-        Check::NoRoomForSet | Check::HistoryFull => "1,000,000 steps are kept",
+        Check::ListHistoryFull | Check::HistoryFull => "1,000,000 steps are kept",
         Check::HandlerMissing => "there is no such handler",
         Check::TooManyHandles => "64 file handles are open",
         Check::ControlMissing => "there is no such control",
@@ -43,7 +43,7 @@ pub fn text_of(check: Check) -> &'static str {
         Check::NoEventWaits => "no event waits for the file handle",
         Check::MemoryRefused => "a growth was refused",
         Check::RangeReversed => "the minimum lies above the maximum",
-        Check::RangeStepZero => "the step of a number is 0",
+        Check::RangeStepZero => "the step of an INTEGER, an INTEGER64 or an array is 0",
         Check::RangeNotOfKind => "the bounds or the step aren't of the control's kind",
         Check::RangeDefaultNotTaken => "the control doesn't take the default as it is",
     }

@@ -1,3 +1,4 @@
+pub mod CallLemmas
 pub mod RowLemmas
 pub mod RangeLemmas
 pub mod NewRowLemmas

@@ -1,6 +1,6 @@
 -- What a cluster makes of a row: its validator judges it (Linux driver API, "V4L2 Controls", "Control Clusters": `try_ctrl`;
 -- which refusals pass, and that an accepted row is settled, is of this project).
-use Rattle.std.specs.Prelude.{ℕ, Bool, true, false, ◌&&◌, ◌+◌, ◌-◌, ◌^◌, min, if◌then◌else◌, List, [], ◌∷◌, Option, None, Some, is_some, Result, Ok, Err}
+use Rattle.std.specs.Prelude.{ℕ, zero, suc, Bool, true, false, ◌&&◌, if◌then◌else◌, List, [], ◌∷◌, Option, None, Some, is_some, Result, Ok, Err}
 use Rattle.std.specs.Result.{is_ok}
 use Rattle.ctrl_types.specs.Values.{is_same}
 use Rattle.ctrl_types.specs.declared.value.CtrlValue.{CtrlValue}
@@ -76,6 +76,7 @@ abbrev pub with_call : Bool → ℕ → ℕ
 with_call true count = one_more count
 with_call false count = count
 
--- a count with so many calls more, in 64 bits: a full count stays
+-- a count with so many calls more, one after the other: a full count stays as it is
 abbrev pub with_calls : ℕ → ℕ → ℕ
-with_calls calls count = min (count + calls) (2 ^ 64 - 1)
+with_calls zero count = count
+with_calls (suc calls) count = one_more (with_calls calls count)

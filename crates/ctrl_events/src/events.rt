@@ -2,12 +2,13 @@ ghost use Rattle.std.specs.Prelude.{◌≡◌, ◌↔◌, ◌<◌, ℕ, [], IsTr
 ghost use Rattle.std.specs.Option.{option_map};
 ghost use Rattle.std.specs.List.{IsDistinct};
 ghost use Rattle.std.specs.Map.{keys_of};
+ghost use Rattle.ctrl_types.specs.Checks.{with_errno};
 ghost use Rattle.ctrl_events.specs.Events.{events_of, only_at, no_events, flags_in, event_at, after_subscribe, after_unsubscribe, first_waiting, after_take, after_raise, is_from, WaitsForSubscribed, IsLike};
 ghost use Rattle.ctrl_events.specs.Files.{changed_at, raised_in_entry};
 
 use crate::event::{Event, Payload, Waiting};
 use crate::queue::Queue;
-use ctrl_types::{Changes, Check, FhId, SubFlags};
+use ctrl_types::{Changes, Check, Errno, FhId, SubFlags};
 use indexmap::IndexMap;
 use std::alloc::{AllocError, Global};
 use std::marker::Model;
@@ -175,7 +176,18 @@ impl Events {
 
     /// Takes the first event that waits for a file handle (`VIDIOC_DQEVENT`). Refused by check 32 of docs/RULES.md (ENOENT, 2), which changes
     /// nothing. It takes no memory.
-    pub fn take(&mut self, fh: FhId) -> Result<Event, Check>
+    pub fn take(&mut self, fh: FhId) -> Result<Event, Errno>
+        ensures answer { result ≡ with_errno (first_waiting (events_of self.old fh.0).waiting) }
+        ensures events { (j : ℕ) → events_of self.new j ≡ only_at fh.0 after_take j (events_of self.old j) }
+    {
+        match self.take_first(fh) {
+            Ok(event) => Ok(event),
+            Err(check) => Err(check.errno()),
+        }
+    }
+
+    /// The same, where a refusal is the check.
+    pub fn take_first(&mut self, fh: FhId) -> Result<Event, Check>
         ensures answer { result ≡ first_waiting (events_of self.old fh.0).waiting }
         ensures events { (j : ℕ) → events_of self.new j ≡ only_at fh.0 after_take j (events_of self.old j) }
     {

@@ -12,6 +12,7 @@ use Rattle.ctrl_handlers.specs.Plan.{PlanData, IsPlan, members}
 use Rattle.ctrl_clusters.specs.Rows.{Values, Grabs, row_of}
 use Rattle.ctrl_clusters.specs.Judging.{asks_validator, with_call, with_calls}
 use Rattle.ctrl_clusters.specs.Overlay.{is_touched, names_grabbed, overlay}
+use Rattle.ctrl_clusters.proofs.CallLemmas.{calls_more, calls_next}
 use Rattle.ctrl_clusters.proofs.OverlayLemmas.{asks_alike}
 use Rattle.ctrl_forecast.specs.declared.board.Forecast.{Forecast}
 use Rattle.ctrl_forecast.specs.Forecasts.{QueuedData, forecast_over, forecasts, values_behind, naming_count, named_by_frames}
@@ -22,28 +23,6 @@ use Rattle.ctrl_forecast.proofs.BoardLemmas.{forecasts_more}
 use Rattle.ctrl_forecast.proofs.FrameLemmas.{behind_long}
 use Rattle.ctrl_forecast.proofs.RightLemmas.{rows_alike, outcome_alike, overlay_row}
 use Rattle.ctrl_forecast.proofs.RenewLemmas.{ranges_agree, grabs_agree}
-
--- no call yet
-pub calls_none : (count : ℕ) → count < 2 ^ 64 → count ≡ with_calls 0 count
-calls_none count fits = omega (arith, fits)
-
--- one call more, where there is one
-pub calls_next : (b : Bool) (n count : ℕ) → with_call b (with_calls n count) ≡ with_calls (n + cond b 1 0) count
-calls_next true n count = omega arith
-calls_next false n count = ap (λ (m : ℕ). with_calls m count) (omega arith)
-
--- which is one at most
-pub one_call : (b : Bool) (count : ℕ) → with_call b count ≤ count + 1
-one_call true count = omega arith
-one_call false count = omega arith
-
--- calls behind calls
-pub calls_more : (n m count : ℕ) → with_calls m (with_calls n count) ≡ with_calls (n + m) count
-calls_more n m count = omega arith
-
--- they are no more than are made
-pub calls_most : (n m count : ℕ) → n ≤ m → with_calls n count ≤ count + m
-calls_most n m count le = omega (arith, le)
 
 both_first : (a b : Bool) → (a && b) ≡ true → a ≡ true
 both_first true b h = refl

@@ -68,8 +68,6 @@ pub(crate) fn overlay_named<D: Driver>(
 {
     let mut after = Vec::from_slice(alloc, at.values)?;
     let mut refused = Vec::new(alloc);
-    // a count fits its type once it is read
-    let _before = work.asked;
     for &cluster in named {
         let mut row = ClusterRow::zeros(at.plan.members(cluster).len());
         match touched_row(at, pairs, cluster, &mut row, work) {

@@ -31,7 +31,6 @@ pub(crate) fn renew_clusters<D: Driver>(
     ensures counted { work.new.asked ≡ with_calls (renewing_count D.verdict at.now.plan.now at.now.ranges.now at.now.values.now at.now.grabs.now (map queued_of frames.old.items) from clusters.now) work.old.asked }
     ensures told { work.new.told ≡ work.old.told }
 {
-    let _before = work.asked;
     for &cluster in clusters {
         renew_cluster(frames, from, at, cluster, work);
     }
@@ -53,7 +52,6 @@ fn renew_cluster<D: Driver>(
     ensures counted { work.new.asked ≡ with_calls (asked_from D.verdict at.now.plan.now at.now.ranges.now at.now.values.now at.now.grabs.now (map queued_of frames.old.items) from cluster) work.old.asked }
     ensures told { work.new.told ≡ work.old.told }
 {
-    let _before = work.asked;
     // one row for all frames, since every row of the cluster is as long
     let mut row = ClusterRow::zeros(at.plan.members(cluster).len());
     for place in from..frames.len() {

@@ -21,6 +21,7 @@ use Rattle.ctrl_clusters.specs.Judging.{validated_row, after_judging}
 use Rattle.ctrl_clusters.specs.Overlay.{is_among, row_after, result_value, result_value_in, value_after, no_grabs}
 use Rattle.ctrl_clusters.specs.NewRows.{clusters_of, row_among, value_among, value_written}
 use Rattle.ctrl_clusters.specs.declared.new_row.NewRow.{NewRow}
+use Rattle.ctrl_clusters.proofs.CallLemmas.{judging_next}
 use Rattle.ctrl_clusters.proofs.NewRowLemmas.{row_met, has_row}
 use Rattle.ctrl_clusters.proofs.OverlayLemmas.{any_of, row_after_free, held_not, or_true_right}
 use Rattle.ctrl_lists.specs.Lists.{ListData}
@@ -79,7 +80,7 @@ added_row rows new r none is = ap clusters_of is ∙ map-append (λ (t : NewRow)
 pub counted_next : (plan : PlanData) (rows new : List NewRow) (r : NewRow) (n before after : ℕ) → new ≡ rows ++ r ∷ [] → after ≡ after_judging (calls_of plan r.cluster).validator before
     → before ≡ with_calls (judged_count plan (clusters_of rows)) n → after ≡ with_calls (judged_count plan (clusters_of new)) n
 counted_next plan rows new r n before after is asked old =
-    asked ∙ ap (after_judging (calls_of plan r.cluster).validator) old ∙ by (calls_of plan r.cluster).validator refl ∙ ap (λ (m : ℕ). with_calls m n) (sym more)
+    asked ∙ ap (after_judging (calls_of plan r.cluster).validator) old ∙ judging_next (calls_of plan r.cluster).validator judged n ∙ ap (λ (m : ℕ). with_calls m n) (sym more)
   where
     one : ℕ → ℕ
     one k = cond (is_some (calls_of plan k).validator) 1 0
@@ -93,10 +94,6 @@ counted_next plan rows new r n before after is asked old =
         ∙ ap (judged_count plan) (map-append (λ (t : NewRow). t.cluster) rows (r ∷ []))
         ∙ sum_by-append (λ (k : ℕ). cond (is_some (calls_of plan k).validator) 1 0) (clusters_of rows) (r.cluster ∷ [])
         ∙ ap (λ (m : ℕ). judged + m) (sum_by-cons (λ (k : ℕ). cond (is_some (calls_of plan k).validator) 1 0) r.cluster [] ∙ omega arith)
-
-    by : (o : Option Relation) → (calls_of plan r.cluster).validator ≡ o → after_judging o (with_calls judged n) ≡ with_calls (judged + cond (is_some o) 1 0) n
-    by None e = omega arith
-    by (Some relation) e = omega arith
 
 -- each control of some pairs is among them, and among more of them
 each_among : (pairs ps : List Pair) → ((c : ℕ) → is_among ps c ≡ true → is_among pairs c ≡ true) → All (λ p. IsTrue (is_among pairs p.control)) ps

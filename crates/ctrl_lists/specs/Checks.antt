@@ -1,4 +1,4 @@
--- What refuses a list of controls once its file handle and `which` are found good: the checks, each with its sentence (Linux userspace
+-- What refuses a list of controls once its file handle, `which` and request are found good: the checks, each with its sentence (Linux userspace
 -- API, "ioctl VIDIOC_G_EXT_CTRLS, VIDIOC_S_EXT_CTRLS, VIDIOC_TRY_EXT_CTRLS"; of this project, so that a kernel may differ, are their order,
 -- the limit of 64, what a class and a list without entries answer, and that a DISABLED control and the default of a WRITE_ONLY one can't be
 -- read).
@@ -8,7 +8,7 @@ use Rattle.ctrl_types.specs.declared.value.CtrlValue.{CtrlValue}
 use Rattle.ctrl_types.specs.declared.errno.Errno.{Errno}
 use Rattle.ctrl_types.specs.declared.errno.Errno.TheVariants.{EINVAL}
 use Rattle.ctrl_types.specs.declared.check.Check.{Check}
-use Rattle.ctrl_types.specs.declared.check.Check.TheVariants.{TooManyEntries, ClassNotShown, EntryNotShown, EntryWriteOnly, EntryReadOnly, EntryGrabbed, RowRefused, MemoryRefused}
+use Rattle.ctrl_types.specs.declared.check.Check.TheVariants.{TooManyEntries, ClassNotShown, EntryNamesNone, EntryWriteOnly, EntryReadOnly, EntryGrabbed, RowRefused, MemoryRefused}
 use Rattle.ctrl_types.specs.declared.flags.TheConstants.Flags.{READ_ONLY, WRITE_ONLY}
 use Rattle.ctrl_types.specs.declared.ids.ExtControl.{ExtControl}
 use Rattle.ctrl_types.specs.declared.ids.Pair.{Pair}
@@ -52,7 +52,7 @@ first_refusal [] = None
 first_refusal (None ∷ checks) = first_refusal checks
 first_refusal (Some refusal ∷ checks) = Some refusal
 
--- a cluster that doesn't take its row, with the errno that it chose
+-- a cluster that doesn't take its row, with the errno of the first member that doesn't settle, or else of judging
 abbrev pub row_check : {X : Type 0} → Result X Errno → Option Check
 row_check (Ok x) = None
 row_check (Err errno) = Some (RowRefused errno)
@@ -73,7 +73,7 @@ is_of_no_class plan view (entry ∷ rest) = false
 
 -- an entry that names no control: its id isn't shown, isn't of the class that the list speaks of, or its control is DISABLED
 abbrev pub naming_check : PlanData → ViewData → ExtControl → Option Check
-naming_check plan view entry = if is_some (named plan view.handler view.which entry.id) then None else Some EntryNotShown
+naming_check plan view entry = if is_some (named plan view.handler view.which entry.id) then None else Some EntryNamesNone
 
 -- a control that can't be read
 abbrev pub reading_check : PlanData → Pair → Option Check

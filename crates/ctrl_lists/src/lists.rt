@@ -170,8 +170,6 @@ fn judge_list<D: Driver>(
     ensures told { work.new.told ≡ work.old.told }
 {
     check_whole(view, list)?;
-    // a count fits its type once it is read
-    let _before = work.asked;
     if list.is_empty() {
         return Ok(Touched::empty(alloc));
     }

@@ -35,7 +35,7 @@ pub(crate) fn pairs_of<D: Driver>(
     for (place, entry) in list.iter().enumerate() {
         match pair_of(view, *entry) {
             Some(pair) => pairs.push_reserved(pair),
-            None => return Err(Refusal::at(Check::EntryNotShown, place as u32)),
+            None => return Err(Refusal::at(Check::EntryNamesNone, place as u32)),
         }
     }
     Ok(pairs)

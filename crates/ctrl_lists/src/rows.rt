@@ -41,8 +41,6 @@ pub(crate) fn judge_all<D: Driver>(
     else {
         return Err(Refusal::of_memory());
     };
-    // a count fits its type once it is read
-    let _before = work.asked;
     for (place, pair) in pairs.iter().enumerate() {
         if let Err(errno) = judge_next(view, laid, pair.control, &mut rows, work) {
             return Err(Refusal::at(Check::RowRefused(errno), place as u32));

@@ -1,13 +1,15 @@
--- The checks that can refuse an ask: which errno each has, and which number in docs/RULES.md.
+-- The checks that can refuse an ask: which errno each has (Linux userspace API, "Generic Error Codes"; which of them are the manuals' and which this
+-- project's, docs/RULES.md says at each), and which number in docs/RULES.md (of this project).
 use Rattle.std.specs.Prelude.{ℕ, Option, None, Some, Result, Ok, Err}
 use Rattle.ctrl_types.specs.declared.check.Check.{Check}
 use Rattle.ctrl_types.specs.declared.check.Check.TheVariants as checks
 use Rattle.ctrl_types.specs.declared.errno.Errno.{Errno}
 use Rattle.ctrl_types.specs.declared.errno.Errno.TheVariants.{ENOENT, EBADF, ENOMEM, EACCES, EBUSY, EINVAL, ENOSPC, ERANGE}
 
--- the errno that an ask is refused with; of a cluster that doesn't take its row the one that it chose
+-- the errno that an ask is refused with; of a cluster that doesn't take its row the one that it comes with: of the first member that doesn't settle, or else of
+-- judging
 abbrev pub errno_of : Check → Errno
-errno_of checks.ListHandleClosed = EBADF
+errno_of checks.ListHandleNotOpen = EBADF
 errno_of checks.WhichUnknown = EINVAL
 errno_of checks.DefaultsWritten = EINVAL
 errno_of checks.ListRequestMissing = EINVAL
@@ -15,7 +17,7 @@ errno_of checks.ListRequestNotIdle = EBUSY
 errno_of checks.ListRequestNotComplete = EACCES
 errno_of checks.TooManyEntries = EINVAL
 errno_of checks.ClassNotShown = EINVAL
-errno_of checks.EntryNotShown = EINVAL
+errno_of checks.EntryNamesNone = EINVAL
 errno_of checks.EntryWriteOnly = EACCES
 errno_of checks.EntryReadOnly = EACCES
 errno_of checks.EntryGrabbed = EBUSY
@@ -23,10 +25,10 @@ errno_of checks.ValueOutsideMenu = ERANGE
 errno_of checks.ValueSkipped = EINVAL
 errno_of checks.ValueNotOfKind = EINVAL
 errno_of (checks.RowRefused errno) = errno
-errno_of checks.NoRoomForSet = ENOSPC
+errno_of checks.ListHistoryFull = ENOSPC
 errno_of checks.HandlerMissing = EINVAL
 errno_of checks.TooManyHandles = ENOSPC
-errno_of checks.HandleClosed = EBADF
+errno_of checks.HandleNotOpen = EBADF
 errno_of checks.ControlMissing = EINVAL
 errno_of checks.ClusterMissing = EINVAL
 errno_of checks.IdNotShown = EINVAL
@@ -55,53 +57,53 @@ errno_of checks.RangeNotOfKind = ERANGE
 errno_of checks.RangeDefaultNotTaken = ERANGE
 
 -- a check's number in docs/RULES.md, as an ask is refused by it
-abbrev pub number_of : Check → ℕ
-number_of checks.ListHandleClosed = 1
-number_of checks.WhichUnknown = 2
-number_of checks.DefaultsWritten = 2
-number_of checks.ListRequestMissing = 3
-number_of checks.ListRequestNotIdle = 3
-number_of checks.ListRequestNotComplete = 3
-number_of checks.TooManyEntries = 4
-number_of checks.ClassNotShown = 5
-number_of checks.EntryNotShown = 6
-number_of checks.EntryWriteOnly = 7
-number_of checks.EntryReadOnly = 7
-number_of checks.EntryGrabbed = 7
-number_of checks.ValueOutsideMenu = 7
-number_of checks.ValueSkipped = 7
-number_of checks.ValueNotOfKind = 7
-number_of (checks.RowRefused errno) = 8
-number_of checks.NoRoomForSet = 9
-number_of checks.HandlerMissing = 10
-number_of checks.TooManyHandles = 11
-number_of checks.HandleClosed = 12
-number_of checks.ControlMissing = 13
-number_of checks.ClusterMissing = 14
-number_of checks.IdNotShown = 15
-number_of checks.NoGreaterId = 16
-number_of checks.ItemMissing = 17
-number_of checks.TooManyRequests = 18
-number_of checks.RequestMissing = 19
-number_of checks.NotIdle = 20
-number_of checks.AlreadyHasBuffer = 21
-number_of checks.BufferHeld = 22
-number_of checks.BufferMissing = 23
-number_of checks.FrameRunning = 24
-number_of checks.QueueEmpty = 25
-number_of checks.NoFrameRunning = 26
-number_of checks.RequestRunning = 27
-number_of checks.NotQueued = 28
-number_of checks.StillPending = 29
-number_of checks.NotComplete = 30
-number_of checks.NothingQueuedThere = 31
-number_of checks.NoEventWaits = 32
-number_of checks.HistoryFull = 33
-number_of checks.MemoryRefused = 34
-number_of checks.RangeReversed = 55
-number_of checks.RangeStepZero = 55
-number_of checks.RangeNotOfKind = 55
-number_of checks.RangeDefaultNotTaken = 55
+abbrev pub check_number : Check → ℕ
+check_number checks.ListHandleNotOpen = 1
+check_number checks.WhichUnknown = 2
+check_number checks.DefaultsWritten = 2
+check_number checks.ListRequestMissing = 3
+check_number checks.ListRequestNotIdle = 3
+check_number checks.ListRequestNotComplete = 3
+check_number checks.TooManyEntries = 4
+check_number checks.ClassNotShown = 5
+check_number checks.EntryNamesNone = 6
+check_number checks.EntryWriteOnly = 7
+check_number checks.EntryReadOnly = 7
+check_number checks.EntryGrabbed = 7
+check_number checks.ValueOutsideMenu = 7
+check_number checks.ValueSkipped = 7
+check_number checks.ValueNotOfKind = 7
+check_number (checks.RowRefused errno) = 8
+check_number checks.ListHistoryFull = 9
+check_number checks.HandlerMissing = 10
+check_number checks.TooManyHandles = 11
+check_number checks.HandleNotOpen = 12
+check_number checks.ControlMissing = 13
+check_number checks.ClusterMissing = 14
+check_number checks.IdNotShown = 15
+check_number checks.NoGreaterId = 16
+check_number checks.ItemMissing = 17
+check_number checks.TooManyRequests = 18
+check_number checks.RequestMissing = 19
+check_number checks.NotIdle = 20
+check_number checks.AlreadyHasBuffer = 21
+check_number checks.BufferHeld = 22
+check_number checks.BufferMissing = 23
+check_number checks.FrameRunning = 24
+check_number checks.QueueEmpty = 25
+check_number checks.NoFrameRunning = 26
+check_number checks.RequestRunning = 27
+check_number checks.NotQueued = 28
+check_number checks.StillPending = 29
+check_number checks.NotComplete = 30
+check_number checks.NothingQueuedThere = 31
+check_number checks.NoEventWaits = 32
+check_number checks.HistoryFull = 33
+check_number checks.MemoryRefused = 34
+check_number checks.RangeReversed = 55
+check_number checks.RangeStepZero = 55
+check_number checks.RangeNotOfKind = 55
+check_number checks.RangeDefaultNotTaken = 55
 
 -- the check of a value or of a range that is meant, where an ask's check is made of several
 abbrev pub part_of : Check → Option ℕ

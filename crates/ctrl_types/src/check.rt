@@ -6,23 +6,23 @@ use crate::errno::Errno;
 #[derive(Clone, Copy, Debug, PartialEq, Eq)]
 pub enum Check {
     /// Check 1: the file handle that a list comes through isn't open.
-    ListHandleClosed,
+    ListHandleNotOpen,
     /// Check 2: `which` can't be read.
     WhichUnknown,
     /// Check 2: a list that writes speaks of the defaults.
     DefaultsWritten,
     /// Check 3: the request that a list speaks of isn't named, or isn't there.
     ListRequestMissing,
-    /// Check 3: it isn't idle, and the list writes.
+    /// Check 3: the request that a list speaks of isn't idle, and the list writes.
     ListRequestNotIdle,
-    /// Check 3: it isn't complete, and the list reads.
+    /// Check 3: the request that a list speaks of isn't complete, and the list reads.
     ListRequestNotComplete,
     /// Check 4: a list has more than 64 entries.
     TooManyEntries,
     /// Check 5: a list without entries is about a class of which no control is shown.
     ClassNotShown,
     /// Check 6: an entry's id isn't shown, is of another class, or its control is DISABLED.
-    EntryNotShown,
+    EntryNamesNone,
     /// Check 7: a control of a list that reads is WRITE_ONLY.
     EntryWriteOnly,
     /// Check 7: a control of a list that writes is READ_ONLY.
@@ -35,16 +35,16 @@ pub enum Check {
     ValueSkipped,
     /// Check 7, and of a value check 57: an array is given a number or another count of bytes, or another control bytes.
     ValueNotOfKind,
-    /// Check 8: a cluster doesn't take its row, with the errno that it chose.
+    /// Check 8: a cluster doesn't take its row, with the errno of the first member that doesn't settle, or else of judging.
     RowRefused(Errno),
     /// Check 9: 1,000,000 steps are kept, and the list sets.
-    NoRoomForSet,
+    ListHistoryFull,
     /// Check 10: there is no such handler.
     HandlerMissing,
     /// Check 11: 64 file handles are open.
     TooManyHandles,
     /// Check 12: the file handle isn't open.
-    HandleClosed,
+    HandleNotOpen,
     /// Check 13: there is no such control.
     ControlMissing,
     /// Check 14: there is no such cluster.
@@ -61,11 +61,11 @@ pub enum Check {
     RequestMissing,
     /// Check 20: the request isn't idle.
     NotIdle,
-    /// Check 21: it has a buffer already.
+    /// Check 21: the request has a buffer already.
     AlreadyHasBuffer,
     /// Check 22: another request that isn't complete holds the buffer's number.
     BufferHeld,
-    /// Check 23: it has no buffer.
+    /// Check 23: the request has no buffer.
     BufferMissing,
     /// Check 24: a frame is being made.
     FrameRunning,
@@ -79,7 +79,7 @@ pub enum Check {
     NotQueued,
     /// Check 29: the request is queued or running.
     StillPending,
-    /// Check 30: the request isn't complete; of a driver's reader of what its frame had alone.
+    /// Check 30: the request isn't complete; answered to a driver's reader of what its frame had (`Device::snapshot`) alone.
     NotComplete,
     /// Check 31: no frame is queued at the place.
     NothingQueuedThere,
@@ -91,7 +91,7 @@ pub enum Check {
     MemoryRefused,
     /// Check 55, and of a control check 35: the minimum of a range lies above its maximum.
     RangeReversed,
-    /// Check 55, and of a control check 36: the step of a range of numbers is 0.
+    /// Check 55, and of a control check 36: the step of an INTEGER, an INTEGER64 or an array of bytes is 0.
     RangeStepZero,
     /// Check 55, and of a control check 37: the bounds or the step of a range aren't of the control's kind.
     RangeNotOfKind,
@@ -100,20 +100,20 @@ pub enum Check {
 }
 
 impl Check {
-    ghost use Rattle.ctrl_types.specs.Checks.{errno_of, number_of, part_of};
+    ghost use Rattle.ctrl_types.specs.Checks.{errno_of, check_number, part_of};
 
-    /// The errno that an ask is refused with, as the tables of docs/RULES.md have it; of a cluster that doesn't take its row the one that it chose.
+    /// The errno that an ask is refused with, as the tables of docs/RULES.md have it; of a cluster that doesn't take its row the one that it comes with.
     pub fn errno(self) -> Errno
         ensures { result ≡ errno_of self }
     {
         match self {
-            Check::ListHandleClosed | Check::HandleClosed => Errno::EBADF,
+            Check::ListHandleNotOpen | Check::HandleNotOpen => Errno::EBADF,
             Check::WhichUnknown
             | Check::DefaultsWritten
             | Check::ListRequestMissing
             | Check::TooManyEntries
             | Check::ClassNotShown
-            | Check::EntryNotShown
+            | Check::EntryNamesNone
             | Check::ValueSkipped
             | Check::ValueNotOfKind
             | Check::HandlerMissing
@@ -137,7 +137,7 @@ impl Check {
             | Check::EntryReadOnly
             | Check::NotComplete => Errno::EACCES,
             Check::RowRefused(errno) => errno,
-            Check::NoRoomForSet
+            Check::ListHistoryFull
             | Check::TooManyHandles
             | Check::TooManyRequests
             | Check::HistoryFull => Errno::ENOSPC,
@@ -157,16 +157,16 @@ impl Check {
 
     /// Its number in docs/RULES.md, as an ask is refused by it: 1 to 34, or 55.
     pub fn number(self) -> u32
-        ensures { result ≡ number_of self }
+        ensures { result ≡ check_number self }
     {
         match self {
-            Check::ListHandleClosed => 1,
+            Check::ListHandleNotOpen => 1,
             Check::WhichUnknown | Check::DefaultsWritten => 2,
             Check::ListRequestMissing | Check::ListRequestNotIdle | Check::ListRequestNotComplete =>
                 3,
             Check::TooManyEntries => 4,
             Check::ClassNotShown => 5,
-            Check::EntryNotShown => 6,
+            Check::EntryNamesNone => 6,
             Check::EntryWriteOnly
             | Check::EntryReadOnly
             | Check::EntryGrabbed
@@ -174,10 +174,10 @@ impl Check {
             | Check::ValueSkipped
             | Check::ValueNotOfKind => 7,
             Check::RowRefused(_) => 8,
-            Check::NoRoomForSet => 9,
+            Check::ListHistoryFull => 9,
             Check::HandlerMissing => 10,
             Check::TooManyHandles => 11,
-            Check::HandleClosed => 12,
+            Check::HandleNotOpen => 12,
             Check::ControlMissing => 13,
             Check::ClusterMissing => 14,
             Check::IdNotShown => 15,

@@ -1,6 +1,7 @@
 ghost use Rattle.std.specs.Prelude.{◌≡◌};
 
 use crate::check::Check;
+use crate::errno::Errno;
 use crate::ids::CtrlId;
 
 /// Which values a control list speaks of (Linux userspace API, "struct v4l2_ext_controls", field `which`).
@@ -17,11 +18,22 @@ pub enum Which {
 }
 
 impl Which {
+    ghost use Rattle.ctrl_types.specs.Checks.{with_errno};
     ghost use Rattle.ctrl_types.specs.Classes.{which_of};
 
     /// Reads the field `which`: 0 the present values, 0x0f000000 the defaults, 0x0f010000 those of a request, and any
-    /// other number that is its own class that class. Refused by check 50 of docs/RULES.md (EINVAL, 22), which is check 2 of a list.
-    pub fn read(number: u32) -> Result<Which, Check>
+    /// other number that is its own class that class. Refused by check 50 of docs/RULES.md (EINVAL, 22).
+    pub fn read(number: u32) -> Result<Which, Errno>
+        ensures { result ≡ with_errno (which_of number) }
+    {
+        match Which::of(number) {
+            Ok(which) => Ok(which),
+            Err(check) => Err(check.errno()),
+        }
+    }
+
+    /// The same, where a refusal is the check that a list is refused by: check 2, which is made of check 50.
+    pub fn of(number: u32) -> Result<Which, Check>
         ensures { result ≡ which_of number }
     {
         match number {

@@ -5,7 +5,7 @@ use Rattle.std.specs.Map.{lookup}
 use Rattle.std.specs.Option.{option_and_then, option_map, is_none}
 use Rattle.ctrl_types.specs.Classes.{which_of}
 use Rattle.ctrl_types.specs.declared.check.Check.{Check}
-use Rattle.ctrl_types.specs.declared.check.Check.TheVariants.{ListHandleClosed, TooManyEntries, ClassNotShown, NoRoomForSet}
+use Rattle.ctrl_types.specs.declared.check.Check.TheVariants.{ListHandleNotOpen, TooManyEntries, ClassNotShown, ListHistoryFull}
 use Rattle.ctrl_types.specs.declared.errno.Fault.{Fault}
 use Rattle.ctrl_types.specs.declared.ids.CtrlId.{CtrlId}
 use Rattle.ctrl_types.specs.declared.ids.ExtControl.{ExtControl}
@@ -161,7 +161,7 @@ storer_fits plan past fh pairs is_open shows = by (handler_of past fh) refl is_o
 
 -- A list that is set passes its first checks where its file handle is open, it doesn't speak of the defaults, and the request that it speaks of
 -- doesn't refuse it.
-opens : (is_closed : Bool) (check : Option Check) → is_closed ≡ false → check ≡ None → first_refusal (refused_if is_closed ListHandleClosed ∷ None ∷ None ∷ refused_by check ∷ []) ≡ None
+opens : (is_closed : Bool) (check : Option Check) → is_closed ≡ false → check ≡ None → first_refusal (refused_if is_closed ListHandleNotOpen ∷ None ∷ None ∷ refused_by check ∷ []) ≡ None
 opens is_closed check is none = rw (is, none) refl
 
 -- the request that a list speaks of, where it does, doesn't refuse a list that is set
@@ -181,8 +181,8 @@ stores verdicts plan past (Class n) id h = tt
 opened_by : (verdicts : Verdicts) (plan : PlanData) (past : Past) (fh : FhId) (which : ℕ) (id : Option RequestId) → first_refusal (opening_checks verdicts plan past fh which id true) ≡ None
     → (is_none (handler_of past fh) ≡ false) × Stores verdicts plan past (meant (which_or (which_of which)) id)
 opened_by verdicts plan past fh which id h =
-    let first = passes (refused_if (is_none (handler_of past fh)) ListHandleClosed) _ h in
-    (not_refused_if (is_none (handler_of past fh)) ListHandleClosed first.0, stores verdicts plan past (which_or (which_of which)) id (meant_passes verdicts plan past fh which id true h))
+    let first = passes (refused_if (is_none (handler_of past fh)) ListHandleNotOpen) _ h in
+    (not_refused_if (is_none (handler_of past fh)) ListHandleNotOpen first.0, stores verdicts plan past (which_or (which_of which)) id (meant_passes verdicts plan past fh which id true h))
 
 -- the step of a list that is set is decided
 set_decided : (verdicts : Verdicts) (plan : PlanData) (past : Past) (fh : FhId) (which : ℕ) (id : Option RequestId) (list : List ExtControl) → first_refusal (set_checks verdicts plan past fh which id list) ≡ None
@@ -195,7 +195,7 @@ set_decided verdicts plan past fh which id list h =
     by (meant (which_or (which_of which)) id) opening.0 opening.1 rest.0 rest.1
   where
     limit : List (Option Refusal)
-    limit = refused_if (is_full past) NoRoomForSet ∷ []
+    limit = refused_if (is_full past) ListHistoryFull ∷ []
 
     view : Option RequestId → ViewData
     view m = record (write_view verdicts plan past fh which id) { asked = earlier_pairs plan past m }

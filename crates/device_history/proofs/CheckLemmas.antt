@@ -10,7 +10,7 @@ use Rattle.device_history.specs.declared.ask.Ask.{Ask}
 use Rattle.device_history.specs.declared.ask.Ask.TheVariants as asks
 use Rattle.device_history.specs.declared.ask.Reply.{Reply}
 use Rattle.device_history.specs.Steps.{Past}
-use Rattle.device_history.specs.Refusals.{fault_by, fault_of, step_check, stepped, stepped_with, told_of, unless_refused}
+use Rattle.device_history.specs.Refusals.{fault_by, fault_of, step_check, stepped, stepped_with, replied_with, unless_refused}
 use Rattle.device_history.specs.Snapshots.{frames}
 use Rattle.device_history.specs.RequestAnswers.{state_found}
 use Rattle.device_history.specs.EventAnswers.{first_event}
@@ -27,7 +27,7 @@ unless_by (Some check) reply = refl
 stepped_by : (check : Option Check) (past : Past) (reply : Reply) → fault_of (stepped check past reply) ≡ option_map fault_by (step_check past check)
 stepped_by check past reply = unless_by (step_check past check) reply
 
-told_by : {X : Type 0} (reply : X → Reply) (found : Result X Check) → fault_of (told_of reply found) ≡ option_map fault_by (result_err found)
+told_by : {X : Type 0} (reply : X → Reply) (found : Result X Check) → fault_of (replied_with reply found) ≡ option_map fault_by (result_err found)
 told_by reply (Ok x) = refl
 told_by reply (Err check) = refl
 

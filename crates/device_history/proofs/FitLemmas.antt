@@ -4,7 +4,7 @@ use Rattle.std.specs.Option.{option_map, is_none}
 use Rattle.std.specs.Result.{is_ok}
 use Rattle.ctrl_types.specs.Classes.{which_of}
 use Rattle.ctrl_types.specs.declared.check.Check.{Check}
-use Rattle.ctrl_types.specs.declared.check.Check.TheVariants.{DefaultsWritten, ListHandleClosed, ListRequestNotIdle, NoRoomForSet, NotIdle, WhichUnknown}
+use Rattle.ctrl_types.specs.declared.check.Check.TheVariants.{DefaultsWritten, ListHandleNotOpen, ListRequestNotIdle, ListHistoryFull, NotIdle, WhichUnknown}
 use Rattle.ctrl_types.specs.declared.errno.Fault.{Fault}
 use Rattle.ctrl_types.specs.declared.ids.ExtControl.{ExtControl}
 use Rattle.ctrl_types.specs.declared.ids.FhId.{FhId}
@@ -71,7 +71,7 @@ meant_passes verdicts plan older fh which id writes h =
     let last : Option Refusal = refused_by (meant_check verdicts plan older writes (which_or (which_of which)) id) in
     let defaults : Option Refusal = refused_if (writes_defaults writes (which_or (which_of which))) DefaultsWritten in
     let unread : Option Refusal = refused_if (not (is_ok (which_of which))) WhichUnknown in
-    let first = passes (refused_if (is_none (handler_of older fh)) ListHandleClosed) (unread ∷ defaults ∷ last ∷ []) h in
+    let first = passes (refused_if (is_none (handler_of older fh)) ListHandleNotOpen) (unread ∷ defaults ∷ last ∷ []) h in
     let second = passes unread (defaults ∷ last ∷ []) first.1 in
     let third = passes defaults (last ∷ []) second.1 in
     unrefused_by (meant_check verdicts plan older writes (which_or (which_of which)) id) (passes last [] third.1).0
@@ -145,7 +145,7 @@ fits verdicts plan older step may = by may.0 may.1 may.2
         is (pairs_step (meant (which_or (which_of which)) id) fh (list_pairs plan older fh which list))
         (fits_list verdicts plan older fh (which_or (which_of which)) id (list_pairs plan older fh which list)
         (meant_passes verdicts plan older fh which id true
-        (list_opens _ (opening_checks verdicts plan older fh which id true) (write_checks verdicts plan (write_view verdicts plan older fh which id) true list ++ refused_if (is_full older) NoRoomForSet ∷ []) _ h)))
+        (list_opens _ (opening_checks verdicts plan older fh which id true) (write_checks verdicts plan (write_view verdicts plan older fh which id) true list ++ refused_if (is_full older) ListHistoryFull ∷ []) _ h)))
         adds
     by (asks.TryCtrls fh which id list) h adds = nothing verdicts plan older step adds
     by (asks.Grab c on) h adds = is _ tt adds

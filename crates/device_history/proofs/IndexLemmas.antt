@@ -12,7 +12,7 @@ use Rattle.ctrl_handlers.specs.Plan.{PlanData}
 use Rattle.ctrl_lists.specs.declared.refusal.Refusal.{Refusal}
 use Rattle.ctrl_lists.specs.Answers.{answered, fault_at_count, fault_at_entry}
 use Rattle.device_history.specs.Steps.{Past}
-use Rattle.device_history.specs.Refusals.{Answer, refused, refused_at, step_check, stepped, stepped_with, told_of, unless_refused}
+use Rattle.device_history.specs.Refusals.{Answer, refused, refused_at, step_check, stepped, stepped_with, replied_with, unless_refused}
 use Rattle.device_history.specs.Answers.{answer_of, is_list, no_memory, MayAnswer}
 use Rattle.device_history.specs.Lists.{controls_of}
 use Rattle.device_history.specs.Forecasts.{forecast_at}
@@ -58,7 +58,7 @@ unless_so (Some check) reply = plain check
 stepped_so : (check : Option Check) (past : Past) (reply : Reply) → HasIndex false (stepped check past reply)
 stepped_so check past reply = unless_so (step_check past check) reply
 
-told_so : {X : Type 0} (reply : X → Reply) (found : Result X Check) → HasIndex false (told_of reply found)
+told_so : {X : Type 0} (reply : X → Reply) (found : Result X Check) → HasIndex false (replied_with reply found)
 told_so reply (Ok x) = accepted false (reply x)
 told_so reply (Err check) = plain check
 

@@ -9,7 +9,7 @@ use Rattle.device_history.specs.declared.ask.Reply.{Reply}
 use Rattle.device_history.specs.declared.ask.Reply.TheVariants.{Word}
 use Rattle.device_history.specs.declared.ask.Step.{Step}
 use Rattle.device_history.specs.Steps.{Past}
-use Rattle.device_history.specs.Refusals.{Answer, fault_of, told_of}
+use Rattle.device_history.specs.Refusals.{Answer, fault_of, replied_with}
 use Rattle.device_history.specs.Answers.{MayAnswer, answer_of, no_memory, refusal, step_of}
 use Rattle.device_history.specs.Legal.{MayFollow}
 
@@ -43,7 +43,7 @@ refusal_of verdicts plan past words (asks.NextId fh id) = refl
 refusal_of verdicts plan past words (asks.MenuItem fh id index) = refl
 refusal_of verdicts plan past words (asks.Told cluster) = by (nat_le (length plan.clusters) cluster)
   where
-    by : (b : Bool) → fault_of (told_of (λ word. Word word) (cond b (Err ClusterMissing) (Ok (slice_index words cluster)))) ≡ fault_of (told_of (λ word. Word word) (cond b (Err ClusterMissing) (Ok (slice_index [] cluster))))
+    by : (b : Bool) → fault_of (replied_with (λ word. Word word) (cond b (Err ClusterMissing) (Ok (slice_index words cluster)))) ≡ fault_of (replied_with (λ word. Word word) (cond b (Err ClusterMissing) (Ok (slice_index [] cluster))))
     by true = refl
     by false = refl
 refusal_of verdicts plan past words (asks.Subscribe fh id flags) = refl

@@ -3,7 +3,7 @@ use Rattle.std.proofs.Common.{◌≡◌, ℕ, Bool, true, false, cond, ◌&&◌,
 use Rattle.std.specs.List.{list_any}
 use Rattle.ctrl_types.specs.Flags.{contains}
 use Rattle.ctrl_types.specs.declared.check.Check.{Check}
-use Rattle.ctrl_types.specs.declared.check.Check.TheVariants.{TooManyEntries, ClassNotShown, EntryReadOnly, EntryGrabbed, NoRoomForSet}
+use Rattle.ctrl_types.specs.declared.check.Check.TheVariants.{TooManyEntries, ClassNotShown, EntryReadOnly, EntryGrabbed, ListHistoryFull}
 use Rattle.ctrl_types.specs.declared.flags.TheConstants.Flags.{READ_ONLY}
 use Rattle.ctrl_types.specs.declared.ids.ExtControl.{ExtControl}
 use Rattle.ctrl_types.specs.declared.ids.FhId.{FhId}
@@ -53,7 +53,7 @@ set_passes verdicts plan past fh which request list answers is =
     own = write_checks verdicts plan (write_view verdicts plan past fh which request) true list
 
     limit : List (Option Refusal)
-    limit = refused_if (is_full past) NoRoomForSet ∷ []
+    limit = refused_if (is_full past) ListHistoryFull ∷ []
 
     entries : List ExtControl
     entries = entries_judged verdicts plan (write_view verdicts plan past fh which request) list

@@ -4,7 +4,7 @@ use Rattle.std.proofs.lemmas.Bool.Decides.{nat_tests}
 use Rattle.std.specs.List.{cons_option}
 use Rattle.std.specs.Option.{option_map, option_and_then}
 use Rattle.ctrl_types.specs.Flags.{contains}
-use Rattle.ctrl_types.specs.declared.check.Check.TheVariants.{EntryNotShown}
+use Rattle.ctrl_types.specs.declared.check.Check.TheVariants.{EntryNamesNone}
 use Rattle.ctrl_types.specs.declared.flags.TheConstants.Flags.{DISABLED}
 use Rattle.ctrl_types.specs.declared.ids.CtrlId.{CtrlId}
 use Rattle.ctrl_types.specs.declared.ids.ExtControl.{ExtControl}
@@ -104,7 +104,7 @@ entries_back plan view n (entry ∷ list) names =
     one : (o : Option ℕ) → List Pair
     one o = cons_option (option_map (λ c. record { control = c; value = entry.value }) o) rest
 
-    by : (o : Option ℕ) → named plan view.handler view.which entry.id ≡ o → cond (is_some o) None (Some EntryNotShown) ≡ None → (entries_of plan rest ≡ list) × (shows_pairs plan view.handler rest ≡ true)
+    by : (o : Option ℕ) → named plan view.handler view.which entry.id ≡ o → cond (is_some o) None (Some EntryNamesNone) ≡ None → (entries_of plan rest ≡ list) × (shows_pairs plan view.handler rest ≡ true)
         → (entries_of plan (one o) ≡ entry ∷ list) × (shows_pairs plan view.handler (one o) ≡ true)
     by None is h ih = cc
     by (Some c) is h ih =

@@ -8,7 +8,7 @@ use Rattle.history.specs.declared.entry.Entry.{Entry}
 use Rattle.history.specs.Past.{past}
 use Rattle.history.proofs.Pasts.{past_add}
 use Rattle.ctrl_types.specs.declared.check.Check.{Check}
-use Rattle.ctrl_types.specs.declared.check.Check.TheVariants.{HandleClosed}
+use Rattle.ctrl_types.specs.declared.check.Check.TheVariants.{HandleNotOpen}
 use Rattle.ctrl_types.specs.declared.ids.FhId.{FhId}
 use Rattle.ctrl_types.specs.declared.sub_flags.SubFlags.{SubFlags}
 use Rattle.ctrl_calls.specs.Meanings.{Verdicts}
@@ -71,17 +71,17 @@ not_yet past fh late = absent (length past) fh.0 (opened past) late (opened_belo
 stepped_open : (o : Option Check) (past : Past) (fh : FhId) (reply : Reply) → fault_of (stepped (through past fh o) past reply) ≡ None → is_open past fh ≡ true
 stepped_open o past fh reply h = by (is_open past fh) h
   where
-    by : (b : Bool) → fault_of (stepped (cond b o (Some HandleClosed)) past reply) ≡ None → b ≡ true
+    by : (b : Bool) → fault_of (stepped (cond b o (Some HandleNotOpen)) past reply) ≡ None → b ≡ true
     by true k = refl
     by false k = cc
 
 -- what found a control did
-shown_open : (b : Bool) (found : Result ℕ Check) (past : Past) (reply : Reply) → fault_of (stepped (result_err (cond b found (Err HandleClosed))) past reply) ≡ None → b ≡ true
+shown_open : (b : Bool) (found : Result ℕ Check) (past : Past) (reply : Reply) → fault_of (stepped (result_err (cond b found (Err HandleNotOpen))) past reply) ≡ None → b ≡ true
 shown_open true found past reply h = refl
 shown_open false found past reply h = cc
 
 -- and what found an event
-event_open : (b : Bool) (found : Result Event Check) (past : Past) → fault_of (stepped_with (λ event. replies.Event event) (cond b found (Err HandleClosed)) past) ≡ None → b ≡ true
+event_open : (b : Bool) (found : Result Event Check) (past : Past) → fault_of (stepped_with (λ event. replies.Event event) (cond b found (Err HandleNotOpen)) past) ≡ None → b ≡ true
 event_open true found past h = refl
 event_open false found past h = cc
 

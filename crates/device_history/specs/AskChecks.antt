@@ -3,7 +3,7 @@ use Rattle.std.specs.Prelude.{[], Option, None}
 use Rattle.std.specs.Result.{result_err}
 use Rattle.ctrl_types.specs.declared.check.Check.{Check}
 use Rattle.req_book.specs.Refusals.{alloc_check, buffer_check, queue_check, clear_check}
-use Rattle.frame_queue.specs.Frames.{next_frame, complete_check, cancel_check}
+use Rattle.frame_queue.specs.Frames.{begin_check, complete_check, cancel_check}
 use Rattle.ctrl_calls.specs.Meanings.{Verdicts}
 use Rattle.ctrl_handlers.specs.Plan.{PlanData}
 use Rattle.device_history.specs.declared.ask.Ask.{Ask}
@@ -20,7 +20,8 @@ use Rattle.device_history.specs.Forecasts.{forecast_at}
 use Rattle.device_history.specs.Queries.{control_shown, id_behind, item_found, word_of}
 
 -- The first check that refuses the ask where memory suffices, as the law `refusals_by_checks` says: its own, and then, where it adds a step, that no
--- further step is kept. The checks of a list are told entry by entry (specs/Lists). The words that were told don't matter.
+-- further step is kept. Of a list it tells none, refused or not: its checks, with the entry where each refuses, stand in specs/Lists. The words that were told don't
+-- matter.
 abbrev pub check_of : Verdicts → PlanData → Past → Ask → Option Check
 check_of verdicts plan past (asks.OpenFh handler) = step_check past (open_check plan past handler)
 check_of verdicts plan past (asks.CloseFh fh) = step_check past (through past fh None)
@@ -32,7 +33,7 @@ check_of verdicts plan past (asks.ModifyRange c low high apart default_value) = 
 check_of verdicts plan past asks.Alloc = step_check past (alloc_check (requests verdicts plan past))
 check_of verdicts plan past (asks.AddBuffer r number) = step_check past (buffer_check (requests verdicts plan past) number (request verdicts plan past r.0))
 check_of verdicts plan past (asks.Queue r) = step_check past (queue_check (request verdicts plan past r.0))
-check_of verdicts plan past asks.Begin = step_check past (result_err (next_frame (frames verdicts plan past)))
+check_of verdicts plan past asks.Begin = step_check past (begin_check (frames verdicts plan past))
 check_of verdicts plan past asks.Complete = step_check past (complete_check (frames verdicts plan past))
 check_of verdicts plan past (asks.Cancel r) = step_check past (cancel_check (request verdicts plan past r.0))
 check_of verdicts plan past asks.StreamOff = step_check past None

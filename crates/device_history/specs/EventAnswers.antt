@@ -1,10 +1,10 @@
 -- What subscriptions and takes are answered (Linux userspace API, "ioctl VIDIOC_SUBSCRIBE_EVENT, VIDIOC_UNSUBSCRIBE_EVENT", "ioctl
--- VIDIOC_DQEVENT").
+-- VIDIOC_DQEVENT"): each check in its order, and then that no further step is kept (`stepped`).
 use Rattle.std.specs.Prelude.{ℕ, if◌then◌else◌, List, [], ◌∷◌, Option, None, Some, is_some, Result, Err}
 use Rattle.std.specs.Option.{option_map}
 use Rattle.std.specs.Result.{result_err}
 use Rattle.ctrl_types.specs.declared.check.Check.{Check}
-use Rattle.ctrl_types.specs.declared.check.Check.TheVariants.{HandleClosed}
+use Rattle.ctrl_types.specs.declared.check.Check.TheVariants.{HandleNotOpen}
 use Rattle.ctrl_types.specs.declared.ids.CtrlId.{CtrlId}
 use Rattle.ctrl_types.specs.declared.ids.FhId.{FhId}
 use Rattle.ctrl_types.specs.declared.sub_flags.SubFlags.{SubFlags}
@@ -22,7 +22,7 @@ use Rattle.device_history.specs.Handles.{handler_of, shown, through}
 use Rattle.device_history.specs.Queries.{control_shown}
 use Rattle.device_history.specs.Events.{pending}
 
--- Why a file handle isn't subscribed to the events of a control: no control is shown to it under the id.
+-- Why a file handle isn't subscribed to the events of a control: it isn't open; the id isn't shown to it.
 abbrev pub subscribe_check : PlanData → Past → FhId → CtrlId → Option Check
 subscribe_check plan past fh id = result_err (control_shown plan past fh id)
 
@@ -34,13 +34,13 @@ subscribe_answer plan past fh id = stepped (subscribe_check plan past fh id) pas
 abbrev pub subscribe_step : PlanData → Past → FhId → CtrlId → SubFlags → Option Step
 subscribe_step plan past fh id flags = option_map (λ c. steps.Subscribe fh c flags) (shown plan past fh id)
 
--- Ending a subscription: it is accepted whatever the id.
+-- Ending a subscription: refused where the file handle isn't open, and then accepted whatever the id.
 abbrev pub unsubscribe_answer : Past → FhId → Answer
 unsubscribe_answer past fh = stepped (through past fh None) past replies.Done
 
 -- The first event that waits for a file handle: there is none where it isn't open, or none waits.
 abbrev pub first_event : Verdicts → PlanData → Past → FhId → Result Event Check
-first_event verdicts plan past fh = if is_some (handler_of past fh) then first_waiting (pending verdicts plan past fh) else Err HandleClosed
+first_event verdicts plan past fh = if is_some (handler_of past fh) then first_waiting (pending verdicts plan past fh) else Err HandleNotOpen
 
 -- Taking an event: this one.
 abbrev pub take_answer : Verdicts → PlanData → Past → FhId → Answer

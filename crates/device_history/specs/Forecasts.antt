@@ -12,7 +12,7 @@ use Rattle.device_history.specs.declared.ask.Reply.TheVariants as replies
 use Rattle.device_history.specs.declared.ask.Step.{Step}
 use Rattle.device_history.specs.declared.ask.Step.TheVariants as steps
 use Rattle.device_history.specs.Steps.{Past}
-use Rattle.device_history.specs.Refusals.{Answer, told_of}
+use Rattle.device_history.specs.Refusals.{Answer, replied_with}
 use Rattle.device_history.specs.Ranges.{ranges_now}
 use Rattle.device_history.specs.Grabs.{grabbed}
 use Rattle.device_history.specs.Requests.{asked, buffer}
@@ -51,4 +51,4 @@ forecast_at verdicts plan past place = ok_or (slice_get (forecast verdicts plan 
 
 -- Reading it: neither a running frame nor the limit of steps refuses it.
 abbrev pub forecast_answer : Verdicts → PlanData → Past → ℕ → Answer
-forecast_answer verdicts plan past place = told_of (λ row. replies.Forecast row) (forecast_at verdicts plan past place)
+forecast_answer verdicts plan past place = replied_with (λ row. replies.Forecast row) (forecast_at verdicts plan past place)

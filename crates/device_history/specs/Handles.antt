@@ -4,7 +4,7 @@ use Rattle.std.specs.List.{list_any}
 use Rattle.std.specs.Option.{option_and_then}
 use Rattle.std.specs.Map.{lookup}
 use Rattle.ctrl_types.specs.declared.check.Check.{Check}
-use Rattle.ctrl_types.specs.declared.check.Check.TheVariants.{HandlerMissing, TooManyHandles, HandleClosed}
+use Rattle.ctrl_types.specs.declared.check.Check.TheVariants.{HandlerMissing, TooManyHandles, HandleNotOpen}
 use Rattle.ctrl_types.specs.declared.ids.CtrlId.{CtrlId}
 use Rattle.ctrl_types.specs.declared.ids.FhId.{FhId}
 use Rattle.device_history.specs.declared.ask.Step.{Step}
@@ -64,7 +64,7 @@ are_all_open past = nat_le MAX_FILE_HANDLES (length (opened past))
 
 -- why an ask through a file handle is refused: it isn't open; else as the ask says
 abbrev pub through : Past → FhId → Option Check → Option Check
-through past fh check = if is_some (handler_of past fh) then check else Some HandleClosed
+through past fh check = if is_some (handler_of past fh) then check else Some HandleNotOpen
 
 -- Why no file handle is opened on a handler: there is no such handler; as many are open as can be.
 abbrev pub open_check : PlanData → Past → ℕ → Option Check
@@ -77,6 +77,6 @@ open_check plan past handler =
 abbrev pub open_answer : PlanData → Past → ℕ → Answer
 open_answer plan past handler = stepped (open_check plan past handler) past (Fh (record { 0 = length past }))
 
--- Closing a file handle: only one that isn't open is refused.
+-- Closing a file handle: refused where it isn't open, and else by the limit of steps alone.
 abbrev pub close_answer : Past → FhId → Answer
 close_answer past fh = stepped (through past fh None) past Done

@@ -5,7 +5,7 @@ use Rattle.std.specs.Prelude.{◌≡◌, ℕ, Bool, true, false, not, if◌then�
 use Rattle.std.specs.Option.{is_none, option_and_then}
 use Rattle.std.specs.Result.{is_ok}
 use Rattle.ctrl_types.specs.declared.check.Check.{Check}
-use Rattle.ctrl_types.specs.declared.check.Check.TheVariants.{ListHandleClosed, WhichUnknown, DefaultsWritten, ListRequestMissing, ListRequestNotIdle, ListRequestNotComplete, NoRoomForSet}
+use Rattle.ctrl_types.specs.declared.check.Check.TheVariants.{ListHandleNotOpen, WhichUnknown, DefaultsWritten, ListRequestMissing, ListRequestNotIdle, ListRequestNotComplete, ListHistoryFull}
 use Rattle.ctrl_types.specs.Classes.{which_of}
 use Rattle.ctrl_types.specs.declared.which.Which.{Which}
 use Rattle.ctrl_types.specs.declared.which.Which.TheVariants.{Current, Defaults, Request}
@@ -105,7 +105,7 @@ write_view verdicts plan past fh which request = record {
 abbrev pub opening_checks : Verdicts → PlanData → Past → FhId → ℕ → Option RequestId → Bool → List (Option Refusal)
 opening_checks verdicts plan past fh which request writes =
     -- the file handle isn't open
-    refused_if (is_none (handler_of past fh)) ListHandleClosed
+    refused_if (is_none (handler_of past fh)) ListHandleNotOpen
     -- `which` can't be read
     ∷ refused_if (not (is_ok (which_of which))) WhichUnknown
     -- it speaks of the defaults and the list writes
@@ -125,7 +125,7 @@ get_checks verdicts plan past fh which request list =
 abbrev pub set_checks : Verdicts → PlanData → Past → FhId → ℕ → Option RequestId → List ExtControl → List (Option Refusal)
 set_checks verdicts plan past fh which request list =
     opening_checks verdicts plan past fh which request true
-    ++ (write_checks verdicts plan (write_view verdicts plan past fh which request) true list ++ refused_if (is_full past) NoRoomForSet ∷ [])
+    ++ (write_checks verdicts plan (write_view verdicts plan past fh which request) true list ++ refused_if (is_full past) ListHistoryFull ∷ [])
 
 -- The checks of a try, the first refusal first: those that every list begins with, and then those of a list that writes, to try
 -- (ctrl_lists/specs/Checks).

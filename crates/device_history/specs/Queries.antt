@@ -3,7 +3,7 @@
 use Rattle.std.specs.Prelude.{ℕ, pos, int_le, Bool, ◌&&◌, cond, nat_le, if◌then◌else◌, List, length, Option, None, Some, is_some, slice_index, Result, Ok, Err}
 use Rattle.std.specs.Option.{ok_or}
 use Rattle.ctrl_types.specs.declared.check.Check.{Check}
-use Rattle.ctrl_types.specs.declared.check.Check.TheVariants.{HandleClosed, IdNotShown, NoGreaterId, ItemMissing, ClusterMissing}
+use Rattle.ctrl_types.specs.declared.check.Check.TheVariants.{HandleNotOpen, IdNotShown, NoGreaterId, ItemMissing, ClusterMissing}
 use Rattle.ctrl_types.specs.declared.flags.Flags.{Flags}
 use Rattle.ctrl_types.specs.declared.ids.CtrlId.{CtrlId}
 use Rattle.ctrl_types.specs.declared.ids.FhId.{FhId}
@@ -15,7 +15,7 @@ use Rattle.ctrl_handlers.specs.Plan.{PlanData, control_in, menu_item}
 use Rattle.ctrl_handlers.specs.Visible.{next_id}
 use Rattle.ctrl_calls.specs.Meanings.{Verdicts}
 use Rattle.device_history.specs.Steps.{Past}
-use Rattle.device_history.specs.Refusals.{Answer, told_of}
+use Rattle.device_history.specs.Refusals.{Answer, replied_with}
 use Rattle.device_history.specs.Ranges.{ranges_now}
 use Rattle.device_history.specs.Handles.{handler_of, shown}
 use Rattle.device_history.specs.Flags.{flags_now}
@@ -35,16 +35,16 @@ info_of ctrl flags = record {
 
 -- The control that is shown to a file handle under an id: there is none where the file handle isn't open, or the id isn't shown to it.
 abbrev pub control_shown : PlanData → Past → FhId → CtrlId → Result ℕ Check
-control_shown plan past fh id = if is_some (handler_of past fh) then ok_or (shown plan past fh id) IdNotShown else Err HandleClosed
+control_shown plan past fh id = if is_some (handler_of past fh) then ok_or (shown plan past fh id) IdNotShown else Err HandleNotOpen
 
 -- A query: what the control is like, also where it is DISABLED.
 abbrev pub query_answer : Verdicts → PlanData → Past → FhId → CtrlId → Answer
 query_answer verdicts plan past fh id =
-    told_of (λ c. Info (info_of (control_in (ranges_now plan past) c) (flags_now verdicts plan past c))) (control_shown plan past fh id)
+    replied_with (λ c. Info (info_of (control_in (ranges_now plan past) c) (flags_now verdicts plan past c))) (control_shown plan past fh id)
 
 -- the next id of what a handler shows, where there is a handler
 abbrev pub next_shown : PlanData → CtrlId → Option ℕ → Result CtrlId Check
-next_shown plan id None = Err HandleClosed
+next_shown plan id None = Err HandleNotOpen
 next_shown plan id (Some handler) = ok_or (next_id plan handler id) NoGreaterId
 
 -- The least id behind another one that is shown to a file handle: there is none where the file handle isn't open, or no greater id is shown to it.
@@ -53,7 +53,7 @@ id_behind plan past fh id = next_shown plan id (handler_of past fh)
 
 -- the answer to an ask for the next id
 abbrev pub next_answer : PlanData → Past → FhId → CtrlId → Answer
-next_answer plan past fh id = told_of (λ next. Id next) (id_behind plan past fh id)
+next_answer plan past fh id = replied_with (λ next. Id next) (id_behind plan past fh id)
 
 -- whether an index lies within the range of a menu
 abbrev pub has_index : Control → ℕ → Bool
@@ -68,13 +68,13 @@ abbrev pub item_of : PlanData → Past → ℕ → Result ℕ Check → Result M
 item_of plan past index (Ok c) = ok_or (item_now plan past c index) ItemMissing
 item_of plan past index (Err check) = Err check
 
--- The item of a menu that is shown to a file handle: there is none where there is no such control, or the control has no item at the index.
+-- The item of a menu that is shown to a file handle: there is none where the file handle isn't open, the id isn't shown to it, or the control has no item at the index.
 abbrev pub item_found : PlanData → Past → FhId → CtrlId → ℕ → Result MenuItem Check
 item_found plan past fh id index = item_of plan past index (control_shown plan past fh id)
 
 -- the answer to an ask for an item
 abbrev pub item_answer : PlanData → Past → FhId → CtrlId → ℕ → Answer
-item_answer plan past fh id index = told_of (λ item. Item item) (item_found plan past fh id index)
+item_answer plan past fh id index = replied_with (λ item. Item item) (item_found plan past fh id index)
 
 -- The word that a cluster was told last: there is none where there is no such cluster. A cluster without a notifier was told 0.
 abbrev pub word_of : PlanData → List ℕ → ℕ → Result ℕ Check
@@ -82,4 +82,4 @@ word_of plan words cluster = if nat_le (length plan.clusters) cluster then Err C
 
 -- the answer to an ask for it
 abbrev pub told_answer : PlanData → List ℕ → ℕ → Answer
-told_answer plan words cluster = told_of (λ word. Word word) (word_of plan words cluster)
+told_answer plan words cluster = replied_with (λ word. Word word) (word_of plan words cluster)

@@ -29,10 +29,10 @@ abbrev pub unless_refused : Option Check → Reply → Answer
 unless_refused None reply = Ok reply
 unless_refused (Some check) reply = refused check
 
--- the reply that tells what was found, or the check that found nothing
-abbrev pub told_of : {X : Type 0} → (X → Reply) → Result X Check → Answer
-told_of reply (Ok x) = Ok (reply x)
-told_of reply (Err check) = refused check
+-- the reply that tells what was found, or the refusal by the check where nothing was
+abbrev pub replied_with : {X : Type 0} → (X → Reply) → Result X Check → Answer
+replied_with reply (Ok x) = Ok (reply x)
+replied_with reply (Err check) = refused check
 
 -- the fault of an answer, where it is a refusal
 abbrev pub fault_of : Answer → Option Fault

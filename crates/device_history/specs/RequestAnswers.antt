@@ -1,4 +1,5 @@
--- What requests and frames are answered (Linux userspace API, "Request API"; buffers, begins, cancellations and freeing are of this project).
+-- What requests and frames are answered (Linux userspace API, "Request API"; buffers, begins, cancellations and freeing are of this project): the
+-- checks stand in their order in req_book/specs/Refusals and frame_queue/specs/Frames; what adds a step is refused, behind its own checks, where no further step is kept (`stepped`).
 use Rattle.std.specs.Prelude.{ℕ, length, None, Result}
 use Rattle.std.specs.Option.{ok_or}
 use Rattle.ctrl_types.specs.declared.check.Check.{Check}
@@ -12,7 +13,7 @@ use Rattle.ctrl_handlers.specs.Plan.{PlanData}
 use Rattle.device_history.specs.declared.ask.Reply.{Reply}
 use Rattle.device_history.specs.declared.ask.Reply.TheVariants as replies
 use Rattle.device_history.specs.Steps.{Past}
-use Rattle.device_history.specs.Refusals.{Answer, stepped, stepped_with, told_of}
+use Rattle.device_history.specs.Refusals.{Answer, stepped, stepped_with, replied_with}
 use Rattle.device_history.specs.Requests.{state}
 use Rattle.device_history.specs.Snapshots.{request, requests, frames, begun_refused}
 
@@ -58,4 +59,4 @@ state_found past r = ok_or (state past r.0) RequestMissing
 
 -- Reading a request's state.
 abbrev pub state_answer : Past → RequestId → Answer
-state_answer past r = told_of (λ s. replies.State s) (state_found past r)
+state_answer past r = replied_with (λ s. replies.State s) (state_found past r)

@@ -1,7 +1,7 @@
 -- What a list is answered once its first checks pass, as `ctrl_lists` finds it.
 use Rattle.std.proofs.Common.{◌≡◌, ℕ, true, false, List, [], ◌∷◌, ◌++◌, length, None, Some, Option, Ok, Err, IsTrue, ◌⊎◌, inl, inr, refl, ap, sym, subst, ◌∙◌}
 use Rattle.ctrl_types.specs.declared.check.Check.{Check}
-use Rattle.ctrl_types.specs.declared.check.Check.TheVariants.{NoRoomForSet}
+use Rattle.ctrl_types.specs.declared.check.Check.TheVariants.{ListHistoryFull}
 use Rattle.ctrl_types.specs.declared.ids.ExtControl.{ExtControl}
 use Rattle.ctrl_types.specs.declared.ids.FhId.{FhId}
 use Rattle.ctrl_types.specs.declared.ids.RequestId.{RequestId}
@@ -45,7 +45,7 @@ pub set_unread : (verdicts : Verdicts) (plan : PlanData) (older : Past) (words :
     → first_refusal (opening_checks verdicts plan older fh which request true) ≡ Some (record { check = check; place = None }) → MayAnswer verdicts plan older words (asks.SetCtrls fh which request list) (refused_at check (length list))
 set_unread verdicts plan older words fh which request list check is =
     set_by verdicts plan older words fh which request list _
-    (first_before (opening_checks verdicts plan older fh which request true) (write_checks verdicts plan (write_view verdicts plan older fh which request) true list ++ refused_if (is_full older) NoRoomForSet ∷ []) _ is)
+    (first_before (opening_checks verdicts plan older fh which request true) (write_checks verdicts plan (write_view verdicts plan older fh which request) true list ++ refused_if (is_full older) ListHistoryFull ∷ []) _ is)
 
 pub try_unread : (verdicts : Verdicts) (plan : PlanData) (older : Past) (words : List ℕ) (fh : FhId) (which : ℕ) (request : Option RequestId) (list : List ExtControl) (check : Check)
     → first_refusal (opening_checks verdicts plan older fh which request true) ≡ Some (record { check = check; place = None }) → MayAnswer verdicts plan older words (asks.TryCtrls fh which request list) (refused_at check (length list))
@@ -108,13 +108,13 @@ set_denied verdicts plan older words fh which request list view refusal opens re
     own = write_checks verdicts plan (write_view verdicts plan older fh which request) true list
 
     limit : List (Option Refusal)
-    limit = refused_if (is_full older) NoRoomForSet ∷ []
+    limit = refused_if (is_full older) ListHistoryFull ∷ []
 set_denied verdicts plan older words fh which request list view refusal opens read (inr lacks) = inr ((opens, inl lacks.0), ap (λ (r : Refusal). Err (fault_at_count (length list) r)) lacks.1)
 
 -- a set that they don't refuse: the limit of steps decides
 set_left : (verdicts : Verdicts) (plan : PlanData) (older : Past) (fh : FhId) (which : ℕ) (request : Option RequestId) (list : List ExtControl) (view : ViewData)
     → first_refusal (opening_checks verdicts plan older fh which request true) ≡ None → view ≡ write_view verdicts plan older fh which request → first_refusal (write_checks verdicts plan view true list) ≡ None
-    → first_refusal (set_checks verdicts plan older fh which request list) ≡ first_refusal (refused_if (is_full older) NoRoomForSet ∷ [])
+    → first_refusal (set_checks verdicts plan older fh which request list) ≡ first_refusal (refused_if (is_full older) ListHistoryFull ∷ [])
 set_left verdicts plan older fh which request list view opens read passed =
     first_behind (opening_checks verdicts plan older fh which request true) (own ++ limit) opens ∙ first_behind own limit (subst (λ (v : ViewData). first_refusal (write_checks verdicts plan v true list) ≡ None) read passed)
   where
@@ -122,14 +122,14 @@ set_left verdicts plan older fh which request list view opens read passed =
     own = write_checks verdicts plan (write_view verdicts plan older fh which request) true list
 
     limit : List (Option Refusal)
-    limit = refused_if (is_full older) NoRoomForSet ∷ []
+    limit = refused_if (is_full older) ListHistoryFull ∷ []
 
 -- it refuses
 pub set_full : (verdicts : Verdicts) (plan : PlanData) (older : Past) (words : List ℕ) (fh : FhId) (which : ℕ) (request : Option RequestId) (list : List ExtControl) (view : ViewData)
     → first_refusal (opening_checks verdicts plan older fh which request true) ≡ None → view ≡ write_view verdicts plan older fh which request → first_refusal (write_checks verdicts plan view true list) ≡ None → is_full older ≡ true
-    → MayAnswer verdicts plan older words (asks.SetCtrls fh which request list) (refused_at NoRoomForSet (length list))
+    → MayAnswer verdicts plan older words (asks.SetCtrls fh which request list) (refused_at ListHistoryFull (length list))
 set_full verdicts plan older words fh which request list view opens read passed full =
-    set_by verdicts plan older words fh which request list (record { check = NoRoomForSet; place = None }) (set_left verdicts plan older fh which request list view opens read passed ∙ rw full refl)
+    set_by verdicts plan older words fh which request list (record { check = ListHistoryFull; place = None }) (set_left verdicts plan older fh which request list view opens read passed ∙ rw full refl)
 
 -- it doesn't
 pub set_accepted : (verdicts : Verdicts) (plan : PlanData) (older : Past) (fh : FhId) (which : ℕ) (request : Option RequestId) (list : List ExtControl) (view : ViewData) (answers : List ExtControl)

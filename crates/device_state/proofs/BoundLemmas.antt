@@ -3,7 +3,7 @@ use Rattle.std.proofs.Common.{◌≡◌, ◌∙◌, ◌≤◌, ◌+◌, ◌++◌
 use Rattle.std.specs.Option.{is_none}
 use Rattle.std.specs.Result.{is_ok}
 use Rattle.ctrl_types.specs.Classes.{which_of}
-use Rattle.ctrl_types.specs.declared.check.Check.TheVariants.{DefaultsWritten, ListHandleClosed, ListRequestMissing, NoRoomForSet, WhichUnknown}
+use Rattle.ctrl_types.specs.declared.check.Check.TheVariants.{DefaultsWritten, ListHandleNotOpen, ListRequestMissing, ListHistoryFull, WhichUnknown}
 use Rattle.ctrl_types.specs.declared.ids.ExtControl.{ExtControl}
 use Rattle.ctrl_types.specs.declared.ids.FhId.{FhId}
 use Rattle.ctrl_types.specs.declared.ids.RequestId.{RequestId}
@@ -43,8 +43,8 @@ pub set_opened : (verdicts : Verdicts) (plan : PlanData) (older : Past) (fh : Fh
     → set_list_answer verdicts plan older fh which request list ≡ Ok (Controls answers)
     → (first_refusal (opening_checks verdicts plan older fh which request true) ≡ None) × (first_refusal (checks_before_judging verdicts plan older fh which request true list) ≡ None)
 set_opened verdicts plan older fh which request list answers is =
-    let all = none_of_both opening (write_checks verdicts plan view true list ++ refused_if (is_full older) NoRoomForSet ∷ []) (passed (first_refusal (set_checks verdicts plan older fh which request list)) is) in
-    let own = none_of_both (write_checks verdicts plan view true list) (refused_if (is_full older) NoRoomForSet ∷ []) all.1 in
+    let all = none_of_both opening (write_checks verdicts plan view true list ++ refused_if (is_full older) ListHistoryFull ∷ []) (passed (first_refusal (set_checks verdicts plan older fh which request list)) is) in
+    let own = none_of_both (write_checks verdicts plan view true list) (refused_if (is_full older) ListHistoryFull ∷ []) all.1 in
     (all.0, first_behind opening (entry_checks plan view true list) all.0 ∙ (none_of_both (entry_checks plan view true list) (at_first (judging_check verdicts plan view (pairs_judged plan view list)) (pairs_of plan view.handler view.which list) ∷ []) own.0).0)
   where
     view : ViewData
@@ -63,7 +63,7 @@ names_request : (verdicts : Verdicts) (plan : PlanData) (older : Past) (fh : FhI
 names_request verdicts plan older fh which request opens through none = last (sym speaks ∙ (none_of_both (closed ∷ unread ∷ defaults ∷ []) (spoken ∷ []) opens).1)
   where
     closed : Option Refusal
-    closed = refused_if (is_none (handler_of older fh)) ListHandleClosed
+    closed = refused_if (is_none (handler_of older fh)) ListHandleNotOpen
 
     unread : Option Refusal
     unread = refused_if (not (is_ok (which_of which))) WhichUnknown

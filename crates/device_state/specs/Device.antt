@@ -15,7 +15,7 @@ use Rattle.ctrl_lists.specs.Touched.{touched, judged_count, none_where, with_cal
 use Rattle.device_history.specs.Steps.{History, Past}
 use Rattle.device_history.specs.Values.{now, values_after}
 use Rattle.device_history.specs.Words.{pairs_applied, changes}
-use Rattle.device_history.specs.Snapshots.{frames}
+use Rattle.device_history.specs.Snapshots.{frames, request as request_of}
 use Rattle.ctrl_forecast.specs.Forecasts.{named_by_frames}
 use Rattle.step_effects.specs.QueuedFrames.{asks_at_most}
 use Rattle.device_history.specs.Forecasts.{queued_frames}
@@ -28,6 +28,7 @@ use Rattle.ctrl_types.specs.declared.which.Which.TheVariants.{Request}
 use Rattle.ctrl_types.specs.declared.ids.ExtControl.{ExtControl}
 use Rattle.ctrl_types.specs.declared.ids.FhId.{FhId}
 use Rattle.ctrl_types.specs.declared.ids.RequestId.{RequestId}
+use Rattle.req_book.specs.Requests.{RequestData}
 
 -- A device: what it was built of, the steps that it accepted, the words that its clusters were told last, and how often
 -- the last call asked validators and told notifiers.
@@ -40,6 +41,10 @@ pub record DeviceData : Type 0 where
 -- the device with one more step
 abbrev pub with_step : DeviceData → ℕ → Step → DeviceData
 with_step device seat step = record device { steps = device.steps ++ record { seat = seat; step = step } ∷ [] }
+
+-- the request with an id, where the device has one
+abbrev pub request_now : Verdicts → DeviceData → RequestId → Option RequestData
+request_now verdicts device id = request_of verdicts device.plan (past device.steps) id.0
 
 -- whether a step changes a control, after a past
 abbrev pub step_changes : Verdicts → PlanData → Past → Option Step → ℕ → Bool

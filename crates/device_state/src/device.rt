@@ -1,7 +1,7 @@
 ghost use Rattle.std.specs.Prelude.{◌≡◌, ◌<◌, ◌≤◌, ◌+◌, ◌↔◌, ℕ, [], length, None, Ok, Err, IsTrue, IfOk, IfErr, IfSome, MatchResult, OnOk, OnErr};
 ghost use Rattle.history.specs.Past.{past};
 ghost use Rattle.ctrl_types.specs.Checks.{errno_of};
-ghost use Rattle.ctrl_types.specs.declared.errno.Errno.TheVariants.{ENOMEM};
+ghost use Rattle.ctrl_types.specs.declared.check.Check.TheVariants.{MemoryRefused};
 ghost use Rattle.device_history.specs.declared.ask.Ask.TheVariants as asks;
 ghost use Rattle.device_history.specs.declared.ask.Step.TheVariants as steps;
 ghost use Rattle.ctrl_clusters.specs.Rows.{is_grabbed};
@@ -106,17 +106,17 @@ impl<D: Driver> Device<D> {
     /// Refused by check 34 of docs/RULES.md (ENOMEM, 12). The plan is handed back as it was then, and nobody was told.
     pub fn new(alloc: Global, plan: Plan<D>) -> Result<Device<D>, (Plan<D>, Errno)>
         ensures ok { IfOk result (λ d. (d.plan ≡ plan) × (d.steps ≡ []) × HaveWords D.told plan (defaults plan) d.words × (d.work ≡ record { asked = 0; told = 0 })) }
-        ensures err { IfErr result (λ e. (e.0 ≡ plan) × (e.1 ≡ ENOMEM)) }
+        ensures err { IfErr result (λ e. (e.0 ≡ plan) × (e.1 ≡ errno_of MemoryRefused)) }
     {
         let Ok(controls) = Controls::of_plan(alloc, &plan) else {
-            return Err((plan, Errno::ENOMEM));
+            return Err((plan, Check::MemoryRefused.errno()));
         };
         let Ok(frames) = Frames::new(alloc, plan.control_count()) else {
-            return Err((plan, Errno::ENOMEM));
+            return Err((plan, Check::MemoryRefused.errno()));
         };
         let mut told = Work::new();
         let Ok(words) = first_words(alloc, &controls.at(&plan), &mut told) else {
-            return Err((plan, Errno::ENOMEM));
+            return Err((plan, Check::MemoryRefused.errno()));
         };
         Ok(Device {
             plan,
@@ -521,7 +521,7 @@ impl<D: Driver> Device<D> {
     {
         match self.handler_of(fh) {
             Some(_) => None,
-            None => Some(Check::HandleClosed),
+            None => Some(Check::HandleNotOpen),
         }
     }
 
@@ -639,7 +639,7 @@ impl<D: Driver> Device<D> {
         ensures known { IfOk result (λ c. c < length self.now.plan.controls) }
     {
         let Some(handler) = self.handler_of(fh) else {
-            return Err(Check::HandleClosed);
+            return Err(Check::HandleNotOpen);
         };
         match self.plan.find(handler, id) {
             Ok(control) => Ok(control),
@@ -665,7 +665,7 @@ impl<D: Driver> Device<D> {
         ensures { result ≡ id_behind self.now.plan (past self.now.steps) fh id }
     {
         let Some(handler) = self.handler_of(fh) else {
-            return Err(Check::HandleClosed);
+            return Err(Check::HandleNotOpen);
         };
         match self.plan.next_id(handler, id) {
             Ok(next) => Ok(next),

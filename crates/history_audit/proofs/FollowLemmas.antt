@@ -2,7 +2,7 @@
 use Rattle.std.proofs.Common.{◌≡◌, ℕ, ℤ, ◌<◌, ◌≤◌, Bool, true, false, not, ◌&&◌, nat_le, nat_lt, if◌then◌else◌, cond, List, [], ◌∷◌, length, Option, None, Some, is_some, Result, Ok, Err, IsOk, refl, ap, sym, ◌∙◌, arith}
 use Rattle.std.proofs.lemmas.Bool.Decides.{nat_tests}
 use Rattle.ctrl_types.specs.declared.check.Check.{Check}
-use Rattle.ctrl_types.specs.declared.check.Check.TheVariants.{ControlMissing, HandleClosed, HandlerMissing, HistoryFull, TooManyHandles}
+use Rattle.ctrl_types.specs.declared.check.Check.TheVariants.{ControlMissing, HandleNotOpen, HandlerMissing, HistoryFull, TooManyHandles}
 use Rattle.ctrl_calls.specs.Meanings.{Verdicts}
 use Rattle.ctrl_settle.specs.Control.{Control, with_range}
 use Rattle.ctrl_settle.specs.Faults.{IsWellFormed, range_check_of}
@@ -147,7 +147,7 @@ waits_open verdicts plan past fh c is = by (is_some (handler_of past fh)) is
 takes_free : (verdicts : Verdicts) (plan : PlanData) (past : Past) (fh : FhId) (c : ℕ) → is_some (handler_of past fh) ≡ true → is_full past ≡ false → first_control (pending verdicts plan past fh) ≡ Some c
     → fault_of (take_answer verdicts plan past fh) ≡ None
 takes_free verdicts plan past fh c opened room is =
-    ap (λ (b : Bool). fault_of (stepped_with (λ event. Event event) (if b then first_waiting (pending verdicts plan past fh) else Err HandleClosed) past)) opened ∙ by (pending verdicts plan past fh) is
+    ap (λ (b : Bool). fault_of (stepped_with (λ event. Event event) (if b then first_waiting (pending verdicts plan past fh) else Err HandleNotOpen) past)) opened ∙ by (pending verdicts plan past fh) is
   where
     by : (ws : List Waiting) → first_control ws ≡ Some c → fault_of (stepped_with (λ event. Event event) (first_waiting ws) past) ≡ None
     by [] h = cc
@@ -233,7 +233,7 @@ may_fits verdicts plan past step plain may = by step plain (may_decided verdicts
     is_open : (o : Option Check) (fh : FhId) → lacks (through past fh o) ≡ true → is_some (handler_of past fh) ≡ true
     is_open o fh h = each (is_some (handler_of past fh)) h
       where
-        each : (b : Bool) → lacks (cond b o (Some HandleClosed)) ≡ true → b ≡ true
+        each : (b : Bool) → lacks (cond b o (Some HandleNotOpen)) ≡ true → b ≡ true
         each true k = refl
         each false k = cc
 

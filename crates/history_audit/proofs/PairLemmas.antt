@@ -6,7 +6,7 @@ use Rattle.std.specs.List.{All}
 use Rattle.std.proofs.lemmas.List.{length-map}
 use Rattle.std.specs.Option.{is_none}
 use Rattle.ctrl_types.specs.declared.check.Check.{Check}
-use Rattle.ctrl_types.specs.declared.check.Check.TheVariants.{TooManyEntries, ClassNotShown, ListHandleClosed, ListRequestNotIdle, NoRoomForSet, NotIdle}
+use Rattle.ctrl_types.specs.declared.check.Check.TheVariants.{TooManyEntries, ClassNotShown, ListHandleNotOpen, ListRequestNotIdle, ListHistoryFull, NotIdle}
 use Rattle.ctrl_types.specs.declared.errno.Fault.{Fault}
 use Rattle.ctrl_types.specs.declared.ids.ExtControl.{ExtControl}
 use Rattle.ctrl_types.specs.declared.ids.FhId.{FhId}
@@ -46,7 +46,7 @@ unrefused : (fault : Refusal → Fault) (first : Option Refusal) (entries : List
 unrefused fault None entries h = refl
 unrefused fault (Some r) entries h = cc
 
-room_left : (b : Bool) → first_refusal (refused_if b NoRoomForSet ∷ []) ≡ None → b ≡ false
+room_left : (b : Bool) → first_refusal (refused_if b ListHistoryFull ∷ []) ≡ None → b ≡ false
 room_left true h = cc
 room_left false h = refl
 
@@ -66,21 +66,21 @@ listed verdicts plan past fh which id list h =
     own = write_checks verdicts plan (write_view verdicts plan past fh which id) true list
 
     limit : List (Option Refusal)
-    limit = refused_if (is_full past) NoRoomForSet ∷ []
+    limit = refused_if (is_full past) ListHistoryFull ∷ []
 
 -- a list that passes the first checks, can be set, and finds room isn't refused
 unlimited : (verdicts : Verdicts) (plan : PlanData) (past : Past) (fh : FhId) (which : ℕ) (id : Option RequestId) (list : List ExtControl) → first_refusal (opening_checks verdicts plan past fh which id true) ≡ None
     → first_refusal (write_checks verdicts plan (write_view verdicts plan past fh which id) true list) ≡ None → is_full past ≡ false → fault_of (set_list_answer verdicts plan past fh which id list) ≡ None
 unlimited verdicts plan past fh which id list opens passed room =
     let all : first_refusal (set_checks verdicts plan past fh which id list) ≡ None =
-    first_behind (opening_checks verdicts plan past fh which id true) (own ++ limit) opens ∙ first_behind own limit passed ∙ ap (λ (b : Bool). first_refusal (refused_if b NoRoomForSet ∷ [])) room in
+    first_behind (opening_checks verdicts plan past fh which id true) (own ++ limit) opens ∙ first_behind own limit passed ∙ ap (λ (b : Bool). first_refusal (refused_if b ListHistoryFull ∷ [])) room in
     ap (λ (first : Option Refusal). fault_of (controls_of (answered (fault_at_count (length list)) first (entries_judged verdicts plan (write_view verdicts plan past fh which id) list)))) all
   where
     own : List (Option Refusal)
     own = write_checks verdicts plan (write_view verdicts plan past fh which id) true list
 
     limit : List (Option Refusal)
-    limit = refused_if (is_full past) NoRoomForSet ∷ []
+    limit = refused_if (is_full past) ListHistoryFull ∷ []
 
 same_set : (fh : FhId) (a b : List Pair) → Some (steps.Set fh a) ≡ Some (steps.Set fh b) → a ≡ b
 same_set fh a b h = cc
@@ -89,7 +89,7 @@ same_store : (r : RequestId) (a b : List Pair) → Some (steps.Store r a) ≡ So
 same_store r a b h = cc
 
 -- the file handle is open
-is_open : (o : Option ℕ) (checks : List (Option Refusal)) → first_refusal (refused_if (is_none o) ListHandleClosed ∷ checks) ≡ None → o ≡ None → ⊥
+is_open : (o : Option ℕ) (checks : List (Option Refusal)) → first_refusal (refused_if (is_none o) ListHandleNotOpen ∷ checks) ≡ None → o ≡ None → ⊥
 is_open None checks h none = cc
 is_open (Some n) checks h none = cc
 

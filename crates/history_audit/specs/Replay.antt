@@ -39,10 +39,14 @@ IsNextStep replay step = option_map (λ e. e.step) (slice_get replay.all (length
 abbrev pub with_next : ReplayData → Entry Step → ReplayData
 with_next replay e = record replay { steps = replay.steps ++ e ∷ [] }
 
+-- a step may follow those that were replayed
+abbrev pub MayBeNext : Verdicts → ReplayData → Step → Type 0
+MayBeNext verdicts replay step = MayFollow verdicts replay.plan (past replay.steps) step
+
 -- What a try to replay an entry does: where its step may follow, it is replayed; where it may not, nothing changes.
 abbrev pub Replayed : Verdicts → ReplayData → ReplayData → Entry Step → Bool → Type 0
-Replayed verdicts old new e true = MayFollow verdicts old.plan (past old.steps) e.step × (new ≡ with_next old e)
-Replayed verdicts old new e false = (MayFollow verdicts old.plan (past old.steps) e.step → ⊥) × (new ≡ old)
+Replayed verdicts old new e true = MayBeNext verdicts old e.step × (new ≡ with_next old e)
+Replayed verdicts old new e false = (MayBeNext verdicts old e.step → ⊥) × (new ≡ old)
 
 -- The next entry is replayed.
 abbrev pub AddsNext : ReplayData → ReplayData → Type 0

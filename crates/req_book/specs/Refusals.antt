@@ -63,7 +63,7 @@ abbrev pub snapshot_answer : Option RequestData → Result (List CtrlValue) Errn
 snapshot_answer None = Err (errno_of RequestMissing)
 snapshot_answer (Some r) = if is_complete r.state then Ok r.snapshot else Err (errno_of NotComplete)
 
--- the same, of a control: there is such a request, and such a control, and then the request is complete
+-- the same, of a control: refused where there is no such request, then where there is no such control, then where the request isn't complete
 abbrev pub value_answer : ℕ → ℕ → Option RequestData → Result CtrlValue Errno
 value_answer controls c None = Err (errno_of RequestMissing)
 value_answer controls c (Some r) =

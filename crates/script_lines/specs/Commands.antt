@@ -170,9 +170,9 @@ menu_of known (fh ∷ control ∷ index ∷ []) = menu_parts (name_of fh) (contr
 menu_of known _ = None
 
 -- the operand of `told`
-abbrev pub told_of : List (List ℕ) → Option Command
-told_of (cluster ∷ []) = option_map (λ n. Told n) (decimal_u32 cluster)
-told_of _ = None
+abbrev pub replied_with : List (List ℕ) → Option Command
+replied_with (cluster ∷ []) = option_map (λ n. Told n) (decimal_u32 cluster)
+replied_with _ = None
 
 abbrev pub buffer_parts : Option Name → Option ℕ → Option Command
 buffer_parts (Some request) (Some buffer) = Some (Buffer request buffer)
@@ -276,7 +276,7 @@ command_of known (Some verbs.Range) operands = range_of known operands
 command_of known (Some verbs.Query) operands = query_of known operands
 command_of known (Some verbs.Next) operands = next_of operands
 command_of known (Some verbs.Menu) operands = menu_of known operands
-command_of known (Some verbs.Told) operands = told_of operands
+command_of known (Some verbs.Told) operands = replied_with operands
 command_of known (Some verbs.Buffer) operands = buffer_of operands
 command_of known (Some (verbs.OfRequest verb)) operands = request_of verb operands
 command_of known (Some verbs.Row) operands = row_of operands

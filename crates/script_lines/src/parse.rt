@@ -1,5 +1,5 @@
 ghost use Rattle.std.specs.Prelude.{◌≡◌, ◌+◌, ◌<◌, ◌≤◌, ◌^◌, ◌∷◌, ◌==◌, length, map, position, vec_len, IfOk, IfSome};
-ghost use Rattle.script_lines.specs.Commands.{IsRead, words as words_in, line_of, command_of, verb_of, open_of, close_of, grab_of, range_of, on_or_off as on_or_off_of, handle_and_control as handle_and_control_of, query_of, next_of, menu_of, told_of, buffer_of, request_of, on_request, row_of, bare_of, subscribe_of, sub_flag as sub_flag_of, sub_flags as sub_flags_of, unsubscribe_of, take_of, list_command_of, which_of, fixed_which_of, entry_of, entry_at, list_of};
+ghost use Rattle.script_lines.specs.Commands.{IsRead, words as words_in, line_of, command_of, verb_of, open_of, close_of, grab_of, range_of, on_or_off as on_or_off_of, handle_and_control as handle_and_control_of, query_of, next_of, menu_of, replied_with, buffer_of, request_of, on_request, row_of, bare_of, subscribe_of, sub_flag as sub_flag_of, sub_flags as sub_flags_of, unsubscribe_of, take_of, list_command_of, which_of, fixed_which_of, entry_of, entry_at, list_of};
 ghost use Rattle.script_lines.specs.Dividing.{divides as divides_of};
 ghost use Rattle.script_lines.specs.declared.command.Command.TheVariants as commands;
 
@@ -114,8 +114,8 @@ enum RequestVerb {
     State,
 }
 
-// The words that stand for them, in the same order as `VERBS`.
-const VERB_WORDS: [&[u8]; 26] = [
+/// The first words of the commands (docs/SCRIPTS.md), in the same order as `VERBS`.
+pub const VERB_WORDS: [&[u8]; 26] = [
     b"open",
     b"close",
     b"get",
@@ -338,7 +338,7 @@ fn read_menu(known: &ControlWords, operands: &[&[u8]]) -> Result<Command, LineFa
 }
 
 fn read_told(operands: &[&[u8]]) -> Result<Command, LineFault>
-    ensures { IsRead result (told_of (map (λ w. w.now) operands.now)) }
+    ensures { IsRead result (replied_with (map (λ w. w.now) operands.now)) }
 {
     let [cluster] = operands else {
         return Err(LineFault::NotACommand);

@@ -2,6 +2,7 @@
 
 use ctl_script::sample_words;
 use line_reasons::{Complaint, Reason, reason_of};
+use script_lines::VERB_WORDS;
 use std::alloc::AllocError;
 
 // Lines, the number of the word that is wrong, and why it is.
@@ -98,6 +99,21 @@ fn right_lines(rt: HostRuntime) -> Result<(), AllocError> {
             reason_of(rt.alloc(), &known, line.as_bytes()) == Ok(None),
             "{line:?}"
         );
+    }
+    Ok(())
+}
+
+// The first word of each command, alone: it lacks the words behind it, where there are any.
+#[test]
+fn first_words(rt: HostRuntime) -> Result<(), AllocError> {
+    let known = sample_words(rt.alloc())?;
+    let lacks = Complaint {
+        word: 2,
+        reason: Reason::Missing,
+    };
+    for verb in VERB_WORDS {
+        let found = reason_of(rt.alloc(), &known, verb);
+        assert!(rt; found == Ok(None) || found == Ok(Some(lacks)), "{verb:?}");
     }
     Ok(())
 }

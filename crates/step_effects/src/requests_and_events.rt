@@ -60,7 +60,7 @@ pub fn change_requests_and_events<D: Driver>(
             Ok(())
         }
         Step::Take { fh, .. } => {
-            let _ = events.take(*fh);
+            let _ = events.take_first(*fh);
             Ok(())
         }
         _ => change_frames(frames, at.values, number, step),

@@ -18,9 +18,8 @@ ghost use Rattle.device_history.specs.Handles.{handler_of};
 ghost use Rattle.device_history.specs.Legal.{MayFollow};
 ghost use Rattle.device_history.specs.Refusals.{is_full};
 ghost use Rattle.device_history.specs.Lists.{earlier_pairs, handler_or, list_pairs, meant, meant_check, opening_checks, read_view, request_check, values_read, which_or, write_view, writes_defaults};
-ghost use Rattle.device_history.specs.Snapshots.{request as request_of};
 ghost use Rattle.device_history.specs.Answers.{MayAnswer};
-ghost use Rattle.device_state.specs.Device.{Handles, list_most, list_touches, with_step};
+ghost use Rattle.device_state.specs.Device.{Handles, list_most, list_touches, request_now, with_step};
 ghost use Rattle.device_state.specs.Setting.{CanBeSet, IsSettable, SetsAll, SetsList};
 
 use super::Device;
@@ -144,9 +143,9 @@ impl<D: Driver> Device<D> {
         ensures writable { IfOk result (λ r. writes ≡ true → r.1 ≢ Defaults) }
     {
         let Some(handler) = self.handler_of(fh) else {
-            return Err(Check::ListHandleClosed);
+            return Err(Check::ListHandleNotOpen);
         };
-        let which = Which::read(which)?;
+        let which = Which::of(which)?;
         if writes_defaults(writes, which) {
             return Err(Check::DefaultsWritten);
         }
@@ -171,7 +170,7 @@ impl<D: Driver> Device<D> {
 
     // Why a request refuses a list.
     fn request_check(&self, writes: bool, request: RequestId) -> Option<Check>
-        ensures { result ≡ request_check writes (request_of D.verdict self.now.plan (past self.now.steps) request.0) }
+        ensures { result ≡ request_check writes (request_now D.verdict self.now request) }
     {
         match self.frames.state(request) {
             Some(state) => state_check(writes, state),
@@ -210,7 +209,7 @@ impl<D: Driver> Device<D> {
 
     // The values that a get reads: the snapshot of the request that it speaks of, which the caller owes to be complete, or the present ones.
     fn values_read(&self, request: Option<RequestId>) -> &[CtrlValue]
-        requires { IfSome request (λ r. request_check false (request_of D.verdict self.now.plan (past self.now.steps) r.0) ≡ None) }
+        requires { IfSome request (λ r. request_check false (request_now D.verdict self.now r) ≡ None) }
         ensures values { result.now ≡ values_read D.verdict self.now.plan (past self.now.steps) request }
         ensures long { length result.now ≡ length self.now.plan.controls }
     {
@@ -245,7 +244,7 @@ impl<D: Driver> Device<D> {
 
     // The pairs that are laid before those of a list: what the request asks for that it speaks of, which the caller owes to be there.
     fn earlier_pairs(&self, request: Option<RequestId>) -> &[Pair]
-        requires { IfSome request (λ r. request_check true (request_of D.verdict self.now.plan (past self.now.steps) r.0) ≡ None) }
+        requires { IfSome request (λ r. request_check true (request_now D.verdict self.now r) ≡ None) }
         ensures { result.now ≡ earlier_pairs self.now.plan (past self.now.steps) request }
     {
         match request {
@@ -348,7 +347,7 @@ impl<D: Driver> Device<D> {
             Err(refused) => return Err(refused.at_count(list.len())),
         };
         if self.is_full() {
-            return Err(at(Check::NoRoomForSet, list.len()));
+            return Err(at(Check::ListHistoryFull, list.len()));
         }
         Ok(touch)
     }
@@ -460,7 +459,7 @@ impl<D: Driver> Device<D> {
 fn spoken(which: u32, request: Option<RequestId>) -> Option<RequestId>
     ensures { result ≡ meant (which_or (which_of which)) request }
 {
-    match Which::read(which) {
+    match Which::of(which) {
         Ok(which) => meant(which, request),
         Err(_) => None,
     }

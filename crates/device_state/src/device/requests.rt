@@ -11,8 +11,8 @@ ghost use Rattle.device_history.specs.Frames.{queue, running};
 ghost use Rattle.device_history.specs.declared.limits.TheConstants.{MAX_STEPS};
 ghost use Rattle.device_history.specs.Legal.{MayFollow};
 ghost use Rattle.device_history.specs.Refusals.{is_full, refused};
-ghost use Rattle.device_history.specs.Snapshots.{frames, request as request_of, requests};
-ghost use Rattle.device_state.specs.Device.{Handles, with_step};
+ghost use Rattle.device_history.specs.Snapshots.{frames, requests};
+ghost use Rattle.device_state.specs.Device.{Handles, request_now, with_step};
 ghost use Rattle.device_history.specs.Forecasts.{queued_frames};
 ghost use Rattle.step_effects.specs.QueuedFrames.{asks_at_most};
 ghost use Rattle.step_effects.specs.Leaving.{NamesKnown, leaves_controls};
@@ -34,7 +34,7 @@ impl<D: Driver> Device<D> {
     ///
     /// - `request`: any request, there or not.
     pub fn state_of(&self, request: RequestId) -> Result<RequestState, Errno>
-        ensures { result ≡ state_answer (request_of D.verdict self.now.plan (past self.now.steps) request.0) }
+        ensures { result ≡ state_answer (request_now D.verdict self.now request) }
     {
         self.frames.state_of(request)
     }
@@ -44,7 +44,7 @@ impl<D: Driver> Device<D> {
     ///
     /// - `request`: any request, there or not.
     pub fn buffer_of(&self, request: RequestId) -> Result<Option<u32>, Errno>
-        ensures { result ≡ buffer_answer (request_of D.verdict self.now.plan (past self.now.steps) request.0) }
+        ensures { result ≡ buffer_answer (request_now D.verdict self.now request) }
     {
         self.frames.buffer_of(request)
     }
@@ -54,7 +54,7 @@ impl<D: Driver> Device<D> {
     ///
     /// - `request`: any request, there or not.
     pub fn asked(&self, request: RequestId) -> Result<&[Pair], Errno>
-        ensures { MatchResult result (λ pairs. asked_answer (request_of D.verdict self.now.plan (past self.now.steps) request.0) ≡ Ok pairs.now) (λ errno. asked_answer (request_of D.verdict self.now.plan (past self.now.steps) request.0) ≡ Err errno) }
+        ensures { MatchResult result (λ pairs. asked_answer (request_now D.verdict self.now request) ≡ Ok pairs.now) (λ errno. asked_answer (request_now D.verdict self.now request) ≡ Err errno) }
     {
         self.frames.asked(request)
     }
@@ -67,7 +67,7 @@ impl<D: Driver> Device<D> {
     /// - `request`: any request, there or not.
     /// - `control`: any number, of a control or not.
     pub fn snapshot(&self, request: RequestId, control: u32) -> Result<CtrlValue, Errno>
-        ensures { result ≡ value_answer (length self.now.plan.controls) control (request_of D.verdict self.now.plan (past self.now.steps) request.0) }
+        ensures { result ≡ value_answer (length self.now.plan.controls) control (request_now D.verdict self.now request) }
     {
         self.frames.snapshot(request, control)
     }
@@ -106,28 +106,28 @@ impl<D: Driver> Device<D> {
 
     // Why a request takes no buffer.
     pub(super) fn buffer_refusal(&self, request: RequestId, buffer: u32) -> Option<Check>
-        ensures { result ≡ buffer_check (requests D.verdict self.now.plan (past self.now.steps)) buffer (request_of D.verdict self.now.plan (past self.now.steps) request.0) }
+        ensures { result ≡ buffer_check (requests D.verdict self.now.plan (past self.now.steps)) buffer (request_now D.verdict self.now request) }
     {
         self.frames.buffer_refusal(request, buffer)
     }
 
     // Why a request isn't queued.
     pub(super) fn queue_refusal(&self, request: RequestId) -> Option<Check>
-        ensures { result ≡ queue_check (request_of D.verdict self.now.plan (past self.now.steps) request.0) }
+        ensures { result ≡ queue_check (request_now D.verdict self.now request) }
     {
         self.frames.queue_refusal(request)
     }
 
     // Why a request is neither made as new nor let go.
     pub(super) fn clear_refusal(&self, request: RequestId) -> Option<Check>
-        ensures { result ≡ clear_check (request_of D.verdict self.now.plan (past self.now.steps) request.0) }
+        ensures { result ≡ clear_check (request_now D.verdict self.now request) }
     {
         self.frames.clear_refusal(request)
     }
 
     // Why a request isn't taken from the queue.
     pub(super) fn cancel_refusal(&self, request: RequestId) -> Option<Check>
-        ensures { result ≡ cancel_check (request_of D.verdict self.now.plan (past self.now.steps) request.0) }
+        ensures { result ≡ cancel_check (request_now D.verdict self.now request) }
     {
         self.frames.cancel_refusal(request)
     }

@@ -3,11 +3,10 @@
 ghost use Rattle.std.specs.Prelude.{◌≡◌, true, false, is_some, length, IfOk, OnOk, OnErr};
 ghost use Rattle.history.specs.Past.{past};
 ghost use Rattle.device_history.specs.declared.ask.Step.TheVariants as steps;
-ghost use Rattle.device_history.specs.Legal.{MayFollow};
 ghost use Rattle.device_history.specs.Refusals.{is_full};
 ghost use Rattle.device_history.specs.Requests.{asked as asked_of, state};
 ghost use Rattle.device_history.specs.Snapshots.{begun_pairs, begun_refused, begun_values};
-ghost use Rattle.history_audit.specs.Replay.{AddsNext, IsNextStep};
+ghost use Rattle.history_audit.specs.Replay.{AddsNext, IsNextStep, MayBeNext};
 
 use super::Replay;
 use ctrl_calls::{Driver, Work};
@@ -21,7 +20,7 @@ impl<'a, D: Driver> Replay<'a, D> {
     pub(super) fn begin(&mut self, request: RequestId) -> Result<(), AllocError>
         requires next { IsNextStep self.old (steps.Begin request) }
         requires room { is_full (past self.old.steps) ≡ false }
-        requires follows { MayFollow D.verdict self.old.plan (past self.old.steps) (steps.Begin request) }
+        requires follows { MayBeNext D.verdict self.old (steps.Begin request) }
         ensures ok { OnOk result (AddsNext self.old self.new) }
         ensures err { OnErr result (self.new ≡ self.old) }
     {

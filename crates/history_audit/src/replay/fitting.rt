@@ -2,10 +2,9 @@
 
 ghost use Rattle.std.specs.Prelude.{◌≡◌, ◌↔◌, false, IsTrue};
 ghost use Rattle.history.specs.Past.{past};
-ghost use Rattle.device_history.specs.Legal.{MayFollow};
 ghost use Rattle.device_history.specs.Refusals.{is_full};
 ghost use Rattle.history_audit.specs.Changing.{fits_parts};
-ghost use Rattle.history_audit.specs.Replay.{is_judged};
+ghost use Rattle.history_audit.specs.Replay.{MayBeNext, is_judged};
 
 use super::Replay;
 use ctrl_calls::Driver;
@@ -15,7 +14,7 @@ impl<'a, D: Driver> Replay<'a, D> {
     // Whether a step that gives neither pairs nor a range may follow those that were replayed.
     pub(super) fn fits(&self, step: &Step) -> bool
         requires { is_judged step.now ≡ false }
-        ensures follows { IsTrue result ↔ MayFollow D.verdict self.now.plan (past self.now.steps) step.now }
+        ensures follows { IsTrue result ↔ MayBeNext D.verdict self.now step.now }
         ensures room { IsTrue result → is_full (past self.now.steps) ≡ false }
     {
         if self.is_full() {

@@ -10,12 +10,11 @@ ghost use Rattle.ctrl_lists.specs.declared.limits.TheConstants.{MAX_ENTRIES};
 ghost use Rattle.device_history.specs.declared.ask.Step.TheVariants as steps;
 ghost use Rattle.device_history.specs.Asking.{entries_of, first_storer, shows_pair, shows_pairs};
 ghost use Rattle.device_history.specs.Handles.{opened};
-ghost use Rattle.device_history.specs.Legal.{MayFollow};
 ghost use Rattle.device_history.specs.Lists.{write_view};
 ghost use Rattle.device_history.specs.Refusals.{is_full};
 ghost use Rattle.device_history.specs.Snapshots.{request as request_of};
 ghost use Rattle.history_audit.specs.Judged.{IsSet, IsUnset, view_of};
-ghost use Rattle.history_audit.specs.Replay.{AddsNext, IsNextStep, TriesNext};
+ghost use Rattle.history_audit.specs.Replay.{AddsNext, IsNextStep, MayBeNext, TriesNext};
 
 use super::Replay;
 use bitflags::Flags as FlagSet;
@@ -43,8 +42,8 @@ impl<'a, D: Driver> Replay<'a, D> {
 
     // What a set makes of the clusters that it touches; none where it may not follow.
     fn touched_by_set(&self, fh: FhId, pairs: &[Pair]) -> Result<Option<Touched>, AllocError>
-        ensures { IfOk result (λ touched. MatchOption touched (MayFollow D.verdict self.now.plan (past self.now.steps) (steps.Set fh pairs.now) → ⊥) (λ touch.
-            (is_full (past self.now.steps) ≡ false) × MayFollow D.verdict self.now.plan (past self.now.steps) (steps.Set fh pairs.now) × IsSet D.verdict self.now.plan (write_view D.verdict self.now.plan (past self.now.steps) fh 0 None) pairs.now touch)) }
+        ensures { IfOk result (λ touched. MatchOption touched (MayBeNext D.verdict self.now (steps.Set fh pairs.now) → ⊥) (λ touch.
+            (is_full (past self.now.steps) ≡ false) × MayBeNext D.verdict self.now (steps.Set fh pairs.now) × IsSet D.verdict self.now.plan (write_view D.verdict self.now.plan (past self.now.steps) fh 0 None) pairs.now touch)) }
     {
         if self.is_full() {
             return Ok(None);
@@ -59,7 +58,7 @@ impl<'a, D: Driver> Replay<'a, D> {
     fn write(&mut self, fh: FhId, touch: &Touched) -> Result<(), AllocError>
         requires next { IsNextStep self.old (steps.Set fh touch.now.pairs) }
         requires room { is_full (past self.old.steps) ≡ false }
-        requires follows { MayFollow D.verdict self.old.plan (past self.old.steps) (steps.Set fh touch.now.pairs) }
+        requires follows { MayBeNext D.verdict self.old (steps.Set fh touch.now.pairs) }
         requires touched { IsSet D.verdict self.old.plan (write_view D.verdict self.old.plan (past self.old.steps) fh 0 None) touch.now.pairs touch.now }
         ensures ok { OnOk result (AddsNext self.old self.new) }
         ensures err { OnErr result (self.new ≡ self.old) }
@@ -94,7 +93,7 @@ impl<'a, D: Driver> Replay<'a, D> {
 
     // Whether a store may follow.
     fn is_storable(&self, request: RequestId, pairs: &[Pair]) -> Result<bool, AllocError>
-        ensures follows { IfOk result (λ is. IsTrue is ↔ MayFollow D.verdict self.now.plan (past self.now.steps) (steps.Store request pairs.now)) }
+        ensures follows { IfOk result (λ is. IsTrue is ↔ MayBeNext D.verdict self.now (steps.Store request pairs.now)) }
         ensures room { IfOk result (λ is. IsTrue is → is_full (past self.now.steps) ≡ false) }
         ensures known { IfOk result (λ is. IsTrue is → All (λ p. p.control < length self.now.plan.controls) pairs.now) }
     {

@@ -4,10 +4,9 @@ ghost use Rattle.std.specs.Prelude.{◌≡◌, ◌<◌, ◌≤◌, true, false, 
 ghost use Rattle.history.specs.Past.{past};
 ghost use Rattle.device_history.specs.declared.ask.Step.TheVariants as steps;
 ghost use Rattle.ctrl_handlers.specs.Plan.{control_in};
-ghost use Rattle.device_history.specs.Legal.{MayFollow};
 ghost use Rattle.device_history.specs.Ranges.{ranges_now};
 ghost use Rattle.device_history.specs.Refusals.{is_full};
-ghost use Rattle.history_audit.specs.Replay.{AddsNext, IsNextStep, TriesNext};
+ghost use Rattle.history_audit.specs.Replay.{AddsNext, IsNextStep, MayBeNext, TriesNext};
 ghost use Rattle.history_audit.specs.Changing.{StoresKnown};
 ghost use Rattle.step_effects.specs.Leaving.{leaves_controls};
 
@@ -24,7 +23,7 @@ impl<'a, D: Driver> Replay<'a, D> {
     pub(super) fn open(&mut self, handler: u32) -> Result<(), AllocError>
         requires next { IsNextStep self.old (steps.OpenFh handler) }
         requires room { is_full (past self.old.steps) ≡ false }
-        requires follows { MayFollow D.verdict self.old.plan (past self.old.steps) (steps.OpenFh handler) }
+        requires follows { MayBeNext D.verdict self.old (steps.OpenFh handler) }
         ensures ok { OnOk result (AddsNext self.old self.new) }
         ensures err { OnErr result (self.new ≡ self.old) }
     {
@@ -37,7 +36,7 @@ impl<'a, D: Driver> Replay<'a, D> {
     pub(super) fn close(&mut self, fh: FhId)
         requires next { IsNextStep self.old (steps.CloseFh fh) }
         requires room { is_full (past self.old.steps) ≡ false }
-        requires follows { MayFollow D.verdict self.old.plan (past self.old.steps) (steps.CloseFh fh) }
+        requires follows { MayBeNext D.verdict self.old (steps.CloseFh fh) }
         ensures { AddsNext self.old self.new }
     {
         self.file_handles.shift_remove(&fh.0);
@@ -49,7 +48,7 @@ impl<'a, D: Driver> Replay<'a, D> {
     pub(super) fn grab(&mut self, control: u32, on: bool) -> Result<(), AllocError>
         requires next { IsNextStep self.old (steps.Grab control on) }
         requires room { is_full (past self.old.steps) ≡ false }
-        requires follows { MayFollow D.verdict self.old.plan (past self.old.steps) (steps.Grab control on) }
+        requires follows { MayBeNext D.verdict self.old (steps.Grab control on) }
         ensures ok { OnOk result (AddsNext self.old self.new) }
         ensures err { OnErr result (self.new ≡ self.old) }
     {
@@ -109,7 +108,7 @@ impl<'a, D: Driver> Replay<'a, D> {
         requires next { IsNextStep self.old step.now }
         requires leaves { leaves_controls step.now ≡ true }
         requires room { is_full (past self.old.steps) ≡ false }
-        requires follows { MayFollow D.verdict self.old.plan (past self.old.steps) step.now }
+        requires follows { MayBeNext D.verdict self.old step.now }
         requires known { StoresKnown (length self.old.plan.controls) step.now }
         ensures ok { OnOk result (AddsNext self.old self.new) }
         ensures err { OnErr result (self.new ≡ self.old) }

@@ -97,10 +97,7 @@ impl Scene {
     }
 
     fn take(&mut self, fh: u32) -> Result<Event, Errno> {
-        match self.events.take(FhId(fh)) {
-            Ok(event) => Ok(event),
-            Err(check) => Err(check.errno()),
-        }
+        self.events.take(FhId(fh))
     }
 
     fn drop_fh(&mut self, fh: u32) {

@@ -13,7 +13,7 @@ enum Case {
     // The kind has this number.
     Kind(Kind, u32),
     // The number is read as this.
-    Which(u32, Result<Which, Check>),
+    Which(u32, Result<Which, Errno>),
     // The id lies in this class.
     Class(u32, u32),
     // The bits are kept, and have both flags or not, and any of the two or not.
@@ -43,7 +43,7 @@ const NUMBERS: &[Case] = &[
 
 // those that no command of a script meets, and one of each kind that has parts
 const CHECKS: &[Case] = &[
-    Case::Check(Check::NoRoomForSet, 9, None, Errno::ENOSPC),
+    Case::Check(Check::ListHistoryFull, 9, None, Errno::ENOSPC),
     Case::Check(Check::ControlMissing, 13, None, Errno::EINVAL),
     Case::Check(Check::NotComplete, 30, None, Errno::EACCES),
     Case::Check(Check::HistoryFull, 33, None, Errno::ENOSPC),
@@ -59,9 +59,9 @@ const CLASSES: &[Case] = &[
     Case::Which(0x0f01_0000, Ok(Which::Request)),
     Case::Which(0x0098_0000, Ok(Which::Class(0x0098_0000))),
     Case::Which(0x0f02_0000, Ok(Which::Class(0x0f02_0000))),
-    Case::Which(1, Err(Check::WhichUnknown)),
-    Case::Which(0x0098_0900, Err(Check::WhichUnknown)),
-    Case::Which(0x1098_0000, Err(Check::WhichUnknown)),
+    Case::Which(1, Err(Errno::EINVAL)),
+    Case::Which(0x0098_0900, Err(Errno::EINVAL)),
+    Case::Which(0x1098_0000, Err(Errno::EINVAL)),
     Case::Class(0xf098_0900, 0x0098_0000),
 ];
 

@@ -9,7 +9,7 @@ use ctrl_clusters::{Change, Moment};
 use ctrl_events::{Event, Events, Payload};
 use ctrl_raises::{raise_between, raise_range};
 use ctrl_settle::Ctrl;
-use ctrl_types::{Changes, Check, CtrlId, CtrlValue, FhId, Flags, Kind, Pair, SubFlags};
+use ctrl_types::{Changes, CtrlId, CtrlValue, Errno, FhId, Flags, Kind, Pair, SubFlags};
 use std::alloc::Global;
 use std::test::Fail;
 
@@ -145,5 +145,5 @@ pub(crate) fn takes(events: &mut Events, fh: u32, first: u32, all: &[Told]) -> b
             Err(_) => return false,
         }
     }
-    events.take(FhId(fh)) == Err(Check::NoEventWaits)
+    events.take(FhId(fh)) == Err(Errno::ENOENT)
 }

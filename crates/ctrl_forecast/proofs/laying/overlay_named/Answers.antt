@@ -8,9 +8,10 @@ use Rattle.ctrl_clusters.specs.Rows.{Values}
 use Rattle.ctrl_calls.specs.declared.work.Work.{Work}
 use Rattle.ctrl_clusters.specs.Judging.{with_call, with_calls}
 use Rattle.ctrl_clusters.specs.Overlay.{is_touched, refused_clusters}
+use Rattle.ctrl_clusters.proofs.CallLemmas.{one_call}
 use Rattle.ctrl_forecast.specs.Asking.{asks_row}
 use Rattle.ctrl_forecast.specs.Touched.{touched_count}
-use Rattle.ctrl_forecast.proofs.AskingLemmas.{asked_all, asked_next, calls_none, one_call}
+use Rattle.ctrl_forecast.proofs.AskingLemmas.{asked_all, asked_next}
 use Rattle.ctrl_forecast.proofs.LayingLemmas.{below_end}
 use Rattle.ctrl_forecast.proofs.LaidLemmas.{Laying, IsLaid, laying, keep_rows, laid_start, laid_long, laid_next, laid_ok, laid_err, laid_end}
 use Rattle.ctrl_forecast.proofs.laying.overlay_named.Goals.{in-Ok, in-Err+in_ok-push-in-Err}
@@ -21,7 +22,7 @@ loop-cluster-init g c = record {
   laid = laid_start (laying g.D.Validates.verdict c.args.at.now.plan.now c.args.at.now.ranges.now c.args.at.now.values.now c.args.at.now.grabs.now c.args.pairs.now) c.args.named.now c.in_ok-after.after.items c.new-refused.result.items
       c.requires.named c.in_ok-after.ensures.items c.new-refused.ensures.items;
   asked = omega arith;
-  counted = calls_none c.args.work.now.asked (omega arith);
+  counted = refl;
   told = refl;
 }
 

@@ -6,7 +6,7 @@ use Rattle.ctrl_calls.specs.declared.work.Work.{Work}
 use Rattle.ctrl_clusters.specs.Judging.{with_calls}
 use Rattle.ctrl_forecast.specs.Asking.{asks_at}
 use Rattle.ctrl_forecast.specs.Frames.{FrameData, IsClusterRenewed, Setting, base_at, frame_at, queued_of, renewed, setting}
-use Rattle.ctrl_forecast.proofs.AskingLemmas.{calls_none, renewed_count}
+use Rattle.ctrl_forecast.proofs.AskingLemmas.{renewed_count}
 use Rattle.ctrl_forecast.proofs.RenewLemmas.{renewed_next, renewed_none}
 use Rattle.ctrl_forecast.proofs.renewing.renew_cluster.Goals as goal
 
@@ -17,7 +17,7 @@ loop-place-init g c =
     record {
       renewed = renewed_none s c.args.cluster c.args.from c.args.frames.now.items c.requires.frames c.requires.before;
       many = refl;
-      counted = calls_none c.args.work.now.asked (omega arith) ∙ ap (λ (n : ℕ). with_calls (count_by (asks_at g.D.Validates.verdict c.args.at.now.plan.now c.args.at.now.ranges.now c.args.at.now.values.now c.args.at.now.grabs.now (map queued_of c.args.frames.now.items) c.args.cluster) (range_with_len c.args.from n)) c.args.work.now.asked) (sym none);
+      counted = ap (λ (n : ℕ). with_calls (count_by (asks_at g.D.Validates.verdict c.args.at.now.plan.now c.args.at.now.ranges.now c.args.at.now.values.now c.args.at.now.grabs.now (map queued_of c.args.frames.now.items) c.args.cluster) (range_with_len c.args.from n)) c.args.work.now.asked) (sym none);
       told = refl;
       row = ap length c.zeros-row.ensures ∙ length-replicate (length c.members.result.now) zero_value ∙ ap length c.members.ensures.members;
     }

@@ -6,7 +6,8 @@ use Rattle.ctrl_forecast.specs.Asking.{renewing_count}
 use Rattle.ctrl_forecast.specs.Boards.{BoardData, asked_at, board_of, named_clusters}
 use Rattle.ctrl_forecast.specs.Forecasts.{QueuedData, named_by_frames}
 use Rattle.ctrl_forecast.specs.Frames.{AreReady, FrameData, Setting, frame_at, no_frame, queued_of, setting}
-use Rattle.ctrl_forecast.proofs.AskingLemmas.{behind_removed, calls_most, renewing_most}
+use Rattle.ctrl_clusters.proofs.CallLemmas.{calls_most}
+use Rattle.ctrl_forecast.proofs.AskingLemmas.{behind_removed, renewing_most}
 use Rattle.ctrl_forecast.proofs.ReadyLemmas.{kept_named, named_within, ready_removed, removed_queued}
 use Rattle.ctrl_forecast.proofs.board.Board.remove.Goals as goal
 

@@ -4,7 +4,8 @@ use Rattle.ctrl_forecast.specs.Asking.{renewing_count}
 use Rattle.ctrl_forecast.specs.Boards.{BoardData, board_of}
 use Rattle.ctrl_forecast.specs.Forecasts.{named_by_frames}
 use Rattle.ctrl_forecast.specs.Frames.{FrameData, queued_of}
-use Rattle.ctrl_forecast.proofs.AskingLemmas.{calls_most, renewing_most}
+use Rattle.ctrl_clusters.proofs.CallLemmas.{calls_most}
+use Rattle.ctrl_forecast.proofs.AskingLemmas.{renewing_most}
 use Rattle.ctrl_forecast.proofs.ReadyLemmas.{ready_changed}
 use Rattle.ctrl_forecast.proofs.board.Board.renew.Goals as goal
 

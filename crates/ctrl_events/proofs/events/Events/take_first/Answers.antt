@@ -1,8 +1,8 @@
 use Rattle.std.proofs.Common.{◌∙◌, sym, ap, refl, is_some}
 use Rattle.ctrl_events.specs.Events.{FileEvents, first_waiting, after_take}
 use Rattle.ctrl_events.proofs.FileLemmas.{found, missing, written, unwritten}
-use Rattle.ctrl_events.proofs.events.Events.take.Goals as goal
-use Rattle.ctrl_events.proofs.events.Events.take.Goals.{in-Some, in-None}
+use Rattle.ctrl_events.proofs.events.Events.take_first.Goals as goal
+use Rattle.ctrl_events.proofs.events.Events.take_first.Goals.{in-Some, in-None}
 
 pub returns-clause-events : goal.returns-clause-events
 returns-clause-events c = elim c.match-get_mut.branch [
