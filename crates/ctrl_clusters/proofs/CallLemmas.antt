@@ -1,5 +1,5 @@
 -- How many validators are asked, call after call.
-use Rattle.std.proofs.Common.{◌≡◌, ◌∙◌, ◌≤◌, ◌+◌, ℕ, zero, suc, Bool, true, false, cond, Option, None, Some, is_some, refl, ap, arith}
+use Rattle.std.proofs.Common.{◌≡◌, ◌∙◌, ◌≤◌, ◌+◌, ℕ, zero, suc, Bool, true, false, cond, Option, None, Some, is_some, ap, arith}
 use Rattle.ctrl_calls.specs.Counts.{one_more}
 use Rattle.ctrl_calls.specs.declared.relation.Relation.{Relation}
 use Rattle.ctrl_clusters.specs.Judging.{after_judging, with_call, with_calls}

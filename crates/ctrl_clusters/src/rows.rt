@@ -4,14 +4,15 @@ ghost use Rattle.std.specs.Prelude.{◌≡◌, ◌<◌, true, length, unwrap_or,
 ghost use Rattle.std.specs.List.{All};
 ghost use Rattle.ctrl_settle.specs.Settle.{settle};
 ghost use Rattle.ctrl_handlers.specs.Plan.{control_in};
+ghost use Rattle.ctrl_types.specs.Checks.{with_errno};
 ghost use Rattle.ctrl_types.specs.Pairs.{last_value};
 ghost use Rattle.ctrl_clusters.specs.Rows.{value_at, overwritten, settle_row, member_value};
 ghost use Rattle.ctrl_clusters.specs.Judging.{is_value, takes_row};
 
 use crate::ranges::Ranges;
 use ctrl_calls::ClusterRow;
-use ctrl_settle::settle;
-use ctrl_types::{CtrlValue, Errno, Pair, last_value};
+use ctrl_settle::settle_value;
+use ctrl_types::{Check, CtrlValue, Errno, Pair, last_value};
 
 /// Puts the values of a cluster's members into a row, in member order, overwritten by pairs: the last pair of a control counts.
 pub(crate) fn read_overwritten(
@@ -55,24 +56,25 @@ pub(crate) fn settle_row(
     for (place, &member) in members.iter().enumerate() {
         match settle_at(ranges, member, row, place) {
             Ok(value) => row.set(place, value),
-            Err(errno) => return Err(errno),
+            Err(check) => return Err(check.errno()),
         }
     }
     Ok(())
 }
 
 // What a member takes for its value of a row.
+#[tactic(auto, unfolding(ctrl_settle::specs::Settle::settle))]
 fn settle_at(
     ranges: &Ranges,
     member: u32,
     row: &ClusterRow,
     place: usize,
-) -> Result<CtrlValue, Errno>
+) -> Result<CtrlValue, Check>
     requires known { member < length ranges.now }
     requires within { place < length row.now }
-    ensures { result ≡ settle (control_in ranges.now member) (value_at row.now place) }
+    ensures { with_errno result ≡ settle (control_in ranges.now member) (value_at row.now place) }
 {
-    settle(ranges.range(member), row.value(place))
+    settle_value(ranges.range(member), row.value(place))
 }
 
 /// Whether members take the values of a row as they are; a row of another length they don't take.

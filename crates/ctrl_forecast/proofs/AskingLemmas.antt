@@ -1,5 +1,5 @@
 -- How many validators are asked, call after call.
-use Rattle.std.proofs.Common.{◌≡◌, ◌∙◌, ◌<◌, ◌≤◌, ◌+◌, ◌-◌, ◌^◌, ◌&&◌, ◌++◌, ℕ, zero, suc, add-one, Bool, true, false, not, cond, List, [], ◌∷◌, length, map, filter, take, drop, get_or, count_by, refl, sym, ap, arith}
+use Rattle.std.proofs.Common.{◌≡◌, ◌∙◌, ◌<◌, ◌≤◌, ◌+◌, ◌-◌, ◌&&◌, ◌++◌, ℕ, zero, suc, add-one, Bool, true, false, not, cond, List, [], ◌∷◌, length, map, filter, take, drop, get_or, count_by, refl, sym, ap, arith}
 use Rattle.std.specs.List.{range_with_len, remove, sum_by}
 use Rattle.std.proofs.lemmas.List.{map-id, take_more, take_all, get_or-map, get_or-drop, length-map, length-take-le, length-drop, drop-append-le, drop_all}
 use Rattle.std.proofs.lemmas.List.FromFn.{map-range_with_len_more}

@@ -13,7 +13,6 @@ use Rattle.ctrl_types.specs.declared.errno.Errno.{Errno}
 use Rattle.ctrl_types.specs.declared.ids.ExtControl.{ExtControl}
 use Rattle.ctrl_types.specs.declared.ids.Pair.{Pair}
 use Rattle.ctrl_calls.specs.Meanings.{Verdicts}
-use Rattle.ctrl_calls.specs.declared.relation.Relation.{Relation}
 use Rattle.ctrl_handlers.specs.Plan.{PlanData, control, cluster_of, calls_of, members}
 use Rattle.ctrl_handlers.proofs.ClusterLemmas.{cluster_of_member}
 use Rattle.ctrl_clusters.specs.Rows.{value_at, member_value}

@@ -1,7 +1,7 @@
 ghost use Rattle.std.specs.Prelude.{◌≡◌, ◌↔◌, IsOk, IfOk, IfErr};
 ghost use Rattle.ctrl_settle.specs.Control.{default_of, described, described_array, elems_of, flags_of, is_array, with_range};
 ghost use Rattle.ctrl_settle.specs.Faults.{IsFirstFault, IsWellFormed};
-ghost use Rattle.ctrl_settle.specs.Settle.{settle, settle_check, settled_anew};
+ghost use Rattle.ctrl_settle.specs.Settle.{settle, settle_check, settle_value, settled_anew};
 
 use crate::description::Description;
 use crate::fault::CtrlFault;
@@ -270,10 +270,22 @@ pub fn settle(control: &Ctrl, value: CtrlValue) -> Result<CtrlValue, Errno>
     ensures settled { result ≡ settle control.now value }
     ensures well_formed { IsWellFormed control.now }
 {
-    match control.description.settle(value) {
+    match settle_value(control, value) {
         Ok(taken) => Ok(taken),
         Err(check) => Err(check.errno()),
     }
+}
+
+/// The same, where a refusal is the check: for who settles many values, and wants the errno of the one that is refused (Linux driver API, "V4L2 Controls").
+///
+/// - `value`: any value.
+///
+/// Refused as `settle` is.
+pub fn settle_value(control: &Ctrl, value: CtrlValue) -> Result<CtrlValue, Check>
+    ensures settled { result ≡ settle_value control.now.kind control.now value }
+    ensures well_formed { IsWellFormed control.now }
+{
+    control.description.settle(value)
 }
 
 /// Which check refuses a value for `control`, none where it takes one for it: 57 where an array is given a number or another count of bytes, or another
@@ -286,7 +298,7 @@ pub fn settle(control: &Ctrl, value: CtrlValue) -> Result<CtrlValue, Errno>
 pub fn settle_check(control: &Ctrl, value: CtrlValue) -> Option<Check>
     ensures { result ≡ settle_check control.now value }
 {
-    control.description.settle(value).err()
+    settle_value(control, value).err()
 }
 
 /// The value that `control` has from `value`, once its range was changed (Linux driver API, `v4l2_ctrl_modify_range`): what it takes for it, and its default

@@ -9,5 +9,5 @@ mod fault;
 pub mod laws;
 
 pub use config::CtrlConfig;
-pub use control::{Ctrl, settle, settle_anew, settle_check};
+pub use control::{Ctrl, settle, settle_anew, settle_check, settle_value};
 pub use fault::CtrlFault;

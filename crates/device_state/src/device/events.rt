@@ -77,12 +77,13 @@ impl<D: Driver> Device<D> {
         ensures event { result_map_both (λ first. first.1) (λ check. check) result ≡ first_event D.verdict self.now.plan (past self.now.steps) fh }
         ensures control { IfOk result (λ first. first_control (pending D.verdict self.now.plan (past self.now.steps) fh) ≡ Some first.0) }
     {
-        if let Some(check) = self.through(fh) {
-            return Err(check);
-        }
+        // where an event waits, its file handle is open
         match self.waiting(fh, 0) {
             Some(first) => Ok(first),
-            None => Err(Check::NoEventWaits),
+            None => match self.through(fh) {
+                Some(check) => Err(check),
+                None => Err(Check::NoEventWaits),
+            },
         }
     }
 
