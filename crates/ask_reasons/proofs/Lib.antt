@@ -1,2 +1,4 @@
 pub mod Errnos
+pub mod FrameReasons
 pub mod ListReasons
+pub mod Refusals
