@@ -1,34 +1,27 @@
 //! What is done with the device that a file describes.
 
-use crate::listing::put_listing;
-use crate::wanted::Task;
-use crate::{no_memory, read_file, show_on};
+use crate::input::read_file;
+use crate::no_memory;
+use crate::tasks::run_on;
+use crate::wanted::Wanted;
 use ctl_script::InputFault;
-use data_driver::Data;
 use device_file::{DeviceFile, FileFault, Problem, explain, read_device};
-use device_state::{Device, Plan};
-use script_lines::ControlWords;
-use std::io;
-use std::io::Write;
 use std::process::ExitCode;
 use std::rt::Files;
-use view_layout::{Ink, Page};
+use std::sync::Wait;
+use std::thread::Threads;
+use view_layout::Ink;
 
 /// Does with the device of a file what is wanted. Where the file describes none, that is said on standard error.
-pub fn run_file<R: AllocGlobal + Input + Files + Print + Eprint>(
+pub fn run_file<R: AllocGlobal + Input + Files + Print + Eprint + Threads + Wait + Sync>(
     rt: &R,
     path: &str,
-    task: Task<'_>,
+    wanted: Wanted<'_>,
     ink: Ink,
 ) -> ExitCode {
-    let DeviceFile { plan, words } = match device_in(rt, path) {
-        Ok(file) => file,
-        Err(code) => return code,
-    };
-    match task {
-        Task::Show(script) => show_on(rt, plan, words, "this device", script, ink),
-        Task::Check => say_size(rt, &plan),
-        Task::List => list(rt, plan, &words),
+    match device_in(rt, path) {
+        Ok(DeviceFile { plan, words }) => run_on(rt, plan, words, "this device", wanted, ink),
+        Err(code) => code,
     }
 }
 
@@ -76,33 +69,4 @@ fn refused(rt: &impl Eprint, path: &str, problem: Problem) -> ExitCode {
 fn unread(rt: &impl Print) -> ExitCode {
     let _ = println!(rt; "read fault");
     ExitCode::from(1)
-}
-
-// Says how large a device is.
-fn say_size(rt: &impl Print, plan: &Plan<Data>) -> ExitCode {
-    let handlers = plan.handler_count();
-    let controls = plan.control_count();
-    let clusters = plan.cluster_count();
-    match println!(rt; "handlers: {handlers}, controls: {controls}, clusters: {clusters}") {
-        Ok(()) => ExitCode::from(0),
-        Err(_) => ExitCode::from(1),
-    }
-}
-
-// Lists a device as it is at the start.
-fn list<R: AllocGlobal + Print>(rt: &R, plan: Plan<Data>, known: &ControlWords) -> ExitCode {
-    let Ok(device) = Device::new(rt.alloc(), plan) else {
-        return no_memory(rt);
-    };
-    let mut page = Page::new(rt.alloc());
-    if put_listing(&mut page, rt.alloc(), known, &device).is_err() {
-        return no_memory(rt);
-    }
-    if !page.is_whole() {
-        return no_memory(rt);
-    }
-    match io::writer(rt).write_all(page.text()) {
-        Ok(()) => ExitCode::from(0),
-        Err(_) => ExitCode::from(1),
-    }
 }

@@ -7,7 +7,8 @@ use ctrl_clusters::inactive;
 use ctrl_types::{CtrlValue, Pair, last_value};
 use device_state::{Device, Plan};
 use std::alloc::Global;
-use view_layout::{Cell, Look, Page, put_cell};
+use view_layout::{Cell, Look, Mark, Page, put_cell, put_look};
+use view_words::put_item;
 
 /// A queued frame.
 #[derive(Clone, Copy)]
@@ -107,10 +108,30 @@ fn widest_of<D: Driver>(alloc: Global, plan: &Plan<D>, frame: Frame<'_>) -> usiz
     let mut widest = page.text().len();
     for control in 0..plan.control_count() {
         page.clear();
-        put_cell(&mut page, &cell_at(plan, frame, control));
+        put_in_frame(&mut page, plan, control, &cell_at(plan, frame, control));
         widest = widest.max(page.text().len());
     }
     widest
+}
+
+/// Puts on a page what a control is now, and of a menu the item.
+pub fn put_now<D: Driver>(page: &mut Page, device: &Device<D>, control: u32)
+    requires { control < length device.now.plan.controls }
+{
+    let look = look_at(device.plan(), device.values(), control);
+    put_look(page, &look);
+    put_item(page, device.plan(), control, &look.value);
+}
+
+/// Puts on a page what the table says of a control in a frame, and of a menu the item, where the value is the one that was asked for.
+pub fn put_in_frame<D: Driver>(page: &mut Page, plan: &Plan<D>, control: u32, cell: &Cell) {
+    put_cell(page, cell);
+    match (cell.mark(), &cell.asked) {
+        (Mark::Refused, Some(asked)) => put_item(page, plan, control, asked),
+        (Mark::Changes, Some(asked)) if !asked.is_same(&cell.behind.value) => {}
+        (Mark::Changes, _) => put_item(page, plan, control, &cell.behind.value),
+        _ => {}
+    }
 }
 
 /// Puts the buffer of a frame on a page.

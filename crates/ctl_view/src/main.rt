@@ -1,46 +1,42 @@
 //! A script on a device as a person reads it: each command beside its reply, why it was refused, and what the queued frames will have as a table. The device
-//! is the sample device, or one that a file describes, which can be listed, too.
+//! is the sample device, or one that a file describes; it can be listed, too, and run boards and two scripts at once.
 #![tactic(auto)]
 
 mod answer;
+mod complaint;
 mod file;
 mod frame;
-mod limits;
-mod listing;
-mod reply;
+mod help;
+mod input;
 mod script;
 mod shown;
 mod table;
+mod tasks;
 mod told;
 mod view;
 mod wanted;
-mod why;
-mod words;
 
-ghost use Rattle.std.specs.Prelude.{◌≤◌, vec_len, IfOk};
 ghost use Rattle.ctrl_calls.specs.Meanings.{JudgesBy, TellsBy};
 
+use crate::complaint::Complaint;
 use crate::file::run_file;
-use crate::script::show_script;
-use crate::view::View;
-use crate::wanted::{Script, Wanted};
+use crate::help::{HELP, USAGE, VERSION};
+use crate::tasks::run_on;
+use crate::wanted::Wanted;
 use ctl_script::{
-    BALANCE_LIMIT, BRIGHTNESS_WORDS, BUTTON_WORDS, ControlWords, GAIN_LIMIT, InputFault, Outcome,
-    PAIR_WORDS, Sample, balance_verdict, brightness_word, button_word, gain_verdict, pair_word,
-    read_input, sample_plan, sample_words, with_line,
+    BALANCE_LIMIT, BRIGHTNESS_WORDS, BUTTON_WORDS, GAIN_LIMIT, PAIR_WORDS, Sample, balance_verdict,
+    brightness_word, button_word, gain_verdict, pair_word, sample_plan, sample_words,
 };
 use ctrl_calls::{Calls, ClusterRow, Driver, Notifier, Validator, Verdict};
-use device_state::{Device, Plan};
 use std::env::VarError;
-use std::fs::File;
 use std::io::IsTerminal;
 use std::process::ExitCode;
 use std::rt::{Env, Files};
+use std::sync::Wait;
+use std::thread::Threads;
 use std::{env, io};
 use view_layout::Ink;
-
-const USAGE: &str =
-    "usage: ctl_view [--device FILE] [--queue | --why] [SCRIPT]\n       ctl_view --device FILE --check | --list";
+use view_words::Explained;
 
 type Judge = Box<dyn Fn(ClusterRow) -> Verdict + Send>;
 
@@ -50,19 +46,25 @@ fn main(rt: HostRuntime) -> ExitCode {
     let words = match env::args(&rt) {
         Ok(words) => words.collect::<Vec<String>>(rt.alloc()),
         Err(error) if error.kind() == io::ErrorKind::OutOfMemory => return no_memory(&rt),
-        Err(_) => return usage(&rt),
+        Err(_) => return usage(&rt, Complaint::NotText),
     };
     let Ok(words) = words else {
         return no_memory(&rt);
     };
-    let Some(wanted) = Wanted::read(words.as_slice()) else {
-        return usage(&rt);
+    if is_among(words.as_slice(), "--help") || is_among(words.as_slice(), "-h") {
+        return say(&rt, HELP);
+    }
+    if is_among(words.as_slice(), "--version") {
+        return say(&rt, VERSION);
+    }
+    let wanted = match Wanted::read(words.as_slice()) {
+        Ok(wanted) => wanted,
+        Err(complaint) => return usage(&rt, complaint),
     };
     let ink = Ink::new(rt.stdout().is_terminal() && !is_plain(&rt));
-    let script = match wanted {
-        Wanted::OnSample(script) => script,
-        Wanted::OnFile(path, task) => return run_file(&rt, path, task, ink),
-    };
+    if let Some(path) = wanted.device {
+        return run_file(&rt, path, wanted, ink);
+    }
     let limit = Box::new(rt.alloc(), |row: ClusterRow| gain_verdict(&row));
     let sum = Box::new(rt.alloc(), |row: ClusterRow| balance_verdict(&row));
     let gain = Box::new(rt.alloc(), |row: ClusterRow| pair_word(&row));
@@ -83,11 +85,16 @@ fn main(rt: HostRuntime) -> ExitCode {
     let (button, brightness): (Teller, Teller) = (button, brightness);
     run::<Sample, HostRuntime>(
         &rt,
-        script,
+        wanted,
         ink,
         (limit, sum),
         (gain, balance, button, brightness),
     )
+}
+
+// Whether a word stands behind the first.
+fn is_among(words: &[String], word: &str) -> bool {
+    words.iter().skip(1).any(|it| it.as_str() == word)
 }
 
 // Whether the environment asks for text without colours, by NO_COLOR.
@@ -99,15 +106,21 @@ fn is_plain<R: AllocGlobal + Env>(rt: &R) -> bool {
     }
 }
 
-// Shows a script on a fresh sample device, whose clusters have these closures: of autogain and gain the first validator and the first notifier, of red
+// Does what is wanted on a fresh sample device, whose clusters have these closures: of autogain and gain the first validator and the first notifier, of red
 // and blue the second ones, of the button and of brightness the last notifiers.
-fn run<D: Driver, R: AllocGlobal + Input + Files + Print + Eprint>(
+fn run<
+    D: Driver + Explained + Send,
+    R: AllocGlobal + Input + Files + Print + Eprint + Threads + Wait + Sync,
+>(
     rt: &R,
-    script: Script<'_>,
+    wanted: Wanted<'_>,
     ink: Ink,
     judges: (D::Judge, D::Judge),
     tellers: (D::Teller, D::Teller, D::Teller, D::Teller),
 ) -> ExitCode
+where
+    D::Judge: Send,
+    D::Teller: Send,
     requires limit { D.Judge.callable judges.0 }
     requires limit_judges { JudgesBy (D.Judge.answers judges.0) (D.verdict GAIN_LIMIT) }
     requires sum { D.Judge.callable judges.1 }
@@ -143,75 +156,8 @@ fn run<D: Driver, R: AllocGlobal + Input + Files + Print + Eprint>(
         return no_memory(rt);
     };
     match sample_words(rt.alloc()) {
-        Ok(known) => show_on(rt, plan, known, "the sample device", script, ink),
+        Ok(known) => run_on(rt, plan, known, "the sample device", wanted, ink),
         Err(_) => no_memory(rt),
-    }
-}
-
-// Shows a script on a fresh device of a plan, whose controls have these words, and which people know by this name.
-fn show_on<D: Driver, R: AllocGlobal + Input + Files + Print + Eprint>(
-    rt: &R,
-    plan: Plan<D>,
-    known: ControlWords,
-    name: &'static str,
-    script: Script<'_>,
-    ink: Ink,
-) -> ExitCode {
-    let Ok(mut device) = Device::new(rt.alloc(), plan) else {
-        return no_memory(rt);
-    };
-    let Ok(mut view) = View::new(rt.alloc(), known, name, script.how, ink) else {
-        return no_memory(rt);
-    };
-    let outcome = show(rt, &mut device, &mut view, script.file);
-    let outcome = with_line(&mut io::writer(rt), &mut view.line, outcome);
-    ExitCode::from(outcome.status())
-}
-
-// Reads a script whole, and then shows it.
-fn show<D: Driver, R: AllocGlobal + Input + Files + Print + Eprint>(
-    rt: &R,
-    device: &mut Device<D>,
-    view: &mut View,
-    file: Option<&str>,
-) -> Outcome {
-    match read_script(rt, file) {
-        Ok(text) => show_script(rt, device, view, text.as_slice(), &mut io::writer(rt)),
-        Err(InputFault::TooLong) => Outcome::TooLong,
-        Err(InputFault::Reader) => Outcome::ReadFault,
-        Err(InputFault::Memory) => Outcome::Memory,
-    }
-}
-
-// The script of a file, or of standard input.
-fn read_script<R: AllocGlobal + Input + Files + Eprint>(
-    rt: &R,
-    file: Option<&str>,
-) -> Result<Vec<u8>, InputFault>
-    ensures { IfOk result (λ text. vec_len text ≤ 1048576) }
-{
-    match file {
-        Some(path) => read_file(rt, path),
-        None => read_input(rt.alloc(), &mut rt.reader()),
-    }
-}
-
-// What a file has. Why it can't be read is said.
-fn read_file<R: AllocGlobal + Files + Eprint>(rt: &R, path: &str) -> Result<Vec<u8>, InputFault>
-    ensures { IfOk result (λ text. vec_len text ≤ 1048576) }
-{
-    match File::open(rt, path) {
-        Ok(mut opened) => {
-            let text = read_input(rt.alloc(), &mut opened);
-            if let Err(InputFault::Reader) = text {
-                let _ = eprintln!(rt; "ctl_view: {path}: it can't be read");
-            }
-            text
-        }
-        Err(error) => {
-            let _ = eprintln!(rt; "ctl_view: {path}: {error}");
-            Err(InputFault::Reader)
-        }
     }
 }
 
@@ -221,7 +167,16 @@ fn no_memory(rt: &impl Print) -> ExitCode {
     ExitCode::from(1)
 }
 
-fn usage(rt: &impl Eprint) -> ExitCode {
-    let _ = eprintln!(rt; "{USAGE}");
+// Prints a text that was asked for.
+fn say(rt: &impl Print, text: &str) -> ExitCode {
+    match print!(rt; "{text}") {
+        Ok(()) => ExitCode::from(0),
+        Err(_) => ExitCode::from(1),
+    }
+}
+
+// Says what is wrong with the command line.
+fn usage(rt: &impl Eprint, complaint: Complaint<'_>) -> ExitCode {
+    let _ = eprintln!(rt; "ctl_view: {complaint}\n{USAGE}; --help says more");
     ExitCode::from(2)
 }

@@ -6,7 +6,6 @@ use crate::answer::answer_line;
 use crate::shown::{show_end, show_said, show_stray};
 use crate::told::{explain, explain_stray};
 use crate::view::View;
-use crate::wanted::How;
 use ctl_script::first_line;
 use ctrl_calls::Driver;
 use device_state::Device;
@@ -39,10 +38,10 @@ pub fn show_script<D: Driver, R: AllocGlobal + Eprint, W: Write>(
             Err(outcome) => return outcome,
         }
     }
-    match view.how {
-        How::Why => Outcome::Finished,
-        How::Plain | How::WithQueue => show_end(rt.alloc(), device, view, writer),
+    if view.is_told() {
+        return Outcome::Finished;
     }
+    show_end(rt.alloc(), device, view, writer)
 }
 
 // Asks what a line says, and shows it. The error is how the script ends here.
@@ -56,10 +55,10 @@ fn show_line<D: Driver, R: AllocGlobal + Eprint, W: Write>(
     requires { length line.text.now ≤ 1048576 }
 {
     match answer_line(rt.alloc(), &view.known, device, &mut view.names, line.text) {
-        Ok(said) if view.how == How::Why => explain(rt, device, view, line.number, &said, writer),
+        Ok(said) if view.is_told() => explain(rt, device, view, line, &said, writer),
         Ok(said) => show_said(rt.alloc(), device, view, line, &said, writer),
         Err(LineFault::Memory) => Err(Outcome::Memory),
-        Err(LineFault::NotACommand) if view.how == How::Why => Err(explain_stray(rt, view, line)),
+        Err(LineFault::NotACommand) if view.is_told() => Err(explain_stray(rt, view, line)),
         Err(LineFault::NotACommand) => Err(show_stray(rt.alloc(), view, line, writer)),
     }
 }

@@ -1,10 +1,8 @@
 //! A line of a script on the page, with what it came to.
 
 use crate::answer::Said;
-use crate::reply::put_reply;
 use crate::table::{put_below, put_table};
 use crate::view::View;
-use crate::why::{put_check, put_refusal};
 use ask_reasons::reason_of;
 use ctrl_calls::Driver;
 use ctrl_types::Fault;
@@ -14,6 +12,7 @@ use script_replies::{Audited, Outcome, write_audit};
 use std::alloc::{AllocError, Global};
 use std::io::Write;
 use view_layout::{Ink, Line, Page, put_command, put_skipped};
+use view_words::{Asked, put_check, put_refusal, put_reply};
 
 /// Shows a line, and what it came to.
 pub fn show_said<D: Driver, W: Write>(
@@ -65,14 +64,13 @@ fn put_accepted<D: Driver>(
 ) {
     view.commands = view.commands.saturating_add(1);
     let mut said = Page::new(alloc);
-    put_reply(
-        &mut said,
-        &mut view.line,
-        &view.known,
-        device.plan(),
+    let asked = Asked {
+        known: &view.known,
+        device,
+        line: line.text,
         ask,
-        answer,
-    );
+    };
+    put_reply(&mut said, &mut view.line, asked, answer);
     put_beside(page, line, &said, "", view.ink);
     if view.shows_queue(device, ask) {
         view.shown_at = Some(device.steps().len());
@@ -95,19 +93,17 @@ fn put_refused<D: Driver>(
     let ink = view.ink;
     let reason = reason_of(alloc, device, ask)?;
     let mut said = Page::new(alloc);
-    put_refusal(
-        &mut said,
-        &mut view.line,
-        &view.known,
+    let asked = Asked {
+        known: &view.known,
         device,
+        line: line.text,
         ask,
-        fault,
-        reason,
-    );
+    };
+    put_refusal(&mut said, &mut view.line, asked, fault, reason);
     put_beside(page, line, &said, ink.bad, ink);
     if let Some(reason) = reason {
         said.clear();
-        put_check(&mut said, &view.known, device, ask, reason);
+        put_check(&mut said, asked, reason);
         put_below(page, &said, ink.bad, ink.plain);
     }
     Ok(())

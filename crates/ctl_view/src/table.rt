@@ -1,15 +1,15 @@
 //! What the queued frames will have, as a table.
 
-use crate::frame::{cell_at, frame_at, look_at, put_buffer, stays, widest};
-use crate::words::{put_cluster, word_of};
+use crate::frame::{cell_at, frame_at, put_buffer, put_in_frame, put_now, stays, widest};
 use ctl_script::ControlWords;
 use ctrl_calls::Driver;
 use device_state::Device;
 use std::alloc::Global;
 use std::io::Write;
 use view_layout::{
-    Cell, INDENT, Ink, Mark, Page, WIDTH, put_cell, put_folded, put_look, put_missed, put_spaces,
+    Cell, INDENT, Ink, Mark, Page, WIDTH, put_folded, put_look, put_missed, put_spaces,
 };
+use view_words::{put_cluster, word_of};
 
 // How wide the columns are at least: those of the names of controls, of their present values, and of a frame.
 const WIDTHS: Widths = Widths {
@@ -80,7 +80,7 @@ fn widths_of<D: Driver>(alloc: Global, known: &ControlWords, device: &Device<D>)
         let name = word_of(known, control).len().saturating_add(2);
         widths.names = widths.names.max(name.min(LONGEST));
         text.clear();
-        put_look(&mut text, &look_at(device.plan(), device.values(), control));
+        put_now(&mut text, device, control);
         widths.now = widths.now.max(text.text().len());
     }
     widths.frame = widths.frame.max(widest(alloc, device).saturating_add(2));
@@ -128,7 +128,7 @@ fn put_rows<D: Driver>(
         put_spaces(page, INDENT);
         put_left(page, word_of(known, control), block.widths.names);
         text.clear();
-        put_look(&mut text, &look_at(device.plan(), device.values(), control));
+        put_now(&mut text, device, control);
         put_right(page, &text, block.widths.now, "", "");
         for place in block.first..block.end {
             let cell = cell_at(device.plan(), frame_at(device, place), control);
@@ -138,7 +138,7 @@ fn put_rows<D: Driver>(
                 put_look(&mut text, &cell.behind);
                 put_missed(&mut text, &cell);
             } else {
-                put_cell(&mut text, &cell);
+                put_in_frame(&mut text, device.plan(), control, &cell);
             }
             put_right(
                 page,

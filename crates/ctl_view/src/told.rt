@@ -2,27 +2,29 @@
 
 use crate::answer::Said;
 use crate::view::View;
-use crate::why::{put_check, put_refusal};
+use crate::wanted::Task;
 use ask_reasons::reason_of;
 use ctrl_calls::Driver;
 use ctrl_types::Fault;
-use device_state::{Ask, Device};
+use device_state::Device;
 use line_reasons::{Complaint, reason_of as reason_of_line};
-use script_replies::{Outcome, write_answer, write_audit};
+use script_replies::{Outcome, ReplyLine, write_answer, write_audit};
 use std::alloc::{AllocError, Global};
 use std::io::Write;
 use view_layout::{Line, Page};
+use view_words::{Asked, put_check, put_refusal};
 
-/// Prints the reply to a line as `run_script` does, and says on standard error why it is a refusal.
+/// Prints the reply to a line as `run_script` does, but none where the device is to be listed, and says on standard error why it is a refusal.
 pub fn explain<D: Driver, R: AllocGlobal + Eprint, W: Write>(
     rt: &R,
     device: &Device<D>,
     view: &mut View,
-    number: u32,
+    line: Line<'_>,
     said: &Said,
     writer: &mut W,
 ) -> Result<(), Outcome> {
     let written = match said {
+        _ if view.task == Task::List => Ok(()),
         Said::Nothing => Ok(()),
         Said::Audit(audited) => write_audit(writer, &mut view.line, *audited),
         Said::Answer(ask, answer) => write_answer(writer, &mut view.line, ask, answer),
@@ -32,12 +34,18 @@ pub fn explain<D: Driver, R: AllocGlobal + Eprint, W: Write>(
     }
     if let Said::Answer(ask, Err(fault)) = said {
         let mut text = Page::new(rt.alloc());
-        let found = put_why(&mut text, rt.alloc(), device, view, ask, *fault);
+        let asked = Asked {
+            known: &view.known,
+            device,
+            line: line.text,
+            ask,
+        };
+        let found = put_why(&mut text, rt.alloc(), &mut view.line, asked, *fault);
         // nothing else depends on it, so the script goes on where memory is wanting
         if found.is_ok() && text.is_whole() {
-            tell(rt, number, text.text());
+            tell(rt, line.number, text.text());
         } else {
-            tell(rt, number, b"no memory to find out why");
+            tell(rt, line.number, b"no memory to find out why");
         }
     }
     Ok(())
@@ -47,24 +55,15 @@ pub fn explain<D: Driver, R: AllocGlobal + Eprint, W: Write>(
 fn put_why<D: Driver>(
     text: &mut Page,
     alloc: Global,
-    device: &Device<D>,
-    view: &mut View,
-    ask: &Ask,
+    line: &mut ReplyLine,
+    asked: Asked<'_, D>,
     fault: Fault,
 ) -> Result<(), AllocError> {
-    let reason = reason_of(alloc, device, ask)?;
-    put_refusal(
-        text,
-        &mut view.line,
-        &view.known,
-        device,
-        ask,
-        fault,
-        reason,
-    );
+    let reason = reason_of(alloc, asked.device, asked.ask)?;
+    put_refusal(text, line, asked, fault, reason);
     if let Some(reason) = reason {
         text.put(": ");
-        put_check(text, &view.known, device, ask, reason);
+        put_check(text, asked, reason);
     }
     Ok(())
 }

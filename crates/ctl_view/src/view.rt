@@ -1,6 +1,6 @@
 //! What is kept while a script is shown.
 
-use crate::wanted::How;
+use crate::wanted::Task;
 use ctl_script::{Bindings, ControlWords};
 use ctrl_calls::Driver;
 use device_state::{Ask, Device};
@@ -13,8 +13,8 @@ use view_layout::Ink;
 pub struct View {
     /// Where a reply line is put together.
     pub line: ReplyLine,
-    /// How the script is shown.
-    pub how: How,
+    /// What is done with the script.
+    pub task: Task,
     /// With which colours.
     pub ink: Ink,
     /// The words by which the script names the device's controls, and by which they are shown.
@@ -37,13 +37,13 @@ impl View {
         alloc: Global,
         known: ControlWords,
         device: &'static str,
-        how: How,
+        task: Task,
         ink: Ink,
     ) -> Result<View, AllocError> {
         let line = ReplyLine::new(alloc)?;
         Ok(View {
             line,
-            how,
+            task,
             ink,
             known,
             device,
@@ -54,10 +54,15 @@ impl View {
         })
     }
 
+    /// Whether nothing of the script is shown, and reasons are told on standard error.
+    pub fn is_told(&self) -> bool {
+        self.task == Task::Why || self.task == Task::List
+    }
+
     /// Whether the queue is shown behind an ask that was accepted: behind a row, where no step was taken since it was shown, and where it is wanted behind
     /// what changes the queue, or the values, the grabs and the ranges that it is made of.
     pub fn shows_queue<D: Driver>(&self, device: &Device<D>, ask: &Ask) -> bool {
-        let is_wanted = self.how == How::WithQueue;
+        let is_wanted = self.task == Task::WithQueue;
         match ask {
             Ask::Forecast { .. } => self.shown_at != Some(device.steps().len()),
             Ask::Queue { .. } | Ask::Begin | Ask::Cancel { .. } | Ask::StreamOff => is_wanted,

@@ -1,117 +1,141 @@
-/// How a script is shown.
+//! What the command line asks for.
+
+use crate::complaint::Complaint;
+
+/// What is done on a device.
 #[derive(Clone, Copy, PartialEq, Eq)]
-pub enum How {
-    /// Each command beside its reply, and the queue as a table where a command asks for a row, and at the end.
-    Plain,
-    /// The queue also behind each command that changes it, or what it is made of.
+pub enum Task {
+    /// A script is shown, each command beside its reply, and the queue as a table where a command asks for a row, and at the end.
+    Show,
+    /// The queue is shown also behind each command that changes it, or what it is made of.
     WithQueue,
-    /// The replies alone, as `ctl_tool run` prints them, with reasons on standard error.
+    /// The replies alone are printed, as `ctl_tool run` prints them, with reasons on standard error.
     Why,
-}
-
-/// A script that is to be shown.
-#[derive(Clone, Copy)]
-pub struct Script<'a> {
-    /// How it is shown.
-    pub how: How,
-    /// The file that it is read from; standard input where there is none.
-    pub file: Option<&'a str>,
-}
-
-/// What is wanted of the device that a file describes.
-#[derive(Clone, Copy)]
-pub enum Task<'a> {
-    /// To show a script on it.
-    Show(Script<'a>),
-    /// To say how large it is.
-    Check,
-    /// To list its controls, handlers and clusters.
+    /// The device is listed as it is behind a script, or at its start where no script is named, with reasons on standard error.
     List,
+    /// What the queued frames will have behind a script is printed, as `ctl_tool board` prints it.
+    Board,
+    /// Two scripts are run, and their replies printed, as `ctl_tool pair` does it.
+    Pair,
+    /// It is said how large the device is.
+    Check,
 }
+
+// The words that ask for these.
+const TASKS: &[(&str, Task)] = &[
+    ("--queue", Task::WithQueue),
+    ("--why", Task::Why),
+    ("--list", Task::List),
+    ("--board", Task::Board),
+    ("--pair", Task::Pair),
+    ("--check", Task::Check),
+];
 
 /// What the command line asks for.
 #[derive(Clone, Copy)]
-pub enum Wanted<'a> {
-    /// A script on the sample device.
-    OnSample(Script<'a>),
-    /// Something of the device that the file with this name describes.
-    OnFile(&'a str, Task<'a>),
+pub struct Wanted<'a> {
+    /// The file that describes the device; the sample device where there is none.
+    pub device: Option<&'a str>,
+    /// What is done on it.
+    pub task: Task,
+    /// The file of the script; where there is none, a task that needs one takes standard input.
+    pub script: Option<&'a str>,
 }
 
-// What a word with two hyphens asks for, but for --device.
+// What the words ask for that were read.
 #[derive(Clone, Copy)]
-enum Mode {
-    Show(How),
-    Check,
-    List,
+struct Words<'a> {
+    device: Option<&'a str>,
+    flag: Option<(&'a str, Task)>,
+    script: Option<&'a str>,
 }
 
 impl<'a> Wanted<'a> {
-    /// What the words of a command line ask for, of which the first is the program; none where they are no command line of this program.
-    pub fn read(words: &'a [String]) -> Option<Wanted<'a>> {
-        let [_, words @ ..] = words else {
-            return None;
+    /// What the words of a command line ask for, of which the first is the program. They stand in any order. The error is what is wrong with them, the first
+    /// word that is.
+    pub fn read(words: &'a [String]) -> Result<Wanted<'a>, Complaint<'a>> {
+        let mut read = Words {
+            device: None,
+            flag: None,
+            script: None,
         };
-        let (before, words) = device_in(words);
-        let (mode, words) = mode_in(words);
-        let (device, words) = match before {
-            Some(_) => (before, words),
-            None => device_in(words),
+        let mut words = words.iter().skip(1);
+        while let Some(word) = words.next() {
+            match word.as_str() {
+                "--device" => match words.next() {
+                    Some(file) => read.take_device(file.as_str())?,
+                    None => return Err(Complaint::NoDevice),
+                },
+                word if word.starts_with("-") => read.take_flag(word)?,
+                file => read.take_script(file)?,
+            }
+        }
+        read.wanted()
+    }
+}
+
+impl<'a> Words<'a> {
+    fn take_device(&mut self, file: &'a str) -> Result<(), Complaint<'a>> {
+        if !is_file(file) {
+            return Err(Complaint::NoDevice);
+        }
+        if self.device.is_some() {
+            return Err(Complaint::SecondDevice(file));
+        }
+        self.device = Some(file);
+        Ok(())
+    }
+
+    fn take_flag(&mut self, word: &'a str) -> Result<(), Complaint<'a>> {
+        let Some((_, task)) = TASKS.iter().find(|it| it.0 == word) else {
+            return Err(Complaint::Unknown(word));
         };
-        match (device, mode) {
-            (None, Mode::Show(how)) => Some(Wanted::OnSample(script_in(how, words)?)),
-            (Some(device), Mode::Show(how)) => Some(Wanted::OnFile(
-                device,
-                Task::Show(script_in(how, words)?),
-            )),
-            (Some(device), Mode::Check) if words.is_empty() => {
-                Some(Wanted::OnFile(device, Task::Check))
-            }
-            (Some(device), Mode::List) if words.is_empty() => {
-                Some(Wanted::OnFile(device, Task::List))
-            }
-            _ => None,
+        if let Some((first, _)) = self.flag {
+            return Err(Complaint::SecondFlag(first, word));
         }
+        self.flag = Some((word, *task));
+        Ok(())
     }
-}
 
-// The file of a device, where the words begin with it, and the words behind.
-fn device_in(words: &[String]) -> (Option<&str>, &[String]) {
-    match words {
-        [first, file, rest @ ..] if first.as_str() == "--device" && is_file(file.as_str()) => {
-            (Some(file.as_str()), rest)
+    fn take_script(&mut self, file: &'a str) -> Result<(), Complaint<'a>> {
+        if !is_file(file) {
+            return Err(Complaint::NoName);
         }
-        _ => (None, words),
+        if let Some(first) = self.script {
+            return Err(Complaint::SecondScript(first, file));
+        }
+        self.script = Some(file);
+        Ok(())
     }
-}
 
-// What is to be done, and the words behind.
-fn mode_in(words: &[String]) -> (Mode, &[String]) {
-    let [first, rest @ ..] = words else {
-        return (Mode::Show(How::Plain), words);
-    };
-    match first.as_str() {
-        "--queue" => (Mode::Show(How::WithQueue), rest),
-        "--why" => (Mode::Show(How::Why), rest),
-        "--check" => (Mode::Check, rest),
-        "--list" => (Mode::List, rest),
-        _ => (Mode::Show(How::Plain), words),
-    }
-}
-
-// The script that the last words name: a file, or none.
-fn script_in(how: How, words: &[String]) -> Option<Script<'_>> {
-    match words {
-        [] => Some(Script { how, file: None }),
-        [file] if is_file(file.as_str()) => Some(Script {
-            how,
-            file: Some(file.as_str()),
-        }),
-        _ => None,
+    // What they ask for together.
+    fn wanted(self) -> Result<Wanted<'a>, Complaint<'a>> {
+        let Words {
+            device,
+            flag,
+            script,
+        } = self;
+        let task = match flag {
+            Some((_, task)) => task,
+            None => Task::Show,
+        };
+        if let Task::Check = task {
+            if device.is_none() {
+                return Err(Complaint::CheckNoDevice);
+            }
+            if let Some(file) = script {
+                return Err(Complaint::CheckScript(file));
+            }
+        }
+        Ok(Wanted {
+            device,
+            task,
+            script,
+        })
     }
 }
 
 // Whether a word may name a file: one that begins with a hyphen is none.
 fn is_file(word: &str) -> bool {
-    !word.starts_with("-")
+    !word.is_empty() && !word.starts_with("-")
 }

@@ -1,11 +1,10 @@
 //! The words by which people know controls, clusters and flags.
 
 use bitflags::Flags as FlagSet;
-use ctl_script::ControlWords;
 use ctrl_calls::Driver;
-use ctrl_types::{CtrlId, Flags, Kind};
+use ctrl_types::{Flags, Kind};
 use device_state::Plan;
-use std::io::Write;
+use script_lines::ControlWords;
 use view_layout::Page;
 
 /// The word of a control, by its number.
@@ -13,23 +12,6 @@ pub fn word_of(known: &ControlWords, control: u32) -> &str {
     match known.word_of(control) {
         Some(word) => str::from_utf8(word).unwrap_or("?"),
         None => "?",
-    }
-}
-
-/// The number of a control, by its id, shown or not.
-pub fn control_of<D: Driver>(plan: &Plan<D>, id: CtrlId) -> Option<u32> {
-    let place = plan.controls().iter().position(|ctrl| ctrl.id() == id)?;
-    Some(place as u32)
-}
-
-/// Puts the word of a control on a page, by its id; the id where no control has it.
-pub fn put_name<D: Driver>(page: &mut Page, known: &ControlWords, plan: &Plan<D>, id: CtrlId) {
-    match control_of(plan, id) {
-        Some(control) => page.put(word_of(known, control)),
-        None => {
-            let number = id.0;
-            let _ = write!(page, "0x{number:08x}");
-        }
     }
 }
 
@@ -61,11 +43,12 @@ fn members_of<D: Driver>(plan: &Plan<D>, cluster: u32) -> &[u32] {
     }
 }
 
-/// The members of the cluster that the control with this id is in; none where no control has it.
-pub fn members_beside<D: Driver>(plan: &Plan<D>, id: CtrlId) -> &[u32] {
-    match control_of(plan, id) {
-        Some(control) if control < plan.control_count() => plan.members(plan.cluster_of(control)),
-        _ => &[],
+/// The members of the cluster that a control is in; none where there is no such control.
+pub fn members_beside<D: Driver>(plan: &Plan<D>, control: u32) -> &[u32] {
+    if control < plan.control_count() {
+        plan.members(plan.cluster_of(control))
+    } else {
+        &[]
     }
 }
 

@@ -1,22 +1,86 @@
-//! What the clusters of a device from a file are held to, and what is told of them, in words.
+//! What the clusters of a device are held to, and what is told of them, in words.
 
 ghost use Rattle.std.specs.Prelude.{◌<◌, length};
 
 use crate::words::word_of;
-use ctl_script::ControlWords;
+use ctrl_calls::{Driver, Relation};
 use data_driver::{Data, Excess, Limit, Word};
 use device_state::Plan;
+use sample_device::{
+    BALANCE_LIMIT, BRIGHTNESS_WORDS, BUTTON_WORDS, GAIN_LIMIT, PAIR_WORDS, Sample,
+};
+use script_lines::ControlWords;
 use std::io::Write;
 use view_layout::Page;
 
+/// A driver whose relations can be said in words.
+pub trait Explained {
+    /// The limit by which a validator with this relation judges; none where it is none.
+    fn limit(relation: &Relation) -> Option<Limit>;
+
+    /// The word that a notifier with this relation says; none where it is none.
+    fn word(relation: &Relation) -> Option<Word>;
+}
+
+impl Explained for Data {
+    fn limit(relation: &Relation) -> Option<Limit> {
+        Limit::of(relation)
+    }
+
+    fn word(relation: &Relation) -> Option<Word> {
+        Word::of(relation)
+    }
+}
+
+// What its closures answer, as docs/SCRIPTS.md has it.
+impl Explained for Sample {
+    fn limit(relation: &Relation) -> Option<Limit> {
+        let most = relation.bounds[0];
+        if relation.number == GAIN_LIMIT.number {
+            Some(Limit::AtMost {
+                member: 1,
+                most,
+                excess: Excess::Lowered,
+            })
+        } else if relation.number == BALANCE_LIMIT.number {
+            Some(Limit::Sum { most })
+        } else {
+            None
+        }
+    }
+
+    fn word(relation: &Relation) -> Option<Word> {
+        if relation.number == PAIR_WORDS.number {
+            Some(Word::Joined {
+                first: 0,
+                second: 1,
+            })
+        } else if relation.number == BUTTON_WORDS.number {
+            Some(Word::Constant(1))
+        } else if relation.number == BRIGHTNESS_WORDS.number {
+            Some(Word::Plus {
+                member: 0,
+                more: 64,
+            })
+        } else {
+            None
+        }
+    }
+}
+
 /// Puts what a cluster is held to on a page; nothing where it takes each row.
-pub fn put_limit(page: &mut Page, known: &ControlWords, plan: &Plan<Data>, cluster: u32)
+pub fn put_limit<D: Driver + Explained>(
+    page: &mut Page,
+    known: &ControlWords,
+    plan: &Plan<D>,
+    cluster: u32,
+)
     requires { cluster < length plan.now.clusters }
 {
     let Some(validator) = plan.validator(cluster) else {
         return;
     };
-    let Some(limit) = Limit::of(&validator.relation()) else {
+    let Some(limit) = D::limit(&validator.relation()) else {
         return;
     };
     let members = Members {
@@ -75,13 +139,18 @@ pub fn put_limit(page: &mut Page, known: &ControlWords, plan: &Plan<Data>, clust
 }
 
 /// Puts what is told of a cluster on a page; nothing where nothing is.
-pub fn put_told(page: &mut Page, known: &ControlWords, plan: &Plan<Data>, cluster: u32)
+pub fn put_told<D: Driver + Explained>(
+    page: &mut Page,
+    known: &ControlWords,
+    plan: &Plan<D>,
+    cluster: u32,
+)
     requires { cluster < length plan.now.clusters }
 {
     let Some(notifier) = plan.notifier(cluster) else {
         return;
     };
-    let Some(word) = Word::of(&notifier.relation()) else {
+    let Some(word) = D::word(&notifier.relation()) else {
         return;
     };
     let members = Members {

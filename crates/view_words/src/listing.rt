@@ -2,38 +2,22 @@
 
 ghost use Rattle.std.specs.Prelude.{◌<◌, length};
 
-use crate::limits::{put_limit, put_told};
+use crate::classes::class_name;
+use crate::items::item_of;
+use crate::limits::{Explained, put_limit, put_told};
 use crate::words::{put_words, word_of};
 use bitflags::Flags as FlagSet;
-use ctl_script::ControlWords;
+use ctrl_calls::Driver;
 use ctrl_settle::Ctrl;
 use ctrl_types::{CtrlId, CtrlValue, Flags, Kind};
-use data_driver::Data;
 use device_state::{Device, MenuItem, Plan};
+use script_lines::ControlWords;
 use std::alloc::{AllocError, Global};
 use std::io::Write;
 use view_layout::{Page, put_plain, put_spaces};
 
 // How wide the column is that has the names of controls.
 const NAMES: usize = 31;
-
-// The classes of controls by their numbers, as the kernel calls them.
-const CLASSES: &[(u32, &str)] = &[
-    (0x0098_0000, "User Controls"),
-    (0x0099_0000, "Codec Controls"),
-    (0x009a_0000, "Camera Controls"),
-    (0x009b_0000, "FM Radio Modulator Controls"),
-    (0x009c_0000, "Flash Controls"),
-    (0x009d_0000, "JPEG Compression Controls"),
-    (0x009e_0000, "Image Source Controls"),
-    (0x009f_0000, "Image Processing Controls"),
-    (0x00a0_0000, "Digital Video Controls"),
-    (0x00a1_0000, "FM Radio Receiver Controls"),
-    (0x00a2_0000, "RF Tuner Controls"),
-    (0x00a3_0000, "Detection Controls"),
-    (0x00a4_0000, "Stateless Codec Controls"),
-    (0x00a5_0000, "Colorimetry Controls"),
-];
 
 // The flags in the order of v4l2-ctl; those that no device here has are left out.
 const FLAGS: &[(u32, &str)] = &[
@@ -50,11 +34,11 @@ const FLAGS: &[(u32, &str)] = &[
 
 /// Puts a device on a page: its controls in the order of their ids, then a line for each handler and each cluster. The error is that a growth was
 /// refused, but for those of the page.
-pub fn put_listing(
+pub fn put_listing<D: Driver + Explained>(
     page: &mut Page,
     alloc: Global,
     known: &ControlWords,
-    device: &Device<Data>,
+    device: &Device<D>,
 ) -> Result<(), AllocError> {
     let order = in_order(alloc, device.plan().controls())?;
     put_controls(page, known, device, order.as_slice());
@@ -75,10 +59,10 @@ fn in_order(alloc: Global, controls: &[Ctrl]) -> Result<Vec<(u32, usize)>, Alloc
 }
 
 // The controls, below the names of their classes.
-fn put_controls(
+fn put_controls<D: Driver>(
     page: &mut Page,
     known: &ControlWords,
-    device: &Device<Data>,
+    device: &Device<D>,
     order: &[(u32, usize)],
 ) {
     let mut last = None;
@@ -95,8 +79,8 @@ fn put_controls(
 }
 
 fn put_class(page: &mut Page, class: u32) {
-    match CLASSES.iter().find(|it| it.0 == class) {
-        Some(&(_, name)) => {
+    match class_name(class) {
+        Some(name) => {
             let _ = write!(page, "\n{name}\n\n");
         }
         None => {
@@ -105,7 +89,7 @@ fn put_class(page: &mut Page, class: u32) {
     }
 }
 
-fn put_control(page: &mut Page, known: &ControlWords, device: &Device<Data>, control: u32) {
+fn put_control<D: Driver>(page: &mut Page, known: &ControlWords, device: &Device<D>, control: u32) {
     let plan = device.plan();
     if control >= plan.control_count() {
         return;
@@ -119,7 +103,7 @@ fn put_control(page: &mut Page, known: &ControlWords, device: &Device<Data>, con
 }
 
 // The present value, 0 where it can't be read.
-fn value_of(device: &Device<Data>, control: u32) -> CtrlValue
+fn value_of<D: Driver>(device: &Device<D>, control: u32) -> CtrlValue
     requires { control < length device.now.plan.controls }
 {
     if device.flags(control).contains(Flags::WRITE_ONLY) {
@@ -185,36 +169,30 @@ fn put_bounds(page: &mut Page, ctrl: &Ctrl) {
     let _ = write!(page, " min={least} max={most}");
 }
 
-// A value, and of a menu the item; of an array its bytes.
-fn put_value(page: &mut Page, plan: &Plan<Data>, control: u32, ctrl: &Ctrl, value: CtrlValue) {
-    match value {
-        CtrlValue::Number(number) => put_number(page, plan, control, ctrl, number),
-        CtrlValue::Bytes(_) => {
-            page.put(" value=");
-            page.put_value(&value);
-        }
-    }
-}
-
-fn put_number(page: &mut Page, plan: &Plan<Data>, control: u32, ctrl: &Ctrl, value: i64) {
-    if ctrl.kind() == Kind::Bitmask {
-        let _ = write!(page, " value=0x{value:08x}");
+// A value, and of a menu the item.
+fn put_value<D: Driver>(
+    page: &mut Page,
+    plan: &Plan<D>,
+    control: u32,
+    ctrl: &Ctrl,
+    value: CtrlValue,
+) {
+    if let (Kind::Bitmask, CtrlValue::Number(mask)) = (ctrl.kind(), value) {
+        let _ = write!(page, " value=0x{mask:08x}");
         return;
     }
-    let _ = write!(page, " value={value}");
-    let Ok(index) = u32::try_from(value) else {
-        return;
-    };
-    match plan.menu_item(control, index) {
-        Ok(MenuItem::Name(name)) => {
+    page.put(" value=");
+    page.put_value(&value);
+    match item_of(plan, control, &value) {
+        Some(MenuItem::Name(name)) => {
             page.put(" (");
             put_plain(page, name.as_str().as_bytes());
             page.put(")");
         }
-        Ok(MenuItem::Number(number)) => {
+        Some(MenuItem::Number(number)) => {
             let _ = write!(page, " ({number} 0x{number:x})");
         }
-        Err(_) => {}
+        None => {}
     }
 }
 
@@ -231,7 +209,7 @@ fn put_flag_words(page: &mut Page, flags: Flags) {
 }
 
 // The items of a menu, each on a line.
-fn put_items(page: &mut Page, plan: &Plan<Data>, control: u32, ctrl: &Ctrl) {
+fn put_items<D: Driver>(page: &mut Page, plan: &Plan<D>, control: u32, ctrl: &Ctrl) {
     if ctrl.kind() != Kind::Menu && ctrl.kind() != Kind::IntegerMenu {
         return;
     }
@@ -256,7 +234,7 @@ fn put_item(page: &mut Page, index: u32, item: &MenuItem) {
 }
 
 // What each handler shows.
-fn put_handlers(page: &mut Page, known: &ControlWords, plan: &Plan<Data>) {
+fn put_handlers<D: Driver>(page: &mut Page, known: &ControlWords, plan: &Plan<D>) {
     page.put("\n");
     for handler in 0..plan.handler_count() {
         let _ = write!(page, "handler {handler}: ");
@@ -266,7 +244,7 @@ fn put_handlers(page: &mut Page, known: &ControlWords, plan: &Plan<Data>) {
 }
 
 // The members of each cluster, its manual value, and what it is held to and told.
-fn put_clusters(page: &mut Page, known: &ControlWords, plan: &Plan<Data>) {
+fn put_clusters<D: Driver + Explained>(page: &mut Page, known: &ControlWords, plan: &Plan<D>) {
     page.put("\n");
     for cluster in 0..plan.cluster_count() {
         let _ = write!(page, "cluster {cluster}: ");
