@@ -4,7 +4,7 @@
 pub const USAGE: &str = "usage: ctl_view [--device FILE] \
     [--queue | --why | --list | --board | --pair | --check] [SCRIPT]";
 
-/// The same, with a line for each word.
+/// How the program is called, with a line for each word.
 pub const HELP: &str = "\
 usage: ctl_view [--device FILE] [--queue | --why | --list | --board | --pair | --check] [SCRIPT]
 
