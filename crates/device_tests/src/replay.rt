@@ -3,4 +3,5 @@
 
 mod cases;
 mod driver;
+mod events;
 mod histories;

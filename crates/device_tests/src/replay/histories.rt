@@ -1,9 +1,8 @@
 //! Histories, and what an audit makes of them.
 
-use crate::replay::cases::{
-    CASES, Case, EVENTS, Move, Pairs, RANGES, REQUESTS, TAKES, Told, WAITING,
-};
+use crate::replay::cases::{CASES, Case, Move, Pairs, RANGES, REQUESTS};
 use crate::replay::driver::{Picky, plan};
+use crate::replay::events::{EVENTS, TAKES, Told, WAITING};
 use crate::scene::are;
 use bitflags::Flags as FlagSet;
 use ctrl_handlers::Plan;
