@@ -2,5 +2,7 @@
 #![tactic(auto)]
 
 mod mode;
+mod words;
 
 pub use mode::{Mode, ModeFault, mode_of};
+pub use words::{WordsFault, words_fault};
