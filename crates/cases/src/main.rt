@@ -5,12 +5,14 @@
 #![tactic(auto)]
 
 mod case;
+mod why;
 
 ghost use Rattle.std.specs.Prelude.{◌≡◌, []};
 ghost use Rattle.ctrl_calls.specs.Meanings.{JudgesBy, TellsBy};
 
 use crate::case::{Case, Cases, Program};
-use ctl_pair::{Gate, run_pair};
+use crate::why::{Ran, why_of};
+use ctl_pair::{Gate, Remains, run_pair};
 use ctl_script::{
     BALANCE_LIMIT, BRIGHTNESS_WORDS, BUTTON_WORDS, ControlWords, GAIN_LIMIT, Outcome, PAIR_WORDS,
     Sample, balance_verdict, brightness_word, button_word, gain_verdict, pair_word, run_board,
@@ -19,6 +21,7 @@ use ctl_script::{
 use ctrl_calls::{Calls, ClusterRow, Driver, Notifier, Validator, Verdict};
 use device_file::{explain, read_device};
 use device_state::Device;
+use line_reasons::Names;
 use std::alloc::AllocError;
 use std::process::ExitCode;
 use std::rt::Files;
@@ -114,8 +117,8 @@ fn is_same_on_file<R: AllocGlobal + Threads + Wait + Print + Sync>(
     let Some(file) = cases.get(case.device) else {
         return Ok(false);
     };
-    let (printed, outcome) = run_on_file(rt, file.text.as_slice(), case)?;
-    is_wanted(rt, file.name, case, printed.as_slice(), outcome)
+    let ran = run_on_file(rt, file.text.as_slice(), case)?;
+    is_wanted(rt, file.name, case, &ran)
 }
 
 // What a case prints on the device that a file describes, and how it ends; or why the file describes none.
@@ -123,7 +126,7 @@ fn run_on_file<R: AllocGlobal + Threads + Wait + Sync>(
     rt: &R,
     file: &[u8],
     case: &Case<'_>,
-) -> Result<(Vec<u8>, Outcome), AllocError> {
+) -> Result<Ran, AllocError> {
     let alloc = rt.alloc();
     match read_device(alloc, file) {
         Ok(read) => {
@@ -136,7 +139,11 @@ fn run_on_file<R: AllocGlobal + Threads + Wait + Sync>(
             let mut said = Vec::new(alloc);
             said.extend_from_slice(explain(alloc, file, &fault)?.as_bytes())?;
             said.push(b'\n')?;
-            Ok((said, Outcome::Finished))
+            Ok(Ran {
+                printed: said,
+                outcome: Outcome::Finished,
+                why: String::new(alloc),
+            })
         }
     }
 }
@@ -153,14 +160,14 @@ fn is_same_on_sample<R: AllocGlobal + Threads + Wait + Print + Sync>(
     let balance: Teller = Box::new(rt.alloc(), |row: ClusterRow| pair_word(&row))?;
     let button: Teller = Box::new(rt.alloc(), |row: ClusterRow| button_word(&row))?;
     let brightness: Teller = Box::new(rt.alloc(), |row: ClusterRow| brightness_word(&row))?;
-    let (printed, outcome) = run_on_sample::<Sample, R>(
+    let ran = run_on_sample::<Sample, R>(
         rt,
         known,
         case,
         (limit, sum),
         (gain, balance, button, brightness),
     )?;
-    is_wanted(rt, "the sample device", case, printed.as_slice(), outcome)
+    is_wanted(rt, "the sample device", case, &ran)
 }
 
 // What a case prints on the sample device, and how it ends. The device's clusters have these closures: of autogain and gain the
@@ -171,7 +178,7 @@ fn run_on_sample<D: Driver + Send, R: AllocGlobal + Threads + Wait + Sync>(
     case: &Case<'_>,
     judges: (D::Judge, D::Judge),
     tellers: (D::Teller, D::Teller, D::Teller, D::Teller),
-) -> Result<(Vec<u8>, Outcome), AllocError>
+) -> Result<Ran, AllocError>
 where
     D::Judge: Send,
     D::Teller: Send,
@@ -222,7 +229,7 @@ fn run<D: Driver + Send, R: AllocGlobal + Threads + Wait + Sync>(
     known: &ControlWords,
     device: Device<D>,
     case: &Case<'_>,
-) -> Result<(Vec<u8>, Outcome), AllocError>
+) -> Result<Ran, AllocError>
 where
     D::Judge: Send,
     D::Teller: Send,
@@ -231,9 +238,9 @@ where
     let alloc = rt.alloc();
     let mut printed = Vec::new(alloc);
     let mut reader = case.text.as_slice();
-    let outcome = match case.program {
-        Program::Run => run_script(alloc, known, device, &mut reader, &mut printed).1,
-        Program::Board => run_board(alloc, known, device, &mut reader, &mut printed).1,
+    let (remains, outcome) = match case.program {
+        Program::Run => whole(run_script(alloc, known, device, &mut reader, &mut printed)),
+        Program::Board => whole(run_board(alloc, known, device, &mut reader, &mut printed)),
         Program::Pair => run_pair(
             rt,
             alloc,
@@ -242,11 +249,30 @@ where
             &OpenGate,
             &mut reader,
             &mut printed,
-        )
-        .1,
-        Program::File => Outcome::Finished,
+        ),
+        Program::File => (Ok(device), Outcome::Finished),
     };
-    Ok((printed, outcome))
+    let why = match (&remains, outcome) {
+        (Ok(device), Outcome::BadLine(number)) => {
+            let names = Names {
+                known,
+                plan: device.plan(),
+            };
+            why_of(alloc, &names, case, number)?
+        }
+        _ => String::new(alloc),
+    };
+    Ok(Ran {
+        printed,
+        outcome,
+        why,
+    })
+}
+
+// What is left of a run of one script.
+fn whole<D: Driver>(ran: (Device<D>, Outcome)) -> (Remains<Device<D>>, Outcome) {
+    let (device, outcome) = ran;
+    (Ok(device), outcome)
 }
 
 // Whether a case printed what it is to print on a device of this name, and ended as it is to end; else it is shown.
@@ -254,16 +280,21 @@ fn is_wanted<R: AllocGlobal + Print>(
     rt: &R,
     device: &str,
     case: &Case<'_>,
-    printed: &[u8],
-    outcome: Outcome,
+    ran: &Ran,
 ) -> io::Result<bool> {
+    let Ran {
+        printed,
+        outcome,
+        why,
+    } = ran;
     let ended = format!(in rt.alloc(); "{outcome:?}")?;
-    if printed == case.printed.as_slice() && ended.as_str() == case.outcome {
+    let is_same = printed.as_slice() == case.printed.as_slice() && ended.as_str() == case.outcome;
+    if is_same && ran.is_explained(case) {
         return Ok(true);
     }
-    let printed = String::from_utf8_lossy(rt.alloc(), printed)?;
+    let printed = String::from_utf8_lossy(rt.alloc(), printed.as_slice())?;
     println!(rt;
-        "{}, on {device}\n{printed}{outcome:?} in place of {}",
+        "{}, on {device}\n{printed}{outcome:?} in place of {}\nwhy: {why}",
         case.name, case.outcome
     )?;
     Ok(false)

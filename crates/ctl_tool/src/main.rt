@@ -8,23 +8,26 @@ mod kept;
 ghost use Rattle.ctrl_calls.specs.Meanings.{JudgesBy, TellsBy};
 
 use crate::kept::Kept;
-use command_line::{Mode, ModeFault, mode_of};
-use ctl_pair::{Gate, run_pair};
+use command_line::{Mode, ModeFault, mode_of, words_fault};
+use ctl_pair::{Gate, Remains, run_pair};
 use ctl_script::{
-    BALANCE_LIMIT, BRIGHTNESS_WORDS, BUTTON_WORDS, ControlWords, GAIN_LIMIT, Outcome, PAIR_WORDS,
-    Sample, balance_verdict, brightness_word, button_word, gain_verdict, pair_word, run_board,
-    run_script, sample_plan, sample_words,
+    BALANCE_LIMIT, BRIGHTNESS_WORDS, BUTTON_WORDS, GAIN_LIMIT, Outcome, PAIR_WORDS, Sample,
+    balance_verdict, brightness_word, button_word, gain_verdict, pair_word, run_board, run_script,
+    sample_plan, sample_words,
 };
 use ctrl_calls::{Calls, ClusterRow, Driver, Notifier, Validator, Verdict};
 use device_state::Device;
-use line_reasons::{Complaint, reason_of};
+use line_reasons::{Complaint, Names, reason_in_pair, reason_of};
 use std::io::Read;
 use std::process::ExitCode;
 use std::sync::Wait;
 use std::thread::Threads;
 use std::{env, io};
 
-const USAGE: &str = "usage: ctl_tool run | pair | board";
+const USAGE: &str = "usage: ctl_tool run | pair | board
+  run    answers a script, which is read from standard input: a line for each command
+  pair   answers two scripts, divided by a line ==, each on a thread of its own
+  board  runs a script, and prints what each queued frame will have";
 
 type Judge = Box<dyn Fn(ClusterRow) -> Verdict + Send>;
 
@@ -41,14 +44,17 @@ fn main(rt: HostRuntime) -> ExitCode {
     let words = match env::args(&rt) {
         Ok(words) => words.collect::<Vec<String>>(rt.alloc()),
         Err(error) if error.kind() == io::ErrorKind::OutOfMemory => return no_memory(&rt),
-        Err(_) => return usage(&rt),
+        Err(_) => {
+            let _ = eprintln!(rt; "ctl_tool: a word isn't UTF-8");
+            return usage(&rt);
+        }
     };
     let Ok(words) = words else {
         return no_memory(&rt);
     };
     let mode = match mode_of(rt.alloc(), words.as_slice()) {
         Ok(mode) => mode,
-        Err(ModeFault::Usage) => return usage(&rt),
+        Err(ModeFault::Usage) => return wrong_words(&rt, words.as_slice()),
         Err(ModeFault::Memory) => return no_memory(&rt),
     };
     let limit = Box::new(rt.alloc(), |row: ClusterRow| gain_verdict(&row));
@@ -127,39 +133,51 @@ where
     };
     let mut reader = Kept::new(rt.alloc(), rt.reader());
     let mut writer = io::writer(rt);
-    let outcome = match mode {
-        Mode::Run => run_script(rt.alloc(), &known, device, &mut reader, &mut writer).1,
-        Mode::Pair => {
-            run_pair(
-                rt,
-                rt.alloc(),
-                &known,
-                device,
-                &OpenGate,
-                &mut reader,
-                &mut writer,
-            )
-            .1
-        }
-        Mode::Board => run_board(rt.alloc(), &known, device, &mut reader, &mut writer).1,
+    let (remains, outcome) = match mode {
+        Mode::Run => whole(run_script(rt.alloc(), &known, device, &mut reader, &mut writer)),
+        Mode::Pair => run_pair(
+            rt,
+            rt.alloc(),
+            &known,
+            device,
+            &OpenGate,
+            &mut reader,
+            &mut writer,
+        ),
+        Mode::Board => whole(run_board(rt.alloc(), &known, device, &mut reader, &mut writer)),
     };
-    if let Outcome::BadLine(number) = outcome {
-        explain(rt, &known, &reader, number);
+    if let (Ok(device), Outcome::BadLine(number)) = (&remains, outcome) {
+        let names = Names {
+            known: &known,
+            plan: device.plan(),
+        };
+        explain(rt, mode, &names, &reader, number);
     }
     ExitCode::from(outcome.status())
 }
 
+// What is left of a run of one script.
+fn whole<D: Driver>(ran: (Device<D>, Outcome)) -> (Remains<Device<D>>, Outcome) {
+    let (device, outcome) = ran;
+    (Ok(device), outcome)
+}
+
 // Says why a line isn't a command, as far as there is memory to find it out. Nothing else depends on it.
-fn explain<R: AllocGlobal + Eprint, I: Read>(
+fn explain<D: Driver, R: AllocGlobal + Eprint, I: Read>(
     rt: &R,
-    known: &ControlWords,
+    mode: Mode,
+    names: &Names<'_, D>,
     reader: &Kept<I>,
     number: u32,
 ) {
     let Some(line) = reader.line(number) else {
         return;
     };
-    if let Ok(Some(Complaint { word, reason })) = reason_of(rt.alloc(), known, line) {
+    let found = match mode {
+        Mode::Pair => reason_in_pair(rt.alloc(), names, line),
+        Mode::Run | Mode::Board => reason_of(rt.alloc(), names, line),
+    };
+    if let Ok(Some(Complaint { word, reason })) = found {
         let reason = reason.text("the sample device");
         let _ = eprintln!(rt; "line {number}, word {word}: {reason}");
     }
@@ -171,6 +189,21 @@ fn no_memory(rt: &impl Print) -> ExitCode {
     ExitCode::from(1)
 }
 
+// Says what is wrong with the words of a command line.
+fn wrong_words(rt: &impl Eprint, words: &[String]) -> ExitCode {
+    if let Some((place, fault)) = words_fault(words) {
+        let _ = match words.get(place) {
+            Some(word) => {
+                let word = word.as_str();
+                eprintln!(rt; "ctl_tool: {word:?}: {fault}")
+            }
+            None => eprintln!(rt; "ctl_tool: {fault}"),
+        };
+    }
+    usage(rt)
+}
+
+// Says which words there are.
 fn usage(rt: &impl Eprint) -> ExitCode {
     let _ = eprintln!(rt; "{USAGE}");
     ExitCode::from(2)

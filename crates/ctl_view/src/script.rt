@@ -58,7 +58,18 @@ fn show_line<D: Driver, R: AllocGlobal + Eprint, W: Write>(
         Ok(said) if view.is_told() => explain(rt, device, view, line, &said, writer),
         Ok(said) => show_said(rt.alloc(), device, view, line, &said, writer),
         Err(LineFault::Memory) => Err(Outcome::Memory),
-        Err(LineFault::NotACommand) if view.is_told() => Err(explain_stray(rt, view, line)),
-        Err(LineFault::NotACommand) => Err(show_stray(rt.alloc(), view, line, writer)),
+        Err(LineFault::NotACommand) if view.is_told() => Err(explain_stray(
+            rt,
+            device.plan(),
+            view,
+            line,
+        )),
+        Err(LineFault::NotACommand) => Err(show_stray(
+            rt.alloc(),
+            device.plan(),
+            view,
+            line,
+            writer,
+        )),
     }
 }

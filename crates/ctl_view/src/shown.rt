@@ -6,8 +6,8 @@ use crate::view::View;
 use ask_reasons::reason_of;
 use ctrl_calls::Driver;
 use ctrl_types::Fault;
-use device_state::{Ask, Device, Reply};
-use line_reasons::{Complaint, reason_of as reason_of_line};
+use device_state::{Ask, Device, Plan, Reply};
+use line_reasons::{Complaint, Names, reason_of as reason_of_line};
 use script_replies::{Audited, Outcome, write_audit};
 use std::alloc::{AllocError, Global};
 use std::io::Write;
@@ -110,8 +110,18 @@ fn put_refused<D: Driver>(
 }
 
 /// Shows a line that isn't a command, and why, as far as it is found out. The outcome is that of the script, which ends here.
-pub fn show_stray<W: Write>(alloc: Global, view: &View, line: Line<'_>, writer: &mut W) -> Outcome {
-    let Ok(complaint) = reason_of_line(alloc, &view.known, line.text) else {
+pub fn show_stray<D: Driver, W: Write>(
+    alloc: Global,
+    plan: &Plan<D>,
+    view: &View,
+    line: Line<'_>,
+    writer: &mut W,
+) -> Outcome {
+    let names = Names {
+        known: &view.known,
+        plan,
+    };
+    let Ok(complaint) = reason_of_line(alloc, &names, line.text) else {
         return Outcome::Memory;
     };
     let mut page = Page::new(alloc);
@@ -127,7 +137,7 @@ fn put_stray(
     alloc: Global,
     view: &View,
     line: Line<'_>,
-    complaint: Option<Complaint>,
+    complaint: Option<Complaint<'_>>,
 ) {
     let ink = view.ink;
     put_skipped(

@@ -6,8 +6,8 @@ use crate::wanted::Task;
 use ask_reasons::reason_of;
 use ctrl_calls::Driver;
 use ctrl_types::Fault;
-use device_state::Device;
-use line_reasons::{Complaint, reason_of as reason_of_line};
+use device_state::{Device, Plan};
+use line_reasons::{Complaint, Names, reason_in_pair, reason_of as reason_of_line};
 use script_replies::{Outcome, ReplyLine, write_answer, write_audit};
 use std::alloc::{AllocError, Global};
 use std::io::Write;
@@ -76,12 +76,22 @@ fn tell<R: Eprint>(rt: &R, number: u32, text: &[u8]) {
 }
 
 /// Says on standard error why a line isn't a command, as far as there is memory to find it out. The outcome is that of the script, which ends here.
-pub fn explain_stray<R: AllocGlobal + Eprint>(rt: &R, view: &View, line: Line<'_>) -> Outcome {
-    if let Ok(Some(Complaint { word, reason })) = reason_of_line(
-        rt.alloc(),
-        &view.known,
-        line.text,
-    ) {
+pub fn explain_stray<D: Driver, R: AllocGlobal + Eprint>(
+    rt: &R,
+    plan: &Plan<D>,
+    view: &View,
+    line: Line<'_>,
+) -> Outcome {
+    let names = Names {
+        known: &view.known,
+        plan,
+    };
+    let found = if view.task == Task::Pair {
+        reason_in_pair(rt.alloc(), &names, line.text)
+    } else {
+        reason_of_line(rt.alloc(), &names, line.text)
+    };
+    if let Ok(Some(Complaint { word, reason })) = found {
         let reason = reason.text(view.device);
         let _ = eprintln!(rt; "line {}, word {word}: {reason}", line.number);
     }

@@ -1,69 +1,47 @@
-//! What is wrong with lines that aren't commands.
+//! What is wrong with lines that aren't commands, as far as no file of `cases` shows it: what can't be seen, words that are long, and a device without words.
+//! The rest stands in `wrong.txt` there.
 
-use ctl_script::sample_words;
-use line_reasons::{Complaint, Reason, reason_of};
+use crate::devices::sample;
+use ctl_script::{ControlWords, sample_words};
+use ctrl_calls::Driver;
+use line_reasons::{Complaint, Names, reason_in_pair, reason_of};
 use script_lines::VERB_WORDS;
-use std::alloc::AllocError;
+use std::alloc::{AllocError, Global};
 
-// Lines, the number of the word that is wrong, and why it is.
-const WRONG: &[(&str, usize, Reason)] = &[
-    ("opne f 1", 1, Reason::Command),
-    ("Open f 1", 1, Reason::Command),
-    ("begin\r", 1, Reason::CarriageReturn),
-    ("open f 1\r", 3, Reason::CarriageReturn),
-    ("\r", 1, Reason::CarriageReturn),
-    ("open f\t1", 2, Reason::Tab),
-    ("open", 2, Reason::Missing),
-    ("open f", 3, Reason::Missing),
-    ("set", 2, Reason::Missing),
-    ("set f", 3, Reason::Missing),
-    ("open f 1 2", 4, Reason::Further),
-    ("begin 1", 2, Reason::Further),
-    ("  take   f   f ", 3, Reason::Further),
-    ("close abcdefghijklmnopq", 2, Reason::LongName),
-    ("close a_name_of_20_letters", 2, Reason::LongName),
-    ("close a-b", 2, Reason::Name),
-    ("open f -1", 3, Reason::Number),
-    ("open f 0x1", 3, Reason::Number),
-    ("open f 4294967296", 3, Reason::LargeNumber),
-    ("told 00000000001", 2, Reason::LargeNumber),
-    ("get f cur gian", 4, Reason::Control),
-    ("get f cur gain gian", 5, Reason::Control),
-    ("query f 0x123456789", 3, Reason::Control),
-    ("grab 0x00980913 on", 2, Reason::Word),
-    ("grab gain yes", 3, Reason::OnOff),
-    ("range", 2, Reason::Missing),
-    ("range gain 0 255 1", 6, Reason::Missing),
-    ("range gain 0 255 1 16 16", 7, Reason::Further),
-    ("range 0x00980913 0 255 1 16", 2, Reason::Word),
-    ("range gain 0x0 255 1 16", 3, Reason::Bound),
-    ("range gain 0 9223372036854775808 1 16", 4, Reason::Bound),
-    ("range gain 0 255 -1 16", 5, Reason::Number),
+// Lines with what is said of them.
+const WRONG: &[(&[u8], &str)] = &[
     (
-        "range gain 0 255 18446744073709551616 16",
-        5,
-        Reason::LargeStep,
+        b"begin\r",
+        "1: \"begin\\r\": a carriage return at the end of the line; lines end with a line feed alone",
     ),
     (
-        "range gain 0 255 000000000000000000001 16",
-        5,
-        Reason::LargeStep,
+        b"\r",
+        "1: \"\\r\": a carriage return at the end of the line; lines end with a line feed alone",
     ),
-    ("range gain 0 255 1 +16", 6, Reason::Bound),
-    ("next f gain", 3, Reason::Id),
-    ("get f now gain", 3, Reason::Which),
-    ("get f req: gain", 3, Reason::Which),
-    ("set f cur gain", 4, Reason::Equals),
-    ("set f cur gian=1", 4, Reason::Control),
-    ("set f cur gain=1 gian=1", 5, Reason::Control),
-    ("range gain x00 255 1 16", 3, Reason::Bound),
-    ("try f cur gain=", 4, Reason::Value),
-    ("set f cur gain=x0", 4, Reason::Value),
-    ("set f cur gain=x0g", 4, Reason::Value),
-    ("set f cur gain=+1", 4, Reason::Value),
-    ("set f cur gain=9223372036854775808", 4, Reason::Value),
-    ("sub f gain feedback initial", 4, Reason::Subscription),
-    ("sub f gain once", 4, Reason::Subscription),
+    (
+        b"open f\t1",
+        "2: \"f\\t1\": a tab; words are separated by spaces",
+    ),
+    (
+        b"\xef\xbb\xbfopen f 1",
+        "1: \"\\u{feff}open\": a byte order mark before it; save the script without one",
+    ),
+    (
+        b"close \x1b[2J",
+        "2: \"\\u{1b}[2J\": a file handle's name is of ASCII letters and digits",
+    ),
+    (
+        b"close \xff\"",
+        "2: \"\\xff\\\"\": a file handle's name is of ASCII letters and digits",
+    ),
+    (
+        b"audit aaaaaaaaaabbbbbbbbbbccccccccccddddddddddd",
+        "2: \"aaaaaaaaaabbbbbbbbbbccccccccccdddddddddd\"..: a word too many; the command is: audit",
+    ),
+    (
+        b"audit \xffaaaaaaaaabbbbbbbbbbccccccccccddddddddddd",
+        "2: \"\\xffaaaaaaaaabbbbbbbbbbccccccccccdddddddddd\"..: a word too many; the command is: audit",
+    ),
 ];
 
 // Lines with which nothing is wrong.
@@ -81,39 +59,104 @@ const RIGHT: &[&str] = &[
     "audit",
 ];
 
+// Lines of one of two scripts with what is said of them; nothing where it is empty.
+const IN_PAIR: &[(&str, &str)] = &[
+    (
+        "==",
+        "1: \"==\": a second one; pair takes two scripts, which are divided once",
+    ),
+    (
+        "audit",
+        "1: \"audit\": no command of two scripts; pair audits at the end by itself",
+    ),
+    (
+        "take",
+        "2: missing: a file handle's name; the command is: take FH",
+    ),
+    ("begin", ""),
+];
+
+// What is found, as it is said behind the number of the line; empty where nothing is.
+fn said(alloc: Global, found: Option<Complaint<'_>>) -> Result<String, AllocError> {
+    let Some(Complaint { word, reason }) = found else {
+        return Ok(String::new(alloc));
+    };
+    let reason = reason.text("the sample device");
+    format!(in alloc; "{word}: {reason}")
+}
+
+// What is said of a line on a device whose controls have these words.
+fn said_of<D: Driver>(
+    alloc: Global,
+    names: &Names<'_, D>,
+    line: &[u8],
+) -> Result<String, AllocError> {
+    said(alloc, reason_of(alloc, names, line)?)
+}
+
 #[test]
 fn wrong_lines(rt: HostRuntime) -> Result<(), AllocError> {
+    let device = sample(rt.alloc())?;
     let known = sample_words(rt.alloc())?;
-    for &(line, word, reason) in WRONG {
-        let found = reason_of(rt.alloc(), &known, line.as_bytes());
-        assert!(rt; found == Ok(Some(Complaint { word, reason })), "{line:?}");
+    let names = Names {
+        known: &known,
+        plan: device.plan(),
+    };
+    for &(line, wanted) in WRONG {
+        let found = said_of(rt.alloc(), &names, line)?;
+        assert!(rt; found.as_str() == wanted, "{found}");
+    }
+    for line in RIGHT {
+        let found = said_of(rt.alloc(), &names, line.as_bytes())?;
+        assert!(rt; found.is_empty(), "{line:?}: {found}");
     }
     Ok(())
 }
 
 #[test]
-fn right_lines(rt: HostRuntime) -> Result<(), AllocError> {
+fn lines_of_a_pair(rt: HostRuntime) -> Result<(), AllocError> {
+    let device = sample(rt.alloc())?;
     let known = sample_words(rt.alloc())?;
-    for line in RIGHT {
-        assert!(rt;
-            reason_of(rt.alloc(), &known, line.as_bytes()) == Ok(None),
-            "{line:?}"
-        );
+    let names = Names {
+        known: &known,
+        plan: device.plan(),
+    };
+    for &(line, wanted) in IN_PAIR {
+        let found = reason_in_pair(rt.alloc(), &names, line.as_bytes())?;
+        let found = said(rt.alloc(), found)?;
+        assert!(rt; found.as_str() == wanted, "{found}");
     }
+    Ok(())
+}
+
+// Where controls have no words, no word of them is near.
+#[test]
+fn no_words(rt: HostRuntime) -> Result<(), AllocError> {
+    let device = sample(rt.alloc())?;
+    let known = ControlWords::new(rt.alloc());
+    let names = Names {
+        known: &known,
+        plan: device.plan(),
+    };
+    let found = said_of(rt.alloc(), &names, b"query f gain")?;
+    let wanted = "3: \"gain\": no word of the sample device, whose words are none";
+    assert!(rt; found.as_str() == wanted, "{found}");
     Ok(())
 }
 
 // The first word of each command, alone: it lacks the words behind it, where there are any.
 #[test]
 fn first_words(rt: HostRuntime) -> Result<(), AllocError> {
+    let device = sample(rt.alloc())?;
     let known = sample_words(rt.alloc())?;
-    let lacks = Complaint {
-        word: 2,
-        reason: Reason::Missing,
+    let names = Names {
+        known: &known,
+        plan: device.plan(),
     };
     for verb in VERB_WORDS {
-        let found = reason_of(rt.alloc(), &known, verb);
-        assert!(rt; found == Ok(None) || found == Ok(Some(lacks)), "{verb:?}");
+        let found = said_of(rt.alloc(), &names, verb)?;
+        let is_alone = found.is_empty() || found.as_str().starts_with("2: missing: ");
+        assert!(rt; is_alone, "{found}");
     }
     Ok(())
 }
