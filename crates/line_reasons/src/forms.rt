@@ -45,7 +45,7 @@ pub enum Tail {
     Subscription,
 }
 
-/// The form of a command: it as a whole, which begins with the command's first word; what stands behind that; and what stands behind that.
+/// The form of a command: how it is written; the places behind its first word; and what stands behind these.
 pub type Form = (&'static str, &'static [Slot], Tail);
 
 const FH: Slot = Slot {
