@@ -132,9 +132,9 @@ where
         let (device, outcome) = run_board(rt.alloc(), known, device, &mut reader, &mut writer);
         (Ok(device), outcome)
     };
-    if let (Ok(_), Outcome::BadLine(number)) = (back, outcome) {
+    if let (Ok(device), Outcome::BadLine(number)) = (&back, outcome) {
         if let Some(text) = line_at(text, number) {
-            explain_stray(rt, view, Line { number, text });
+            explain_stray(rt, device.plan(), view, Line { number, text });
         }
     }
     outcome

@@ -212,7 +212,7 @@ impl Rule {
             Rule::Command => {
                 "no command begins with this word; docs/SCRIPTS.md has a table of the commands"
             }
-            Rule::Divides => "two scripts are for ctl_tool pair",
+            Rule::Divides => "two scripts are for ctl_tool pair, or ctl_view --pair",
             Rule::DividesAgain => "a second one; pair takes two scripts, which are divided once",
             Rule::Audit => "no command of two scripts; pair audits at the end by itself",
             Rule::LargeStep => {
