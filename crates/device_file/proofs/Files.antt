@@ -5,11 +5,11 @@ use Rattle.toml.specs.Data.{Members}
 use Rattle.toml.specs.Parse.{parse_document}
 use Rattle.toml.specs.declared.de.error.Error.{Error}
 use Rattle.device_file.specs.Devices.{IsRefusedWith, device_of, in_file}
-use Rattle.device_file.specs.Faults.{FileStops}
+use Rattle.device_file.specs.Stops.{FileStops}
 use Rattle.device_file.specs.declared.device.TheConstants.{MAX_FILE}
-use Rattle.device_file.specs.declared.fault.FileFault.{FileFault}
-use Rattle.device_file.specs.declared.fault.FileFault.TheVariants as files
-use Rattle.device_file.specs.declared.problem.Problem.TheVariants as problems
+use Rattle.file_faults.specs.declared.fault.FileFault.{FileFault}
+use Rattle.file_faults.specs.declared.fault.FileFault.TheVariants as files
+use Rattle.file_faults.specs.declared.problem.Problem.TheVariants as problems
 
 pub too_long : (text : List ℕ) (fault : FileFault) → MAX_FILE < length text → fault ≡ in_file problems.TooLong → IsRefusedWith text fault
 too_long text fault long said = inr (inl (record { long = long; said = said }))

@@ -5,11 +5,11 @@ use Rattle.std.proofs.lemmas.Bool.Decides.{nat_tests}
 use Rattle.std.specs.Char.{digit_value}
 use Rattle.std.specs.Option.{ok_or}
 use Rattle.std.specs.Str.Parse.{AllDigits, IsNumeral, digits_value, without_leading_plus}
-use Rattle.device_file.specs.Faults.{wrong}
+use Rattle.file_faults.specs.Faults.{wrong}
 use Rattle.device_file.specs.Items.{are_digits, index_named, number_of_digits}
-use Rattle.device_file.specs.declared.fault.KeyFault.{KeyFault}
-use Rattle.device_file.specs.declared.key.Key.TheVariants as keys
-use Rattle.device_file.specs.declared.problem.Problem.TheVariants as problems
+use Rattle.file_faults.specs.declared.fault.KeyFault.{KeyFault}
+use Rattle.file_faults.specs.declared.key.Key.TheVariants as keys
+use Rattle.file_faults.specs.declared.problem.Problem.TheVariants as problems
 
 are_all : (ds : List ℕ) → AllDigits 10 ds → are_digits ds ≡ true
 are_all [] h = refl

@@ -1,4 +1,2 @@
 mod Files
-mod Flags
 mod Indexes
-mod Lists

@@ -13,17 +13,17 @@ use Rattle.data_driver.specs.declared.limit.Limit.{Limit}
 use Rattle.data_driver.specs.declared.word.Word.{Word}
 use Rattle.data_driver.specs.declared.word.Word.TheVariants.{Joined, Plus, Constant}
 use Rattle.script_lines.specs.ControlWords.{ControlWord, known_number}
-use Rattle.device_file.specs.Faults.{◌>>=◌, at_place, wrong, wrong_at}
-use Rattle.device_file.specs.Limits.{limit_of_table, place_of_text, word_of_table}
-use Rattle.device_file.specs.Reading.{elements_at, elements_in, number_in, table_in, table_with, text_in, value_at}
+use Rattle.file_faults.specs.Faults.{◌>>=◌, at_place, wrong, wrong_at}
+use Rattle.file_tables.specs.Limits.{limit_of_table, place_of_text, word_of_table}
+use Rattle.file_tables.specs.Reading.{elements_at, elements_in, number_in, table_in, table_with, text_in, value_at}
 use Rattle.device_file.specs.Refusals.{cluster_fault, unless_refused}
-use Rattle.device_file.specs.declared.fault.FileFault.{FileFault}
-use Rattle.device_file.specs.declared.fault.KeyFault.{KeyFault}
-use Rattle.device_file.specs.declared.key.Key.{Key}
-use Rattle.device_file.specs.declared.key.Key.TheVariants as keys
-use Rattle.device_file.specs.declared.place.Place.TheVariants as places
-use Rattle.device_file.specs.declared.problem.Problem.TheVariants as problems
-use Rattle.device_file.specs.declared.problem.Sort.TheVariants as sorts
+use Rattle.file_faults.specs.declared.fault.FileFault.{FileFault}
+use Rattle.file_faults.specs.declared.fault.KeyFault.{KeyFault}
+use Rattle.file_faults.specs.declared.key.Key.{Key}
+use Rattle.file_faults.specs.declared.key.Key.TheVariants as keys
+use Rattle.file_faults.specs.declared.place.Place.TheVariants as places
+use Rattle.file_faults.specs.declared.problem.Problem.TheVariants as problems
+use Rattle.file_faults.specs.declared.problem.Sort.TheVariants as sorts
 
 -- the keys of a cluster
 abbrev pub cluster_keys : List Key

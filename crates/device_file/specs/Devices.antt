@@ -5,18 +5,18 @@ use Rattle.toml.specs.Parse.{parse_document}
 use Rattle.toml.specs.declared.de.error.Error.{Error}
 use Rattle.ctrl_handlers.specs.Plan.{finished, no_plan}
 use Rattle.device_file.specs.Clusters.{with_clusters}
-use Rattle.device_file.specs.Faults.{◌>>=◌, at_place, wrong}
+use Rattle.file_faults.specs.Faults.{◌>>=◌, at_place, wrong}
 use Rattle.device_file.specs.Handlers.{DeviceData, device, with_handlers}
-use Rattle.device_file.specs.Reading.{elements_in, no_others_in}
+use Rattle.file_tables.specs.Reading.{elements_in, no_others_in}
 use Rattle.device_file.specs.declared.device.TheConstants.{MAX_FILE}
-use Rattle.device_file.specs.declared.fault.FileFault.{FileFault}
-use Rattle.device_file.specs.declared.fault.FileFault.TheVariants as files
-use Rattle.device_file.specs.declared.key.Key.{Key}
-use Rattle.device_file.specs.declared.key.Key.TheVariants as keys
-use Rattle.device_file.specs.declared.place.Place.TheVariants as places
-use Rattle.device_file.specs.declared.problem.Problem.{Problem}
-use Rattle.device_file.specs.declared.problem.Problem.TheVariants as problems
-use Rattle.device_file.specs.declared.problem.Sort.TheVariants as sorts
+use Rattle.file_faults.specs.declared.fault.FileFault.{FileFault}
+use Rattle.file_faults.specs.declared.fault.FileFault.TheVariants as files
+use Rattle.file_faults.specs.declared.key.Key.{Key}
+use Rattle.file_faults.specs.declared.key.Key.TheVariants as keys
+use Rattle.file_faults.specs.declared.place.Place.TheVariants as places
+use Rattle.file_faults.specs.declared.problem.Problem.{Problem}
+use Rattle.file_faults.specs.declared.problem.Problem.TheVariants as problems
+use Rattle.file_faults.specs.declared.problem.Sort.TheVariants as sorts
 
 -- the keys of a file
 abbrev pub file_keys : List Key

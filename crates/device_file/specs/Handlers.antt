@@ -7,18 +7,18 @@ use Rattle.ctrl_settle.specs.Control.{Control}
 use Rattle.ctrl_handlers.specs.Builder.{control_refusal, handler_refusal}
 use Rattle.ctrl_handlers.specs.Plan.{PlanData, with_added, with_control, with_handler}
 use Rattle.script_lines.specs.ControlWords.{ControlWord, known_number}
-use Rattle.device_file.specs.Controls.{control_at, name_at}
-use Rattle.device_file.specs.Faults.{◌>>=◌, at_place, wrong, wrong_at}
+use Rattle.file_tables.specs.Controls.{control_at, name_at}
+use Rattle.file_faults.specs.Faults.{◌>>=◌, at_place, wrong, wrong_at}
 use Rattle.device_file.specs.Items.{with_items}
-use Rattle.device_file.specs.Reading.{elements_in, needed_text_in, table_with, text_in}
+use Rattle.file_tables.specs.Reading.{elements_in, needed_text_in, table_with, text_in}
 use Rattle.device_file.specs.Refusals.{control_fault, handler_fault, unless_refused}
-use Rattle.device_file.specs.declared.fault.FileFault.{FileFault}
-use Rattle.device_file.specs.declared.fault.KeyFault.{KeyFault}
-use Rattle.device_file.specs.declared.key.Key.{Key}
-use Rattle.device_file.specs.declared.key.Key.TheVariants as keys
-use Rattle.device_file.specs.declared.place.Place.TheVariants as places
-use Rattle.device_file.specs.declared.problem.Problem.TheVariants as problems
-use Rattle.device_file.specs.declared.problem.Sort.TheVariants as sorts
+use Rattle.file_faults.specs.declared.fault.FileFault.{FileFault}
+use Rattle.file_faults.specs.declared.fault.KeyFault.{KeyFault}
+use Rattle.file_faults.specs.declared.key.Key.{Key}
+use Rattle.file_faults.specs.declared.key.Key.TheVariants as keys
+use Rattle.file_faults.specs.declared.place.Place.TheVariants as places
+use Rattle.file_faults.specs.declared.problem.Problem.TheVariants as problems
+use Rattle.file_faults.specs.declared.problem.Sort.TheVariants as sorts
 
 -- A device as far as its file is read: the plan, and the words for its controls.
 pub record DeviceData : Type 0 where

@@ -6,13 +6,13 @@ use Rattle.toml.specs.Data.{Data, Items, Members, no_members, member, as_array, 
 use Rattle.menu_items.specs.declared.item.MenuItem.TheVariants.{Name, Number}
 use Rattle.ctrl_handlers.specs.Builder.{name_refusal, number_refusal}
 use Rattle.ctrl_handlers.specs.Plan.{PlanData, with_item}
-use Rattle.device_file.specs.Faults.{◌>>=◌, wrong, wrong_at}
-use Rattle.device_file.specs.Reading.{listed, value_at}
+use Rattle.file_faults.specs.Faults.{◌>>=◌, wrong, wrong_at}
+use Rattle.file_tables.specs.Reading.{listed, value_at}
 use Rattle.device_file.specs.Refusals.{item_fault, unless_refused}
-use Rattle.device_file.specs.declared.fault.KeyFault.{KeyFault}
-use Rattle.device_file.specs.declared.key.Key.TheVariants as keys
-use Rattle.device_file.specs.declared.problem.Problem.TheVariants as problems
-use Rattle.device_file.specs.declared.problem.Sort.TheVariants as sorts
+use Rattle.file_faults.specs.declared.fault.KeyFault.{KeyFault}
+use Rattle.file_faults.specs.declared.key.Key.TheVariants as keys
+use Rattle.file_faults.specs.declared.problem.Problem.TheVariants as problems
+use Rattle.file_faults.specs.declared.problem.Sort.TheVariants as sorts
 
 -- a plan with an item: a text is a name, a number a number
 abbrev pub with_item_of : PlanData → ℕ → ℕ → Option (List ℕ) → Option ℤ → Result PlanData KeyFault

@@ -1,11 +1,6 @@
 pub mod Clusters
-pub mod Controls
 pub mod Devices
-pub mod Faults
 pub mod Handlers
 pub mod Items
-pub mod Keys
-pub mod Limits
-pub mod Names
-pub mod Reading
 pub mod Refusals
+pub mod Stops

@@ -2,12 +2,12 @@
 use Rattle.std.specs.Prelude.{ℕ, Option, Some, None, Result, Ok, Err}
 use Rattle.ctrl_handlers.specs.declared.fault.PlanFault.{PlanFault}
 use Rattle.ctrl_handlers.specs.declared.fault.PlanFault.TheVariants.{ArrayAlone, ClusterSize, DuplicateId, Limit, Memory}
-use Rattle.device_file.specs.Faults.{wrong, wrong_at}
-use Rattle.device_file.specs.declared.fault.KeyFault.{KeyFault}
-use Rattle.device_file.specs.declared.fault.ReadError.{ReadError}
-use Rattle.device_file.specs.declared.fault.ReadError.TheVariants as errors
-use Rattle.device_file.specs.declared.key.Key.TheVariants as keys
-use Rattle.device_file.specs.declared.problem.Problem.TheVariants as problems
+use Rattle.file_faults.specs.Faults.{wrong, wrong_at}
+use Rattle.file_faults.specs.declared.fault.KeyFault.{KeyFault}
+use Rattle.device_file.specs.declared.stop.ReadError.{ReadError}
+use Rattle.device_file.specs.declared.stop.ReadError.TheVariants as errors
+use Rattle.file_faults.specs.declared.key.Key.TheVariants as keys
+use Rattle.file_faults.specs.declared.problem.Problem.TheVariants as problems
 
 -- what a call of the builder makes; where it is refused, the fault that the refusal is
 abbrev pub unless_refused : {A : Type 0} → (PlanFault → KeyFault) → Option PlanFault → A → Result A KeyFault

@@ -1,18 +1,15 @@
 ghost use Rattle.std.specs.Prelude.{◌≡◌, map, Ok, IfOk, IfErr};
 ghost use Rattle.toml.specs.View.{table_view, view};
 ghost use Rattle.device_file.specs.Devices.{Describes, IsRefusedWith, device_of, with_clusters_of};
-ghost use Rattle.device_file.specs.Faults.{FileStops};
+ghost use Rattle.device_file.specs.Stops.{FileStops};
 ghost use Rattle.device_file.specs.Handlers.{device};
 
 use crate::clusters::add_clusters;
-use crate::fault::{FileFault, KeyFault};
 use crate::handlers::add_handlers;
-use crate::key::Key;
-use crate::place::Place;
-use crate::problem::{Problem, Sort};
-use crate::reading::{elements, no_others};
 use ctrl_handlers::{Plan, PlanBuilder};
 use data_driver::Data;
+use file_faults::{FileFault, Key, KeyFault, Place, Problem, Sort};
+use file_tables::reading::{elements, no_others};
 use script_lines::ControlWords;
 use std::alloc::Global;
 use toml::{Table, Value};

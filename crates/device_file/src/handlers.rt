@@ -4,20 +4,18 @@ ghost use Rattle.std.specs.Prelude.{◌≡◌, ◌+◌, ◌<◌, ◌≤◌, [], 
 ghost use Rattle.std.specs.Result.{result_map_both};
 ghost use Rattle.toml.specs.View.{view, table_view};
 ghost use Rattle.ctrl_handlers.specs.declared.limits.TheConstants.{MAX_HANDLERS};
-ghost use Rattle.device_file.specs.Faults.{FileStops, Stops};
+ghost use Rattle.device_file.specs.Stops.{FileStops, Stops};
 ghost use Rattle.device_file.specs.Handlers.{added_in as number_added, device, handler_in, handler_named, has_name as is_named, new_name as name_for, with_built, with_control_of, with_controls, with_handler_of, with_handlers, with_named, with_new_handler, with_other, with_others};
 
-use crate::controls::{CONTROL_KEYS, control_in, name_in};
-use crate::fault::{FileFault, KeyFault, ReadError};
 use crate::items::add_items;
-use crate::key::Key;
-use crate::place::Place;
-use crate::problem::{Problem, Sort};
-use crate::reading::{elements, needed_text, table_with, text};
 use crate::refusals::{refused_adding, refused_control, refused_handler};
+use crate::stop::ReadError;
 use ctrl_handlers::PlanBuilder;
 use ctrl_settle::Ctrl;
 use data_driver::Data;
+use file_faults::{FileFault, Key, KeyFault, Place, Problem, Sort};
+use file_tables::reading::{elements, needed_text, table_with, text};
+use file_tables::{CONTROL_KEYS, control_in, name_in};
 use script_lines::ControlWords;
 use std::alloc::Global;
 use toml::{Table, Value};

@@ -6,17 +6,16 @@ ghost use Rattle.toml.specs.View.{view, table_view};
 ghost use Rattle.ctrl_handlers.specs.Builder.{name_refusal, number_refusal};
 ghost use Rattle.ctrl_handlers.specs.Plan.{with_item};
 ghost use Rattle.menu_items.specs.declared.item.MenuItem.TheVariants.{Name, Number};
-ghost use Rattle.device_file.specs.Faults.{Stops};
+ghost use Rattle.device_file.specs.Stops.{Stops};
 ghost use Rattle.device_file.specs.Refusals.{item_fault, unless_refused};
 ghost use Rattle.device_file.specs.Items.{index_named, is_empty_text, with_given, with_items, with_list, with_listed, with_menu_of, with_member, with_table};
 
-use crate::fault::{KeyFault, ReadError};
-use crate::key::Key;
-use crate::problem::{Problem, Sort};
-use crate::reading::{find, values_of};
 use crate::refusals::refused_item;
+use crate::stop::ReadError;
 use ctrl_handlers::PlanBuilder;
 use data_driver::Data;
+use file_faults::{Key, KeyFault, Problem, Sort};
+use file_tables::reading::{find, values_of};
 use toml::{Table, Value};
 
 // Adds the items of a menu: an array has them in order, where an empty name is none, and a table by their indexes.

@@ -3,25 +3,11 @@
 #![tactic(auto)]
 
 mod clusters;
-mod controls;
 mod device;
-mod explaining;
-mod fault;
 mod handlers;
 mod items;
-mod key;
-mod limits;
-mod lines;
-mod names;
-mod place;
-mod problem;
-mod reading;
 mod refusals;
+mod stop;
 
 pub use device::{DeviceFile, MAX_FILE, read_device};
-pub use explaining::explain;
-pub use fault::{FileFault, KeyFault};
-pub use key::Key;
-pub use lines::line_of;
-pub use place::Place;
-pub use problem::{Problem, Sort};
+pub use file_faults::{FileFault, Key, KeyFault, Place, Problem, Sort, explain, line_of};

@@ -3,10 +3,9 @@
 ghost use Rattle.std.specs.Prelude.{◌≡◌};
 ghost use Rattle.device_file.specs.Refusals.{adding_fault, cluster_fault, control_fault, handler_fault, item_fault, refused};
 
-use crate::fault::{KeyFault, ReadError};
-use crate::key::Key;
-use crate::problem::Problem;
+use crate::stop::ReadError;
 use ctrl_handlers::PlanFault;
+use file_faults::{Key, KeyFault, Problem};
 
 // Of a further handler.
 pub(crate) fn refused_handler(fault: PlanFault) -> ReadError

@@ -3,7 +3,7 @@ use Rattle.std.proofs.Common.{map, sym, ◌∙◌}
 use Rattle.toml.specs.Data.{Data, as_table}
 use Rattle.toml.specs.View.{view}
 use Rattle.device_file.specs.Clusters.{has_array_among}
-use Rattle.device_file.proofs.Lists.{any_map}
+use Rattle.file_tables.proofs.Lists.{any_map}
 use Rattle.device_file.proofs.clusters.name_array_of.Goals as goal
 
 pub returns : goal.returns

@@ -2,7 +2,7 @@
 use Rattle.std.proofs.Common.{sym, ◌∙◌}
 use Rattle.toml.specs.View.{view}
 use Rattle.device_file.specs.Handlers.{has_name}
-use Rattle.device_file.proofs.Lists.{position_map}
+use Rattle.file_tables.proofs.Lists.{position_map}
 use Rattle.device_file.proofs.handlers.place_of.Goals as goal
 
 pub returns : goal.returns

@@ -1,0 +1,2 @@
+mod Flags
+pub mod Lists

@@ -1,0 +1,4 @@
+pub mod Controls
+pub mod Limits
+pub mod Names
+pub mod Reading

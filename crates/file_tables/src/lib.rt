@@ -1,0 +1,11 @@
+//! What a table of a device file says by itself: the values of its keys, the control that it describes, the limit of a cluster and what is told of one; or what is wrong
+//! there first. The keys and every refusal stand in docs/DEVICES.md.
+#![tactic(auto)]
+
+mod controls;
+mod limits;
+mod names;
+pub mod reading;
+
+pub use controls::{CONTROL_KEYS, control_in, name_in};
+pub use limits::{limit_of, place_of, word_of};
