@@ -1,7 +1,7 @@
 //! Runs the scripts of the files in `data/`, each on a fresh device, and compares what they print and how they end with what the files
-//! say; of a device file that describes no device it compares what is said. A script that names no device runs on the sample device, and
-//! on the device of `sample.toml`. It prints each case that differs, with what came in its place, and at last how many cases there are.
-//! `data/sample.txt` begins with the format of the files.
+//! say; of a device file that describes no device, or is checked, it compares what is said. A script that names no device runs on the
+//! sample device, and on the device of `sample.toml`. It prints each case that differs, with what came in its place, and at last how many
+//! cases there are. `data/sample.txt` begins with the format of the files.
 #![tactic(auto)]
 
 mod case;
@@ -21,8 +21,9 @@ use ctl_script::{
 use ctrl_calls::{Calls, ClusterRow, Driver, Notifier, Validator, Verdict};
 use device_file::{explain, read_device};
 use device_state::Device;
+use file_check::check_file;
 use line_reasons::Names;
-use std::alloc::AllocError;
+use std::alloc::{AllocError, Global};
 use std::process::ExitCode;
 use std::rt::Files;
 use std::sync::Wait;
@@ -47,6 +48,7 @@ const FILES: &[&str] = &[
     "pairs.txt",
     "wrong.txt",
     "allowed.txt",
+    "checks.txt",
     "devices.txt",
     "handlers.txt",
     "kinds.txt",
@@ -121,13 +123,20 @@ fn is_same_on_file<R: AllocGlobal + Threads + Wait + Print + Sync>(
     is_wanted(rt, file.name, case, &ran)
 }
 
-// What a case prints on the device that a file describes, and how it ends; or why the file describes none.
+// What a case prints on the device that a file describes, and how it ends; or why the file describes none, or what a check says of it.
 fn run_on_file<R: AllocGlobal + Threads + Wait + Sync>(
     rt: &R,
     file: &[u8],
     case: &Case<'_>,
 ) -> Result<Ran, AllocError> {
     let alloc = rt.alloc();
+    if let Program::Check = case.program {
+        return Ok(Ran {
+            printed: said_of(alloc, file)?,
+            outcome: Outcome::Finished,
+            why: String::new(alloc),
+        });
+    }
     match read_device(alloc, file) {
         Ok(read) => {
             let Ok(device) = Device::new(alloc, read.plan) else {
@@ -146,6 +155,17 @@ fn run_on_file<R: AllocGlobal + Threads + Wait + Sync>(
             })
         }
     }
+}
+
+// The lines that a check says of a file.
+fn said_of(alloc: Global, file: &[u8]) -> Result<Vec<u8>, AllocError> {
+    let report = check_file(alloc, file)?;
+    let mut said = Vec::new(alloc);
+    for line in report.lines.as_slice() {
+        said.extend_from_slice(line.as_bytes())?;
+        said.push(b'\n')?;
+    }
+    Ok(said)
 }
 
 // The same on the sample device.
@@ -250,7 +270,7 @@ where
             &mut reader,
             &mut printed,
         ),
-        Program::File => (Ok(device), Outcome::Finished),
+        Program::File | Program::Check => (Ok(device), Outcome::Finished),
     };
     let why = match (&remains, outcome) {
         (Ok(device), Outcome::BadLine(number)) => {

@@ -3,9 +3,10 @@
 use crate::input::read_file;
 use crate::no_memory;
 use crate::tasks::run_on;
-use crate::wanted::Wanted;
+use crate::wanted::{Task, Wanted};
 use ctl_script::InputFault;
 use device_file::{DeviceFile, FileFault, Problem, explain, read_device};
+use file_check::check_file;
 use std::process::ExitCode;
 use std::rt::Files;
 use std::sync::Wait;
@@ -19,27 +20,55 @@ pub fn run_file<R: AllocGlobal + Input + Files + Print + Eprint + Threads + Wait
     wanted: Wanted<'_>,
     ink: Ink,
 ) -> ExitCode {
-    match device_in(rt, path) {
+    let file = match text_of(rt, path) {
+        Ok(text) if wanted.task == Task::Check => checked(rt, path, text.as_slice()),
+        Ok(text) => device_in(rt, path, text.as_slice()),
+        Err(code) => Err(code),
+    };
+    match file {
         Ok(DeviceFile { plan, words }) => run_on(rt, plan, words, "this device", wanted, ink),
         Err(code) => code,
     }
 }
 
-// Reads the device of a file. The error is how the program ends; why is said.
-fn device_in<R: AllocGlobal + Files + Print + Eprint>(
+// The bytes of a file. The error is how the program ends; why is said.
+fn text_of<R: AllocGlobal + Files + Print + Eprint>(
     rt: &R,
     path: &str,
-) -> Result<DeviceFile, ExitCode> {
-    let text = match read_file(rt, path) {
-        Ok(text) => text,
-        Err(InputFault::TooLong) => return Err(refused(rt, path, Problem::TooLong)),
-        Err(InputFault::Reader) => return Err(unread(rt)),
-        Err(InputFault::Memory) => return Err(no_memory(rt)),
-    };
-    match read_device(rt.alloc(), text.as_slice()) {
-        Ok(file) => Ok(file),
-        Err(fault) => Err(told(rt, path, text.as_slice(), &fault)),
+) -> Result<Vec<u8>, ExitCode> {
+    match read_file(rt, path) {
+        Ok(text) => Ok(text),
+        Err(InputFault::TooLong) => Err(refused(rt, path, Problem::TooLong)),
+        Err(InputFault::Reader) => Err(unread(rt)),
+        Err(InputFault::Memory) => Err(no_memory(rt)),
     }
+}
+
+// Reads the device of a file, up to its first fault.
+fn device_in<R: AllocGlobal + Print + Eprint>(
+    rt: &R,
+    path: &str,
+    text: &[u8],
+) -> Result<DeviceFile, ExitCode> {
+    match read_device(rt.alloc(), text) {
+        Ok(file) => Ok(file),
+        Err(fault) => Err(told(rt, path, text, &fault)),
+    }
+}
+
+// The same, where each of its faults is said, and what it may not mean.
+fn checked<R: AllocGlobal + Print + Eprint>(
+    rt: &R,
+    path: &str,
+    text: &[u8],
+) -> Result<DeviceFile, ExitCode> {
+    let Ok(report) = check_file(rt.alloc(), text) else {
+        return Err(no_memory(rt));
+    };
+    for line in report.lines.as_slice() {
+        let _ = eprintln!(rt; "{path}: {line}");
+    }
+    report.device.ok_or(ExitCode::from(1))
 }
 
 // Says why a file describes no device.

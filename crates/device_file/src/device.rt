@@ -51,8 +51,12 @@ pub fn read_device(alloc: Global, text: &[u8]) -> Result<DeviceFile, FileFault>
     }
 }
 
-// The device of a file's table.
-fn device_in(alloc: Global, file: &Table) -> Result<DeviceFile, FileFault>
+/// Reads the table of a file that describes a device, as `read_device` does.
+///
+/// - `file`: any table.
+///
+/// Refused with the first fault that is met, in the order of docs/DEVICES.md.
+pub fn device_in(alloc: Global, file: &Table) -> Result<DeviceFile, FileFault>
     ensures ok { IfOk result (λ it. device_of (table_view file.now) ≡ Ok (device it.plan it.words)) }
     ensures err { IfErr result (FileStops (device_of (table_view file.now))) }
 {

@@ -9,5 +9,5 @@ mod items;
 mod refusals;
 mod stop;
 
-pub use device::{DeviceFile, MAX_FILE, read_device};
+pub use device::{DeviceFile, MAX_FILE, device_in, read_device};
 pub use file_faults::{FileFault, Key, KeyFault, Place, Problem, Sort, explain, line_of};

@@ -21,6 +21,20 @@ pub fn explain(alloc: Global, text: &[u8], fault: &FileFault) -> Result<String, 
     }
 }
 
+/// The key of a table, in words that others go on: the line of the file, the table with its name, and the key with its value, as
+/// `line 26: control 0 "red" of handler 1 "video": default 300: `. The error is that a growth was refused.
+///
+/// - `text`: the file that was read; nothing is said of one that isn't TOML.
+/// - `place`: a table of it.
+/// - `key`: a key of the table, there or not; or the table itself.
+pub fn key_words(alloc: Global, text: &[u8], place: Place, key: Key) -> Result<String, AllocError> {
+    match toml::table_from_slice(alloc, text) {
+        Ok(file) => words_before(alloc, text, &file, place, key, None),
+        Err(error) if error.is_memory() => Err(AllocError),
+        Err(_) => Ok(String::new(alloc)),
+    }
+}
+
 fn table_words(
     alloc: Global,
     text: &[u8],
@@ -58,13 +72,26 @@ fn words_in(
     place: Place,
     fault: &KeyFault,
 ) -> Result<String, AllocError> {
+    let mut out = words_before(alloc, text, file, place, fault.key, fault.element)?;
+    write!(out, "{}", fault.problem)?;
+    Ok(out)
+}
+
+// What stands before the words of what is wrong with a key, or with one element of it.
+fn words_before(
+    alloc: Global,
+    text: &[u8],
+    file: &Table,
+    place: Place,
+    key: Key,
+    element: Option<usize>,
+) -> Result<String, AllocError> {
     let mut out = String::new(alloc);
-    if let Some(line) = line_in(alloc, text, file, place, fault.key)? {
+    if let Some(line) = line_in(alloc, text, file, place, key)? {
         write!(out, "line {line}: ")?;
     }
     write_place(&mut out, file, place)?;
-    write_key(&mut out, file, place, fault)?;
-    write!(out, "{}", fault.problem)?;
+    write_key(&mut out, file, place, key, element)?;
     Ok(out)
 }
 
@@ -107,14 +134,15 @@ fn write_key(
     out: &mut String,
     file: &Table,
     place: Place,
-    fault: &KeyFault,
+    key: Key,
+    element: Option<usize>,
 ) -> Result<(), AllocError> {
-    let Some(key) = key_in(file, place, fault.key) else {
+    let Some(word) = key_in(file, place, key) else {
         return Ok(());
     };
-    match fault.key {
-        Key::Other(_) => write!(out, "{:?}: ", brief(key)),
-        _ => write_known(out, file, place, fault, key),
+    match key {
+        Key::Other(_) => write!(out, "{:?}: ", brief(word)),
+        _ => write_known(out, file, place, key, element, word),
     }
 }
 
@@ -122,15 +150,16 @@ fn write_known(
     out: &mut String,
     file: &Table,
     place: Place,
-    fault: &KeyFault,
-    key: &str,
+    key: Key,
+    element: Option<usize>,
+    word: &str,
 ) -> Result<(), AllocError> {
-    write!(out, "{key}")?;
-    if let (Some(element), Key::Menu) = (fault.element, fault.key) {
+    write!(out, "{word}")?;
+    if let (Some(element), Key::Menu) = (element, key) {
         write!(out, " item {element}")?;
     }
-    if let Some(value) = value_of(file, place, fault.element, key) {
-        write_value(out, fault.key, value)?;
+    if let Some(value) = value_of(file, place, element, word) {
+        write_value(out, key, value)?;
     }
     write!(out, ": ")
 }

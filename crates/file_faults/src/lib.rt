@@ -8,7 +8,7 @@ mod lines;
 mod place;
 mod problem;
 
-pub use explaining::explain;
+pub use explaining::{explain, key_words};
 pub use fault::{FileFault, KeyFault};
 pub use key::Key;
 pub use lines::line_of;
