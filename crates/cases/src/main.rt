@@ -157,13 +157,18 @@ fn run_on_file<R: AllocGlobal + Threads + Wait + Sync>(
     }
 }
 
-// The lines that a check says of a file.
+// The lines that a check says of a file, and whether it answers a device though one of them is a fault, or none though each is a warning.
 fn said_of(alloc: Global, file: &[u8]) -> Result<Vec<u8>, AllocError> {
     let report = check_file(alloc, file)?;
     let mut said = Vec::new(alloc);
+    let mut has_fault = false;
     for line in report.lines.as_slice() {
+        has_fault = has_fault || !line.as_str().starts_with("warning: ");
         said.extend_from_slice(line.as_bytes())?;
         said.push(b'\n')?;
+    }
+    if report.device.is_some() == has_fault {
+        said.extend_from_slice(b"a device with a fault, or none without\n")?;
     }
     Ok(said)
 }
