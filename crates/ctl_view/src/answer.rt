@@ -8,7 +8,8 @@ use ctrl_types::Fault;
 use device_state::{Ask, Device, Reply};
 use script_lines::{ControlWords, LineFault, read_line};
 use script_replies::Audited;
-use std::alloc::Global;
+use std::alloc::{AllocError, Global};
+use view_words::{RefusedClusters, refused_at};
 
 // The seat at which the commands are asked.
 const SEAT: u32 = 0;
@@ -20,8 +21,8 @@ pub enum Said {
     Nothing,
     /// An audit was made.
     Audit(Audited),
-    /// The device was asked.
-    Answer(Ask, Result<Reply, Fault>),
+    /// The device was asked. The clusters are those that the frame of a begin or of a forecast refuses, each with the reason.
+    Answer(Ask, Result<Reply, Fault>, RefusedClusters),
 }
 
 /// Asks what a line says, as `run_script` of `ctl_script` does, and binds its names. All that it needs of memory is taken before the device is asked.
@@ -44,7 +45,24 @@ pub fn answer_line<D: Driver>(
     let Some(ask) = ask_of(command, names) else {
         return Ok(Said::Audit(audit_of(alloc, device)));
     };
+    // (behind a begin nothing would tell them any more)
+    let Ok(refused) = refused_by(alloc, device, &ask) else {
+        return Err(LineFault::Memory);
+    };
     let answer = device.handle(SEAT, &ask);
     binding.bind(names, &answer);
-    Ok(Said::Answer(ask, answer))
+    Ok(Said::Answer(ask, answer, refused))
+}
+
+// The clusters that the frame refuses which an ask begins or foretells; none of another ask.
+fn refused_by<D: Driver>(
+    alloc: Global,
+    device: &Device<D>,
+    ask: &Ask,
+) -> Result<RefusedClusters, AllocError> {
+    match ask {
+        Ask::Begin => refused_at(alloc, device, 0),
+        Ask::Forecast { place } => refused_at(alloc, device, *place as usize),
+        _ => Ok(Vec::new(alloc)),
+    }
 }

@@ -3,7 +3,7 @@
 use crate::answer::Said;
 use crate::table::{put_below, put_table};
 use crate::view::View;
-use ask_reasons::reason_of;
+use ask_reasons::{ClusterReason, reason_of};
 use ctrl_calls::Driver;
 use ctrl_types::Fault;
 use device_state::{Ask, Device, Plan, Reply};
@@ -12,7 +12,7 @@ use script_replies::{Audited, Outcome, write_audit};
 use std::alloc::{AllocError, Global};
 use std::io::Write;
 use view_layout::{Ink, Line, Page, put_command, put_skipped};
-use view_words::{Asked, put_check, put_refusal, put_reply};
+use view_words::{Asked, put_check, put_refusal, put_refused_cluster, put_reply};
 
 /// Shows a line, and what it came to.
 pub fn show_said<D: Driver, W: Write>(
@@ -27,13 +27,16 @@ pub fn show_said<D: Driver, W: Write>(
     match said {
         Said::Nothing => put_skipped(&mut page, line, view.ink),
         Said::Audit(audited) => put_audited(&mut page, alloc, view, line, *audited),
-        Said::Answer(ask, Err(fault)) => {
+        Said::Answer(ask, Err(fault), _) => {
             if put_refused(&mut page, alloc, device, view, line, ask, *fault).is_err() {
                 return Err(Outcome::Memory);
             }
         }
-        Said::Answer(ask, answer) => {
-            put_accepted(&mut page, alloc, device, view, line, ask, answer)
+        Said::Answer(ask, answer, refused) => {
+            put_accepted(&mut page, alloc, device, view, line, ask, answer);
+            if let Ask::Begin = ask {
+                put_left_out(&mut page, alloc, device.plan(), view, refused.as_slice());
+            }
         }
     }
     write_page(writer, &page)
@@ -75,6 +78,22 @@ fn put_accepted<D: Driver>(
     if view.shows_queue(device, ask) {
         view.shown_at = Some(device.steps().len());
         put_table(page, alloc, &view.known, device, view.ink);
+    }
+}
+
+// Why the begin of a frame refused clusters, below its line.
+fn put_left_out<D: Driver>(
+    page: &mut Page,
+    alloc: Global,
+    plan: &Plan<D>,
+    view: &View,
+    refused: &[(u32, ClusterReason)],
+) {
+    let mut text = Page::new(alloc);
+    for (cluster, reason) in refused {
+        text.clear();
+        put_refused_cluster(&mut text, &view.known, plan, " is refused: ", *cluster, *reason);
+        put_below(page, &text, view.ink.bad, view.ink.plain);
     }
 }
 

@@ -1,6 +1,7 @@
 //! What the queued frames will have, as a table.
 
 use crate::frame::{cell_at, frame_at, put_buffer, put_in_frame, put_now, stays, widest};
+use ask_reasons::frame_reason;
 use ctl_script::ControlWords;
 use ctrl_calls::Driver;
 use device_state::Device;
@@ -9,7 +10,7 @@ use std::io::Write;
 use view_layout::{
     Cell, INDENT, Ink, Mark, Page, WIDTH, put_folded, put_look, put_missed, put_spaces,
 };
-use view_words::{put_cluster, word_of};
+use view_words::{put_refused_cluster, word_of};
 
 // How wide the columns are at least: those of the names of controls, of their present values, and of a frame.
 const WIDTHS: Widths = Widths {
@@ -38,7 +39,7 @@ struct Block {
 }
 
 /// Puts on a page what the queued frames will have: a row for each control that one of them changes, or asks for in vain, a column for each frame, in blocks
-/// of as many frames as a line has room for; and which clusters will be refused. Where none is queued, it says so.
+/// of as many frames as a line has room for; and which clusters will be refused, and why. Where none is queued, it says so.
 pub fn put_table<D: Driver>(
     page: &mut Page,
     alloc: Global,
@@ -176,7 +177,7 @@ fn put_right(page: &mut Page, text: &Page, width: usize, before: &str, behind: &
     page.put(behind);
 }
 
-// Which clusters will be refused.
+// Which clusters will be refused, and why.
 fn put_refusals<D: Driver>(
     page: &mut Page,
     alloc: Global,
@@ -187,11 +188,19 @@ fn put_refusals<D: Driver>(
     let mut text = Page::new(alloc);
     for place in 0..device.queued_count() {
         for cluster in frame_at(device, place).refused {
-            text.clear();
-            let _ = write!(text, "frame {place}: ");
-            put_cluster(&mut text, known, device.plan(), *cluster);
-            text.put(" will be refused");
-            put_below(page, &text, ink.bad, ink.plain);
+            if let Some(reason) = frame_reason(device, place, *cluster) {
+                text.clear();
+                let _ = write!(text, "frame {place}: ");
+                put_refused_cluster(
+                    &mut text,
+                    known,
+                    device.plan(),
+                    " will be refused: ",
+                    *cluster,
+                    reason,
+                );
+                put_below(page, &text, ink.bad, ink.plain);
+            }
         }
     }
 }

@@ -3,18 +3,19 @@
 use crate::answer::Said;
 use crate::view::View;
 use crate::wanted::Task;
-use ask_reasons::reason_of;
+use ask_reasons::{ClusterReason, reason_of};
 use ctrl_calls::Driver;
 use ctrl_types::Fault;
-use device_state::{Device, Plan};
+use device_state::{Ask, Device, Plan};
 use line_reasons::{Complaint, Names, reason_in_pair, reason_of as reason_of_line};
 use script_replies::{Outcome, ReplyLine, write_answer, write_audit};
 use std::alloc::{AllocError, Global};
 use std::io::Write;
 use view_layout::{Line, Page};
-use view_words::{Asked, put_check, put_refusal};
+use view_words::{Asked, put_check, put_refusal, put_refused_cluster};
 
-/// Prints the reply to a line as `run_script` does, but none where the device is to be listed, and says on standard error why it is a refusal.
+/// Prints the reply to a line as `run_script` does, but none where the device is to be listed, and says on standard error why it is a refusal, or why a frame
+/// refuses clusters.
 pub fn explain<D: Driver, R: AllocGlobal + Eprint, W: Write>(
     rt: &R,
     device: &Device<D>,
@@ -27,12 +28,15 @@ pub fn explain<D: Driver, R: AllocGlobal + Eprint, W: Write>(
         _ if view.task == Task::List => Ok(()),
         Said::Nothing => Ok(()),
         Said::Audit(audited) => write_audit(writer, &mut view.line, *audited),
-        Said::Answer(ask, answer) => write_answer(writer, &mut view.line, ask, answer),
+        Said::Answer(ask, answer, _) => write_answer(writer, &mut view.line, ask, answer),
     };
     if written.is_err() {
         return Err(Outcome::WriteFault);
     }
-    if let Said::Answer(ask, Err(fault)) = said {
+    if let Said::Answer(ask, Ok(_), refused) = said {
+        tell_clusters(rt, device.plan(), view, line.number, ask, refused.as_slice());
+    }
+    if let Said::Answer(ask, Err(fault), _) = said {
         let mut text = Page::new(rt.alloc());
         let asked = Asked {
             known: &view.known,
@@ -49,6 +53,34 @@ pub fn explain<D: Driver, R: AllocGlobal + Eprint, W: Write>(
         }
     }
     Ok(())
+}
+
+// Says why a frame refuses clusters, a line for each: one that was begun, or that is foretold.
+fn tell_clusters<D: Driver, R: AllocGlobal + Eprint>(
+    rt: &R,
+    plan: &Plan<D>,
+    view: &View,
+    number: u32,
+    ask: &Ask,
+    refused: &[(u32, ClusterReason)],
+) {
+    let mut text = Page::new(rt.alloc());
+    for (cluster, reason) in refused {
+        text.clear();
+        let becomes = match ask {
+            Ask::Forecast { place } => {
+                let _ = write!(text, "frame {place}: ");
+                " will be refused: "
+            }
+            _ => " is refused: ",
+        };
+        put_refused_cluster(&mut text, &view.known, plan, becomes, *cluster, *reason);
+        if text.is_whole() {
+            tell(rt, number, text.text());
+        } else {
+            tell(rt, number, b"no memory to find out why");
+        }
+    }
 }
 
 // Puts together what is said of a refusal, on one line.

@@ -37,15 +37,7 @@ pub fn put_refusal<D: Driver>(
 /// Puts on a page the check that an ask was refused by, behind it in brackets the part of it that is meant, where docs/RULES.md numbers its parts, and what
 /// didn't hold.
 pub fn put_check<D: Driver>(page: &mut Page, asked: Asked<'_, D>, reason: Reason) {
-    page.put("check ");
-    page.put_number(i64::from(reason.check.number()));
-    if let Some(part) = reason.check.part() {
-        page.put(" (");
-        page.put_number(i64::from(part));
-        page.put(")");
-    }
-    page.put(", ");
-    page.put(text_of(reason.check));
+    put_broken(page, reason.check);
     match reason.check {
         Check::RowRefused(_) => put_row(page, asked, reason.entry),
         Check::ValueNotOfKind => put_form(page, asked, reason.entry),
@@ -53,6 +45,19 @@ pub fn put_check<D: Driver>(page: &mut Page, asked: Asked<'_, D>, reason: Reason
         Check::EntryNamesNone => put_entry_class(page, asked, reason.entry),
         _ => {}
     }
+}
+
+/// Puts a check on a page: its number, behind it in brackets the part of it that is meant, where docs/RULES.md numbers its parts, and what didn't hold.
+pub(crate) fn put_broken(page: &mut Page, check: Check) {
+    page.put("check ");
+    page.put_number(i64::from(check.number()));
+    if let Some(part) = check.part() {
+        page.put(" (");
+        page.put_number(i64::from(part));
+        page.put(")");
+    }
+    page.put(", ");
+    page.put(text_of(check));
 }
 
 // What the control of an entry would take.

@@ -34,8 +34,8 @@ pub fn put_cluster<D: Driver>(page: &mut Page, known: &ControlWords, plan: &Plan
     page.put(")");
 }
 
-// The members of a cluster; none where there is no such cluster.
-fn members_of<D: Driver>(plan: &Plan<D>, cluster: u32) -> &[u32] {
+/// The members of a cluster; none where there is no such cluster.
+pub(crate) fn members_of<D: Driver>(plan: &Plan<D>, cluster: u32) -> &[u32] {
     if cluster < plan.cluster_count() {
         plan.members(cluster)
     } else {
