@@ -1,16 +1,19 @@
 //! Runs the scripts of the files in `data/`, each on a fresh device, and compares what they print and how they end with what the files
 //! say; of a device file that describes no device, or is checked, it compares what is said. A script that names no device runs on the
-//! sample device, and on the device of `sample.toml`. It prints each case that differs, with what came in its place, and at last how many
-//! cases there are. `data/sample.txt` begins with the format of the files.
+//! sample device, and on the device of `sample.toml`. Of each case that differs it prints the lines that do, with their place in the file and
+//! their command, what was wanted and what came; and at last it prints how many cases there are. `data/sample.txt` begins with the format
+//! of the files.
 #![tactic(auto)]
 
 mod case;
+mod differing;
 mod why;
 
 ghost use Rattle.std.specs.Prelude.{◌≡◌, []};
 ghost use Rattle.ctrl_calls.specs.Meanings.{JudgesBy, TellsBy};
 
 use crate::case::{Case, Cases, Program};
+use crate::differing::{show_difference, show_why};
 use crate::why::{Ran, why_of};
 use ctl_pair::{Gate, Remains, run_pair};
 use ctl_script::{
@@ -102,7 +105,7 @@ fn cases_of<'a, R: AllocGlobal + Files + Print>(
 ) -> io::Result<Option<Vec<Case<'a>>>> {
     let mut cases = Cases::of_device(rt, "sample.toml")?;
     for (file, text) in FILES.iter().zip(texts) {
-        if let Some(number) = cases.read(rt, text.as_str())? {
+        if let Some(number) = cases.read(rt, file, text.as_str())? {
             println!(rt; "{file}, line {number}: not a line of a case")?;
             return Ok(None);
         }
@@ -317,10 +320,9 @@ fn is_wanted<R: AllocGlobal + Print>(
     if is_same && ran.is_explained(case) {
         return Ok(true);
     }
-    let printed = String::from_utf8_lossy(rt.alloc(), printed.as_slice())?;
-    println!(rt;
-        "{}, on {device}\n{printed}{outcome:?} in place of {}\nwhy: {why}",
-        case.name, case.outcome
-    )?;
+    show_difference(rt, device, case, printed.as_slice(), ended.as_str())?;
+    if !ran.is_explained(case) {
+        show_why(rt, case, why.as_str())?;
+    }
     Ok(false)
 }

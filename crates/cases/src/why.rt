@@ -45,7 +45,9 @@ pub fn why_of<D: Driver>(
     };
     let found = match case.program {
         Program::Pair => reason_in_pair(alloc, names, line)?,
-        Program::Run | Program::Board | Program::File => reason_of(alloc, names, line)?,
+        Program::Run | Program::Board | Program::File | Program::Check => {
+            reason_of(alloc, names, line)?
+        }
     };
     let Some(Complaint { word, reason }) = found else {
         return Ok(String::new(alloc));
