@@ -1,2 +1,3 @@
 mod Files
 mod Indexes
+mod Refused

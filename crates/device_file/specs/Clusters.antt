@@ -1,5 +1,5 @@
 -- The clusters of a file (Linux driver API, "V4L2 Controls", "Control Clusters").
-use Rattle.std.specs.Prelude.{ℕ, ◌+◌, ◌==◌, ◌&&◌, ◌||◌, Bool, true, false, nat_lt, if◌then◌else◌, ℤ, List, [], ◌∷◌, ◌++◌, length, Option, Some, None, is_some, Result, Ok, Err, ok_or, option_map}
+use Rattle.std.specs.Prelude.{ℕ, ◌+◌, ◌==◌, ◌&&◌, ◌||◌, Bool, true, false, nat_lt, if◌then◌else◌, ℤ, List, [], ◌∷◌, ◌++◌, length, Option, Some, None, is_some, position, Result, Ok, Err, ok_or, option_map}
 use Rattle.std.specs.List.{list_any}
 use Rattle.toml.specs.Data.{Data, Members, as_str, as_table}
 use Rattle.ctrl_calls.specs.declared.relation.Relations.{Relations}
@@ -82,31 +82,63 @@ word_by handlers names (Some d) = do
 abbrev pub word_in : List Data → Members → Result (Option Word) KeyFault
 word_in handlers cluster = word_by handlers (elements_at keys.Members cluster) (value_at keys.Told cluster)
 
--- the number of the control that an element of `members` names
-abbrev pub number_named : List ControlWord → ℕ → Option (List ℕ) → Result ℕ KeyFault
-number_named words place (Some name) = ok_or (known_number words name) (wrong_at keys.Members place problems.UnknownControl)
-number_named words place None = Err (wrong_at keys.Members place (problems.Not sorts.Text))
+-- whether a name is among the members of a cluster
+abbrev pub has_member : List ℕ → Option Members → Bool
+has_member name (Some cluster) = is_some (place_of_text name (elements_at keys.Members cluster))
+has_member name None = false
 
-abbrev pub number_by : List ControlWord → ℕ → Data → Result ℕ KeyFault
-number_by words place d = number_named words place (as_str d)
+-- the number of the first of some clusters that has a name among its members
+abbrev pub cluster_with : List Data → List ℕ → Option ℕ
+cluster_with clusters name = position (λ cluster. has_member name (as_table cluster)) clusters
 
--- these numbers, and behind them those of the controls that some elements of `members` name, from this place on
-abbrev pub numbers_with : List ControlWord → List ℕ → ℕ → List Data → Result (List ℕ) KeyFault
-numbers_with words ns place [] = Ok ns
-numbers_with words ns place (d ∷ ds) = do
-  n ← number_by words place d
-  numbers_with words (ns ++ n ∷ []) (place + 1) ds
+-- that a member isn't named further up in the same cluster
+abbrev pub unless_twice : ℕ → Option ℕ → Result (Unit {0}) KeyFault
+unless_twice place (Some _) = Err (wrong_at keys.Members place problems.NamedTwice)
+unless_twice place None = Ok tt
+
+-- that a member is in no cluster further up
+abbrev pub unless_member : ℕ → Option ℕ → Result (Unit {0}) KeyFault
+unless_member place (Some number) = Err (wrong_at keys.Members place (problems.InCluster number))
+unless_member place None = Ok tt
+
+-- The number of the control that an element of `members` names. These clusters stand further up in the file, and these elements in the array.
+abbrev pub number_named : List ControlWord → List Data → List Data → ℕ → Option (List ℕ) → Result ℕ KeyFault
+number_named words earlier before place (Some name) = do
+  number ← ok_or (known_number words name) (wrong_at keys.Members place problems.UnknownControl)
+  _ ← unless_twice place (place_of_text name before)
+  _ ← unless_member place (cluster_with earlier name)
+  Ok number
+number_named words earlier before place None = Err (wrong_at keys.Members place (problems.Not sorts.Text))
+
+abbrev pub number_by : List ControlWord → List Data → List Data → ℕ → Data → Result ℕ KeyFault
+number_by words earlier before place d = number_named words earlier before place (as_str d)
+
+-- these numbers, and behind them those of the controls that some elements of `members` name, from this place on; these elements stand before them
+abbrev pub numbers_with : List ControlWord → List Data → List Data → List ℕ → ℕ → List Data → Result (List ℕ) KeyFault
+numbers_with words earlier before ns place [] = Ok ns
+numbers_with words earlier before ns place (d ∷ ds) = do
+  n ← number_by words earlier before place d
+  numbers_with words earlier (before ++ d ∷ []) (ns ++ n ∷ []) (place + 1) ds
 
 -- that a cluster has 1 to 8 members
 abbrev pub unless_misfit : List Data → Result (Unit {0}) KeyFault
 unless_misfit names = if length names == 0 || nat_lt MAX_MEMBERS (length names) then Err (wrong keys.Members problems.ClusterSize) else Ok tt
 
--- the numbers of a cluster's members
-abbrev pub members_in : List ControlWord → Members → Result (List ℕ) KeyFault
-members_in words cluster = do
+-- a member is an array, where there are several, or the cluster has a manual value
+abbrev pub crowds : List Data → Option ℤ → List Data → Bool
+crowds handlers manual names = (is_some manual || nat_lt 1 (length names)) && name_array handlers names
+
+abbrev pub unless_crowded : Bool → Result (Unit {0}) KeyFault
+unless_crowded crowded = if crowded then Err (wrong keys.Members problems.ArrayAlone) else Ok tt
+
+-- the numbers of a cluster's members, which has this manual value; these clusters stand further up
+abbrev pub members_in : List Data → List ControlWord → List Data → Option ℤ → Members → Result (List ℕ) KeyFault
+members_in handlers words earlier manual cluster = do
   names ← elements_in keys.Members sorts.Array cluster
   _ ← unless_misfit names
-  numbers_with words [] 0 names
+  numbers ← numbers_with words earlier [] [] 0 names
+  _ ← unless_crowded (crowds handlers manual names)
+  Ok numbers
 
 -- the relations of a limit and a word, each where there is one
 abbrev pub calls_of : Option Limit → Option Word → Relations
@@ -118,24 +150,24 @@ with_members plan members manual limit word =
     if is_some (missing (length members) (places_named limit word)) then Err (wrong keys.Members problems.UnknownMember)
     else unless_refused cluster_fault (cluster_refusal plan members manual) (with_cluster plan members manual (calls_of limit word))
 
--- a plan with the cluster of a table, which has this limit and this word
-abbrev pub with_calls : List ControlWord → PlanData → Members → Option Limit → Option Word → Result PlanData KeyFault
-with_calls words plan cluster limit word = do
-  manual ← number_in keys.Manual cluster
-  members ← members_in words cluster
-  with_members plan members manual limit word
-
--- a plan with the cluster of this number; these are the handlers of the file
-abbrev pub with_cluster_of : List Data → List ControlWord → PlanData → ℕ → Data → Result PlanData FileFault
-with_cluster_of handlers words plan number value = do
-  cluster ← at_place (places.Cluster number) (table_with cluster_keys value)
+-- a plan with the cluster of a table, of which the members and the manual value are known
+abbrev pub with_judged : List Data → PlanData → ℕ → Members → List ℕ → Option ℤ → Result PlanData FileFault
+with_judged handlers plan number cluster members manual = do
   limit ← at_place (places.Limit number) (limit_in handlers cluster)
   word ← at_place (places.Told number) (word_in handlers cluster)
-  at_place (places.Cluster number) (with_calls words plan cluster limit word)
+  at_place (places.Cluster number) (with_members plan members manual limit word)
 
--- a plan with the clusters that some values describe, from this number on
-abbrev pub with_clusters : List Data → List ControlWord → PlanData → ℕ → List Data → Result PlanData FileFault
-with_clusters handlers words plan number [] = Ok plan
-with_clusters handlers words plan number (v ∷ vs) = do
-  more ← with_cluster_of handlers words plan number v
-  with_clusters handlers words more (number + 1) vs
+-- A plan with the cluster of this number; these are the handlers of the file, and the clusters further up. Members are judged before a limit, or a word, can name them.
+abbrev pub with_cluster_of : List Data → List ControlWord → List Data → PlanData → ℕ → Data → Result PlanData FileFault
+with_cluster_of handlers words earlier plan number value = do
+  cluster ← at_place (places.Cluster number) (table_with cluster_keys value)
+  manual ← at_place (places.Cluster number) (number_in keys.Manual cluster)
+  members ← at_place (places.Cluster number) (members_in handlers words earlier manual cluster)
+  with_judged handlers plan number cluster members manual
+
+-- a plan with the clusters that some values describe, from this number on, behind these
+abbrev pub with_clusters : List Data → List ControlWord → List Data → PlanData → ℕ → List Data → Result PlanData FileFault
+with_clusters handlers words earlier plan number [] = Ok plan
+with_clusters handlers words earlier plan number (v ∷ vs) = do
+  more ← with_cluster_of handlers words earlier plan number v
+  with_clusters handlers words (earlier ++ v ∷ []) more (number + 1) vs

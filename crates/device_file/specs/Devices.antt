@@ -26,7 +26,7 @@ file_keys = keys.Handler ∷ keys.Cluster ∷ []
 abbrev pub with_clusters_of : List Data → Members → DeviceData → Result DeviceData FileFault
 with_clusters_of handlers file d = do
   tables ← at_place places.File (elements_in keys.Cluster sorts.Tables file)
-  plan ← with_clusters handlers d.words d.plan 0 tables
+  plan ← with_clusters handlers d.words [] d.plan 0 tables
   Ok (device plan d.words)
 
 -- a device whose plan is finished: each control that is in no cluster is one of its own

@@ -99,7 +99,7 @@ new_name words table = do
 abbrev pub with_built : PlanData → ℕ → Members → Control → Result PlanData KeyFault
 with_built plan h table ctrl = do
   more ← unless_refused control_fault (control_refusal plan h ctrl) (with_control plan h ctrl)
-  with_items more (length plan.controls) table
+  with_items more (length plan.controls) ctrl table
 
 -- the keys of a control
 abbrev pub control_keys : List Key

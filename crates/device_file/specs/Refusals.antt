@@ -7,6 +7,7 @@ use Rattle.file_faults.specs.declared.fault.KeyFault.{KeyFault}
 use Rattle.device_file.specs.declared.stop.ReadError.{ReadError}
 use Rattle.device_file.specs.declared.stop.ReadError.TheVariants as errors
 use Rattle.file_faults.specs.declared.key.Key.TheVariants as keys
+use Rattle.file_faults.specs.declared.problem.Problem.{Problem}
 use Rattle.file_faults.specs.declared.problem.Problem.TheVariants as problems
 
 -- what a call of the builder makes; where it is refused, the fault that the refusal is
@@ -32,13 +33,13 @@ abbrev pub control_fault : PlanFault → KeyFault
 control_fault DuplicateId = wrong keys.Id problems.IdTaken
 control_fault _ = wrong keys.Table problems.ManyControls
 
--- the item at an index: its name is too long; else the control has no such item there
-abbrev pub item_fault : ℕ → PlanFault → KeyFault
-item_fault index Limit = wrong_at keys.Menu index problems.LongItem
-item_fault index _ = wrong_at keys.Menu index problems.NoItem
+-- the item at an index: its name is too long; else the control doesn't take it, since this is wrong with it
+abbrev pub item_fault : ℕ → Problem → PlanFault → KeyFault
+item_fault index misfit Limit = wrong_at keys.Menu index problems.LongItem
+item_fault index misfit _ = wrong_at keys.Menu index misfit
 
--- a further cluster
+-- a further cluster; its members were judged before
 abbrev pub cluster_fault : PlanFault → KeyFault
 cluster_fault ClusterSize = wrong keys.Members problems.ClusterSize
 cluster_fault ArrayAlone = wrong keys.Members problems.ArrayAlone
-cluster_fault _ = wrong keys.Members problems.InCluster
+cluster_fault _ = wrong keys.Members problems.NamedTwice

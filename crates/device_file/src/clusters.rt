@@ -1,14 +1,14 @@
 //! The clusters of a file.
 
-ghost use Rattle.std.specs.Prelude.{◌≡◌, ◌++◌, [], ◌∷◌, map, None, Ok, IfOk, IfErr};
+ghost use Rattle.std.specs.Prelude.{◌≡◌, ◌++◌, [], ◌∷◌, map, position, None, Ok, IfOk, IfErr};
 ghost use Rattle.std.specs.List.{list_any};
 ghost use Rattle.ctrl_handlers.specs.Builder.{cluster_refusal, IsRefusedBy};
 ghost use Rattle.ctrl_handlers.specs.Plan.{with_cluster};
 ghost use Rattle.toml.specs.Data.{as_table};
 ghost use Rattle.toml.specs.View.{view, table_view};
-ghost use Rattle.device_file.specs.Clusters.{has_array_among, is_among, is_array_among, is_of_values, limit_in as cluster_limit, members_in as cluster_members, name_array, number_by, numbers_with, unless_array, with_calls, with_cluster_of, with_clusters, with_members, word_in as cluster_word};
+ghost use Rattle.device_file.specs.Clusters.{cluster_with, crowds, has_array_among, has_member as has_name_among, is_among, is_array_among, is_of_values, limit_in as cluster_limit, members_in as cluster_members, name_array, number_by, numbers_with, unless_array, with_cluster_of, with_clusters, with_judged, with_members, word_in as cluster_word};
 ghost use Rattle.device_file.specs.Stops.{FileStops, Stops};
-ghost use Rattle.file_tables.specs.Reading.{text_in};
+ghost use Rattle.file_tables.specs.Reading.{number_in, text_in};
 ghost use Rattle.device_file.specs.declared.stop.ReadError.TheVariants.{Memory};
 ghost use Rattle.file_faults.specs.declared.key.Key.TheVariants as keys;
 
@@ -17,7 +17,7 @@ use crate::stop::ReadError;
 use ctrl_calls::Calls;
 use ctrl_handlers::{PlanBuilder, PlanFault};
 use data_driver::{Data, Limit, Word, data_calls};
-use file_faults::{FileFault, Key, KeyFault, Place, Problem, Sort};
+use file_faults::{CLUSTER_KEYS, FileFault, Key, KeyFault, Place, Problem, Sort};
 use file_tables::reading::{elements, elements_of, find, number, table, table_with, text};
 use file_tables::{limit_of, place_of, word_of};
 use script_lines::ControlWords;
@@ -32,33 +32,77 @@ pub(crate) fn add_clusters(
     tables: &[Value],
     words: &ControlWords,
 ) -> Result<(), FileFault>
-    ensures ok { IfOk result (λ _. with_clusters (map view handlers.now) words.now builder.old 0 (map view tables.now) ≡ Ok builder.new) }
-    ensures err { IfErr result (FileStops (with_clusters (map view handlers.now) words.now builder.old 0 (map view tables.now))) }
+    ensures ok { IfOk result (λ _. with_clusters (map view handlers.now) words.now [] builder.old 0 (map view tables.now) ≡ Ok builder.new) }
+    ensures err { IfErr result (FileStops (with_clusters (map view handlers.now) words.now [] builder.old 0 (map view tables.now))) }
 {
     for number in 0..tables.len() {
-        add_cluster(alloc, builder, handlers, number, &tables[number], words)?;
+        let earlier = &tables[..number];
+        add_cluster(
+            alloc,
+            builder,
+            handlers,
+            earlier,
+            number,
+            &tables[number],
+            words,
+        )?;
     }
     Ok(())
 }
 
-// Adds a cluster, whose table has no other keys.
+// Adds a cluster, whose table has no other keys; these stand further up. Members are judged before a limit, or a word, can name them.
 fn add_cluster(
     alloc: Global,
     builder: &mut PlanBuilder<Data>,
     handlers: &[Value],
+    earlier: &[Value],
     number: usize,
     value: &Value,
     words: &ControlWords,
 ) -> Result<(), FileFault>
-    ensures ok { IfOk result (λ _. with_cluster_of (map view handlers.now) words.now builder.old number (view value.now) ≡ Ok builder.new) }
-    ensures err { IfErr result (FileStops (with_cluster_of (map view handlers.now) words.now builder.old number (view value.now))) }
+    ensures ok { IfOk result (λ _. with_cluster_of (map view handlers.now) words.now (map view earlier.now) builder.old number (view value.now) ≡ Ok builder.new) }
+    ensures err { IfErr result (FileStops (with_cluster_of (map view handlers.now) words.now (map view earlier.now) builder.old number (view value.now))) }
 {
     let place = Place::Cluster(number);
-    let keys = &[Key::Members, Key::Manual, Key::Limit, Key::Told];
-    let cluster = match table_with(value, keys) {
+    let cluster = match table_with(value, CLUSTER_KEYS) {
         Ok(cluster) => cluster,
         Err(fault) => return Err(fault.at(place)),
     };
+    let manual = match manual_in(cluster) {
+        Ok(manual) => manual,
+        Err(fault) => return Err(fault.at(place)),
+    };
+    match members_in(alloc, handlers, earlier, cluster, manual, words) {
+        Ok(members) => add_judged(
+            builder,
+            handlers,
+            number,
+            cluster,
+            members.as_slice(),
+            manual,
+        ),
+        Err(error) => Err(error.at(place)),
+    }
+}
+
+fn manual_in(cluster: &Table) -> Result<Option<i64>, KeyFault>
+    ensures { result ≡ number_in keys.Manual (table_view cluster.now) }
+{
+    number(cluster, Key::Manual)
+}
+
+// Adds the cluster of a table, of which the members and the manual value are known.
+fn add_judged(
+    builder: &mut PlanBuilder<Data>,
+    handlers: &[Value],
+    number: usize,
+    cluster: &Table,
+    members: &[u32],
+    manual: Option<i64>,
+) -> Result<(), FileFault>
+    ensures ok { IfOk result (λ _. with_judged (map view handlers.now) builder.old number (table_view cluster.now) members.now manual ≡ Ok builder.new) }
+    ensures err { IfErr result (FileStops (with_judged (map view handlers.now) builder.old number (table_view cluster.now) members.now manual)) }
+{
     let limit = match limit_in(handlers, cluster) {
         Ok(limit) => limit,
         Err(fault) => return Err(fault.at(Place::Limit(number))),
@@ -67,9 +111,9 @@ fn add_cluster(
         Ok(word) => word,
         Err(fault) => return Err(fault.at(Place::Told(number))),
     };
-    match build_cluster(alloc, builder, cluster, limit, word, words) {
+    match put_cluster(builder, members, manual, limit, word) {
         Ok(()) => Ok(()),
-        Err(error) => Err(error.at(place)),
+        Err(error) => Err(error.at(Place::Cluster(number))),
     }
 }
 
@@ -177,30 +221,17 @@ fn is_name_among(control: &Table, names: &[Value]) -> bool
     }
 }
 
-// Adds the cluster of a table, with this limit and word.
-fn build_cluster(
+// The numbers of the 1 to 8 members of a cluster with this manual value; these clusters stand further up.
+fn members_in(
     alloc: Global,
-    builder: &mut PlanBuilder<Data>,
+    handlers: &[Value],
+    earlier: &[Value],
     cluster: &Table,
-    limit: Option<Limit>,
-    word: Option<Word>,
+    manual: Option<i64>,
     words: &ControlWords,
-) -> Result<(), ReadError>
-    ensures ok { IfOk result (λ _. with_calls words.now builder.old (table_view cluster.now) limit word ≡ Ok builder.new) }
-    ensures err { IfErr result (Stops (with_calls words.now builder.old (table_view cluster.now) limit word)) }
-{
-    let manual = match number(cluster, Key::Manual) {
-        Ok(manual) => manual,
-        Err(fault) => return Err(ReadError::Key(fault)),
-    };
-    let members = members_in(alloc, cluster, words)?;
-    put_cluster(builder, members.as_slice(), manual, limit, word)
-}
-
-// The numbers of the 1 to 8 members.
-fn members_in(alloc: Global, cluster: &Table, words: &ControlWords) -> Result<Vec<u32>, ReadError>
-    ensures ok { IfOk result (λ members. cluster_members words.now (table_view cluster.now) ≡ Ok members.items) }
-    ensures err { IfErr result (Stops (cluster_members words.now (table_view cluster.now))) }
+) -> Result<Vec<u32>, ReadError>
+    ensures ok { IfOk result (λ members. cluster_members (map view handlers.now) words.now (map view earlier.now) manual (table_view cluster.now) ≡ Ok members.items) }
+    ensures err { IfErr result (Stops (cluster_members (map view handlers.now) words.now (map view earlier.now) manual (table_view cluster.now))) }
 {
     let names = match elements(cluster, Key::Members, Sort::Array) {
         Ok(names) => names,
@@ -209,23 +240,40 @@ fn members_in(alloc: Global, cluster: &Table, words: &ControlWords) -> Result<Ve
     if names.is_empty() || names.len() > 8 {
         return Err(ReadError::Key(KeyFault::new(Key::Members, Problem::ClusterSize)));
     }
-    numbers_of(alloc, names, words)
+    let members = numbers_of(alloc, names, earlier, words)?;
+    if is_crowded(handlers, manual, names) {
+        return Err(ReadError::Key(KeyFault::new(Key::Members, Problem::ArrayAlone)));
+    }
+    Ok(members)
 }
 
-// The numbers of the controls that these values name.
-fn numbers_of(alloc: Global, names: &[Value], words: &ControlWords) -> Result<Vec<u32>, ReadError>
-    ensures ok { IfOk result (λ members. numbers_with words.now [] 0 (map view names.now) ≡ Ok members.items) }
-    ensures err { IfErr result (Stops (numbers_with words.now [] 0 (map view names.now))) }
+// The numbers of the controls that these values name; these clusters stand further up.
+fn numbers_of(
+    alloc: Global,
+    names: &[Value],
+    earlier: &[Value],
+    words: &ControlWords,
+) -> Result<Vec<u32>, ReadError>
+    ensures ok { IfOk result (λ members. numbers_with words.now (map view earlier.now) [] [] 0 (map view names.now) ≡ Ok members.items) }
+    ensures err { IfErr result (Stops (numbers_with words.now (map view earlier.now) [] [] 0 (map view names.now))) }
 {
     let mut members = Vec::new(alloc);
     for place in 0..names.len() {
-        let member = match number_of(&names[place], place, words) {
+        let before = &names[..place];
+        let member = match number_of(&names[place], place, before, earlier, words) {
             Ok(member) => member,
             Err(fault) => return Err(ReadError::Key(fault)),
         };
         push(&mut members, member)?;
     }
     Ok(members)
+}
+
+// Whether a member is an array, where there are several, or the cluster has a manual value.
+fn is_crowded(handlers: &[Value], manual: Option<i64>, names: &[Value]) -> bool
+    ensures { result ≡ crowds (map view handlers.now) manual (map view names.now) }
+{
+    (manual.is_some() || names.len() > 1) && name_array_of(handlers, names)
 }
 
 fn push(members: &mut Vec<u32>, member: u32) -> Result<(), ReadError>
@@ -238,16 +286,56 @@ fn push(members: &mut Vec<u32>, member: u32) -> Result<(), ReadError>
     }
 }
 
-// The number of the control that a value names.
-fn number_of(value: &Value, place: usize, words: &ControlWords) -> Result<u32, KeyFault>
-    ensures { result ≡ number_by words.now place (view value.now) }
+// The number of the control that a value names: it is neither among these names, nor in a cluster further up.
+fn number_of(
+    value: &Value,
+    place: usize,
+    before: &[Value],
+    earlier: &[Value],
+    words: &ControlWords,
+) -> Result<u32, KeyFault>
+    ensures { result ≡ number_by words.now (map view earlier.now) (map view before.now) place (view value.now) }
 {
-    match value.as_str() {
-        Some(name) => match words.number_of(name.as_bytes()) {
-            Some(number) => Ok(number),
-            None => Err(KeyFault::of_element(Key::Members, place, Problem::UnknownControl)),
-        },
-        None => Err(KeyFault::of_element(Key::Members, place, Problem::Not(Sort::Text))),
+    let Some(name) = value.as_str() else {
+        return Err(KeyFault::of_element(Key::Members, place, Problem::Not(Sort::Text)));
+    };
+    let Some(number) = words.number_of(name.as_bytes()) else {
+        return Err(KeyFault::of_element(Key::Members, place, Problem::UnknownControl));
+    };
+    if place_of(before, name).is_some() {
+        return Err(KeyFault::of_element(Key::Members, place, Problem::NamedTwice));
+    }
+    match cluster_of(earlier, name) {
+        Some(cluster) => Err(KeyFault::of_element(
+            Key::Members,
+            place,
+            Problem::InCluster(cluster),
+        )),
+        None => Ok(number),
+    }
+}
+
+// Which of some clusters has a name among its members.
+fn cluster_of(clusters: &[Value], name: &str) -> Option<usize>
+    ensures { result ≡ cluster_with (map view clusters.now) name.now }
+{
+    first_with(clusters, name)
+}
+
+fn first_with(clusters: &[Value], name: &str) -> Option<usize>
+    ensures { result ≡ position (λ cluster. has_name_among name.now (as_table (view cluster))) clusters.now }
+{
+    clusters
+        .iter()
+        .position(|cluster| has_member(cluster, name))
+}
+
+fn has_member(cluster: &Value, name: &str) -> bool
+    ensures { result ≡ has_name_among name.now (as_table (view cluster.now)) }
+{
+    match cluster.as_table() {
+        Some(cluster) => place_of(elements_of(cluster, Key::Members), name).is_some(),
+        None => false,
     }
 }
 

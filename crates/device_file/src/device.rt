@@ -8,7 +8,7 @@ use crate::clusters::add_clusters;
 use crate::handlers::add_handlers;
 use ctrl_handlers::{Plan, PlanBuilder};
 use data_driver::Data;
-use file_faults::{FileFault, Key, KeyFault, Place, Problem, Sort};
+use file_faults::{FILE_KEYS, FileFault, Key, KeyFault, Place, Problem, Sort};
 use file_tables::reading::{elements, no_others};
 use script_lines::ControlWords;
 use std::alloc::Global;
@@ -60,7 +60,7 @@ pub fn device_in(alloc: Global, file: &Table) -> Result<DeviceFile, FileFault>
     ensures ok { IfOk result (λ it. device_of (table_view file.now) ≡ Ok (device it.plan it.words)) }
     ensures err { IfErr result (FileStops (device_of (table_view file.now))) }
 {
-    if let Err(fault) = no_others(file, &[Key::Handler, Key::Cluster]) {
+    if let Err(fault) = no_others(file, FILE_KEYS) {
         return Err(fault.at(Place::File));
     }
     let tables = match elements(file, Key::Handler, Sort::Tables) {

@@ -13,9 +13,9 @@ use crate::stop::ReadError;
 use ctrl_handlers::PlanBuilder;
 use ctrl_settle::Ctrl;
 use data_driver::Data;
-use file_faults::{FileFault, Key, KeyFault, Place, Problem, Sort};
+use file_faults::{CONTROL_KEYS, FileFault, HANDLER_KEYS, Key, KeyFault, Place, Problem, Sort};
 use file_tables::reading::{elements, needed_text, table_with, text};
-use file_tables::{CONTROL_KEYS, control_in, name_in};
+use file_tables::{control_in, name_in};
 use script_lines::ControlWords;
 use std::alloc::Global;
 use toml::{Table, Value};
@@ -74,7 +74,7 @@ fn add_handler(
 fn handler_table<'a>(earlier: &[Value], value: &'a Value) -> Result<&'a Table, KeyFault>
     ensures { result_map_both (λ handler. table_view handler.now) (λ fault. fault) result ≡ handler_in (map view earlier.now) (view value.now) }
 {
-    let handler = table_with(value, &[Key::Name, Key::Adds, Key::Control])?;
+    let handler = table_with(value, HANDLER_KEYS)?;
     let name = needed_text(handler, Key::Name)?;
     match place_of(earlier, name) {
         Some(_) => Err(KeyFault::new(Key::Name, Problem::NameTaken)),
@@ -289,7 +289,7 @@ fn build_control(
 {
     match builder.control(handler, ctrl) {
         Ok(number) => {
-            add_items(builder, number, control)?;
+            add_items(builder, number, ctrl, control)?;
             Ok(number)
         }
         Err(fault) => Err(refused_control(fault)),

@@ -7,12 +7,14 @@ ghost use Rattle.ctrl_handlers.specs.Builder.{name_refusal, number_refusal};
 ghost use Rattle.ctrl_handlers.specs.Plan.{with_item};
 ghost use Rattle.menu_items.specs.declared.item.MenuItem.TheVariants.{Name, Number};
 ghost use Rattle.device_file.specs.Stops.{Stops};
-ghost use Rattle.device_file.specs.Refusals.{item_fault, unless_refused};
-ghost use Rattle.device_file.specs.Items.{index_named, is_empty_text, with_given, with_items, with_list, with_listed, with_menu_of, with_member, with_table};
+ghost use Rattle.device_file.specs.Refusals.{item_fault, refused, unless_refused};
+ghost use Rattle.device_file.specs.Items.{index_named, index_problem, is_empty_text, name_problem, number_problem, with_given, with_items, with_list, with_listed, with_menu_of, with_member, with_table};
 
 use crate::refusals::refused_item;
 use crate::stop::ReadError;
-use ctrl_handlers::PlanBuilder;
+use ctrl_handlers::{PlanBuilder, PlanFault};
+use ctrl_settle::Ctrl;
+use ctrl_types::Kind;
 use data_driver::Data;
 use file_faults::{Key, KeyFault, Problem, Sort};
 use file_tables::reading::{find, values_of};
@@ -22,39 +24,50 @@ use toml::{Table, Value};
 pub(crate) fn add_items(
     builder: &mut PlanBuilder<Data>,
     control: u32,
+    ctrl: Ctrl,
     table: &Table,
 ) -> Result<(), ReadError>
     ensures many { IfOk result (λ _. length builder.new.handlers ≡ length builder.old.handlers) }
-    ensures ok { IfOk result (λ _. with_items builder.old control (table_view table.now) ≡ Ok builder.new) }
-    ensures err { IfErr result (Stops (with_items builder.old control (table_view table.now))) }
+    ensures ok { IfOk result (λ _. with_items builder.old control ctrl (table_view table.now) ≡ Ok builder.new) }
+    ensures err { IfErr result (Stops (with_items builder.old control ctrl (table_view table.now))) }
 {
     match find(table, Key::Menu) {
         None => Ok(()),
-        Some(menu) => add_menu(builder, control, menu),
+        Some(menu) => add_menu(builder, control, ctrl, menu),
     }
 }
 
-fn add_menu(builder: &mut PlanBuilder<Data>, control: u32, menu: &Value) -> Result<(), ReadError>
+fn add_menu(
+    builder: &mut PlanBuilder<Data>,
+    control: u32,
+    ctrl: Ctrl,
+    menu: &Value,
+) -> Result<(), ReadError>
     ensures many { IfOk result (λ _. length builder.new.handlers ≡ length builder.old.handlers) }
-    ensures ok { IfOk result (λ _. with_menu_of builder.old control (as_array (view menu.now)) (as_table (view menu.now)) ≡ Ok builder.new) }
-    ensures err { IfErr result (Stops (with_menu_of builder.old control (as_array (view menu.now)) (as_table (view menu.now)))) }
+    ensures ok { IfOk result (λ _. with_menu_of builder.old control ctrl (as_array (view menu.now)) (as_table (view menu.now)) ≡ Ok builder.new) }
+    ensures err { IfErr result (Stops (with_menu_of builder.old control ctrl (as_array (view menu.now)) (as_table (view menu.now)))) }
 {
     match menu.as_array() {
-        Some(items) => add_list(builder, control, values_of(items)),
+        Some(items) => add_list(builder, control, ctrl, values_of(items)),
         None => match menu.as_table() {
-            Some(items) => add_table(builder, control, items),
+            Some(items) => add_table(builder, control, ctrl, items),
             None => Err(ReadError::Key(KeyFault::new(Key::Menu, Problem::Not(Sort::Menu)))),
         },
     }
 }
 
-fn add_list(builder: &mut PlanBuilder<Data>, control: u32, items: &[Value]) -> Result<(), ReadError>
+fn add_list(
+    builder: &mut PlanBuilder<Data>,
+    control: u32,
+    ctrl: Ctrl,
+    items: &[Value],
+) -> Result<(), ReadError>
     ensures many { IfOk result (λ _. length builder.new.handlers ≡ length builder.old.handlers) }
-    ensures ok { IfOk result (λ _. with_list builder.old control 0 (map view items.now) ≡ Ok builder.new) }
-    ensures err { IfErr result (Stops (with_list builder.old control 0 (map view items.now))) }
+    ensures ok { IfOk result (λ _. with_list builder.old control ctrl 0 (map view items.now) ≡ Ok builder.new) }
+    ensures err { IfErr result (Stops (with_list builder.old control ctrl 0 (map view items.now))) }
 {
     for place in 0..items.len() {
-        add_listed(builder, control, place, &items[place])?;
+        add_listed(builder, control, ctrl, place, &items[place])?;
     }
     Ok(())
 }
@@ -63,20 +76,21 @@ fn add_list(builder: &mut PlanBuilder<Data>, control: u32, items: &[Value]) -> R
 fn add_listed(
     builder: &mut PlanBuilder<Data>,
     control: u32,
+    ctrl: Ctrl,
     place: usize,
     item: &Value,
 ) -> Result<(), ReadError>
     ensures many { IfOk result (λ _. length builder.new.handlers ≡ length builder.old.handlers) }
-    ensures ok { IfOk result (λ _. with_listed builder.old control place (view item.now) ≡ Ok builder.new) }
-    ensures err { IfErr result (Stops (with_listed builder.old control place (view item.now))) }
+    ensures ok { IfOk result (λ _. with_listed builder.old control ctrl place (view item.now) ≡ Ok builder.new) }
+    ensures err { IfErr result (Stops (with_listed builder.old control ctrl place (view item.now))) }
 {
     let Ok(index) = u32::try_from(place) else {
-        return Err(ReadError::Key(KeyFault::of_element(Key::Menu, place, Problem::NoItem)));
+        return Err(ReadError::Key(KeyFault::of_element(Key::Menu, place, Problem::OutsideMenu)));
     };
     if is_hole(item) {
         return Ok(());
     }
-    add_item(builder, control, index, item)
+    add_item(builder, control, ctrl, index, item)
 }
 
 // Whether an element of an array is no item: an empty name.
@@ -89,13 +103,18 @@ fn is_hole(item: &Value) -> bool
     }
 }
 
-fn add_table(builder: &mut PlanBuilder<Data>, control: u32, items: &Table) -> Result<(), ReadError>
+fn add_table(
+    builder: &mut PlanBuilder<Data>,
+    control: u32,
+    ctrl: Ctrl,
+    items: &Table,
+) -> Result<(), ReadError>
     ensures many { IfOk result (λ _. length builder.new.handlers ≡ length builder.old.handlers) }
-    ensures ok { IfOk result (λ _. with_table builder.old control (table_view items.now) ≡ Ok builder.new) }
-    ensures err { IfErr result (Stops (with_table builder.old control (table_view items.now))) }
+    ensures ok { IfOk result (λ _. with_table builder.old control ctrl (table_view items.now) ≡ Ok builder.new) }
+    ensures err { IfErr result (Stops (with_table builder.old control ctrl (table_view items.now))) }
 {
     for (key, item) in items.iter() {
-        add_member(builder, control, key.as_str(), item)?;
+        add_member(builder, control, ctrl, key.as_str(), item)?;
     }
     Ok(())
 }
@@ -104,15 +123,16 @@ fn add_table(builder: &mut PlanBuilder<Data>, control: u32, items: &Table) -> Re
 fn add_member(
     builder: &mut PlanBuilder<Data>,
     control: u32,
+    ctrl: Ctrl,
     key: &str,
     item: &Value,
 ) -> Result<(), ReadError>
     ensures many { IfOk result (λ _. length builder.new.handlers ≡ length builder.old.handlers) }
-    ensures ok { IfOk result (λ _. with_member builder.old control key.now (view item.now) ≡ Ok builder.new) }
-    ensures err { IfErr result (Stops (with_member builder.old control key.now (view item.now))) }
+    ensures ok { IfOk result (λ _. with_member builder.old control ctrl key.now (view item.now) ≡ Ok builder.new) }
+    ensures err { IfErr result (Stops (with_member builder.old control ctrl key.now (view item.now))) }
 {
     match index_of(key) {
-        Ok(index) => add_item(builder, control, index, item),
+        Ok(index) => add_item(builder, control, ctrl, index, item),
         Err(fault) => Err(ReadError::Key(fault)),
     }
 }
@@ -131,17 +151,18 @@ fn index_of(key: &str) -> Result<u32, KeyFault>
 fn add_item(
     builder: &mut PlanBuilder<Data>,
     control: u32,
+    ctrl: Ctrl,
     index: u32,
     item: &Value,
 ) -> Result<(), ReadError>
     ensures many { IfOk result (λ _. length builder.new.handlers ≡ length builder.old.handlers) }
-    ensures ok { IfOk result (λ _. with_given builder.old control index (view item.now) ≡ Ok builder.new) }
-    ensures err { IfErr result (Stops (with_given builder.old control index (view item.now))) }
+    ensures ok { IfOk result (λ _. with_given builder.old control ctrl index (view item.now) ≡ Ok builder.new) }
+    ensures err { IfErr result (Stops (with_given builder.old control ctrl index (view item.now))) }
 {
     match item.as_str() {
-        Some(name) => add_name(builder, control, index, name),
+        Some(name) => add_name(builder, control, ctrl, index, name),
         None => match item.as_integer() {
-            Some(number) => add_number(builder, control, index, number),
+            Some(number) => add_number(builder, control, ctrl, index, number),
             None => Err(ReadError::Key(KeyFault::of_element(
                 Key::Menu,
                 index as usize,
@@ -154,31 +175,81 @@ fn add_item(
 fn add_name(
     builder: &mut PlanBuilder<Data>,
     control: u32,
+    ctrl: Ctrl,
     index: u32,
     name: &str,
 ) -> Result<(), ReadError>
     ensures many { IfOk result (λ _. length builder.new.handlers ≡ length builder.old.handlers) }
-    ensures ok { IfOk result (λ _. unless_refused (item_fault index) (name_refusal builder.old control index name.now) (with_item builder.old control index (Name name.now)) ≡ Ok builder.new) }
-    ensures err { IfErr result (Stops (unless_refused (item_fault index) (name_refusal builder.old control index name.now) (with_item builder.old control index (Name name.now)))) }
+    ensures ok { IfOk result (λ _. unless_refused (item_fault index (name_problem ctrl.kind ctrl index)) (name_refusal builder.old control index name.now) (with_item builder.old control index (Name name.now)) ≡ Ok builder.new) }
+    ensures err { IfErr result (Stops (unless_refused (item_fault index (name_problem ctrl.kind ctrl index)) (name_refusal builder.old control index name.now) (with_item builder.old control index (Name name.now)))) }
 {
     match builder.menu_name(control, index, name) {
         Ok(()) => Ok(()),
-        Err(fault) => Err(refused_item(fault, index)),
+        Err(fault) => Err(refused_name(fault, ctrl, index)),
     }
 }
 
 fn add_number(
     builder: &mut PlanBuilder<Data>,
     control: u32,
+    ctrl: Ctrl,
     index: u32,
     number: i64,
 ) -> Result<(), ReadError>
     ensures many { IfOk result (λ _. length builder.new.handlers ≡ length builder.old.handlers) }
-    ensures ok { IfOk result (λ _. unless_refused (item_fault index) (number_refusal builder.old control index) (with_item builder.old control index (Number number)) ≡ Ok builder.new) }
-    ensures err { IfErr result (Stops (unless_refused (item_fault index) (number_refusal builder.old control index) (with_item builder.old control index (Number number)))) }
+    ensures ok { IfOk result (λ _. unless_refused (item_fault index (number_problem ctrl.kind ctrl index)) (number_refusal builder.old control index) (with_item builder.old control index (Number number)) ≡ Ok builder.new) }
+    ensures err { IfErr result (Stops (unless_refused (item_fault index (number_problem ctrl.kind ctrl index)) (number_refusal builder.old control index) (with_item builder.old control index (Number number)))) }
 {
     match builder.menu_number(control, index, number) {
         Ok(()) => Ok(()),
-        Err(fault) => Err(refused_item(fault, index)),
+        Err(fault) => Err(refused_number(fault, ctrl, index)),
+    }
+}
+
+// What the refusal of a name at an index is.
+fn refused_name(fault: PlanFault, ctrl: Ctrl, index: u32) -> ReadError
+    ensures { result ≡ refused (item_fault index (name_problem ctrl.kind ctrl index)) fault }
+{
+    refused_item(fault, index, name_problem_of(ctrl, index))
+}
+
+// The same of a number.
+fn refused_number(fault: PlanFault, ctrl: Ctrl, index: u32) -> ReadError
+    ensures { result ≡ refused (item_fault index (number_problem ctrl.kind ctrl index)) fault }
+{
+    refused_item(fault, index, number_problem_of(ctrl, index))
+}
+
+// What is wrong with a name that a control doesn't take at an index.
+fn name_problem_of(ctrl: Ctrl, index: u32) -> Problem
+    ensures { result ≡ name_problem ctrl.kind ctrl index }
+{
+    match ctrl.kind() {
+        Kind::Menu => index_problem_of(ctrl, index),
+        Kind::IntegerMenu => Problem::OtherItem,
+        _ => Problem::NotMenu,
+    }
+}
+
+// The same of a number.
+fn number_problem_of(ctrl: Ctrl, index: u32) -> Problem
+    ensures { result ≡ number_problem ctrl.kind ctrl index }
+{
+    match ctrl.kind() {
+        Kind::IntegerMenu => index_problem_of(ctrl, index),
+        Kind::Menu => Problem::OtherItem,
+        _ => Problem::NotMenu,
+    }
+}
+
+// What is wrong with an index that a menu doesn't take.
+fn index_problem_of(ctrl: Ctrl, index: u32) -> Problem
+    ensures { result ≡ index_problem ctrl index }
+{
+    let index = i64::from(index);
+    if ctrl.minimum() <= index && index <= ctrl.maximum() {
+        Problem::SkippedItem
+    } else {
+        Problem::OutsideMenu
     }
 }

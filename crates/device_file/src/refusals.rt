@@ -38,19 +38,19 @@ pub(crate) fn refused_control(fault: PlanFault) -> ReadError
     }
 }
 
-// Of the item at an index.
-pub(crate) fn refused_item(fault: PlanFault, index: u32) -> ReadError
-    ensures { result ≡ refused (item_fault index) fault }
+// Of the item at an index; this is wrong where the control doesn't take it.
+pub(crate) fn refused_item(fault: PlanFault, index: u32, misfit: Problem) -> ReadError
+    ensures { result ≡ refused (item_fault index misfit) fault }
 {
     let problem = match fault {
         PlanFault::Memory => return ReadError::Memory,
         PlanFault::Limit => Problem::LongItem,
-        _ => Problem::NoItem,
+        _ => misfit,
     };
     ReadError::Key(KeyFault::of_element(Key::Menu, index as usize, problem))
 }
 
-// Of a further cluster.
+// Of a further cluster; each member was judged before.
 pub(crate) fn refused_cluster(fault: PlanFault) -> ReadError
     ensures { result ≡ refused cluster_fault fault }
 {
@@ -58,6 +58,6 @@ pub(crate) fn refused_cluster(fault: PlanFault) -> ReadError
         PlanFault::Memory => ReadError::Memory,
         PlanFault::ClusterSize => ReadError::Key(KeyFault::new(Key::Members, Problem::ClusterSize)),
         PlanFault::ArrayAlone => ReadError::Key(KeyFault::new(Key::Members, Problem::ArrayAlone)),
-        _ => ReadError::Key(KeyFault::new(Key::Members, Problem::InCluster)),
+        _ => ReadError::Key(KeyFault::new(Key::Members, Problem::NamedTwice)),
     }
 }

@@ -1,10 +1,12 @@
 //! Faults in words.
 
+use crate::advice::{Told, write_advice};
 use crate::fault::{FileFault, KeyFault};
 use crate::key::Key;
-use crate::lines::{key_in, line_in, syntax_line};
+use crate::lines::{key_in, line_in};
 use crate::place::{Place, table_at};
 use crate::problem::Problem;
+use crate::syntax::syntax_words;
 use std::alloc::{AllocError, Global};
 use std::fmt::Write;
 use toml::{Table, Value};
@@ -58,13 +60,6 @@ fn table_words(
     }
 }
 
-fn syntax_words(alloc: Global, text: &[u8], error: &toml::de::Error) -> Result<String, AllocError> {
-    match syntax_line(text, error) {
-        Some(line) => format!(in alloc; "line {line}: {}", error.message()),
-        None => format!(in alloc; "{}", error.message()),
-    }
-}
-
 fn words_in(
     alloc: Global,
     text: &[u8],
@@ -74,6 +69,18 @@ fn words_in(
 ) -> Result<String, AllocError> {
     let mut out = words_before(alloc, text, file, place, fault.key, fault.element)?;
     write!(out, "{}", fault.problem)?;
+    let key = key_in(file, place, fault.key);
+    let told = Told {
+        file,
+        place,
+        key,
+        known: fault.key,
+        value: match key {
+            Some(key) => value_of(file, place, fault.element, key),
+            None => None,
+        },
+    };
+    write_advice(&mut out, alloc, fault.problem, &told)?;
     Ok(out)
 }
 
@@ -188,6 +195,6 @@ fn write_value(out: &mut String, key: Key, value: &Value) -> Result<(), AllocErr
 }
 
 // A text, where it isn't too long for a line.
-fn brief(text: &str) -> &str {
+pub(crate) fn brief(text: &str) -> &str {
     if text.len() <= 64 { text } else { ".." }
 }

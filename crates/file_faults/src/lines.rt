@@ -7,6 +7,7 @@ use crate::fault::{FileFault, KeyFault};
 use crate::key::Key;
 use crate::place::{Place, table_at, value_at};
 use crate::problem::Problem;
+use crate::syntax::syntax_line;
 use std::alloc::{AllocError, Global};
 use toml::Table;
 
@@ -44,14 +45,6 @@ fn table_line(
             }
         }
     }
-}
-
-// The line of a file that isn't TOML.
-pub(crate) fn syntax_line(text: &[u8], error: &toml::de::Error) -> Option<usize> {
-    let span = error.span()?;
-    let before = text.get(..span.start)?;
-    let ends = before.iter().filter(|byte| **byte == b'\n').count();
-    Some(ends.saturating_add(1))
 }
 
 // The line of a table's key in a file that was read.

@@ -18,6 +18,8 @@ pub enum Sort {
     Table,
     /// An array or a table of menu items.
     Menu,
+    /// A number, or the kernel's name of an id.
+    Id,
 }
 
 /// What is wrong with a key of a device file, or with the table that it stands in.
@@ -41,6 +43,8 @@ pub enum Problem {
     NotIndex,
     /// A key of a table of items isn't an index.
     NotItemIndex,
+    /// The kernel has no id of this name.
+    UnknownId,
     /// A control's name isn't one that scripts can say.
     NotName,
     /// Another one has this name.
@@ -79,14 +83,22 @@ pub enum Problem {
     BadDefault,
     /// An item is neither a text nor a number.
     NotItem,
-    /// The control takes no such item at this index.
-    NoItem,
+    /// The control is no menu, so it has no items.
+    NotMenu,
+    /// An item is a text where the menu has numbers, or the other way round.
+    OtherItem,
+    /// The index of an item isn't from the minimum to the maximum.
+    OutsideMenu,
+    /// The control skips the index of an item.
+    SkippedItem,
     /// The name of an item has more than 32 bytes.
     LongItem,
     /// A cluster has no members, or more than 8.
     ClusterSize,
-    /// A member is in a cluster already, or named twice.
-    InCluster,
+    /// A member is in this cluster already.
+    InCluster(usize),
+    /// A member is named twice.
+    NamedTwice,
     /// An array isn't the only member of its cluster, or the cluster has a manual value.
     ArrayAlone,
     /// A limit, or a word that is made of values, has an array among its members.
@@ -103,6 +115,7 @@ impl fmt::Display for Sort {
             Sort::Tables => "an array of tables",
             Sort::Table => "a table",
             Sort::Menu => "an array of items, or a table of items by their indexes",
+            Sort::Id => "a number, or in quotation marks its name of linux/v4l2-controls.h",
         })
     }
 }
@@ -133,6 +146,7 @@ impl Problem {
             Problem::Negative => "has to be 0 or more",
             Problem::NotIndex => "has to be indexes from 0 to 63",
             Problem::NotItemIndex => "the key of an item is its index",
+            Problem::UnknownId => "linux/v4l2-controls.h has no such name",
             Problem::NotName => "has to be one or more bytes without space, = or the end of a line",
             Problem::NameTaken => "this name is taken",
             Problem::UnknownHandler => "no handler further up has this name",
@@ -158,13 +172,17 @@ impl Problem {
             Problem::BadDefault =>
                 "the control doesn't take it as it is: it has to lie from min to max, on a step, and not be skipped; left out it is 0",
             Problem::NotItem => "an item is a name or a number",
-            Problem::NoItem => "the control has no such item at this index",
+            Problem::NotMenu => "only a menu and an integer_menu have items: leave menu out",
+            Problem::OtherItem => "the items of a menu are names, those of an integer_menu numbers",
+            Problem::OutsideMenu => "the index of the item isn't from min to max",
+            Problem::SkippedItem => "skip names the index of the item: leave one of the two out",
             Problem::LongItem => "the name of an item has at most 32 bytes",
             Problem::ClusterSize => "a cluster has 1 to 8 members",
-            Problem::InCluster => "a member is in a cluster already, or named twice",
+            Problem::NamedTwice => "it is named twice",
             Problem::ArrayAlone => "an array is alone in its cluster, which has no manual value",
             Problem::OfArray => "an array has no such limit or word",
-            Problem::Syntax(_) | Problem::Not(_) | Problem::NotOfType(_) => "",
+            Problem::Syntax(_) | Problem::Not(_) | Problem::NotOfType(_) | Problem::InCluster(_) =>
+                "",
         }
     }
 }
@@ -175,6 +193,7 @@ impl fmt::Display for Problem {
             Problem::Syntax(error) => f.write_str(error.message()),
             Problem::Not(sort) => write!(f, "has to be {sort}"),
             Problem::NotOfType(kind) => f.write_str(taken(*kind)),
+            Problem::InCluster(number) => write!(f, "it is in cluster {number} already"),
             other => f.write_str(other.words()),
         }
     }

@@ -3,6 +3,7 @@ use Rattle.std.specs.Prelude.{ℕ, ◌+◌, ◌-◌, ◌*◌, ◌%◌, ◌^◌, 
 use Rattle.std.specs.List.{list_any}
 use Rattle.std.specs.Option.{ok_or, option_and_then, option_map}
 use Rattle.toml.specs.Data.{Data, Members, as_integer, as_str}
+use Rattle.control_ids.specs.Ids.{kernel_id}
 use Rattle.ctrl_types.specs.declared.flags.Flags.{Flags}
 use Rattle.ctrl_types.specs.declared.ids.CtrlId.{CtrlId}
 use Rattle.ctrl_types.specs.declared.kind.Kind.{Kind}
@@ -13,7 +14,7 @@ use Rattle.ctrl_settle.specs.declared.fault.CtrlFault.{CtrlFault}
 use Rattle.ctrl_settle.specs.declared.fault.CtrlFault.TheVariants.{BadRange, ZeroStep, BadDefault, KindBounds}
 use Rattle.file_faults.specs.Faults.{◌>>=◌, wrong, wrong_at}
 use Rattle.file_tables.specs.Names.{flag_named, kind_named}
-use Rattle.file_tables.specs.Reading.{elements_at, elements_in, needed_number_in, needed_text_in, number_in, number_or_in, truth_in}
+use Rattle.file_tables.specs.Reading.{elements_at, elements_in, needed, needed_text_in, number_in, number_or_in, truth_in, value_at}
 use Rattle.file_faults.specs.declared.fault.KeyFault.{KeyFault}
 use Rattle.file_faults.specs.declared.key.Key.{Key}
 use Rattle.file_faults.specs.declared.key.Key.TheVariants as keys
@@ -35,10 +36,22 @@ natural (negsuc _) = None
 abbrev pub id_with : ℕ → CtrlId
 id_with number = record { 0 = number }
 
+-- a text is the name that the kernel has for an id; a number is the id itself
+abbrev pub id_by_name : List ℕ → Result CtrlId KeyFault
+id_by_name name = ok_or (option_map id_with (kernel_id name)) (wrong keys.Id problems.UnknownId)
+
+abbrev pub id_by_number : Option ℤ → Result CtrlId KeyFault
+id_by_number (Some number) = ok_or (option_map id_with (in_32_bits number)) (wrong keys.Id problems.NotWord)
+id_by_number None = Err (wrong keys.Id (problems.Not sorts.Id))
+
+abbrev pub id_by : Option (List ℕ) → Option ℤ → Result CtrlId KeyFault
+id_by (Some name) number = id_by_name name
+id_by None number = id_by_number number
+
 abbrev pub id_in : Members → Result CtrlId KeyFault
 id_in table = do
-  number ← needed_number_in keys.Id table
-  ok_or (option_map id_with (in_32_bits number)) (wrong keys.Id problems.NotWord)
+  d ← needed keys.Id (value_at keys.Id table)
+  id_by (as_str d) (as_integer d)
 
 -- the type that a table names
 abbrev pub kind_in : Members → Result Kind KeyFault

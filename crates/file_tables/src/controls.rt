@@ -7,31 +7,16 @@ ghost use Rattle.toml.specs.View.{view, table_view};
 ghost use Rattle.ctrl_settle.specs.Config.{control_of};
 ghost use Rattle.ctrl_settle.specs.Faults.{CanDeclare, IsWellFormed};
 ghost use Rattle.ctrl_settle.specs.FirstFault.{can_skip, has_elems};
-ghost use Rattle.file_tables.specs.Controls.{bit_at, control_at, description_in, elems_in, flag_bits_of, flag_of, flags_in, id_in, is_sayable, kind_in, last_item, lies_in, maximums, minimums, misfit, divides, name_at, range, said_of, skip_bits_of, skip_in, skipped, step_in, usual_maximum, usual_step, wrong_elems};
+ghost use Rattle.file_tables.specs.Controls.{bit_at, control_at, description_in, elems_in, flag_bits_of, flag_of, flags_in, id_by_name, id_by_number, id_in, is_sayable, kind_in, last_item, lies_in, maximums, minimums, misfit, divides, name_at, range, said_of, skip_bits_of, skip_in, skipped, step_in, usual_maximum, usual_step, wrong_elems};
 
 use crate::names::{flag_named, kind_named};
-use crate::reading::{elements, elements_of, needed_number, needed_text, number, number_or, truth};
+use crate::reading::{elements, elements_of, find, needed_text, number, number_or, truth};
 use bitflags::Flags as FlagSet;
+use control_ids::id_named;
 use ctrl_settle::{Ctrl, CtrlConfig, CtrlFault};
 use ctrl_types::{CtrlId, Flags, Kind};
 use file_faults::{Key, KeyFault, Problem, Sort};
 use toml::{Table, Value};
-
-/// The keys that a control may have.
-pub const CONTROL_KEYS: &[Key] = &[
-    Key::Name,
-    Key::Id,
-    Key::Type,
-    Key::Min,
-    Key::Max,
-    Key::Step,
-    Key::Default,
-    Key::Elems,
-    Key::Flags,
-    Key::Menu,
-    Key::Skip,
-    Key::Private,
-];
 
 /// The control that a table describes, whose keys are known (`struct v4l2_ctrl_config`). Its name and its items aren't looked at.
 ///
@@ -180,9 +165,35 @@ fn config_in(table: &Table) -> Result<CtrlConfig, KeyFault>
 fn id_of(table: &Table) -> Result<CtrlId, KeyFault>
     ensures { result ≡ id_in (table_view table.now) }
 {
-    match u32::try_from(needed_number(table, Key::Id)?) {
-        Ok(id) => Ok(CtrlId(id)),
-        Err(_) => Err(KeyFault::new(Key::Id, Problem::NotWord)),
+    match find(table, Key::Id) {
+        None => Err(KeyFault::new(Key::Id, Problem::Missing)),
+        Some(value) => match value.as_str() {
+            Some(name) => kernel_id_of(name),
+            None => id_number(value.as_integer()),
+        },
+    }
+}
+
+// The id that the kernel has for a name.
+fn kernel_id_of(name: &str) -> Result<CtrlId, KeyFault>
+    ensures { result ≡ id_by_name name.now }
+{
+    match id_named(name) {
+        Some(id) => Ok(CtrlId(id)),
+        None => Err(KeyFault::new(Key::Id, Problem::UnknownId)),
+    }
+}
+
+// The id that is a number.
+fn id_number(number: Option<i64>) -> Result<CtrlId, KeyFault>
+    ensures { result ≡ id_by_number number }
+{
+    match number {
+        Some(number) => match u32::try_from(number) {
+            Ok(id) => Ok(CtrlId(id)),
+            Err(_) => Err(KeyFault::new(Key::Id, Problem::NotWord)),
+        },
+        None => Err(KeyFault::new(Key::Id, Problem::Not(Sort::Id))),
     }
 }
 

@@ -7,5 +7,5 @@ mod limits;
 mod names;
 pub mod reading;
 
-pub use controls::{CONTROL_KEYS, control_in, name_in};
+pub use controls::{control_in, name_in};
 pub use limits::{limit_of, place_of, word_of};

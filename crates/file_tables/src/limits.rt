@@ -6,7 +6,10 @@ ghost use Rattle.file_tables.specs.Limits.{at_most_in, at_most_member_in, at_mos
 
 use crate::reading::{needed_number, needed_text, no_others, number_or, text};
 use data_driver::{Excess, Limit, Word};
-use file_faults::{Key, KeyFault, Problem};
+use file_faults::{
+    AT_MOST_KEYS, AT_MOST_MEMBER_KEYS, AT_MOST_WHILE_KEYS, CONSTANT_KEYS, JOINED_KEYS, Key,
+    KeyFault, PLUS_KEYS, PRODUCT_KEYS, Problem, SUM_KEYS,
+};
 use toml::{Table, Value};
 
 /// The limit that a table describes.
@@ -40,7 +43,7 @@ pub fn limit_of(table: &Table, members: &[Value]) -> Result<Limit, KeyFault>
 fn sum_of(table: &Table, _members: &[Value]) -> Result<Limit, KeyFault>
     ensures { result ≡ sum_in (map view _members.now) (table_view table.now) }
 {
-    no_others(table, &[Key::Kind, Key::Most])?;
+    no_others(table, SUM_KEYS)?;
     Ok(Limit::Sum {
         most: needed_number(table, Key::Most)?,
     })
@@ -49,7 +52,7 @@ fn sum_of(table: &Table, _members: &[Value]) -> Result<Limit, KeyFault>
 fn product_of(table: &Table, members: &[Value]) -> Result<Limit, KeyFault>
     ensures { result ≡ product_in (map view members.now) (table_view table.now) }
 {
-    no_others(table, &[Key::Kind, Key::First, Key::Second, Key::Most])?;
+    no_others(table, PRODUCT_KEYS)?;
     Ok(Limit::Product {
         first: member_of(table, Key::First, members)?,
         second: member_of(table, Key::Second, members)?,
@@ -60,7 +63,7 @@ fn product_of(table: &Table, members: &[Value]) -> Result<Limit, KeyFault>
 fn at_most_of(table: &Table, members: &[Value]) -> Result<Limit, KeyFault>
     ensures { result ≡ at_most_in (map view members.now) (table_view table.now) }
 {
-    no_others(table, &[Key::Kind, Key::Member, Key::Most, Key::Excess])?;
+    no_others(table, AT_MOST_KEYS)?;
     Ok(Limit::AtMost {
         member: member_of(table, Key::Member, members)?,
         most: needed_number(table, Key::Most)?,
@@ -71,16 +74,7 @@ fn at_most_of(table: &Table, members: &[Value]) -> Result<Limit, KeyFault>
 fn at_most_member_of(table: &Table, members: &[Value]) -> Result<Limit, KeyFault>
     ensures { result ≡ at_most_member_in (map view members.now) (table_view table.now) }
 {
-    no_others(
-        table,
-        &[
-            Key::Kind,
-            Key::Member,
-            Key::OtherMember,
-            Key::Margin,
-            Key::Excess,
-        ],
-    )?;
+    no_others(table, AT_MOST_MEMBER_KEYS)?;
     Ok(Limit::AtMostMember {
         member: member_of(table, Key::Member, members)?,
         other: member_of(table, Key::OtherMember, members)?,
@@ -92,16 +86,7 @@ fn at_most_member_of(table: &Table, members: &[Value]) -> Result<Limit, KeyFault
 fn at_most_while_of(table: &Table, members: &[Value]) -> Result<Limit, KeyFault>
     ensures { result ≡ at_most_while_in (map view members.now) (table_view table.now) }
 {
-    no_others(
-        table,
-        &[
-            Key::Kind,
-            Key::Member,
-            Key::Most,
-            Key::OtherMember,
-            Key::When,
-        ],
-    )?;
+    no_others(table, AT_MOST_WHILE_KEYS)?;
     Ok(Limit::AtMostWhile {
         member: member_of(table, Key::Member, members)?,
         most: needed_number(table, Key::Most)?,
@@ -135,7 +120,7 @@ pub fn word_of(table: &Table, members: &[Value]) -> Result<Word, KeyFault>
 fn joined_of(table: &Table, members: &[Value]) -> Result<Word, KeyFault>
     ensures { result ≡ joined_in (map view members.now) (table_view table.now) }
 {
-    no_others(table, &[Key::Kind, Key::First, Key::Second])?;
+    no_others(table, JOINED_KEYS)?;
     Ok(Word::Joined {
         first: member_of(table, Key::First, members)?,
         second: member_of(table, Key::Second, members)?,
@@ -145,7 +130,7 @@ fn joined_of(table: &Table, members: &[Value]) -> Result<Word, KeyFault>
 fn plus_of(table: &Table, members: &[Value]) -> Result<Word, KeyFault>
     ensures { result ≡ plus_in (map view members.now) (table_view table.now) }
 {
-    no_others(table, &[Key::Kind, Key::Member, Key::More])?;
+    no_others(table, PLUS_KEYS)?;
     Ok(Word::Plus {
         member: member_of(table, Key::Member, members)?,
         more: needed_number(table, Key::More)?,
@@ -155,7 +140,7 @@ fn plus_of(table: &Table, members: &[Value]) -> Result<Word, KeyFault>
 fn constant_of(table: &Table, _members: &[Value]) -> Result<Word, KeyFault>
     ensures { result ≡ constant_in (map view _members.now) (table_view table.now) }
 {
-    no_others(table, &[Key::Kind, Key::Word])?;
+    no_others(table, CONSTANT_KEYS)?;
     match u32::try_from(needed_number(table, Key::Word)?) {
         Ok(word) => Ok(Word::Constant(word)),
         Err(_) => Err(KeyFault::new(Key::Word, Problem::NotWord)),

@@ -7,5 +7,5 @@ use Rattle.device_file.proofs.items.add_list.Given as goal
 abbrev pub invariant-loop-place : goal.invariant-loop-place
 invariant-loop-place l = record {
   many : length l.builder.handlers ≡ length l.initial.builder.handlers;
-  rest : with_list l.builder l.control l.place (map view (drop l.place l.items)) ≡ with_list l.initial.builder l.control 0 (map view l.items);
+  rest : with_list l.builder l.control l.ctrl l.place (map view (drop l.place l.items)) ≡ with_list l.initial.builder l.control l.ctrl 0 (map view l.items);
 }

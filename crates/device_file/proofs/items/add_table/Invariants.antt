@@ -9,4 +9,4 @@ invariant-loop-key l =
     (goal.iterator-loop-key).can_next l.key-iterator ×
     (goal.iterator-loop-key).is_finite l.key-iterator ×
     (length l.builder.handlers ≡ length l.initial.builder.handlers) ×
-    (with_table l.builder l.control (members_view l.key-iterator) ≡ with_table l.initial.builder l.control (table_view l.items))
+    (with_table l.builder l.control l.ctrl (members_view l.key-iterator) ≡ with_table l.initial.builder l.control l.ctrl (table_view l.items))

@@ -1,0 +1,230 @@
+//! What to do about a fault, where more can be said than what is wrong: a word that may be meant, or how it is written.
+
+use crate::explaining::brief;
+use crate::key::Key;
+use crate::place::{Place, table_at};
+use crate::problem::{Problem, Sort};
+use crate::schema::keys_at;
+use control_ids::rows;
+use ctrl_types::Kind;
+use near_words::Nearest;
+use std::alloc::{AllocError, Global};
+use std::fmt::Write;
+use toml::{Table, Value};
+
+// A fault whose words are written.
+#[derive(Clone, Copy)]
+pub(crate) struct Told<'a> {
+    // the file, and which of its tables is wrong
+    pub file: &'a Table,
+    pub place: Place,
+    // the key as it stands there, and as it is known
+    pub key: Option<&'a str>,
+    pub known: Key,
+    // the value that is wrong, where there is one
+    pub value: Option<&'a Value>,
+}
+
+// Writes it behind what is wrong.
+pub(crate) fn write_advice(
+    out: &mut String,
+    alloc: Global,
+    problem: Problem,
+    told: &Told<'_>,
+) -> Result<(), AllocError> {
+    match problem {
+        Problem::UnknownKey => write_keys(out, alloc, told),
+        Problem::Not(Sort::Tables) => write_header(out, told),
+        Problem::NotOfType(kind) => write!(out, "{}", of_type(kind, told.known)),
+        Problem::UnknownId => write_id(out, alloc, told),
+        Problem::UnknownControl => write_control(out, alloc, told),
+        Problem::UnknownMember => write_member(out, alloc, told),
+        Problem::UnknownHandler => write_handler(out, alloc, told),
+        Problem::OutsideMenu => write_maximum(out, told),
+        _ => Ok(()),
+    }
+}
+
+fn text_of<'a>(told: &Told<'a>) -> &'a str {
+    match told.value {
+        Some(Value::String(text)) => text.as_str(),
+        _ => "",
+    }
+}
+
+fn write_nearest(out: &mut String, nearest: &Nearest<'_, '_>) -> Result<(), AllocError> {
+    match nearest.word() {
+        Some(word) => write!(out, "; the nearest is {}", brief(word)),
+        None => Ok(()),
+    }
+}
+
+// The key that may be meant, or those that the table has.
+fn write_keys(out: &mut String, alloc: Global, told: &Told<'_>) -> Result<(), AllocError> {
+    let keys = keys_at(told.file, told.place);
+    let key = told.key.unwrap_or("");
+    if key == "dims" && matches!(told.place, Place::Control(_, _)) {
+        return write!(out, "; how many elements there are is elems");
+    }
+    let mut nearest = Nearest::new(key);
+    for key in keys {
+        nearest.offer(alloc, key.word())?;
+    }
+    if nearest.word().is_some() {
+        return write_nearest(out, &nearest);
+    }
+    let mut sign = "; it has";
+    for key in keys {
+        write!(out, "{sign} {}", key.word())?;
+        sign = ",";
+    }
+    Ok(())
+}
+
+// How the tables of an array are written.
+fn write_header(out: &mut String, told: &Told<'_>) -> Result<(), AllocError> {
+    match told.known {
+        Key::Handler if is_implied(told.value) => {
+            write!(
+                out,
+                ": a [[handler]] has to come before [[handler.control]]"
+            )
+        }
+        Key::Control => write!(out, ": write [[handler.control]]"),
+        key => write!(out, ": write [[{}]]", key.word()),
+    }
+}
+
+// Whether a table has nothing but controls, as that of a handler which no header began.
+fn is_implied(value: Option<&Value>) -> bool {
+    match value {
+        Some(Value::Table(table)) => { table.len() == 1 && table.contains_key(Key::Control.word()) }
+        _ => false,
+    }
+}
+
+fn of_type(kind: Kind, key: Key) -> &'static str {
+    match (kind, key) {
+        (Kind::Integer, Key::Min | Key::Max) => "; use integer64",
+        (_, Key::Skip) => "; leave skip out",
+        _ => "",
+    }
+}
+
+fn write_id(out: &mut String, alloc: Global, told: &Told<'_>) -> Result<(), AllocError> {
+    let name = text_of(told);
+    if name
+        .as_bytes()
+        .first()
+        .is_some_and(|byte| byte.is_ascii_digit())
+    {
+        return write!(out, "; a number stands without quotation marks");
+    }
+    let mut nearest = Nearest::new(without_prefix(name));
+    for row in rows().lines() {
+        if let Some((known, _)) = row.split_once(" ") {
+            nearest.offer(alloc, without_prefix(known))?;
+        }
+    }
+    match nearest.word() {
+        Some(word) => write!(out, "; the nearest is V4L2_CID_{word}"),
+        None => Ok(()),
+    }
+}
+
+// A name of an id without what all of them begin with.
+fn without_prefix(name: &str) -> &str {
+    name.strip_prefix("V4L2_CID_").unwrap_or(name)
+}
+
+fn write_control(out: &mut String, alloc: Global, told: &Told<'_>) -> Result<(), AllocError> {
+    let mut nearest = Nearest::new(text_of(told));
+    for handler in elements_of(told.file, Key::Handler) {
+        if let Some(handler) = handler.as_table() {
+            offer_names(alloc, &mut nearest, elements_of(handler, Key::Control))?;
+        }
+    }
+    write_nearest(out, &nearest)
+}
+
+fn write_handler(out: &mut String, alloc: Global, told: &Told<'_>) -> Result<(), AllocError> {
+    let handlers = elements_of(told.file, Key::Handler);
+    let count = match told.place {
+        Place::Handler(number) => number.min(handlers.len()),
+        _ => 0,
+    };
+    let mut nearest = Nearest::new(text_of(told));
+    offer_names(alloc, &mut nearest, &handlers[..count])?;
+    write_nearest(out, &nearest)
+}
+
+// The member that may be meant, or those that there are.
+fn write_member(out: &mut String, alloc: Global, told: &Told<'_>) -> Result<(), AllocError> {
+    let members = match told.place {
+        Place::Limit(number) | Place::Told(number) => members_of(told.file, number),
+        _ => &[],
+    };
+    let mut nearest = Nearest::new(text_of(told));
+    for member in members {
+        offer_text(alloc, &mut nearest, Some(member))?;
+    }
+    if nearest.word().is_some() {
+        return write_nearest(out, &nearest);
+    }
+    let mut sign = "; its members are";
+    for member in members {
+        if let Value::String(name) = member {
+            write!(out, "{sign} {}", brief(name.as_str()))?;
+            sign = ",";
+        }
+    }
+    Ok(())
+}
+
+fn members_of(file: &Table, cluster: usize) -> &[Value] {
+    match table_at(file, Place::Cluster(cluster)) {
+        Some(cluster) => elements_of(cluster, Key::Members),
+        None => &[],
+    }
+}
+
+// The greatest index, where a table of items has none of its own.
+fn write_maximum(out: &mut String, told: &Told<'_>) -> Result<(), AllocError> {
+    match table_at(told.file, told.place) {
+        Some(control) if !control.contains_key(Key::Max.word()) => write!(out, "; give max"),
+        _ => Ok(()),
+    }
+}
+
+// The elements of a key's array.
+fn elements_of(table: &Table, key: Key) -> &[Value] {
+    match table.get(key.word()) {
+        Some(Value::Array(values)) => values.as_slice(),
+        _ => &[],
+    }
+}
+
+// Offers the names of some tables.
+fn offer_names<'a>(
+    alloc: Global,
+    nearest: &mut Nearest<'a, '_>,
+    tables: &'a [Value],
+) -> Result<(), AllocError> {
+    for table in tables {
+        if let Some(table) = table.as_table() {
+            offer_text(alloc, nearest, table.get(Key::Name.word()))?;
+        }
+    }
+    Ok(())
+}
+
+fn offer_text<'a>(
+    alloc: Global,
+    nearest: &mut Nearest<'a, '_>,
+    value: Option<&'a Value>,
+) -> Result<(), AllocError> {
+    match value {
+        Some(Value::String(text)) => nearest.offer(alloc, text.as_str()),
+        _ => Ok(()),
+    }
+}
