@@ -100,6 +100,18 @@ impl Draft {
         }
     }
 
+    /// The fault of the file that is a fault of this.
+    pub fn fault_in_file(&self, place: Place, fault: KeyFault) -> FileFault {
+        let problem = match fault.problem {
+            Problem::InCluster(number) => Problem::InCluster(self.cluster_in_file(number)),
+            problem => problem,
+        };
+        FileFault::Table {
+            place: self.place_in_file(place),
+            fault: KeyFault { problem, ..fault },
+        }
+    }
+
     fn cluster_in_file(&self, number: usize) -> usize {
         self.clusters().get(number).copied().unwrap_or(number)
     }

@@ -1,4 +1,4 @@
-use file_faults::{FileFault, Key, KeyFault, Place, explain, key_words};
+use file_faults::{FileFault, Key, Place, explain, key_words};
 use std::alloc::{AllocError, Global};
 
 /// The lines that are said of a file.
@@ -22,10 +22,9 @@ impl<'a> Lines<'a> {
         }
     }
 
-    /// Says a fault of a table.
-    pub fn fault(&mut self, place: Place, fault: KeyFault) -> Result<(), AllocError> {
-        let line = explain(self.alloc, self.text, &FileFault::Table { place, fault })?;
-        self.all.push(line)?;
+    /// Says a fault.
+    pub fn fault(&mut self, fault: &FileFault) -> Result<(), AllocError> {
+        self.all.push(explain(self.alloc, self.text, fault)?)?;
         Ok(())
     }
 

@@ -49,7 +49,7 @@ pub fn check_file(alloc: Global, text: &[u8]) -> Result<Report, AllocError> {
             Err(FileFault::Table { place, fault }) => (place, fault),
         };
         if draft.is_news(place, fault.problem) {
-            lines.fault(draft.place_in_file(place), fault)?;
+            lines.fault(&draft.fault_in_file(place, fault))?;
         }
         if lines.all.len() == MAX_FAULTS || !draft.mend(alloc, place, &fault)? {
             break;
