@@ -1,20 +1,22 @@
 //! The word that may be meant by one that is none.
 
 use crate::names::Words;
+use near_words::Nearest;
 use script_lines::VERB_WORDS;
 use std::alloc::{AllocError, Global};
-use strsim::osa_distance;
-
-// The most bytes of words that are compared letter by letter.
-const LONGEST: usize = 64;
 
 /// The first word of a command that is nearest to one that was given; none where none is near. The error is that a growth was refused.
 pub fn nearest_verb(alloc: Global, given: &[u8]) -> Result<Option<&'static [u8]>, AllocError> {
-    let mut nearest = Nearest::to(alloc, given)?;
+    let Ok(given) = str::from_utf8(given) else {
+        return Ok(None);
+    };
+    let mut nearest = Nearest::new(given);
     for verb in VERB_WORDS {
-        nearest.offer(alloc, verb)?;
+        if let Ok(verb) = str::from_utf8(verb) {
+            nearest.offer(alloc, verb)?;
+        }
     }
-    Ok(nearest.word)
+    Ok(nearest.word().map(str::as_bytes))
 }
 
 /// The word of a device that is nearest to one that was given; none where none is near. The error is that a growth was refused.
@@ -23,67 +25,14 @@ pub fn nearest_word<'a>(
     given: &[u8],
     words: Words<'a>,
 ) -> Result<Option<&'a [u8]>, AllocError> {
-    let mut nearest = Nearest::to(alloc, given)?;
+    let Ok(given) = str::from_utf8(given) else {
+        return Ok(None);
+    };
+    let mut nearest = Nearest::new(given);
     for control in 0..words.count() {
-        if let Some(word) = words.word(control) {
+        if let Some(Ok(word)) = words.word(control).map(str::from_utf8) {
             nearest.offer(alloc, word)?;
         }
     }
-    Ok(nearest.word)
-}
-
-// The nearest to a word of those that were offered, and how far it is.
-#[derive(Drop)]
-struct Nearest<'a> {
-    // in lower case
-    given: Vec<u8>,
-    word: Option<&'a [u8]>,
-    far: usize,
-}
-
-impl<'a> Nearest<'a> {
-    fn to(alloc: Global, given: &[u8]) -> Result<Nearest<'a>, AllocError> {
-        Ok(Nearest {
-            given: given.to_ascii_lowercase(alloc)?,
-            word: None,
-            far: usize::MAX,
-        })
-    }
-
-    // Takes a word that is nearer than those before.
-    fn offer(&mut self, alloc: Global, word: &'a [u8]) -> Result<(), AllocError> {
-        if let Some(far) = distance(alloc, self.given.as_slice(), word)? {
-            if far < self.far {
-                self.word = Some(word);
-                self.far = far;
-            }
-        }
-        Ok(())
-    }
-}
-
-// How far two words are from each other, where one may be meant by the other: they differ in capitals alone, or by few edits; or, which is farther than any of
-// these, one stands within the other.
-fn distance(alloc: Global, given: &[u8], word: &[u8]) -> Result<Option<usize>, AllocError> {
-    let (Ok(given), Ok(word)) = (str::from_utf8(given), str::from_utf8(word)) else {
-        return Ok(None);
-    };
-    if word.eq_ignore_ascii_case(given) {
-        return Ok(Some(0));
-    }
-    let longer = given.len().max(word.len());
-    let shorter = given.len().min(word.len());
-    let more = longer.saturating_sub(shorter);
-    // one edit in three letters
-    let few = longer / 3;
-    if longer <= LONGEST && more <= few {
-        let edits = osa_distance(alloc, given, word)?;
-        if edits <= few {
-            return Ok(Some(edits));
-        }
-    }
-    if shorter >= 3 && (given.contains(word) || word.contains(given)) {
-        return Ok(Some(LONGEST.saturating_add(more)));
-    }
-    Ok(None)
+    Ok(nearest.word().map(str::as_bytes))
 }
