@@ -46,12 +46,17 @@ impl<'a, 'g> Nearest<'a, 'g> {
     }
 }
 
-// How far two words are from each other, where one may be meant by the other: they differ in capitals alone, or by few edits; or, which is farther than any of
+// How far two words are from each other, whatever their capitals, where one may be meant by the other: they differ by few edits; or, which is farther than any of
 // these, one stands within the other.
 fn distance(alloc: Global, given: &str, word: &str) -> Result<Option<usize>, AllocError> {
-    if given.eq_ignore_ascii_case(word) {
-        return Ok(Some(0));
-    }
+    let given = given.as_bytes().to_ascii_lowercase(alloc)?;
+    let word = word.as_bytes().to_ascii_lowercase(alloc)?;
+    let (Ok(given), Ok(word)) = (
+        str::from_utf8(given.as_slice()),
+        str::from_utf8(word.as_slice()),
+    ) else {
+        return Ok(None);
+    };
     let longer = given.len().max(word.len());
     let shorter = given.len().min(word.len());
     let more = longer.saturating_sub(shorter);
