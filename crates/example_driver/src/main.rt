@@ -1,4 +1,4 @@
-//! A driver of a camera, from nothing: it describes the device, makes the closures, and asks what an application would.
+//! A driver of a camera, from nothing: it describes the device, makes the closures, asks what an application would, and answers a script.
 #![tactic(auto)]
 
 mod device;
@@ -7,12 +7,14 @@ mod driver;
 ghost use Rattle.std.specs.Prelude.{◌<◌, ◌^◌, length};
 ghost use Rattle.ctrl_calls.specs.Meanings.{JudgesBy, TellsBy};
 
-use crate::device::{BLUE, GAIN, HFLIP, MODE, RED, TIME, camera_plan};
+use crate::device::{BLUE, GAIN, HFLIP, LAMPS, MODE, RED, TIME, camera_plan};
 use crate::driver::{BLUE_LIMIT, Camera, EXPOSURE_WORDS, blue_verdict, exposure_word};
 use anyhow::{Result, bail};
+use ctl_script::{ControlWords, Outcome, run_script};
 use ctrl_calls::{Calls, ClusterRow, Driver, Notifier, Validator, Verdict};
 use ctrl_types::{CtrlId, CtrlValue, ExtControl, Fault, FhId, RequestId};
 use device_state::{Ask, ControlList, Device, MenuItem, Reply};
+use std::alloc::{AllocError, Global};
 use std::io;
 
 type Judge = Box<dyn Fn(ClusterRow) -> Verdict + Send>;
@@ -25,10 +27,10 @@ fn main(rt: HostRuntime) -> Result<()> {
     run::<Camera>(&rt, limit, exposure)
 }
 
-// Makes the device, whose clusters have these closures, and plays with it. It is generic over the driver, since a type such as
-// `Validator<Camera>` can't be named.
+// Makes the device, whose clusters have these closures, plays with it, and answers the script of standard input. It is generic over the
+// driver, since a type such as `Validator<Camera>` can't be named.
 fn run<D: Driver>(
-    rt: &(impl AllocGlobal + Print),
+    rt: &(impl AllocGlobal + Input + Print),
     limit: D::Judge,
     exposure: D::Teller,
 ) -> Result<()>
@@ -49,7 +51,8 @@ fn run<D: Driver>(
     let Ok(mut device) = Device::new(rt.alloc(), plan) else {
         bail!("no memory for the device");
     };
-    play(rt, &mut device)
+    play(rt, &mut device)?;
+    answer_script(rt, device)
 }
 
 // What an application asks.
@@ -173,4 +176,31 @@ fn print_values(rt: &impl Print, values: &[CtrlValue]) -> io::Result<()> {
         print!(rt; "{before}{value}")?;
     }
     print!(rt; "]")
+}
+
+// Answers the commands of standard input, if it has any. Where a line is none, the program ends with status 1.
+fn answer_script<D: Driver>(
+    rt: &(impl AllocGlobal + Input + Print),
+    device: Device<D>,
+) -> Result<()> {
+    let known = camera_words(rt.alloc())?;
+    let mut reader = rt.reader();
+    let mut writer = io::writer(rt);
+    match run_script(rt.alloc(), &known, device, &mut reader, &mut writer) {
+        (_, Outcome::Finished) => Ok(()),
+        _ => bail!("the script has not run to its end"),
+    }
+}
+
+// The words by which a script names the controls, each with the control's id, and its number by the order of the plan.
+fn camera_words(alloc: Global) -> Result<ControlWords, AllocError> {
+    let mut words = ControlWords::new(alloc);
+    words.push(alloc, b"mode", MODE, 0)?;
+    words.push(alloc, b"time", TIME, 1)?;
+    words.push(alloc, b"gain", GAIN, 2)?;
+    words.push(alloc, b"hflip", HFLIP, 3)?;
+    words.push(alloc, b"lamps", LAMPS, 4)?;
+    words.push(alloc, b"red", RED, 5)?;
+    words.push(alloc, b"blue", BLUE, 6)?;
+    Ok(words)
 }
