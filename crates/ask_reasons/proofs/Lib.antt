@@ -1,4 +1,5 @@
 pub mod Errnos
 pub mod FrameReasons
 pub mod ListReasons
+pub mod NamingFaults
 pub mod Refusals

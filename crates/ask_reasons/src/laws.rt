@@ -1,8 +1,10 @@
 //! What the reasons that are named have to do with the answers, and with what queued frames will have. Each function is a law that its contract states; it has nothing to do.
 
-ghost use Rattle.std.specs.Prelude.{◌≡◌, ℕ, true, List};
+ghost use Rattle.std.specs.Prelude.{◌≡◌, ℕ, true, not, List, is_some};
 ghost use Rattle.std.specs.Option.{option_map};
+ghost use Rattle.ctrl_types.specs.declared.ids.CtrlId.{CtrlId};
 ghost use Rattle.ctrl_types.specs.declared.ids.Pair.{Pair};
+ghost use Rattle.ctrl_types.specs.declared.which.Which.{Which};
 ghost use Rattle.ctrl_calls.specs.Meanings.{Verdicts};
 ghost use Rattle.ctrl_settle.specs.Control.{Control};
 ghost use Rattle.ctrl_handlers.specs.Plan.{PlanData, members};
@@ -11,6 +13,8 @@ ghost use Rattle.ctrl_clusters.specs.Overlay.{is_touched, row_after};
 ghost use Rattle.device_history.specs.declared.ask.Ask.{Ask};
 ghost use Rattle.device_history.specs.Answers.{refusal};
 ghost use Rattle.device_history.specs.Steps.{Past};
+ghost use Rattle.ctrl_lists.specs.View.{named};
+ghost use Rattle.ask_reasons.specs.Naming.{naming_fault};
 ghost use Rattle.ask_reasons.specs.Reasons.{fault_for, reason_of};
 ghost use Rattle.ask_reasons.specs.Refused.{cluster_reason, row_by};
 
@@ -19,6 +23,12 @@ ghost use Rattle.ask_reasons.specs.Refused.{cluster_reason, row_by};
 #[tactic(auto, using(crate::proofs::Errnos::explained))]
 pub fn errnos()
     ensures { (verdicts : Verdicts) (plan : PlanData) (past : Past) (ask : Ask) → refusal verdicts plan past ask ≡ option_map (fault_for ask) (reason_of verdicts plan past ask) }
+{}
+
+/// An id has a cause why it names no control in a list exactly where it names none.
+#[tactic(auto, using(crate::proofs::NamingFaults::unnamed))]
+pub fn naming_faults()
+    ensures { (plan : PlanData) (handler : ℕ) (which : Which) (id : CtrlId) → is_some (naming_fault plan handler which id) ≡ not (is_some (named plan handler which id)) }
 {}
 
 /// What laying pairs over values makes of a cluster with a member among them is what its reason says: EBUSY where that is a grabbed member, the errno of its check

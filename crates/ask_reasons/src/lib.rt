@@ -3,10 +3,12 @@
 
 pub mod laws;
 mod lists;
+mod naming;
 mod reason;
 mod refused;
 mod text;
 
+pub use naming::{NamingFault, naming_fault};
 pub use reason::{Reason, reason_of};
 pub use refused::{ClusterReason, frame_reason};
-pub use text::text_of;
+pub use text::{text_for, text_of};

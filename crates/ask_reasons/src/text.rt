@@ -1,4 +1,53 @@
-use ctrl_types::Check;
+use crate::naming::{NamingFault, naming_fault};
+use crate::reason::Reason;
+use ctrl_calls::Driver;
+use ctrl_types::{Check, Which};
+use device_state::{Ask, Device};
+
+/// What an ask didn't meet, as a sentence: as `text_of` has it, but of check 6 which of its causes it is.
+///
+/// - `device`: as it stood when it was asked.
+/// - `ask`: what was asked, and refused for this reason.
+pub fn text_for<D: Driver>(device: &Device<D>, ask: &Ask, reason: Reason) -> &'static str {
+    match reason.check {
+        Check::EntryNamesNone => match fault_at(device, ask, reason.entry) {
+            Some(NamingFault::NotShown) => "the id isn't shown to the file handle",
+            Some(NamingFault::OtherClass) => "the list is about another class than that of the id",
+            Some(NamingFault::Disabled) => "the control is DISABLED",
+            None => text_of(reason.check),
+        },
+        check => text_of(check),
+    }
+}
+
+// Why an entry of a list names no control.
+fn fault_at<D: Driver>(device: &Device<D>, ask: &Ask, entry: Option<u32>) -> Option<NamingFault> {
+    let (fh, which, list) = match ask {
+        Ask::GetCtrls {
+            fh,
+            which,
+            list,
+            ..
+        }
+        | Ask::SetCtrls {
+            fh,
+            which,
+            list,
+            ..
+        }
+        | Ask::TryCtrls {
+            fh,
+            which,
+            list,
+            ..
+        } => (*fh, *which, list),
+        _ => return None,
+    };
+    let entry = list.as_slice().get(entry? as usize)?;
+    let handler = device.handler_of(fh)?;
+    let which = Which::of(which).ok()?;
+    naming_fault(device.plan(), handler, which, entry.id)
+}
 
 /// What an ask didn't meet, as a sentence: of check 7 the part that is meant, of check 55 the first fault of the range.
 pub fn text_of(check: Check) -> &'static str {

@@ -5,7 +5,7 @@ use crate::classes::put_class;
 use crate::items::put_item;
 use crate::reply::wanted_by;
 use crate::words::{members_beside, word_of};
-use ask_reasons::{Reason, text_of};
+use ask_reasons::{Reason, text_for};
 use ctrl_calls::Driver;
 use ctrl_types::{Check, CtrlId, CtrlValue, Fault, Kind, Pair, Which, last_value};
 use device_state::Ask;
@@ -37,7 +37,11 @@ pub fn put_refusal<D: Driver>(
 /// Puts on a page the check that an ask was refused by, behind it in brackets the part of it that is meant, where docs/RULES.md numbers its parts, and what
 /// didn't hold.
 pub fn put_check<D: Driver>(page: &mut Page, asked: Asked<'_, D>, reason: Reason) {
-    put_broken(page, reason.check);
+    put_broken(
+        page,
+        reason.check,
+        text_for(asked.device, asked.ask, reason),
+    );
     match reason.check {
         Check::RowRefused(_) => put_row(page, asked, reason.entry),
         Check::ValueNotOfKind => put_form(page, asked, reason.entry),
@@ -47,8 +51,8 @@ pub fn put_check<D: Driver>(page: &mut Page, asked: Asked<'_, D>, reason: Reason
     }
 }
 
-/// Puts a check on a page: its number, behind it in brackets the part of it that is meant, where docs/RULES.md numbers its parts, and what didn't hold.
-pub(crate) fn put_broken(page: &mut Page, check: Check) {
+/// Puts a check on a page: its number, behind it in brackets the part of it that is meant, where docs/RULES.md numbers its parts, and what didn't hold, in these words.
+pub(crate) fn put_broken(page: &mut Page, check: Check, text: &str) {
     page.put("check ");
     page.put_number(i64::from(check.number()));
     if let Some(part) = check.part() {
@@ -57,7 +61,7 @@ pub(crate) fn put_broken(page: &mut Page, check: Check) {
         page.put(")");
     }
     page.put(", ");
-    page.put(text_of(check));
+    page.put(text);
 }
 
 // What the control of an entry would take.
