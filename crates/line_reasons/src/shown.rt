@@ -22,11 +22,12 @@ impl fmt::Display for Quoted<'_> {
 }
 
 fn quote_text<W: fmt::Write>(f: &mut fmt::Formatter<W>, text: &str) -> fmt::Result {
-    match text.char_indices().nth(MOST_CHARS) {
-        Some((at, _)) => {
-            let (begin, _) = text.split_at(at);
-            write!(f, "{begin:?}..")
-        }
+    let cut = match text.char_indices().nth(MOST_CHARS) {
+        Some((at, _)) => text.split_at_checked(at),
+        None => None,
+    };
+    match cut {
+        Some((begin, _)) => write!(f, "{begin:?}.."),
         None => write!(f, "{text:?}"),
     }
 }
