@@ -178,20 +178,39 @@ fn in_slot<'a, D: Driver>(
     if is_right(alloc, names.known, slot.kind, word)? {
         return Ok(None);
     }
-    let fault = match slot.kind {
-        Kind::Name if word.len() > MAX_NAME => Fault::LongName(slot.what),
-        Kind::Name => Fault::Name(slot.what),
-        Kind::Number => in_number(word, slot.what),
-        Kind::Control => in_control(alloc, names, word)?,
-        Kind::Word => in_word(alloc, names, word)?,
-        Kind::Id => in_id(names.known, word),
+    match fault_in(alloc, names, slot, word) {
+        Ok(fault) => Ok(Some(fault)),
+        Err(error) => Err(error),
+    }
+}
+
+// Why a word isn't what it is to be, which it isn't.
+fn fault_in<'a, D: Driver>(
+    alloc: Global,
+    names: &Names<'a, D>,
+    slot: Slot,
+    word: &'a [u8],
+) -> Result<Fault<'a>, AllocError> {
+    match slot.kind {
+        Kind::Control => in_control(alloc, names, word),
+        Kind::Word => in_word(alloc, names, word),
+        Kind::Entry => in_entry(alloc, names, word),
+        Kind::Id => Ok(in_id(names.known, word)),
+        kind => Ok(fault_of(kind, slot.what, word)),
+    }
+}
+
+// The same of a word that names no control.
+fn fault_of(kind: Kind, what: &'static str, word: &[u8]) -> Fault<'static> {
+    match kind {
+        Kind::Name if word.len() > MAX_NAME => Fault::LongName(what),
+        Kind::Name => Fault::Name(what),
+        Kind::Number => in_number(word, what),
+        Kind::Bound => in_bound(word, what),
+        Kind::Step => in_step(word, what),
         Kind::Which if word.starts_with(b"req:") => Fault::Against(Rule::Request),
-        Kind::Which | Kind::OnOff => Fault::Not(slot.what),
-        Kind::Bound => in_bound(word, slot.what),
-        Kind::Step => in_step(word, slot.what),
-        Kind::Entry => in_entry(alloc, names, word)?,
-    };
-    Ok(Some(fault))
+        _ => Fault::Not(what),
+    }
 }
 
 // Whether a word is what it is to be.
