@@ -1,0 +1,143 @@
+//! The asks of the device's own.
+
+ghost use Rattle.std.specs.Prelude.{◌≡◌, ◌≤◌, ◌<◌, [], ◌∷◌, ◌++◌, length, map, vec_capacity, IfSome, MatchOption};
+ghost use Rattle.std.specs.List.{All};
+ghost use Rattle.history.specs.Past.{past};
+ghost use Rattle.device_history.specs.declared.ask.Ask.TheVariants as asks;
+ghost use Rattle.device_history.specs.Ranges.{ranges_now};
+ghost use Rattle.device_history.specs.Values.{now};
+ghost use Rattle.device_state.specs.Device.{Handles};
+ghost use Rattle.device_state.specs.Runs.{IsRun};
+ghost use Rattle.following_ranges.specs.Following.{IsOfRoom, IsOwn, answer_by, due_for as range_due_for, due_where, range_call, range_for, ranges_due};
+
+use ctrl_calls::Driver;
+use ctrl_settle::Ctrl;
+use ctrl_types::{CtrlValue, Fault};
+use device_state::{Ask, Device};
+use range_followers::{Follower, have_moved, range_due};
+
+/// A range that a device asked for by itself (of this project).
+#[derive(Clone, Copy)]
+pub struct RangeAsk {
+    /// The number of the control that follows.
+    pub control: u32,
+    /// The control with the range that it was asked to have.
+    pub wanted: Ctrl,
+    /// Why it wasn't given it; none where it was.
+    pub refusal: Option<Fault>,
+}
+
+// Asks for the ranges that are due, where a value that is followed has moved from what it was before.
+pub(crate) fn follow<D: Driver>(
+    device: &mut Device<D>,
+    followers: &[Follower],
+    before: &[CtrlValue],
+    seat: u32,
+    due: &mut Vec<(u32, Ctrl)>,
+    asked: &mut Vec<RangeAsk>,
+)
+    requires none_due { due.old.items ≡ [] }
+    requires none { asked.old.items ≡ [] }
+    requires room_due { length device.old.plan.controls ≤ vec_capacity due.old }
+    requires room { length device.old.plan.controls ≤ vec_capacity asked.old }
+    ensures exactly { map range_for asked.new.items ≡ due_where D.verdict followers.now device.old.plan before.now (past device.old.steps) }
+    ensures one_by_one { IsRun D.verdict device.old (map (range_call seat) asked.new.items) device.new }
+    ensures of_room { All (λ one. IsOfRoom one.refusal) asked.new.items }
+{
+    if have_moved(followers, before, device.values()) {
+        find_due(device, followers, due);
+        ask_due(device, seat, due.as_slice(), asked);
+    }
+}
+
+// The ranges that are due, in rising numbers of their controls.
+pub(crate) fn find_due<D: Driver>(
+    device: &Device<D>,
+    followers: &[Follower],
+    due: &mut Vec<(u32, Ctrl)>,
+)
+    requires none { due.old.items ≡ [] }
+    requires room { length device.now.plan.controls ≤ vec_capacity due.old }
+    ensures due { due.new.items ≡ ranges_due D.verdict followers.now device.now.plan (past device.now.steps) }
+    ensures few { length due.new.items ≤ length device.now.plan.controls }
+    ensures own { All (IsOwn device.now.plan) due.new.items }
+{
+    for control in 0..device.plan().control_count() {
+        add_found(due, due_for(device, followers, control));
+    }
+}
+
+// Adds what was found, where something was.
+fn add_found(due: &mut Vec<(u32, Ctrl)>, found: Option<(u32, Ctrl)>)
+    requires { length due.old.items < vec_capacity due.old }
+    ensures items { MatchOption found (due.new.items ≡ due.old.items) (λ one. due.new.items ≡ due.old.items ++ one ∷ []) }
+    ensures room { vec_capacity due.new ≡ vec_capacity due.old }
+{
+    if let Some(one) = found {
+        due.push_reserved(one);
+    }
+}
+
+// The range that is due for a control.
+fn due_for<D: Driver>(
+    device: &Device<D>,
+    followers: &[Follower],
+    control: u32,
+) -> Option<(u32, Ctrl)>
+    requires { control < length device.now.plan.controls }
+    ensures due { result ≡ range_due_for followers.now (ranges_now device.now.plan (past device.now.steps)) (now D.verdict device.now.plan (past device.now.steps)) control }
+    ensures own { IfSome result (IsOwn device.now.plan) }
+{
+    match range_due(followers, control, device.range(control), device.values()) {
+        Some(wanted) => Some((control, wanted)),
+        None => None,
+    }
+}
+
+// Asks for them, one after another.
+pub(crate) fn ask_due<D: Driver>(
+    device: &mut Device<D>,
+    seat: u32,
+    due: &[(u32, Ctrl)],
+    asked: &mut Vec<RangeAsk>,
+)
+    requires none { asked.old.items ≡ [] }
+    requires room { length due.now ≤ vec_capacity asked.old }
+    requires own { All (IsOwn device.old.plan) due.now }
+    ensures exactly { map range_for asked.new.items ≡ due.now }
+    ensures one_by_one { IsRun D.verdict device.old (map (range_call seat) asked.new.items) device.new }
+    ensures of_room { All (λ one. IsOfRoom one.refusal) asked.new.items }
+{
+    for one in due {
+        let (control, wanted) = *one;
+        let refusal = ask_range(device, seat, control, &wanted);
+        asked.push_reserved(RangeAsk {
+            control,
+            wanted,
+            refusal,
+        });
+    }
+}
+
+// Asks for the range of a control.
+fn ask_range<D: Driver>(
+    device: &mut Device<D>,
+    seat: u32,
+    control: u32,
+    wanted: &Ctrl,
+) -> Option<Fault>
+    requires { IsOwn device.old.plan (control, wanted.now) }
+    ensures handles { Handles D.verdict device.old device.new seat (asks.ModifyRange control wanted.now.minimum wanted.now.maximum wanted.now.step wanted.now.default_value) (answer_by result) }
+    ensures of_room { IsOfRoom result }
+{
+    // nothing is wrong with the range, as the contract of `id` says
+    let _id = wanted.id();
+    let ask = Ask::ModifyRange {
+        control,
+        min: wanted.minimum(),
+        max: wanted.maximum(),
+        step: wanted.step(),
+        default_value: wanted.default_value(),
+    };
+    device.handle(seat, &ask).err()
+}
