@@ -14,6 +14,8 @@ mod counts;
 #[cfg(test)]
 mod data;
 #[cfg(test)]
+mod following;
+#[cfg(test)]
 mod limits;
 #[cfg(test)]
 mod readers;
