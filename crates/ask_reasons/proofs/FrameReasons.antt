@@ -29,7 +29,9 @@ use Rattle.device_state.proofs.ForecastLemmas.{queued_there}
 use Rattle.req_book.specs.Refusals.{asked_answer}
 use Rattle.req_book.specs.declared.state.RequestState.{RequestState}
 use Rattle.ask_reasons.specs.declared.refused.ClusterReason.{ClusterReason}
-use Rattle.ask_reasons.specs.Refused.{cluster_reason, frame_reason, values_before}
+use Rattle.history.specs.Past.{past}
+use Rattle.device_state.specs.Device.{DeviceData}
+use Rattle.ask_reasons.specs.Refused.{frame_reason, frames_in, reason_over, values_before}
 
 -- each frame has as many values as the present ones
 pub rows_long : (verdicts : Verdicts) (plan : PlanData) (controls : List Control) (grabs : Grabs) (values : Values) (qs : List QueuedData) (i : ℕ) (row : Forecast)
@@ -92,12 +94,12 @@ frame_there verdicts plan older i row errno stood fails = by (state older row.re
     by (Some s) there h = cc
 
 -- a cluster that won't be refused has no reason
-pub unrefused : (verdicts : Verdicts) (plan : PlanData) (older : Past) (place k : ℕ) (row : Forecast) → Some row ≡ slice_get (forecast verdicts plan older) place
-    → false ≡ list_any (λ j. nat_eq j k) row.refused → None ≡ frame_reason verdicts plan older place k
-unrefused verdicts plan older place k row stood none = rw (← stood, ← none) refl
+pub unrefused : (verdicts : Verdicts) (device : DeviceData) (place k : ℕ) (row : Forecast) → Some row ≡ slice_get (frames_in verdicts device) place
+    → false ≡ list_any (λ j. nat_eq j k) row.refused → None ≡ frame_reason verdicts device place k
+unrefused verdicts device place k row stood none = rw (← stood, ← none) refl
 
 -- one that will be has the reason over the values before
-pub refused_is : (verdicts : Verdicts) (plan : PlanData) (older : Past) (place k : ℕ) (row : Forecast) (values : Values) (pairs : List Pair) (reason : ClusterReason) → Some row ≡ slice_get (forecast verdicts plan older) place
-    → true ≡ list_any (λ j. nat_eq j k) row.refused → values ≡ values_before (now verdicts plan older) (forecast verdicts plan older) place → pairs ≡ asked plan older row.request.0
-    → reason ≡ cluster_reason plan (ranges_now plan older) values (grabbed plan older) pairs k → Some reason ≡ frame_reason verdicts plan older place k
-refused_is verdicts plan older place k row values pairs reason stood among before asks is = rw (← stood, ← among, ← before, ← asks) (ap Some is)
+pub refused_is : (verdicts : Verdicts) (device : DeviceData) (place k : ℕ) (row : Forecast) (values : Values) (pairs : List Pair) (reason : ClusterReason) → Some row ≡ slice_get (frames_in verdicts device) place
+    → true ≡ list_any (λ j. nat_eq j k) row.refused → values ≡ values_before verdicts device place → pairs ≡ asked device.plan (past device.steps) row.request.0
+    → reason ≡ reason_over device values pairs k → Some reason ≡ frame_reason verdicts device place k
+refused_is verdicts device place k row values pairs reason stood among before asks is = rw (← stood, ← among, ← before, ← asks) (ap Some is)

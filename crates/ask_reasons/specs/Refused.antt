@@ -18,12 +18,13 @@ use Rattle.ctrl_clusters.specs.Rows.{Values, value_at, Grabs, is_grabbed}
 use Rattle.ctrl_clusters.specs.Judging.{judge}
 use Rattle.ctrl_clusters.specs.Overlay.{is_among}
 use Rattle.ctrl_forecast.specs.declared.board.Forecast.{Forecast}
-use Rattle.device_history.specs.Steps.{Past}
+use Rattle.history.specs.Past.{past}
 use Rattle.device_history.specs.Ranges.{ranges_now}
 use Rattle.device_history.specs.Grabs.{grabbed}
 use Rattle.device_history.specs.Requests.{asked}
 use Rattle.device_history.specs.Forecasts.{forecast}
 use Rattle.device_history.specs.Values.{now}
+use Rattle.device_state.specs.Device.{DeviceData}
 use Rattle.ask_reasons.specs.declared.refused.ClusterReason.{ClusterReason}
 use Rattle.ask_reasons.specs.declared.refused.ClusterReason.TheVariants.{Grabbed, ValueNotTaken, RowNotTaken}
 
@@ -72,17 +73,40 @@ row_by verdicts plan controls k (Grabbed c) = Err EBUSY
 row_by verdicts plan controls k (ValueNotTaken c v check) = Err (errno_of check)
 row_by verdicts plan controls k (RowNotTaken row) = judge verdicts plan controls k row
 
--- the values before the frame at a place of the queue: the present ones, or those that the frame before it leaves
-abbrev pub values_before : Values → List Forecast → ℕ → Values
-values_before present rows zero = present
-values_before present rows (suc last) = unwrap_or (option_map (λ row. row.values) (slice_get rows last)) present
+-- the ranges and the grabs that a device has
+abbrev pub ranges_in : DeviceData → List Control
+ranges_in device = ranges_now device.plan (past device.steps)
+
+abbrev pub grabs_in : DeviceData → Grabs
+grabs_in device = grabbed device.plan (past device.steps)
+
+-- the same reason under the ranges and the grabs that a device has
+abbrev pub reason_over : DeviceData → Values → List Pair → ℕ → ClusterReason
+reason_over device values pairs k = cluster_reason device.plan (ranges_in device) values (grabs_in device) pairs k
+
+-- the same of some members, where none is grabbed that is asked for
+abbrev pub reason_of_row : DeviceData → Values → List Pair → List ℕ → ClusterReason
+reason_of_row device values pairs members = row_reason (taken_row (ranges_in device) values pairs members)
+
+-- what the queued frames of a device will have
+abbrev pub frames_in : Verdicts → DeviceData → List Forecast
+frames_in verdicts device = forecast verdicts device.plan (past device.steps)
+
+-- the values before one of these frames, at a place of the queue: the present ones, or those that the frame before it leaves
+abbrev pub values_before_frame : Values → List Forecast → ℕ → Values
+values_before_frame present rows zero = present
+values_before_frame present rows (suc last) = unwrap_or (option_map (λ row. row.values) (slice_get rows last)) present
+
+-- the same of a device
+abbrev pub values_before : Verdicts → DeviceData → ℕ → Values
+values_before verdicts device place = values_before_frame (now verdicts device.plan (past device.steps)) (frames_in verdicts device) place
 
 -- why a cluster will be refused in a frame, where there is one and the cluster is among those that will be refused
-abbrev pub reason_in : PlanData → Past → Values → ℕ → Option Forecast → Option ClusterReason
-reason_in plan past values k None = None
-reason_in plan past values k (Some row) =
-    if list_any (λ j. nat_eq j k) row.refused then Some (cluster_reason plan (ranges_now plan past) values (grabbed plan past) (asked plan past row.request.0) k) else None
+abbrev pub reason_in : DeviceData → Values → ℕ → Option Forecast → Option ClusterReason
+reason_in device values k None = None
+reason_in device values k (Some row) =
+    if list_any (λ j. nat_eq j k) row.refused then Some (reason_over device values (asked device.plan (past device.steps) row.request.0) k) else None
 
 -- Why a cluster will be refused in the frame that is queued at a place; none where no frame is queued there, or it won't be refused.
-abbrev pub frame_reason : Verdicts → PlanData → Past → ℕ → ℕ → Option ClusterReason
-frame_reason verdicts plan past place k = reason_in plan past (values_before (now verdicts plan past) (forecast verdicts plan past) place) k (slice_get (forecast verdicts plan past) place)
+abbrev pub frame_reason : Verdicts → DeviceData → ℕ → ℕ → Option ClusterReason
+frame_reason verdicts device place k = reason_in device (values_before verdicts device place) k (slice_get (frames_in verdicts device) place)

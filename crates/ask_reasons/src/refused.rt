@@ -2,13 +2,7 @@
 
 ghost use Rattle.std.specs.Prelude.{◌≡◌, ◌<◌, ◌≤◌, length};
 ghost use Rattle.std.specs.List.{All};
-ghost use Rattle.history.specs.Past.{past};
-ghost use Rattle.ctrl_handlers.specs.Plan.{members};
-ghost use Rattle.device_history.specs.Ranges.{ranges_now};
-ghost use Rattle.device_history.specs.Grabs.{grabbed};
-ghost use Rattle.device_history.specs.Values.{now};
-ghost use Rattle.device_history.specs.Forecasts.{forecast};
-ghost use Rattle.ask_reasons.specs.Refused.{cluster_reason, first_grabbed, frame_reason, row_reason, taken_row, value_taken, values_before, wanted};
+ghost use Rattle.ask_reasons.specs.Refused.{first_grabbed, frame_reason, grabs_in, ranges_in, reason_of_row, reason_over, value_taken, values_before, wanted};
 
 use ctrl_calls::{ClusterRow, Driver};
 use ctrl_clusters::is_among;
@@ -46,7 +40,7 @@ pub fn frame_reason<D: Driver>(
     place: usize,
     cluster: u32,
 ) -> Option<ClusterReason>
-    ensures { result ≡ frame_reason D.verdict device.now.plan (past device.now.steps) place cluster }
+    ensures { result ≡ frame_reason D.verdict device.now place cluster }
 {
     let row = device.row(place)?;
     if !row.refused.contains(&cluster) {
@@ -61,7 +55,7 @@ pub fn frame_reason<D: Driver>(
 
 // The values before the frame at a place of the queue.
 fn values_before<D: Driver>(device: &Device<D>, place: usize) -> &[CtrlValue]
-    ensures values { result.now ≡ values_before (now D.verdict device.now.plan (past device.now.steps)) (forecast D.verdict device.now.plan (past device.now.steps)) place }
+    ensures values { result.now ≡ values_before D.verdict device.now place }
     ensures long { length result.now ≡ length device.now.plan.controls }
 {
     let Some(last) = place.checked_sub(1) else {
@@ -82,7 +76,7 @@ fn cluster_reason<D: Driver>(
 ) -> ClusterReason
     requires cluster { cluster < length device.now.plan.clusters }
     requires values { length values.now ≡ length device.now.plan.controls }
-    ensures { result ≡ cluster_reason device.now.plan (ranges_now device.now.plan (past device.now.steps)) values.now (grabbed device.now.plan (past device.now.steps)) pairs.now cluster }
+    ensures { result ≡ reason_over device.now values.now pairs.now cluster }
 {
     let members = device.plan().members(cluster);
     match first_grabbed(device, pairs, members) {
@@ -95,7 +89,7 @@ fn cluster_reason<D: Driver>(
 #[tactic(auto, using(ctrl_handlers::proofs::ListLemmas::find_drop))]
 fn first_grabbed<D: Driver>(device: &Device<D>, pairs: &[Pair], members: &[u32]) -> Option<u32>
     requires { All (λ c. c < length device.now.plan.controls) members.now }
-    ensures { result ≡ first_grabbed (grabbed device.now.plan (past device.now.steps)) pairs.now members.now }
+    ensures { result ≡ first_grabbed (grabs_in device.now) pairs.now members.now }
 {
     for &member in members {
         if is_among(pairs, member) && device.is_grabbed(member) {
@@ -115,7 +109,7 @@ fn settling_reason<D: Driver>(
     requires known { All (λ c. c < length device.now.plan.controls) members.now }
     requires few { length members.now ≤ 8 }
     requires values { length values.now ≡ length device.now.plan.controls }
-    ensures { result ≡ row_reason (taken_row (ranges_now device.now.plan (past device.now.steps)) values.now pairs.now members.now) }
+    ensures { result ≡ reason_of_row device.now values.now pairs.now members.now }
 {
     let mut row = ClusterRow::zeros(members.len());
     for (place, &member) in members.iter().enumerate() {
@@ -136,7 +130,7 @@ fn taken<D: Driver>(
 ) -> Result<CtrlValue, ClusterReason>
     requires control { control < length device.now.plan.controls }
     requires values { length values.now ≡ length device.now.plan.controls }
-    ensures { result ≡ value_taken (ranges_now device.now.plan (past device.now.steps)) values.now pairs.now control }
+    ensures { result ≡ value_taken (ranges_in device.now) values.now pairs.now control }
 {
     match settle_value(device.range(control), wanted(values, pairs, control)) {
         Ok(value) => Ok(value),

@@ -113,11 +113,8 @@ fn of_type(kind: Kind, key: Key) -> &'static str {
 
 fn write_id(out: &mut String, alloc: Global, told: &Told<'_>) -> Result<(), AllocError> {
     let name = text_of(told);
-    if name
-        .as_bytes()
-        .first()
-        .is_some_and(|byte| byte.is_ascii_digit())
-    {
+    let first = name.as_bytes().first();
+    if first.is_some_and(|byte| byte.is_ascii_digit()) {
         return write!(out, "; a number stands without quotation marks");
     }
     let mut nearest = Nearest::new(without_prefix(name));

@@ -46,9 +46,9 @@ impl<'a, 'g> Nearest<'a, 'g> {
     }
 }
 
-// How far two words are from each other, whatever their capitals, where one may be meant by the other: they differ by few edits; or, which is farther than any of
-// these, one stands within the other.
-fn distance(alloc: Global, given: &str, word: &str) -> Result<Option<usize>, AllocError> {
+/// How far two words are from each other, whatever their capitals, where one may be meant by the other: they differ by few edits; or, which is farther than any of
+/// these, one stands within the other. The error is that a growth was refused.
+pub fn distance(alloc: Global, given: &str, word: &str) -> Result<Option<usize>, AllocError> {
     let given = given.as_bytes().to_ascii_lowercase(alloc)?;
     let word = word.as_bytes().to_ascii_lowercase(alloc)?;
     let (Ok(given), Ok(word)) = (

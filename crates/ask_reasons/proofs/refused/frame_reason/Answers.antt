@@ -7,7 +7,7 @@ use Rattle.ask_reasons.proofs.refused.frame_reason.Goals as goal
 
 pub returns-then-not-contains : goal.returns-then-not-contains
 returns-then-not-contains g c =
-    unrefused g.D.Validates.verdict c.args.device.now.plan (past c.args.device.now.steps) c.args.place c.args.cluster (seen c.in_ok-row.row) c.in_ok-row.ensures (sym c.if-not-contains.true ∙ c.contains.ensures.value)
+    unrefused g.D.Validates.verdict c.args.device.now c.args.place c.args.cluster (seen c.in_ok-row.row) c.in_ok-row.ensures (sym c.if-not-contains.true ∙ c.contains.ensures.value)
 
 -- a queued request is there
 pub returns-in_default : goal.returns-in_default
@@ -20,6 +20,6 @@ cluster_reason-requires-clause-cluster g c =
 
 pub returns : goal.returns
 returns g c =
-    refused_is g.D.Validates.verdict c.args.device.now.plan (past c.args.device.now.steps) c.args.place c.args.cluster (seen c.in_ok-row.row) c.values_before-values.result.now c.in-Ok.pairs.now c.cluster_reason.result
+    refused_is g.D.Validates.verdict c.args.device.now c.args.place c.args.cluster (seen c.in_ok-row.row) c.values_before-values.result.now c.in-Ok.pairs.now c.cluster_reason.result
     c.in_ok-row.ensures (sym c.if-not-contains.false ∙ c.contains.ensures.value) c.values_before-values.ensures.values
     (asked_is g.D.Validates.verdict c.args.device.now.plan (past c.args.device.now.steps) c.in_ok-row.row.request.0 c.in-Ok.pairs.now c.in-Ok.ensures) c.cluster_reason.ensures

@@ -1,14 +1,12 @@
 use Rattle.std.proofs.Common.{◌≡◌, drop, take, length}
-use Rattle.history.specs.Past.{past}
-use Rattle.device_history.specs.Ranges.{ranges_now}
-use Rattle.ask_reasons.specs.Refused.{taken_row}
+use Rattle.ask_reasons.specs.Refused.{ranges_in, taken_row}
 use Rattle.ask_reasons.proofs.Refusals.{before}
 use Rattle.ask_reasons.proofs.refused.settling_reason.Given as goal
 
 -- what the members so far take, and what the others do
 abbrev pub invariant-loop-place : goal.invariant-loop-place
 invariant-loop-place g l = record {
-  rest : before (take l.place l.row) (taken_row (ranges_now l.device.plan (past l.device.steps)) l.values l.pairs (drop l.place l.members))
-      ≡ taken_row (ranges_now l.device.plan (past l.device.steps)) l.values l.pairs l.members;
+  rest : before (take l.place l.row) (taken_row (ranges_in l.device) l.values l.pairs (drop l.place l.members))
+      ≡ taken_row (ranges_in l.device) l.values l.pairs l.members;
   long : length l.row ≡ length l.members;
 }
