@@ -92,7 +92,14 @@ fn put_left_out<D: Driver>(
     let mut text = Page::new(alloc);
     for (cluster, reason) in refused {
         text.clear();
-        put_refused_cluster(&mut text, &view.known, plan, " is refused: ", *cluster, *reason);
+        put_refused_cluster(
+            &mut text,
+            &view.known,
+            plan,
+            " is refused: ",
+            *cluster,
+            *reason,
+        );
         put_below(page, &text, view.ink.bad, view.ink.plain);
     }
 }

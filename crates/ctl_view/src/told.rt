@@ -34,7 +34,14 @@ pub fn explain<D: Driver, R: AllocGlobal + Eprint, W: Write>(
         return Err(Outcome::WriteFault);
     }
     if let Said::Answer(ask, Ok(_), refused) = said {
-        tell_clusters(rt, device.plan(), view, line.number, ask, refused.as_slice());
+        tell_clusters(
+            rt,
+            device.plan(),
+            view,
+            line.number,
+            ask,
+            refused.as_slice(),
+        );
     }
     if let Said::Answer(ask, Err(fault), _) = said {
         let mut text = Page::new(rt.alloc());

@@ -58,8 +58,7 @@ fn warn_of_manual(
     let Some(ctrl) = device.plan.controls().get(*master as usize) else {
         return Ok(());
     };
-    let value = CtrlValue::Number(manual);
-    if settle(ctrl, value) == Ok(value) {
+    if settle(ctrl, CtrlValue::Number(manual)) == Ok(CtrlValue::Number(manual)) {
         return Ok(());
     }
     let name = word_of(&device.words, *master);
@@ -104,16 +103,24 @@ fn warn_of_limit(
             write!(said, " {name}={default}")?;
         }
     }
-    let Some(row) = ClusterRow::from_slice(values.as_slice()) else {
-        return Ok(());
-    };
-    if matches!(limit.verdict(&row), Verdict::Accept(taken) if taken == row) {
+    if takes_row(&limit, values.as_slice()) {
         return Ok(());
     }
     let words = format!(in lines.alloc;
         "it doesn't take the defaults as they are,{said}, and they stay until a set of the cluster: write others, or another limit"
     )?;
     lines.warning(Place::Limit(number), Key::Table, words.as_str())
+}
+
+// Whether a limit takes a row as it is, or there is no such row.
+fn takes_row(limit: &Limit, values: &[CtrlValue]) -> bool {
+    let Some(row) = ClusterRow::from_slice(values) else {
+        return true;
+    };
+    match limit.verdict(&row) {
+        Verdict::Accept(taken) => taken.values() == values,
+        Verdict::Refuse(_) => false,
+    }
 }
 
 // What a cluster is held to.

@@ -73,16 +73,16 @@ fn warn_of_menu(
     requires { control < length plan.now.controls }
 {
     let ctrl = plan.control(control);
-    let mut items = 0u32;
+    let mut has_item = false;
     let mut without = 0u64;
     for index in 0..64u32 {
         if plan.menu_item(control, index).is_ok() {
-            items += 1;
+            has_item = true;
         } else if is_taken(&ctrl, index) {
             without |= 1u64 << index;
         }
     }
-    if items == 0 {
+    if !has_item {
         let some = match ctrl.kind() {
             Kind::IntegerMenu => "[15, 30]",
             _ => "[\"Off\", \"On\"]",

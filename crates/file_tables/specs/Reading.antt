@@ -2,6 +2,7 @@
 use Rattle.std.specs.Prelude.{ℕ, ℤ, List, [], ◌∷◌, Bool, not, false, Option, Some, None, Result, Ok, Err, position}
 use Rattle.std.specs.List.{list_any}
 use Rattle.std.specs.Option.{ok_or, option_and_then}
+use Rattle.std.specs.Result.{result_map_both}
 use Rattle.std.specs.Str.{bytes_eq}
 use Rattle.toml.specs.Data.{Data, Items, no_items, item, Members, no_members, member, get_member, as_array, as_bool, as_integer, as_str, as_table}
 use Rattle.file_faults.specs.Faults.{◌>>=◌, wrong}
@@ -12,6 +13,10 @@ use Rattle.file_faults.specs.declared.key.Key.TheVariants as keys
 use Rattle.file_faults.specs.declared.problem.Problem.TheVariants as problems
 use Rattle.file_faults.specs.declared.problem.Sort.{Sort}
 use Rattle.file_faults.specs.declared.problem.Sort.TheVariants as sorts
+
+-- what was read, seen so; a fault stays as it is
+abbrev pub read_as : {A B : Type 0} → (A → B) → Result A KeyFault → Result B KeyFault
+read_as f result = result_map_both f (λ e. e) result
 
 -- the value at a key
 abbrev pub value_at : Key → Members → Option Data

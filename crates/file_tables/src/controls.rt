@@ -2,11 +2,11 @@
 
 ghost use Rattle.std.specs.Prelude.{◌≡◌, Err, IfOk, map, pos};
 ghost use Rattle.std.specs.List.{list_any};
-ghost use Rattle.std.specs.Result.{result_map_both};
 ghost use Rattle.toml.specs.View.{view, table_view};
 ghost use Rattle.ctrl_settle.specs.Config.{control_of};
 ghost use Rattle.ctrl_settle.specs.Faults.{CanDeclare, IsWellFormed};
 ghost use Rattle.ctrl_settle.specs.FirstFault.{can_skip, has_elems};
+ghost use Rattle.file_tables.specs.Reading.{read_as};
 ghost use Rattle.file_tables.specs.Controls.{bit_at, control_at, description_in, elems_in, flag_bits_of, flag_of, flags_in, id_by_name, id_by_number, id_in, is_sayable, kind_in, last_item, lies_in, maximums, minimums, misfit, divides, name_at, range, said_of, skip_bits_of, skip_in, skipped, step_in, usual_maximum, usual_step, wrong_elems};
 
 use crate::names::{flag_named, kind_named};
@@ -135,7 +135,7 @@ fn maximums_of(kind: Kind) -> (i64, i64)
 }
 
 fn config_in(table: &Table) -> Result<CtrlConfig, KeyFault>
-    ensures described { result_map_both control_of (λ e. e) result ≡ description_in (table_view table.now) }
+    ensures described { read_as control_of result ≡ description_in (table_view table.now) }
     ensures declared { IfOk result (λ config. CanDeclare config.flags) }
 {
     let id = id_of(table)?;
@@ -340,7 +340,7 @@ fn flag_by(value: &Value) -> Option<u32>
 
 /// What scripts call the control of a table; refused where it has no name, or one that no script can say.
 pub fn name_in(table: &Table) -> Result<&str, KeyFault>
-    ensures { result_map_both (λ name. name.now) (λ e. e) result ≡ name_at (table_view table.now) }
+    ensures { read_as (λ name. name.now) result ≡ name_at (table_view table.now) }
 {
     match needed_text(table, Key::Name) {
         Ok(name) => {

@@ -2,10 +2,9 @@
 
 ghost use Rattle.std.specs.Prelude.{◌≡◌, not, option_map, map, position, string_bytes};
 ghost use Rattle.std.specs.BTreeMap.{keys};
-ghost use Rattle.std.specs.Result.{result_map_both};
 ghost use Rattle.toml.specs.Data.{get_member};
 ghost use Rattle.toml.specs.View.{array_view, view, table_view};
-ghost use Rattle.file_tables.specs.Reading.{elements_at, elements_in, is_key_of, listed, needed_number_in, needed_text_in, no_others_in, number_in, number_or_in, table_in, text_in, truth_in, value_at};
+ghost use Rattle.file_tables.specs.Reading.{elements_at, elements_in, is_key_of, listed, needed_number_in, needed_text_in, no_others_in, number_in, number_or_in, read_as, table_in, text_in, truth_in, value_at};
 ghost use Rattle.file_tables.specs.Reading.{table_with as keyed};
 
 use file_faults::{Key, KeyFault, Problem, Sort};
@@ -29,7 +28,7 @@ pub fn find(table: &Table, key: Key) -> Option<&Value>
 
 /// The text of a key, where it is there; refused where its value is no text.
 pub fn text(table: &Table, key: Key) -> Result<Option<&str>, KeyFault>
-    ensures { result_map_both (λ t. option_map (λ s. s.now) t) (λ e. e) result ≡ text_in key (table_view table.now) }
+    ensures { read_as (λ t. option_map (λ s. s.now) t) result ≡ text_in key (table_view table.now) }
 {
     match find(table, key) {
         None => Ok(None),
@@ -42,7 +41,7 @@ pub fn text(table: &Table, key: Key) -> Result<Option<&str>, KeyFault>
 
 /// The text of a key that has to be there; refused where it isn't, or where its value is no text.
 pub fn needed_text(table: &Table, key: Key) -> Result<&str, KeyFault>
-    ensures { result_map_both (λ t. t.now) (λ e. e) result ≡ needed_text_in key (table_view table.now) }
+    ensures { read_as (λ t. t.now) result ≡ needed_text_in key (table_view table.now) }
 {
     match text(table, key) {
         Ok(Some(text)) => Ok(text),
@@ -105,7 +104,7 @@ pub fn truth(table: &Table, key: Key) -> Result<bool, KeyFault>
 ///
 /// - `sort`: what the value has to be, as that is then said.
 pub fn elements(table: &Table, key: Key, sort: Sort) -> Result<&[Value], KeyFault>
-    ensures { result_map_both (λ vs. map view vs.now) (λ e. e) result ≡ elements_in key sort (table_view table.now) }
+    ensures { read_as (λ vs. map view vs.now) result ≡ elements_in key sort (table_view table.now) }
 {
     match find(table, key) {
         None => Ok(&[]),
@@ -138,7 +137,7 @@ pub fn values_of(array: &Vec<Value>) -> &[Value]
 
 /// The table that a value is; refused where it is something else.
 pub fn table(value: &Value) -> Result<&Table, KeyFault>
-    ensures { result_map_both (λ t. table_view t.now) (λ e. e) result ≡ table_in (view value.now) }
+    ensures { read_as (λ t. table_view t.now) result ≡ table_in (view value.now) }
 {
     match value.as_table() {
         Some(table) => Ok(table),
@@ -160,7 +159,7 @@ pub fn no_others(table: &Table, known: &[Key]) -> Result<(), KeyFault>
 
 // The place of the first key that is none of these.
 fn other_place(table: &Table, known: &[Key]) -> Option<usize>
-    ensures { result ≡ position (λ key. not (is_key_of known.now (string_bytes key))) (keys table.now) }
+    ensures { result ≡ position (λ k. not (is_key_of known.now (string_bytes k))) (keys table.now) }
 {
     table.keys().position(|key| !is_known(known, key.as_str()))
 }
@@ -175,7 +174,7 @@ fn is_known(known: &[Key], text: &str) -> bool
 ///
 /// - `known`: the keys that it may have.
 pub fn table_with<'a>(value: &'a Value, known: &[Key]) -> Result<&'a Table, KeyFault>
-    ensures { result_map_both (λ t. table_view t.now) (λ e. e) result ≡ keyed known.now (view value.now) }
+    ensures { read_as (λ t. table_view t.now) result ≡ keyed known.now (view value.now) }
 {
     let table = table(value)?;
     no_others(table, known)?;

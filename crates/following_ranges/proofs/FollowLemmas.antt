@@ -1,5 +1,5 @@
 -- What is due, what is asked for, and what refuses it.
-use Rattle.std.proofs.Common.{◌≡◌, ◌⊎◌, inl, inr, ℕ, ℤ, ◌<◌, ◌≤◌, ◌+◌, Bool, true, false, if◌then◌else◌, nat_eq, nat_le, List, [], ◌∷◌, ◌++◌, append-nil, length, map, filter_map, slice_index_or, take, IfSome, MatchOption, Option, None, Some, Ok, Err, IsOk, refl, ap, sym, subst, ◌∙◌, arith}
+use Rattle.std.proofs.Common.{◌≡◌, ◌⊎◌, inl, inr, ℕ, ℤ, ◌<◌, ◌≤◌, ◌+◌, Bool, true, false, if◌then◌else◌, nat_eq, nat_le, List, [], ◌∷◌, ◌++◌, append-nil, length, map, filter_map, slice_index_or, take, IfSome, Option, None, Some, Ok, Err, IsOk, refl, ap, sym, subst, ◌∙◌, arith}
 use Rattle.std.specs.List.{All, cons_option, range_with_len}
 use Rattle.std.specs.Map.{lookup}
 use Rattle.std.specs.Option.{option_and_then, option_map}
@@ -30,7 +30,7 @@ use Rattle.device_state.specs.Runs.{Call, IsRun}
 use Rattle.range_followers.specs.declared.follower.Follower.{Follower}
 use Rattle.range_followers.specs.Wanted.{can_follow, default_from, follower_of, has_range_of, number_from, range_due, unless_there, wanted_by, wanted_of, wanted_range}
 use Rattle.following_ranges.specs.declared.asking.RangeAsk.{RangeAsk}
-use Rattle.following_ranges.specs.Following.{IsOfRoom, IsOwn, RangeFor, answer_by, range_call, range_for}
+use Rattle.following_ranges.specs.Following.{IsOfRoom, IsOwn, RangeFor, answer_by, range_call, range_for, with_found}
 
 -- one more call
 run_more : (verdicts : Verdicts) (calls : List Call) (first middle last : DeviceData) (call : Call) → IsRun verdicts first calls middle → Handles verdicts middle last call.seat call.ask call.answer
@@ -62,16 +62,16 @@ none_found f n old is so_far =
     so_far ∙ sym (append-nil (filter_map f (range_with_len 0 n))) ∙ sym (found_more f n ∙ ap (λ o. filter_map f (range_with_len 0 n) ++ cons_option o []) is)
 
 -- what was found of one more number, where something was
-pub found_added : {X : Type 0} (f : ℕ → Option X) (n : ℕ) (found : Option X) (old new : List X) → found ≡ f n → MatchOption found (new ≡ old) (λ one. new ≡ old ++ one ∷ []) → old ≡ filter_map f (range_with_len 0 n)
+pub found_added : {X : Type 0} (f : ℕ → Option X) (n : ℕ) (found : Option X) (old new : List X) → found ≡ f n → new ≡ with_found found old → old ≡ filter_map f (range_with_len 0 n)
     → new ≡ filter_map f (range_with_len 0 (n + 1))
 found_added f n None old new is added so_far = added ∙ none_found f n old (sym is) so_far
 found_added f n (Some one) old new is added so_far = found_pushed f n one old new (sym is) so_far added
 
-pub few_added : {X : Type 0} (n : ℕ) (found : Option X) (old new : List X) → MatchOption found (new ≡ old) (λ one. new ≡ old ++ one ∷ []) → length old ≤ n → length new ≤ n + 1
+pub few_added : {X : Type 0} (n : ℕ) (found : Option X) (old new : List X) → new ≡ with_found found old → length old ≤ n → length new ≤ n + 1
 few_added n None old new added few = let same : length new ≡ length old = ap length added in omega (arith, same, few)
 few_added n (Some one) old new added few = let more : length new ≡ length old + 1 = ap length added ∙ length_push old one in omega (arith, more, few)
 
-pub all_added : {X : Type 0} (P : X → Type 0) (found : Option X) (old new : List X) → MatchOption found (new ≡ old) (λ one. new ≡ old ++ one ∷ []) → All P old → IfSome found P → All P new
+pub all_added : {X : Type 0} (P : X → Type 0) (found : Option X) (old new : List X) → new ≡ with_found found old → All P old → IfSome found P → All P new
 all_added P None old new added all own = subst (All P) (sym added) all
 all_added P (Some one) old new added all own = subst (All P) (sym added) (All-push P old one all own)
 

@@ -1,6 +1,6 @@
 -- What an ask does on a device some of whose ranges follow other controls (of this project; a driver that moves the range of exposure where vertical blanking is set
 -- does the like: Linux driver API, `v4l2_ctrl_modify_range`).
-use Rattle.std.specs.Prelude.{◌≡◌, ◌<◌, ℕ, Bool, true, false, if◌then◌else◌, [], List, length, map, filter_map, Option, None, Some, Ok, Err, ◌⊎◌}
+use Rattle.std.specs.Prelude.{◌≡◌, ◌<◌, ℕ, Bool, true, false, if◌then◌else◌, [], ◌∷◌, ◌++◌, List, length, map, filter_map, Option, None, Some, Ok, Err, ◌⊎◌}
 use Rattle.std.specs.List.{range_with_len}
 use Rattle.std.specs.Option.{option_map}
 use Rattle.history.specs.Past.{past}
@@ -38,6 +38,18 @@ abbrev pub ranges_due : Verdicts → List Follower → PlanData → Past → Lis
 ranges_due verdicts followers plan past =
     filter_map (due_for followers (ranges_now plan past) (now verdicts plan past)) (range_with_len 0 (length plan.controls))
 
+-- the same of a device as it is: the range that is due for one control, and those that are due at all
+abbrev pub due_now : Verdicts → List Follower → DeviceData → ℕ → Option RangeFor
+due_now verdicts followers device c = due_for followers (ranges_now device.plan (past device.steps)) (now verdicts device.plan (past device.steps)) c
+
+abbrev pub ranges_due_now : Verdicts → List Follower → DeviceData → List RangeFor
+ranges_due_now verdicts followers device = ranges_due verdicts followers device.plan (past device.steps)
+
+-- one more, where one was found
+abbrev pub with_found : {X : Type 0} → Option X → List X → List X
+with_found None due = due
+with_found (Some one) due = due ++ one ∷ []
+
 -- a range for a control that is there, and that is else as the plan describes it
 abbrev pub IsOwn : PlanData → RangeFor → Type 0
 IsOwn plan due = (due.0 < length plan.controls) × (due.1 ≡ with_range (control plan due.0) due.1.minimum due.1.maximum due.1.step due.1.default_value)
@@ -45,6 +57,10 @@ IsOwn plan due = (due.0 < length plan.controls) × (due.1 ≡ with_range (contro
 -- Those that are asked for where the values were these before: the ones that are due, if a value that is followed has moved; else none.
 abbrev pub due_where : Verdicts → List Follower → PlanData → Values → Past → List RangeFor
 due_where verdicts followers plan before past = if have_moved followers before (now verdicts plan past) then ranges_due verdicts followers plan past else []
+
+-- the same of a device as it is
+abbrev pub due_by : Verdicts → List Follower → Values → DeviceData → List RangeFor
+due_by verdicts followers before device = due_where verdicts followers device.plan before (past device.steps)
 
 -- those that are asked for behind an ask, which led from a history to a later one
 abbrev pub asked_behind : Verdicts → List Follower → PlanData → Past → Past → List RangeFor
@@ -66,6 +82,10 @@ range_call seat asked = record {
 -- which range was asked for
 abbrev pub range_for : RangeAsk → RangeFor
 range_for asked = (asked.control, asked.wanted)
+
+-- which ranges were asked for
+abbrev pub ranges_of : List RangeAsk → List RangeFor
+ranges_of asked = map range_for asked
 
 -- An ask is answered, which leaves the device as `behind`. The ranges that are due there are asked for, one after another, and each is given or refused by
 -- itself. Nothing else is asked.

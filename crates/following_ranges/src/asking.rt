@@ -1,14 +1,11 @@
 //! The asks of the device's own.
 
-ghost use Rattle.std.specs.Prelude.{◌≡◌, ◌≤◌, ◌<◌, [], ◌∷◌, ◌++◌, length, map, vec_capacity, IfSome, MatchOption};
+ghost use Rattle.std.specs.Prelude.{◌≡◌, ◌≤◌, ◌<◌, [], length, map, vec_capacity, IfSome};
 ghost use Rattle.std.specs.List.{All};
-ghost use Rattle.history.specs.Past.{past};
 ghost use Rattle.device_history.specs.declared.ask.Ask.TheVariants as asks;
-ghost use Rattle.device_history.specs.Ranges.{ranges_now};
-ghost use Rattle.device_history.specs.Values.{now};
 ghost use Rattle.device_state.specs.Device.{Handles};
 ghost use Rattle.device_state.specs.Runs.{IsRun};
-ghost use Rattle.following_ranges.specs.Following.{IsOfRoom, IsOwn, answer_by, due_for as range_due_for, due_where, range_call, range_for, ranges_due};
+ghost use Rattle.following_ranges.specs.Following.{IsOfRoom, IsOwn, answer_by, due_by, due_now, range_call, range_for, ranges_due_now, ranges_of, with_found};
 
 use ctrl_calls::Driver;
 use ctrl_settle::Ctrl;
@@ -40,8 +37,8 @@ pub(crate) fn follow<D: Driver>(
     requires none { asked.old.items ≡ [] }
     requires room_due { length device.old.plan.controls ≤ vec_capacity due.old }
     requires room { length device.old.plan.controls ≤ vec_capacity asked.old }
-    ensures exactly { map range_for asked.new.items ≡ due_where D.verdict followers.now device.old.plan before.now (past device.old.steps) }
-    ensures one_by_one { IsRun D.verdict device.old (map (range_call seat) asked.new.items) device.new }
+    ensures due { ranges_of asked.new.items ≡ due_by D.verdict followers.now before.now device.old }
+    ensures run { IsRun D.verdict device.old (map (range_call seat) asked.new.items) device.new }
     ensures of_room { All (λ one. IsOfRoom one.refusal) asked.new.items }
 {
     if have_moved(followers, before, device.values()) {
@@ -58,7 +55,7 @@ pub(crate) fn find_due<D: Driver>(
 )
     requires none { due.old.items ≡ [] }
     requires room { length device.now.plan.controls ≤ vec_capacity due.old }
-    ensures due { due.new.items ≡ ranges_due D.verdict followers.now device.now.plan (past device.now.steps) }
+    ensures due { due.new.items ≡ ranges_due_now D.verdict followers.now device.now }
     ensures few { length due.new.items ≤ length device.now.plan.controls }
     ensures own { All (IsOwn device.now.plan) due.new.items }
 {
@@ -70,7 +67,7 @@ pub(crate) fn find_due<D: Driver>(
 // Adds what was found, where something was.
 fn add_found(due: &mut Vec<(u32, Ctrl)>, found: Option<(u32, Ctrl)>)
     requires { length due.old.items < vec_capacity due.old }
-    ensures items { MatchOption found (due.new.items ≡ due.old.items) (λ one. due.new.items ≡ due.old.items ++ one ∷ []) }
+    ensures items { due.new.items ≡ with_found found due.old.items }
     ensures room { vec_capacity due.new ≡ vec_capacity due.old }
 {
     if let Some(one) = found {
@@ -85,7 +82,7 @@ fn due_for<D: Driver>(
     control: u32,
 ) -> Option<(u32, Ctrl)>
     requires { control < length device.now.plan.controls }
-    ensures due { result ≡ range_due_for followers.now (ranges_now device.now.plan (past device.now.steps)) (now D.verdict device.now.plan (past device.now.steps)) control }
+    ensures due { result ≡ due_now D.verdict followers.now device.now control }
     ensures own { IfSome result (IsOwn device.now.plan) }
 {
     match range_due(followers, control, device.range(control), device.values()) {
@@ -105,7 +102,7 @@ pub(crate) fn ask_due<D: Driver>(
     requires room { length due.now ≤ vec_capacity asked.old }
     requires own { All (IsOwn device.old.plan) due.now }
     ensures exactly { map range_for asked.new.items ≡ due.now }
-    ensures one_by_one { IsRun D.verdict device.old (map (range_call seat) asked.new.items) device.new }
+    ensures run { IsRun D.verdict device.old (map (range_call seat) asked.new.items) device.new }
     ensures of_room { All (λ one. IsOfRoom one.refusal) asked.new.items }
 {
     for one in due {
