@@ -2,11 +2,13 @@
 
 ghost use Rattle.std.specs.Prelude.{◌≤◌, length};
 
-use ctl_script::{Binding, Bindings, ask_of, audit_of};
+use crate::view::View;
+use ctl_script::{Binding, ask_of, audit_of};
 use ctrl_calls::Driver;
 use ctrl_types::Fault;
 use device_state::{Ask, Device, Reply};
-use script_lines::{ControlWords, LineFault, read_line};
+use following_ranges::{RangeAsk, handle_and_follow};
+use script_lines::{LineFault, read_line};
 use script_replies::Audited;
 use std::alloc::{AllocError, Global};
 use view_words::{RefusedClusters, refused_at};
@@ -21,37 +23,48 @@ pub enum Said {
     Nothing,
     /// An audit was made.
     Audit(Audited),
-    /// The device was asked. The clusters are those that the frame of a begin or of a forecast refuses, each with the reason.
-    Answer(Ask, Result<Reply, Fault>, RefusedClusters),
+    /// The device was asked. The clusters are those that the frame of a begin or of a forecast refuses, each with the reason; and then come the ranges that the device
+    /// asked for by itself.
+    Answer(Ask, Result<Reply, Fault>, RefusedClusters, Vec<RangeAsk>),
 }
 
-/// Asks what a line says, as `run_script` of `ctl_script` does, and binds its names. All that it needs of memory is taken before the device is asked.
+/// Asks what a line says, as `run_script` of `ctl_script` does, binds its names, and has ranges follow that do. All that it needs of memory is taken before the device
+/// is asked.
 pub fn answer_line<D: Driver>(
     alloc: Global,
-    known: &ControlWords,
+    view: &mut View,
     device: &mut Device<D>,
-    names: &mut Bindings,
     line: &[u8],
 ) -> Result<Said, LineFault>
     requires { length line.now ≤ 1048576 }
 {
-    let Some(command) = read_line(alloc, known, line)? else {
+    let Some(command) = read_line(alloc, &view.known, line)? else {
         return Ok(Said::Nothing);
     };
     let binding = Binding::of(&command);
-    if binding.enter(names).is_err() {
+    if binding.enter(&mut view.names).is_err() {
         return Err(LineFault::Memory);
     }
-    let Some(ask) = ask_of(command, names) else {
+    let Some(ask) = ask_of(command, &view.names) else {
         return Ok(Said::Audit(audit_of(alloc, device)));
     };
     // (behind a begin nothing would tell them any more)
     let Ok(refused) = refused_by(alloc, device, &ask) else {
         return Err(LineFault::Memory);
     };
-    let answer = device.handle(SEAT, &ask);
-    binding.bind(names, &answer);
-    Ok(Said::Answer(ask, answer, refused))
+    let followers = view.followers.as_slice();
+    let Ok((answer, asked)) = handle_and_follow(
+        alloc,
+        device,
+        followers,
+        &mut view.is_owed,
+        SEAT,
+        &ask,
+    ) else {
+        return Err(LineFault::Memory);
+    };
+    binding.bind(&mut view.names, &answer);
+    Ok(Said::Answer(ask, answer, refused, asked))
 }
 
 // The clusters that the frame refuses which an ask begins or foretells; none of another ask.

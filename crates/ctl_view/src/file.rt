@@ -26,7 +26,19 @@ pub fn run_file<R: AllocGlobal + Input + Files + Print + Eprint + Threads + Wait
         Err(code) => Err(code),
     };
     match file {
-        Ok(DeviceFile { plan, words }) => run_on(rt, plan, words, "this device", wanted, ink),
+        Ok(DeviceFile { followers, .. }) if wanted.task == Task::Pair && !followers.is_empty() => {
+            let _ = eprintln!(rt;
+                "{path}: --pair has no range follow a control, and here some do: run the scripts one by one, or write numbers in place of follows"
+            );
+            ExitCode::from(1)
+        }
+        Ok(
+            DeviceFile {
+                plan,
+                words,
+                followers,
+            },
+        ) => run_on(rt, plan, words, followers, "this device", wanted, ink),
         Err(code) => code,
     }
 }

@@ -17,9 +17,10 @@ pub struct Frame<'a> {
     pub refused: &'a [u32],
     // the number of its buffer
     buffer: u32,
-    // the values before it, and those that it will have
-    before: &'a [CtrlValue],
-    behind: &'a [CtrlValue],
+    /// The values before it.
+    pub before: &'a [CtrlValue],
+    /// The values that it will have.
+    pub behind: &'a [CtrlValue],
     // what its request asks for
     asked: &'a [Pair],
 }

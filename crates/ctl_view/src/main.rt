@@ -5,6 +5,7 @@
 mod answer;
 mod complaint;
 mod file;
+mod follow;
 mod frame;
 mod help;
 mod input;
@@ -156,7 +157,10 @@ where
         return no_memory(rt);
     };
     match sample_words(rt.alloc()) {
-        Ok(known) => run_on(rt, plan, known, "the sample device", wanted, ink),
+        Ok(known) => {
+            let none = Vec::new(rt.alloc());
+            run_on(rt, plan, known, none, "the sample device", wanted, ink)
+        }
         Err(_) => no_memory(rt),
     }
 }

@@ -54,7 +54,7 @@ fn show_line<D: Driver, R: AllocGlobal + Eprint, W: Write>(
 ) -> Result<(), Outcome>
     requires { length line.text.now ≤ 1048576 }
 {
-    match answer_line(rt.alloc(), &view.known, device, &mut view.names, line.text) {
+    match answer_line(rt.alloc(), view, device, line.text) {
         Ok(said) if view.is_told() => explain(rt, device, view, line, &said, writer),
         Ok(said) => show_said(rt.alloc(), device, view, line, &said, writer),
         Err(LineFault::Memory) => Err(Outcome::Memory),

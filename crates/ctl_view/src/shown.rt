@@ -1,12 +1,14 @@
 //! A line of a script on the page, with what it came to.
 
 use crate::answer::Said;
+use crate::follow::put_range_ask;
 use crate::table::{put_below, put_table};
 use crate::view::View;
 use ask_reasons::{ClusterReason, reason_of};
 use ctrl_calls::Driver;
 use ctrl_types::Fault;
 use device_state::{Ask, Device, Plan, Reply};
+use following_ranges::RangeAsk;
 use line_reasons::{Complaint, Names, reason_of as reason_of_line};
 use script_replies::{Audited, Outcome, write_audit};
 use std::alloc::{AllocError, Global};
@@ -27,16 +29,18 @@ pub fn show_said<D: Driver, W: Write>(
     match said {
         Said::Nothing => put_skipped(&mut page, line, view.ink),
         Said::Audit(audited) => put_audited(&mut page, alloc, view, line, *audited),
-        Said::Answer(ask, Err(fault), _) => {
+        Said::Answer(ask, Err(fault), _, _) => {
             if put_refused(&mut page, alloc, device, view, line, ask, *fault).is_err() {
                 return Err(Outcome::Memory);
             }
         }
-        Said::Answer(ask, answer, refused) => {
+        Said::Answer(ask, answer, refused, asked) => {
             put_accepted(&mut page, alloc, device, view, line, ask, answer);
             if let Ask::Begin = ask {
                 put_left_out(&mut page, alloc, device.plan(), view, refused.as_slice());
             }
+            put_followed(&mut page, alloc, view, asked.as_slice());
+            put_queue(&mut page, alloc, device, view, ask);
         }
     }
     write_page(writer, &page)
@@ -55,7 +59,7 @@ fn put_beside(page: &mut Page, line: Line<'_>, said: &Page, colour: &str, ink: I
     put_command(page, line, said.text(), colour, ink);
 }
 
-// Puts a command that was accepted on a page, and the queue where it is to be shown.
+// Puts a command that was accepted on a page.
 fn put_accepted<D: Driver>(
     page: &mut Page,
     alloc: Global,
@@ -75,9 +79,33 @@ fn put_accepted<D: Driver>(
     };
     put_reply(&mut said, &mut view.line, asked, answer);
     put_beside(page, line, &said, "", view.ink);
+}
+
+// The ranges that the device asked for by itself, below the line of what moved them.
+fn put_followed(page: &mut Page, alloc: Global, view: &View, asked: &[RangeAsk]) {
+    let mut text = Page::new(alloc);
+    for one in asked {
+        text.clear();
+        put_range_ask(&mut text, &view.known, one);
+        let colour = match one.refusal {
+            Some(_) => view.ink.bad,
+            None => view.ink.faint,
+        };
+        put_below(page, &text, colour, view.ink.plain);
+    }
+}
+
+// The queue, where it is to be shown behind an ask that was accepted.
+fn put_queue<D: Driver>(
+    page: &mut Page,
+    alloc: Global,
+    device: &Device<D>,
+    view: &mut View,
+    ask: &Ask,
+) {
     if view.shows_queue(device, ask) {
         view.shown_at = Some(device.steps().len());
-        put_table(page, alloc, &view.known, device, view.ink);
+        put_table(page, alloc, view, device);
     }
 }
 
@@ -200,7 +228,7 @@ pub fn show_end<D: Driver, W: Write>(
 fn put_end<D: Driver>(page: &mut Page, alloc: Global, device: &Device<D>, view: &View) {
     let steps = device.steps().len();
     if device.queued_count() > 0 && view.shown_at != Some(steps) {
-        put_table(page, alloc, &view.known, device, view.ink);
+        put_table(page, alloc, view, device);
     }
     let commands = view.commands;
     let refused = view.refused;

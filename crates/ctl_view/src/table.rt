@@ -1,10 +1,13 @@
 //! What the queued frames will have, as a table.
 
+use crate::follow::is_behind_a_move;
 use crate::frame::{cell_at, frame_at, put_buffer, put_in_frame, put_now, stays, widest};
+use crate::view::View;
 use ask_reasons::frame_reason;
 use ctl_script::ControlWords;
 use ctrl_calls::Driver;
 use device_state::Device;
+use range_followers::Follower;
 use std::alloc::Global;
 use std::io::Write;
 use view_layout::{
@@ -39,14 +42,11 @@ struct Block {
 }
 
 /// Puts on a page what the queued frames will have: a row for each control that one of them changes, or asks for in vain, a column for each frame, in blocks
-/// of as many frames as a line has room for; and which clusters will be refused, and why. Where none is queued, it says so.
-pub fn put_table<D: Driver>(
-    page: &mut Page,
-    alloc: Global,
-    known: &ControlWords,
-    device: &Device<D>,
-    ink: Ink,
-) {
+/// of as many frames as a line has room for; which clusters will be refused, and why; and which frames may have another range than is foretold. Where none is queued,
+/// it says so.
+pub fn put_table<D: Driver>(page: &mut Page, alloc: Global, view: &View, device: &Device<D>) {
+    let (known, ink) = (&view.known, view.ink);
+    let followers = view.followers.as_slice();
     let count = device.queued_count();
     if count == 0 {
         put_spaces(page, INDENT);
@@ -63,10 +63,19 @@ pub fn put_table<D: Driver>(
         let first = number.saturating_mul(room);
         let end = first.saturating_add(room).min(count);
         let block = Block { first, end, widths };
-        put_heads(page, alloc, device, block);
+        put_heads(page, alloc, device, followers, block);
         put_rows(page, alloc, known, device, block, ink);
     }
     put_refusals(page, alloc, known, device, ink);
+    if is_behind_a_move(device, followers, count - 1) {
+        put_spaces(page, INDENT);
+        page.put(ink.faint);
+        page.put(
+            "? behind a frame that moves what a range follows: it may have another range by then",
+        );
+        page.put(ink.plain);
+        page.put("\n");
+    }
     put_legend(page, device, ink);
 }
 
@@ -88,8 +97,14 @@ fn widths_of<D: Driver>(alloc: Global, known: &ControlWords, device: &Device<D>)
     widths
 }
 
-// The two lines above a block: the numbers of its frames, and their buffers.
-fn put_heads<D: Driver>(page: &mut Page, alloc: Global, device: &Device<D>, block: Block) {
+// The two lines above a block: the numbers of its frames, with a mark where a range may have followed by then, and their buffers.
+fn put_heads<D: Driver>(
+    page: &mut Page,
+    alloc: Global,
+    device: &Device<D>,
+    followers: &[Follower],
+    block: Block,
+) {
     let mut text = Page::new(alloc);
     let Widths { names, now, frame } = block.widths;
     page.put("\n");
@@ -99,7 +114,12 @@ fn put_heads<D: Driver>(page: &mut Page, alloc: Global, device: &Device<D>, bloc
     put_right(page, &text, now, "", "");
     for place in block.first..block.end {
         text.clear();
-        let _ = write!(text, "frame {place}");
+        let mark = if is_behind_a_move(device, followers, place) {
+            "?"
+        } else {
+            ""
+        };
+        let _ = write!(text, "frame {place}{mark}");
         put_right(page, &text, frame, "", "");
     }
     page.put("\n");

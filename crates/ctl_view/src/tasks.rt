@@ -2,6 +2,7 @@
 
 ghost use Rattle.std.specs.Prelude.{◌≡◌, ◌≤◌, [], length};
 
+use crate::follow::put_follower;
 use crate::input::read_script;
 use crate::no_memory;
 use crate::script::show_script;
@@ -12,6 +13,7 @@ use ctl_pair::{Gate, run_pair};
 use ctl_script::{InputFault, run_board, with_line};
 use ctrl_calls::Driver;
 use device_state::{Device, Plan};
+use range_followers::Follower;
 use script_lines::ControlWords;
 use script_replies::Outcome;
 use std::io;
@@ -33,6 +35,7 @@ impl Gate for OpenGate {
 /// Does what is wanted on a fresh device of a plan.
 ///
 /// - `known`: the words of its controls.
+/// - `followers`: how its ranges follow other controls; none where two scripts are run.
 /// - `name`: the device, as it stands behind `a word of`.
 pub fn run_on<
     D: Driver + Explained + Send,
@@ -41,6 +44,7 @@ pub fn run_on<
     rt: &R,
     plan: Plan<D>,
     known: ControlWords,
+    followers: Vec<Follower>,
     name: &'static str,
     wanted: Wanted<'_>,
     ink: Ink,
@@ -55,11 +59,11 @@ where
     let Ok(device) = Device::new(rt.alloc(), plan) else {
         return no_memory(rt);
     };
-    let Ok(mut view) = View::new(rt.alloc(), known, name, wanted.task, ink) else {
+    let Ok(mut view) = View::new(rt.alloc(), known, followers, name, wanted.task, ink) else {
         return no_memory(rt);
     };
     if wanted.task == Task::List && wanted.script.is_none() {
-        return list(rt, &device, &view.known);
+        return list(rt, &device, &view);
     }
     match read_script(rt, wanted.script) {
         Ok(text) => run_text(rt, device, &mut view, text.as_slice()),
@@ -89,22 +93,36 @@ where
     requires within { length text.now ≤ 1048576 }
 {
     match view.task {
-        Task::Board | Task::Pair => {
-            let outcome = run_as_tool(rt, device, view, text);
+        Task::Pair => {
+            let outcome = run_two(rt, device, view, text);
             ExitCode::from(outcome.status())
         }
         _ => {
             let outcome = show_script(rt, &mut device, view, text, &mut io::writer(rt));
-            match outcome {
-                Outcome::Finished if view.task == Task::List => list(rt, &device, &view.known),
+            match (outcome, view.task) {
+                (Outcome::Finished, Task::List) => list(rt, &device, view),
+                (Outcome::Finished, Task::Board) => board(rt, device, view),
                 _ => end(rt, view, outcome),
             }
         }
     }
 }
 
-// Runs a board, or two scripts, as `ctl_tool` does, and says on standard error why a line isn't a command.
-fn run_as_tool<D: Driver + Send, R: AllocGlobal + Print + Eprint + Threads + Wait + Sync>(
+// Prints what the queued frames will have, as `ctl_tool` prints it behind a script.
+fn board<D: Driver, R: AllocGlobal + Print>(rt: &R, device: Device<D>, view: &View) -> ExitCode {
+    let mut none: &[u8] = &[];
+    let (_, outcome) = run_board(
+        rt.alloc(),
+        &view.known,
+        device,
+        &mut none,
+        &mut io::writer(rt),
+    );
+    ExitCode::from(outcome.status())
+}
+
+// Runs two scripts, as `ctl_tool` does, and says on standard error why a line isn't a command.
+fn run_two<D: Driver + Send, R: AllocGlobal + Print + Eprint + Threads + Wait + Sync>(
     rt: &R,
     device: Device<D>,
     view: &View,
@@ -118,20 +136,15 @@ where
     let known = &view.known;
     let mut writer = io::writer(rt);
     let mut reader = text;
-    let (back, outcome) = if view.task == Task::Pair {
-        run_pair(
-            rt,
-            rt.alloc(),
-            known,
-            device,
-            &OpenGate,
-            &mut reader,
-            &mut writer,
-        )
-    } else {
-        let (device, outcome) = run_board(rt.alloc(), known, device, &mut reader, &mut writer);
-        (Ok(device), outcome)
-    };
+    let (back, outcome) = run_pair(
+        rt,
+        rt.alloc(),
+        known,
+        device,
+        &OpenGate,
+        &mut reader,
+        &mut writer,
+    );
     if let (Ok(device), Outcome::BadLine(number)) = (&back, outcome) {
         if let Some(text) = line_at(text, number) {
             explain_stray(rt, device.plan(), view, Line { number, text });
@@ -163,14 +176,24 @@ fn say_size<D: Driver>(rt: &impl Print, plan: &Plan<D>) -> ExitCode {
     }
 }
 
-// Lists a device as it is.
+// Lists a device as it is, and how its ranges follow other controls.
 fn list<D: Driver + Explained, R: AllocGlobal + Print>(
     rt: &R,
     device: &Device<D>,
-    known: &ControlWords,
+    view: &View,
 ) -> ExitCode {
+    let known = &view.known;
     let mut page = Page::new(rt.alloc());
-    if put_listing(&mut page, rt.alloc(), known, device).is_err() || !page.is_whole() {
+    if put_listing(&mut page, rt.alloc(), known, device).is_err() {
+        return no_memory(rt);
+    }
+    if !view.followers.is_empty() {
+        page.put("\n");
+    }
+    for follower in view.followers.as_slice() {
+        put_follower(&mut page, known, follower);
+    }
+    if !page.is_whole() {
         return no_memory(rt);
     }
     match io::writer(rt).write_all(page.text()) {

@@ -1,12 +1,14 @@
 //! The replies alone, with reasons on standard error.
 
 use crate::answer::Said;
+use crate::follow::put_range_ask;
 use crate::view::View;
 use crate::wanted::Task;
 use ask_reasons::{ClusterReason, reason_of};
 use ctrl_calls::Driver;
 use ctrl_types::Fault;
 use device_state::{Ask, Device, Plan};
+use following_ranges::RangeAsk;
 use line_reasons::{Complaint, Names, reason_in_pair, reason_of as reason_of_line};
 use script_replies::{Outcome, ReplyLine, write_answer, write_audit};
 use std::alloc::{AllocError, Global};
@@ -25,15 +27,22 @@ pub fn explain<D: Driver, R: AllocGlobal + Eprint, W: Write>(
     writer: &mut W,
 ) -> Result<(), Outcome> {
     let written = match said {
-        _ if view.task == Task::List => Ok(()),
+        _ if view.task != Task::Why => Ok(()),
         Said::Nothing => Ok(()),
         Said::Audit(audited) => write_audit(writer, &mut view.line, *audited),
-        Said::Answer(ask, answer, _) => write_answer(writer, &mut view.line, ask, answer),
+        Said::Answer(ask, answer, _, _) => write_answer(writer, &mut view.line, ask, answer),
     };
     if written.is_err() {
         return Err(Outcome::WriteFault);
     }
-    if let Said::Answer(ask, Ok(_), refused) = said {
+    if let Said::Answer(_, _, _, asked) = said {
+        tell_followed(rt, view, line.number, asked.as_slice());
+    }
+    // a board tells of no refusals
+    if view.task == Task::Board {
+        return Ok(());
+    }
+    if let Said::Answer(ask, Ok(_), refused, _) = said {
         tell_clusters(
             rt,
             device.plan(),
@@ -43,7 +52,7 @@ pub fn explain<D: Driver, R: AllocGlobal + Eprint, W: Write>(
             refused.as_slice(),
         );
     }
-    if let Said::Answer(ask, Err(fault), _) = said {
+    if let Said::Answer(ask, Err(fault), _, _) = said {
         let mut text = Page::new(rt.alloc());
         let asked = Asked {
             known: &view.known,
@@ -60,6 +69,24 @@ pub fn explain<D: Driver, R: AllocGlobal + Eprint, W: Write>(
         }
     }
     Ok(())
+}
+
+// Says which ranges the device asked for by itself, a line for each.
+fn tell_followed<R: AllocGlobal + Eprint>(rt: &R, view: &View, number: u32, asked: &[RangeAsk]) {
+    let mut text = Page::new(rt.alloc());
+    for one in asked {
+        text.clear();
+        put_range_ask(&mut text, &view.known, one);
+        if text.is_whole() {
+            tell(rt, number, text.text());
+        } else {
+            tell(
+                rt,
+                number,
+                b"no memory to say which range the device asked for",
+            );
+        }
+    }
 }
 
 // Says why a frame refuses clusters, a line for each: one that was begun, or that is foretold.

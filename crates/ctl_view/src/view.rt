@@ -4,6 +4,7 @@ use crate::wanted::Task;
 use ctl_script::{Bindings, ControlWords};
 use ctrl_calls::Driver;
 use device_state::{Ask, Device};
+use range_followers::Follower;
 use script_replies::ReplyLine;
 use std::alloc::{AllocError, Global};
 use view_layout::Ink;
@@ -19,6 +20,10 @@ pub struct View {
     pub ink: Ink,
     /// The words by which the script names the device's controls, and by which they are shown.
     pub known: ControlWords,
+    /// How the device's ranges follow other controls.
+    pub followers: Vec<Follower>,
+    /// Whether a range that was refused is still to be asked for.
+    pub is_owed: bool,
     /// The device, as it stands behind `a word of`.
     pub device: &'static str,
     /// What the names of the script stand for.
@@ -36,6 +41,7 @@ impl View {
     pub fn new(
         alloc: Global,
         known: ControlWords,
+        followers: Vec<Follower>,
         device: &'static str,
         task: Task,
         ink: Ink,
@@ -46,6 +52,8 @@ impl View {
             task,
             ink,
             known,
+            followers,
+            is_owed: false,
             device,
             names: Bindings::new(alloc),
             commands: 0,
@@ -56,7 +64,7 @@ impl View {
 
     /// Whether nothing of the script is shown, and reasons are told on standard error.
     pub fn is_told(&self) -> bool {
-        self.task == Task::Why || self.task == Task::List
+        matches!(self.task, Task::Why | Task::List | Task::Board)
     }
 
     /// Whether the queue is shown behind an ask that was accepted: behind a row, where no step was taken since it was shown, and where it is wanted behind

@@ -96,6 +96,13 @@ impl<D: Driver> PlanBuilder<D> {
         }
     }
 
+    /// The controls so far, by number; at most 256.
+    pub fn controls(&self) -> &[Ctrl]
+        ensures { result.now ≡ self.now.controls }
+    {
+        self.outline.controls()
+    }
+
     /// Has handler `to` show what handler `added` shows, too, after all of its own controls and after the handlers that it added before
     /// (Linux driver API, "V4L2 Controls", "Inheriting Controls"). Controls that either is given later have their places likewise. Adding
     /// again does nothing.

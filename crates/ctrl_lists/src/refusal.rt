@@ -46,10 +46,7 @@ impl Refusal {
     pub fn at_count(self, count: u32) -> Fault
         ensures { result ≡ fault_at_count count self }
     {
-        Fault {
-            errno: self.check.errno(),
-            index: Some(count),
-        }
+        self.check.fault_at(count)
     }
 
     /// The fault that a try is answered (the index is of this project): the errno of the check, and as the index the place of the entry where
@@ -59,9 +56,6 @@ impl Refusal {
     pub fn at_entry(self, count: u32) -> Fault
         ensures { result ≡ fault_at_entry count self }
     {
-        Fault {
-            errno: self.check.errno(),
-            index: Some(self.place.unwrap_or(count)),
-        }
+        self.check.fault_at(self.place.unwrap_or(count))
     }
 }

@@ -1,6 +1,6 @@
-ghost use Rattle.std.specs.Prelude.{◌≡◌};
+ghost use Rattle.std.specs.Prelude.{◌≡◌, None, Some};
 
-use crate::errno::Errno;
+use crate::errno::{Errno, Fault};
 
 /// What can refuse an ask: a check of docs/RULES.md that doesn't hold, named for the fault (of this project).
 #[derive(Clone, Copy, Debug, PartialEq, Eq)]
@@ -220,6 +220,28 @@ impl Check {
             Check::RangeNotOfKind => Some(37),
             Check::RangeDefaultNotTaken => Some(38),
             _ => None,
+        }
+    }
+
+    /// The refusal by this check of an ask that isn't about a list (of this project): its errno, without an index.
+    pub fn fault(self) -> Fault
+        ensures { result ≡ record { errno = errno_of self; index = None } }
+    {
+        Fault {
+            errno: self.errno(),
+            index: None,
+        }
+    }
+
+    /// The refusal by this check of a list (Linux userspace API, "struct v4l2_ext_controls", `error_idx`): its errno, with an index.
+    ///
+    /// - `index`: the index that goes with it, a place from 0 or the number of entries.
+    pub fn fault_at(self, index: u32) -> Fault
+        ensures { result ≡ record { errno = errno_of self; index = Some index } }
+    {
+        Fault {
+            errno: self.errno(),
+            index: Some(index),
         }
     }
 }

@@ -27,18 +27,18 @@ abbrev pub with_clusters_of : List Data → Members → DeviceData → Result De
 with_clusters_of handlers file d = do
   tables ← at_place places.File (elements_in keys.Cluster sorts.Tables file)
   plan ← with_clusters handlers d.words [] d.plan 0 tables
-  Ok (device plan d.words)
+  Ok (device plan d.words d.followers)
 
 -- a device whose plan is finished: each control that is in no cluster is one of its own
 abbrev pub finished_device : DeviceData → DeviceData
-finished_device d = device (finished d.plan) d.words
+finished_device d = device (finished d.plan) d.words d.followers
 
 -- What a file's table describes, or its first fault: it has no other keys; then come its handlers with their controls, and then its clusters.
 abbrev pub device_of : Members → Result DeviceData FileFault
 device_of file = do
   _ ← at_place places.File (no_others_in file_keys file)
   tables ← at_place places.File (elements_in keys.Handler sorts.Tables file)
-  handlers ← with_handlers [] (device no_plan []) 0 tables
+  handlers ← with_handlers [] (device no_plan [] []) 0 tables
   clusters ← with_clusters_of tables file handlers
   Ok (finished_device clusters)
 

@@ -6,10 +6,14 @@ use Rattle.toml.specs.Data.{Data, Members, as_str, as_table}
 use Rattle.ctrl_settle.specs.Control.{Control}
 use Rattle.ctrl_handlers.specs.Builder.{control_refusal, handler_refusal}
 use Rattle.ctrl_handlers.specs.Plan.{PlanData, with_added, with_control, with_handler}
+use Rattle.range_followers.specs.declared.follower.Follower.{Follower}
 use Rattle.script_lines.specs.ControlWords.{ControlWord, known_number}
+use Rattle.file_tables.specs.Bounds.{number_at}
 use Rattle.file_tables.specs.Controls.{control_at, name_at}
 use Rattle.file_faults.specs.Faults.{◌>>=◌, at_place, wrong, wrong_at}
 use Rattle.device_file.specs.Items.{with_items}
+use Rattle.device_file.specs.Ranges.{followed_in, started, with_follower}
+use Rattle.device_file.specs.declared.ranges.Followed.{Followed}
 use Rattle.file_tables.specs.Reading.{elements_in, needed_text_in, table_with, text_in}
 use Rattle.device_file.specs.Refusals.{control_fault, handler_fault, unless_refused}
 use Rattle.file_faults.specs.declared.fault.FileFault.{FileFault}
@@ -20,13 +24,14 @@ use Rattle.file_faults.specs.declared.place.Place.TheVariants as places
 use Rattle.file_faults.specs.declared.problem.Problem.TheVariants as problems
 use Rattle.file_faults.specs.declared.problem.Sort.TheVariants as sorts
 
--- A device as far as its file is read: the plan, and the words for its controls.
+-- A device as far as its file is read: the plan, the words for its controls, and how their ranges follow each other.
 pub record DeviceData : Type 0 where
   pub plan : PlanData
   pub words : List ControlWord
+  pub followers : List Follower
 
-abbrev pub device : PlanData → List ControlWord → DeviceData
-device plan words = record { plan = plan; words = words }
+abbrev pub device : PlanData → List ControlWord → List Follower → DeviceData
+device plan words followers = record { plan = plan; words = words; followers = followers }
 
 -- whether a handler has a name
 abbrev pub is_name : List ℕ → Result (Option (List ℕ)) KeyFault → Bool
@@ -111,12 +116,18 @@ control_keys =
 abbrev pub with_word : List ControlWord → List ℕ → Control → ℕ → List ControlWord
 with_word words name ctrl number = words ++ record { word = name; id = ctrl.id; number = number } ∷ []
 
+-- a device with one more control of a handler, which follows so, and whose default in the file is this number
+abbrev pub with_following : DeviceData → ℕ → Members → List ℕ → Control → Followed → ℤ → Result DeviceData KeyFault
+with_following d h table name ctrl f number = do
+  plan ← with_built d.plan h table (started d.plan.controls ctrl f number)
+  Ok (device plan (with_word d.words name ctrl (length d.plan.controls)) (with_follower d.followers (length d.plan.controls) f number))
+
 -- a device with one more control of a handler, that of a table, and its word
 abbrev pub with_named : DeviceData → ℕ → Members → List ℕ → Result DeviceData KeyFault
 with_named d h table name = do
   ctrl ← control_at table
-  plan ← with_built d.plan h table ctrl
-  Ok (device plan (with_word d.words name ctrl (length d.plan.controls)))
+  f ← followed_in d.plan.controls d.words d.followers table
+  with_following d h table name ctrl f (number_at keys.Default table)
 
 abbrev pub with_control_of : DeviceData → ℕ → Data → Result DeviceData KeyFault
 with_control_of d h value = do
@@ -137,7 +148,7 @@ with_handler_of earlier d h value = do
   handler ← at_place (places.Handler h) (handler_in earlier value)
   plan ← at_place (places.Handler h) (with_new_handler earlier d.plan h handler)
   tables ← at_place (places.Handler h) (elements_in keys.Control sorts.Tables handler)
-  with_controls (device plan d.words) h 0 tables
+  with_controls (device plan d.words d.followers) h 0 tables
 
 -- a device with further handlers behind these, from this number on
 abbrev pub with_handlers : List Data → DeviceData → ℕ → List Data → Result DeviceData FileFault

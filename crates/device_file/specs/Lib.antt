@@ -2,5 +2,6 @@ pub mod Clusters
 pub mod Devices
 pub mod Handlers
 pub mod Items
+pub mod Ranges
 pub mod Refusals
 pub mod Stops

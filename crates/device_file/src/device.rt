@@ -1,4 +1,5 @@
-ghost use Rattle.std.specs.Prelude.{◌≡◌, map, Ok, IfOk, IfErr};
+ghost use Rattle.std.specs.Prelude.{◌≡◌, List, map, Ok, IfOk, IfErr};
+ghost use Rattle.range_followers.specs.declared.follower.Follower.{Follower};
 ghost use Rattle.toml.specs.View.{table_view, view};
 ghost use Rattle.device_file.specs.Devices.{Describes, IsRefusedWith, device_of, with_clusters_of};
 ghost use Rattle.device_file.specs.Stops.{FileStops};
@@ -10,6 +11,7 @@ use ctrl_handlers::{Plan, PlanBuilder};
 use data_driver::Data;
 use file_faults::{FILE_KEYS, FileFault, Key, KeyFault, Place, Problem, Sort};
 use file_tables::reading::{elements, no_others};
+use range_followers::Follower;
 use script_lines::ControlWords;
 use std::alloc::Global;
 use toml::{Table, Value};
@@ -24,6 +26,9 @@ pub struct DeviceFile {
     pub plan: Plan<Data>,
     /// The words by which scripts name its controls, in the order of their numbers.
     pub words: ControlWords,
+    /// How ranges follow other controls, in the order of the numbers of those that follow; none of these is followed. Each control has the range that it is wanted to
+    /// have at the start (`following_ranges` has it move later).
+    pub followers: Vec<Follower>,
 }
 
 /// Reads a file that describes a device.
@@ -33,7 +38,7 @@ pub struct DeviceFile {
 /// Refused with the first fault that is met, in the order of docs/DEVICES.md; `explain` has it in words.
 #[tactic(auto, using(crate::proofs::Files::too_long, crate::proofs::Files::no_toml, crate::proofs::Files::first_fault))]
 pub fn read_device(alloc: Global, text: &[u8]) -> Result<DeviceFile, FileFault>
-    ensures ok { IfOk result (λ it. Describes text.now (device it.plan it.words)) }
+    ensures ok { IfOk result (λ d. Describes text.now (device d.plan d.words d.followers.items)) }
     ensures err { IfErr result (IsRefusedWith text.now) }
 {
     if text.len() > MAX_FILE {
@@ -57,7 +62,7 @@ pub fn read_device(alloc: Global, text: &[u8]) -> Result<DeviceFile, FileFault>
 ///
 /// Refused with the first fault that is met, in the order of docs/DEVICES.md.
 pub fn device_in(alloc: Global, file: &Table) -> Result<DeviceFile, FileFault>
-    ensures ok { IfOk result (λ it. device_of (table_view file.now) ≡ Ok (device it.plan it.words)) }
+    ensures ok { IfOk result (λ it. device_of (table_view file.now) ≡ Ok (device it.plan it.words it.followers.items)) }
     ensures err { IfErr result (FileStops (device_of (table_view file.now))) }
 {
     if let Err(fault) = no_others(file, FILE_KEYS) {
@@ -69,10 +74,15 @@ pub fn device_in(alloc: Global, file: &Table) -> Result<DeviceFile, FileFault>
     };
     let mut builder = PlanBuilder::new(alloc);
     let mut words = ControlWords::new(alloc);
-    add_handlers(alloc, &mut builder, tables, &mut words)?;
+    let mut followers = Vec::new(alloc);
+    add_handlers(alloc, &mut builder, tables, &mut words, &mut followers)?;
     add_clusters_of(alloc, &mut builder, tables, file, &words)?;
     match builder.finish() {
-        Ok(plan) => Ok(DeviceFile { plan, words }),
+        Ok(plan) => Ok(DeviceFile {
+            plan,
+            words,
+            followers,
+        }),
         Err(_) => Err(FileFault::Memory),
     }
 }
@@ -85,8 +95,8 @@ fn add_clusters_of(
     file: &Table,
     words: &ControlWords,
 ) -> Result<(), FileFault>
-    ensures ok { IfOk result (λ _. with_clusters_of (map view handlers.now) (table_view file.now) (device builder.old words.now) ≡ Ok (device builder.new words.now)) }
-    ensures err { IfErr result (FileStops (with_clusters_of (map view handlers.now) (table_view file.now) (device builder.old words.now))) }
+    ensures ok { (followers : List Follower) → IfOk result (λ _. with_clusters_of (map view handlers.now) (table_view file.now) (device builder.old words.now followers) ≡ Ok (device builder.new words.now followers)) }
+    ensures err { (followers : List Follower) → IfErr result (FileStops (with_clusters_of (map view handlers.now) (table_view file.now) (device builder.old words.now followers))) }
 {
     match elements(file, Key::Cluster, Sort::Tables) {
         Ok(tables) => add_clusters(alloc, builder, handlers, tables, words),

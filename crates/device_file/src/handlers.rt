@@ -1,6 +1,6 @@
 //! The handlers of a file, with their controls.
 
-ghost use Rattle.std.specs.Prelude.{◌≡◌, ◌+◌, ◌<◌, ◌≤◌, [], length, map, position, Ok, IfOk, IfErr};
+ghost use Rattle.std.specs.Prelude.{◌≡◌, ◌+◌, ◌<◌, ◌≤◌, [], length, map, position, Ok, IfOk, IfErr, OnOk};
 ghost use Rattle.std.specs.Result.{result_map_both};
 ghost use Rattle.toml.specs.View.{view, table_view};
 ghost use Rattle.ctrl_handlers.specs.declared.limits.TheConstants.{MAX_HANDLERS};
@@ -8,6 +8,7 @@ ghost use Rattle.device_file.specs.Stops.{FileStops, Stops};
 ghost use Rattle.device_file.specs.Handlers.{added_in as number_added, device, handler_in, handler_named, has_name as is_named, new_name as name_for, with_built, with_control_of, with_controls, with_handler_of, with_handlers, with_named, with_new_handler, with_other, with_others};
 
 use crate::items::add_items;
+use crate::ranges::{followed_in, keep, started};
 use crate::refusals::{refused_adding, refused_control, refused_handler};
 use crate::stop::ReadError;
 use ctrl_handlers::PlanBuilder;
@@ -15,7 +16,8 @@ use ctrl_settle::Ctrl;
 use data_driver::Data;
 use file_faults::{CONTROL_KEYS, FileFault, HANDLER_KEYS, Key, KeyFault, Place, Problem, Sort};
 use file_tables::reading::{elements, needed_text, table_with, text};
-use file_tables::{control_in, name_in};
+use file_tables::{control_in, name_in, number_at};
+use range_followers::Follower;
 use script_lines::ControlWords;
 use std::alloc::Global;
 use toml::{Table, Value};
@@ -26,14 +28,23 @@ pub(crate) fn add_handlers(
     builder: &mut PlanBuilder<Data>,
     tables: &[Value],
     words: &mut ControlWords,
+    followers: &mut Vec<Follower>,
 ) -> Result<(), FileFault>
     requires none { builder.old.handlers ≡ [] }
-    ensures ok { IfOk result (λ _. with_handlers [] (device builder.old words.old) 0 (map view tables.now) ≡ Ok (device builder.new words.new)) }
-    ensures err { IfErr result (FileStops (with_handlers [] (device builder.old words.old) 0 (map view tables.now))) }
+    ensures ok { OnOk result (with_handlers [] (device builder.old words.old followers.old.items) 0 (map view tables.now) ≡ Ok (device builder.new words.new followers.new.items)) }
+    ensures err { IfErr result (FileStops (with_handlers [] (device builder.old words.old followers.old.items) 0 (map view tables.now))) }
 {
     for number in 0..tables.len() {
         let earlier = &tables[..number];
-        add_handler(alloc, builder, earlier, number, &tables[number], words)?;
+        add_handler(
+            alloc,
+            builder,
+            earlier,
+            number,
+            &tables[number],
+            words,
+            followers,
+        )?;
     }
     Ok(())
 }
@@ -46,14 +57,15 @@ fn add_handler(
     number: usize,
     value: &Value,
     words: &mut ControlWords,
+    followers: &mut Vec<Follower>,
 ) -> Result<(), FileFault>
     requires many { length builder.old.handlers ≡ number }
     requires few { number ≤ MAX_HANDLERS }
     requires above { length earlier.now ≤ number }
-    ensures many { IfOk result (λ _. length builder.new.handlers ≡ number + 1) }
-    ensures few { IfOk result (λ _. number + 1 ≤ MAX_HANDLERS) }
-    ensures ok { IfOk result (λ _. with_handler_of (map view earlier.now) (device builder.old words.old) number (view value.now) ≡ Ok (device builder.new words.new)) }
-    ensures err { IfErr result (FileStops (with_handler_of (map view earlier.now) (device builder.old words.old) number (view value.now))) }
+    ensures many { OnOk result (length builder.new.handlers ≡ number + 1) }
+    ensures few { OnOk result (number + 1 ≤ MAX_HANDLERS) }
+    ensures ok { OnOk result (with_handler_of (map view earlier.now) (device builder.old words.old followers.old.items) number (view value.now) ≡ Ok (device builder.new words.new followers.new.items)) }
+    ensures err { IfErr result (FileStops (with_handler_of (map view earlier.now) (device builder.old words.old followers.old.items) number (view value.now))) }
 {
     let place = Place::Handler(number);
     let handler = match handler_table(earlier, value) {
@@ -65,7 +77,7 @@ fn add_handler(
         Err(error) => return Err(error.at(place)),
     };
     match elements(handler, Key::Control, Sort::Tables) {
-        Ok(tables) => add_controls(alloc, builder, number, tables, words),
+        Ok(tables) => add_controls(alloc, builder, number, tables, words, followers),
         Err(fault) => Err(fault.at(place)),
     }
 }
@@ -116,9 +128,9 @@ fn put_handler(
     requires few { length builder.old.handlers ≤ MAX_HANDLERS }
     requires above { length earlier.now ≤ length builder.old.handlers }
     ensures number { IfOk result (λ number. number ≡ length builder.old.handlers) }
-    ensures many { IfOk result (λ _. length builder.new.handlers ≡ length builder.old.handlers + 1) }
-    ensures few { IfOk result (λ _. length builder.old.handlers + 1 ≤ MAX_HANDLERS) }
-    ensures ok { IfOk result (λ _. with_new_handler (map view earlier.now) builder.old (length builder.old.handlers) (table_view handler.now) ≡ Ok builder.new) }
+    ensures many { OnOk result (length builder.new.handlers ≡ length builder.old.handlers + 1) }
+    ensures few { OnOk result (length builder.old.handlers + 1 ≤ MAX_HANDLERS) }
+    ensures ok { OnOk result (with_new_handler (map view earlier.now) builder.old (length builder.old.handlers) (table_view handler.now) ≡ Ok builder.new) }
     ensures err { IfErr result (Stops (with_new_handler (map view earlier.now) builder.old (length builder.old.handlers) (table_view handler.now))) }
 {
     let number = match builder.handler() {
@@ -142,8 +154,8 @@ fn add_others(
     requires few { length earlier.now ≤ MAX_HANDLERS }
     requires above { length earlier.now ≤ number }
     requires there { number < length builder.old.handlers }
-    ensures many { IfOk result (λ _. length builder.new.handlers ≡ length builder.old.handlers) }
-    ensures ok { IfOk result (λ _. with_others (map view earlier.now) builder.old number 0 (map view names.now) ≡ Ok builder.new) }
+    ensures many { OnOk result (length builder.new.handlers ≡ length builder.old.handlers) }
+    ensures ok { OnOk result (with_others (map view earlier.now) builder.old number 0 (map view names.now) ≡ Ok builder.new) }
     ensures err { IfErr result (Stops (with_others (map view earlier.now) builder.old number 0 (map view names.now))) }
 {
     for place in 0..names.len() {
@@ -163,8 +175,8 @@ fn add_other(
     requires few { length earlier.now ≤ MAX_HANDLERS }
     requires above { length earlier.now ≤ number }
     requires there { number < length builder.old.handlers }
-    ensures many { IfOk result (λ _. length builder.new.handlers ≡ length builder.old.handlers) }
-    ensures ok { IfOk result (λ _. with_other (map view earlier.now) builder.old number place (view name.now) ≡ Ok builder.new) }
+    ensures many { OnOk result (length builder.new.handlers ≡ length builder.old.handlers) }
+    ensures ok { OnOk result (with_other (map view earlier.now) builder.old number place (view name.now) ≡ Ok builder.new) }
     ensures err { IfErr result (Stops (with_other (map view earlier.now) builder.old number place (view name.now))) }
 {
     let added = match added_in(place, name, earlier) {
@@ -199,13 +211,14 @@ fn add_controls(
     handler: u32,
     tables: &[Value],
     words: &mut ControlWords,
+    followers: &mut Vec<Follower>,
 ) -> Result<(), FileFault>
-    ensures many { IfOk result (λ _. length builder.new.handlers ≡ length builder.old.handlers) }
-    ensures ok { IfOk result (λ _. with_controls (device builder.old words.old) handler 0 (map view tables.now) ≡ Ok (device builder.new words.new)) }
-    ensures err { IfErr result (FileStops (with_controls (device builder.old words.old) handler 0 (map view tables.now))) }
+    ensures many { OnOk result (length builder.new.handlers ≡ length builder.old.handlers) }
+    ensures ok { OnOk result (with_controls (device builder.old words.old followers.old.items) handler 0 (map view tables.now) ≡ Ok (device builder.new words.new followers.new.items)) }
+    ensures err { IfErr result (FileStops (with_controls (device builder.old words.old followers.old.items) handler 0 (map view tables.now))) }
 {
     for number in 0..tables.len() {
-        match add_control(alloc, builder, handler, &tables[number], words) {
+        match add_control(alloc, builder, handler, &tables[number], words, followers) {
             Ok(()) => {}
             Err(error) => return Err(error.at(Place::Control(handler as usize, number))),
         }
@@ -220,17 +233,18 @@ fn add_control(
     handler: u32,
     value: &Value,
     words: &mut ControlWords,
+    followers: &mut Vec<Follower>,
 ) -> Result<(), ReadError>
-    ensures many { IfOk result (λ _. length builder.new.handlers ≡ length builder.old.handlers) }
-    ensures ok { IfOk result (λ _. with_control_of (device builder.old words.old) handler (view value.now) ≡ Ok (device builder.new words.new)) }
-    ensures err { IfErr result (Stops (with_control_of (device builder.old words.old) handler (view value.now))) }
+    ensures many { OnOk result (length builder.new.handlers ≡ length builder.old.handlers) }
+    ensures ok { OnOk result (with_control_of (device builder.old words.old followers.old.items) handler (view value.now) ≡ Ok (device builder.new words.new followers.new.items)) }
+    ensures err { IfErr result (Stops (with_control_of (device builder.old words.old followers.old.items) handler (view value.now))) }
 {
     let control = match table_with(value, CONTROL_KEYS) {
         Ok(control) => control,
         Err(fault) => return Err(ReadError::Key(fault)),
     };
     match new_name(control, words) {
-        Ok(name) => add_named(alloc, builder, handler, control, name, words),
+        Ok(name) => add_named(alloc, builder, handler, control, name, words, followers),
         Err(fault) => Err(ReadError::Key(fault)),
     }
 }
@@ -259,19 +273,27 @@ fn add_named(
     control: &Table,
     name: &str,
     words: &mut ControlWords,
+    followers: &mut Vec<Follower>,
 ) -> Result<(), ReadError>
-    ensures many { IfOk result (λ _. length builder.new.handlers ≡ length builder.old.handlers) }
-    ensures ok { IfOk result (λ _. with_named (device builder.old words.old) handler (table_view control.now) name.now ≡ Ok (device builder.new words.new)) }
-    ensures err { IfErr result (Stops (with_named (device builder.old words.old) handler (table_view control.now) name.now)) }
+    ensures many { OnOk result (length builder.new.handlers ≡ length builder.old.handlers) }
+    ensures ok { OnOk result (with_named (device builder.old words.old followers.old.items) handler (table_view control.now) name.now ≡ Ok (device builder.new words.new followers.new.items)) }
+    ensures err { IfErr result (Stops (with_named (device builder.old words.old followers.old.items) handler (table_view control.now) name.now)) }
 {
     let ctrl = match control_in(control) {
         Ok(ctrl) => ctrl,
         Err(fault) => return Err(ReadError::Key(fault)),
     };
-    let number = build_control(builder, handler, control, ctrl)?;
-    match words.push(alloc, name.as_bytes(), ctrl.id(), number) {
-        Ok(()) => Ok(()),
-        Err(_) => Err(ReadError::Memory),
+    match followed_in(builder.controls(), words, followers.as_slice(), control) {
+        Ok(followed) => {
+            let of_file = number_at(control, Key::Default);
+            let ctrl = started(builder.controls(), ctrl, &followed, of_file);
+            let number = build_control(builder, handler, control, ctrl)?;
+            match words.push(alloc, name.as_bytes(), ctrl.id(), number) {
+                Ok(()) => keep(followers, number, &followed, of_file),
+                Err(_) => Err(ReadError::Memory),
+            }
+        }
+        Err(fault) => Err(ReadError::Key(fault)),
     }
 }
 
@@ -282,9 +304,9 @@ fn build_control(
     control: &Table,
     ctrl: Ctrl,
 ) -> Result<u32, ReadError>
-    ensures many { IfOk result (λ _. length builder.new.handlers ≡ length builder.old.handlers) }
+    ensures many { OnOk result (length builder.new.handlers ≡ length builder.old.handlers) }
     ensures number { IfOk result (λ number. number ≡ length builder.old.controls) }
-    ensures ok { IfOk result (λ _. with_built builder.old handler (table_view control.now) ctrl ≡ Ok builder.new) }
+    ensures ok { OnOk result (with_built builder.old handler (table_view control.now) ctrl ≡ Ok builder.new) }
     ensures err { IfErr result (Stops (with_built builder.old handler (table_view control.now) ctrl)) }
 {
     match builder.control(handler, ctrl) {

@@ -6,6 +6,7 @@ mod clusters;
 mod device;
 mod handlers;
 mod items;
+mod ranges;
 mod refusals;
 mod stop;
 

@@ -1,8 +1,7 @@
 -- The events of a file handle after one more entry.
-use Rattle.std.proofs.Common.{arith, ◌≡◌, ◌∙◌, ◌<◌, ◌≤◌, ◌+◌, ◌*◌, mul-suc, ℕ, ℤ, zero, suc, Bool, true, false, not, ◌&&◌, ◌||◌, cond, List, [], ◌∷◌, ◌++◌, filter, filter_map, length, length-append, Option, None, Some, is_some, nat_eq, eq-eqb, All, refl, ap, sym, subst, true≢false, if◌then◌else◌}
-use Rattle.std.proofs.lemmas.Bool.Decides.{Decides-int_eq, nat_tests}
+use Rattle.std.proofs.Common.{arith, ◌≡◌, ◌∙◌, ◌<◌, ◌≤◌, ◌+◌, ℕ, ℤ, Bool, true, false, not, ◌&&◌, cond, List, [], ◌∷◌, ◌++◌, filter, filter_map, length, Option, None, Some, is_some, nat_eq, eq-eqb, All, refl, ap, sym, subst, true≢false, if◌then◌else◌}
+use Rattle.std.proofs.lemmas.Bool.Decides.{Decides-int_eq}
 use Rattle.std.proofs.lemmas.List.Elements.{All-head, All-tail}
-use Rattle.std.proofs.lemmas.List.FromFn.{length-range_with_len}
 use Rattle.std.specs.List.{cons_option, range_with_len}
 use Rattle.std.specs.Ordering.{int_eq}
 use Rattle.std.specs.Option.{option_and_then, option_map, option_or}
@@ -37,7 +36,7 @@ use Rattle.device_history.specs.Flags.{flags_now}
 use Rattle.device_history.specs.Words.{pairs_applied}
 use Rattle.device_history.specs.Legal.{IsLegal, MayFollow}
 use Rattle.device_history.specs.Subscriptions.{first_flags, is_control, since_ended, subscribed, subscribed_after, subscribed_by}
-use Rattle.device_history.specs.Events.{changed, withdrawn_if_named, happened, heard, hears, initially, next_sequence, payload, pending, raises, raised_for, all_raised_for, with_withdrawn, with_raises, from_of}
+use Rattle.device_history.specs.Events.{changed, withdrawn_if_named, happened, heard, hears, initially, payload, pending, raises, raised_for, all_raised_for, with_withdrawn, with_raises, from_of}
 use Rattle.device_history.specs.EventSteps.{AreEvents, unsubscribed_if_named, events_after, events_by, raised_by}
 use Rattle.ctrl_raises.specs.Raises.{initial_changes, raised_all, range_differs}
 use Rattle.device_history.specs.EventAnswers.{first_control}
@@ -45,6 +44,7 @@ use Rattle.device_history.proofs.AskingLemmas.{may_decided}
 use Rattle.device_history.proofs.GrabLemmas.{grabbed_more}
 use Rattle.device_history.proofs.SubscriptionLemmas.{closed_by_none, equal, handler_gone, handler_left, handler_more, handler_new, handler_other, is_open, not_yet, subscribed_more, subscribes_open, takes_open, unsubscribes_open}
 use Rattle.device_history.proofs.RangeLemmas.{ranges_more}
+use Rattle.device_history.proofs.PickLemmas.{none_picked, same_picked, pick, picks_one, raises_kept}
 
 -- the numbers of raises go on
 numbered_raises : (told : ℕ → Payload) (rs : List (ℕ × Changes)) (hs : List Happening) → AreNumbered hs → AreNumbered (with_raises told rs hs)
@@ -132,99 +132,6 @@ nothing_closed verdicts plan past fh f shut none =
       waiting = none.1 ∙ sym (ap (λ (b : Bool). cond b (pending_in (happened verdicts plan past fh)) []) shut);
       next = none.2 ∙ sym (ap (λ (b : Bool). cond b (length (raises_in (happened verdicts plan past fh))) 0) shut);
     }
-
--- whether a subscriber hears of a change is whether its raise reaches it
-hears_reaches : (fh : FhId) (flags : SubFlags) (step : Step) (change : Changes) (c : ℕ) → hears fh flags step change c ≡ reaches (is_from (from_of step change c) fh.0) (Some flags)
-hears_reaches fh flags step change c = refl
-
--- nothing is picked where nothing passes
-none_picked : {Y : Type 0} (g : ℕ → Option Y) (cs : List ℕ) → ((c : ℕ) → g c ≡ None) → filter_map g cs ≡ []
-none_picked g [] none = refl
-none_picked g (c ∷ cs) none = rw (none c, none_picked g cs none) refl
-
--- choices that agree pick the same
-same_picked : {Y : Type 0} (g h : ℕ → Option Y) (cs : List ℕ) → ((c : ℕ) → g c ≡ h c) → filter_map g cs ≡ filter_map h cs
-same_picked g h [] same = refl
-same_picked g h (c ∷ cs) same = rw (same c, same_picked g h cs same) refl
-
--- a choice of one control alone
-pick : ℕ → Option Changes → ℕ → Option (ℕ × Changes)
-pick c0 v c = option_map (λ change. (c, change)) (cond (nat_eq c0 c) v None)
-
-picks_none : (c0 : ℕ) (v : Option Changes) (a n : ℕ) → c0 < a → filter_map (pick c0 v) (range_with_len a n) ≡ []
-unfolding pick
-picks_none c0 v a zero less = refl
-picks_none c0 v a (suc n) less =
-    let other : nat_eq c0 a ≡ false = grind (arith, nat_tests, less) in
-    rw (other, picks_none c0 v (a + 1) n (omega (arith, less))) refl
-
-picks_one : (c0 : ℕ) (v : Option Changes) (a n : ℕ) → a ≤ c0 → c0 < a + n → filter_map (pick c0 v) (range_with_len a n) ≡ cons_option (option_map (λ change. (c0, change)) v) []
-unfolding pick
-picks_one c0 v a zero low high = absurd (omega (arith, low, high))
-picks_one c0 v a (suc n) low high = by (nat_eq c0 a) refl (λ below. picks_one c0 v (a + 1) n below (omega (arith, high)))
-  where
-    by : (b : Bool) → nat_eq c0 a ≡ b → (a + 1 ≤ c0 → filter_map (pick c0 v) (range_with_len (a + 1) n) ≡ cons_option (option_map (λ change. (c0, change)) v) []) → filter_map (pick c0 v) (a ∷ range_with_len (a + 1) n) ≡ cons_option (option_map (λ change. (c0, change)) v) []
-    by true is more =
-        let same : c0 ≡ a = grind (arith, nat_tests, is) in
-        ap (λ (b : Bool). cons_option (option_map (λ change. (a, change)) (cond b v None)) (filter_map (pick c0 v) (range_with_len (a + 1) n))) is
-        ∙ ap (λ (rest : List (ℕ × Changes)). cons_option (option_map (λ change. (a, change)) v) rest) (picks_none c0 v (a + 1) n (omega (arith, same)))
-        ∙ sym (ap (λ (k : ℕ). cons_option (option_map (λ change. (k, change)) v) []) same)
-    by false is more =
-        let apart : c0 ≡ a → ⊥ = λ same. true≢false (sym (eq-eqb c0 a same) ∙ is) in
-        let above : a + 1 ≤ c0 = grind (arith, low, apart) in
-        rw is (more above)
-
--- raises of some controls, one after another
-raises_kept : (verdicts : Verdicts) (plan : PlanData) (e : Entry Step) (older : Past) (fh : FhId) (cs : List ℕ) (f : FileEvents) (hs : List Happening) → IsWhatHappened hs f → ((c : ℕ) → flags_in f.subscribed c ≡ subscribed older fh c)
-    → IsWhatHappened (with_raises (payload verdicts plan (e ∷ older)) (filter_map (λ c. option_map (λ change. (c, change)) (heard fh (subscribed older fh c) e.step (changed verdicts plan e older c) c)) cs) hs) (raised_by verdicts plan e older fh cs f)
-    × ((c : ℕ) → flags_in (raised_by verdicts plan e older fh cs f).subscribed c ≡ subscribed older fh c)
-unfolding with_raises raised_all
-raises_kept verdicts plan e older fh [] f hs kept subs = (kept, subs)
-raises_kept verdicts plan e older fh (c ∷ cs) f hs kept subs = by (raises_kept verdicts plan e older fh cs) (subscribed older fh c) refl (is_nothing change) refl
-  where
-    change : Changes
-    change = changed verdicts plan e older c
-
-    told : ℕ → Payload
-    told = payload verdicts plan (e ∷ older)
-
-    rest : List (ℕ × Changes)
-    rest = filter_map (λ d. option_map (λ x. (d, x)) (heard fh (subscribed older fh d) e.step (changed verdicts plan e older d) d)) cs
-
-    from : Option ℕ
-    from = from_of e.step change c
-
-    Kept : List (ℕ × Changes) → List Happening → FileEvents → Type 0
-    Kept rs all own = IsWhatHappened (with_raises told rs all) (raised_by verdicts plan e older fh cs own) × ((d : ℕ) → flags_in (raised_by verdicts plan e older fh cs own).subscribed d ≡ subscribed older fh d)
-
-    More : Type 0
-    More = (g : FileEvents) (all : List Happening) → IsWhatHappened all g → ((d : ℕ) → flags_in g.subscribed d ≡ subscribed older fh d) → Kept rest all g
-
-    stays : More → (own : FileEvents) → own ≡ f → Kept rest hs own
-    stays more own same = subst (λ (g : FileEvents). Kept rest hs g) (sym same) (more f hs kept subs)
-
-    unheard : flags_in f.subscribed c ≡ None → (if reaches (is_from from fh.0) (flags_in f.subscribed c) then raised c change (told c) f else f) ≡ f
-    unheard none = ap (λ (o : Option SubFlags). cond (reaches (is_from from fh.0) o) (raised c change (told c) f) f) none
-
-    goes : More → (flags : SubFlags) → flags_in f.subscribed c ≡ Some flags → (r : Bool) → reaches (is_from from fh.0) (Some flags) ≡ r
-        → Kept (cons_option (option_map (λ x. (c, x)) (cond (not r) None (Some change))) rest) hs (if reaches (is_from from fh.0) (flags_in f.subscribed c) then raised c change (told c) f else f)
-    goes more flags own false off = stays more _ (ap (λ (o : Option SubFlags). cond (reaches (is_from from fh.0) o) (raised c change (told c) f) f) own ∙ ap (λ (b : Bool). cond b (raised c change (told c) f) f) off)
-    goes more flags own true on =
-        subst (λ (g : FileEvents). Kept ((c, change) ∷ rest) hs g)
-        (sym (ap (λ (o : Option SubFlags). cond (reaches (is_from from fh.0) o) (raised c change (told c) f) f) own ∙ ap (λ (b : Bool). cond b (raised c change (told c) f) f) on))
-        (more (raised c change (told c) f) (raise (record { control = c; changes = change; payload = told c; sequence = length (raises_in hs) }) ∷ hs)
-        (subst (λ (n : ℕ). IsWhatHappened (raise (record { control = c; changes = change; payload = told c; sequence = n }) ∷ hs) (raised c change (told c) f)) kept.next (kept_raised hs f c change (told c) kept))
-        subs)
-
-    by : More → (o : Option SubFlags) → subscribed older fh c ≡ o → (n : Bool) → is_nothing change ≡ n
-        → Kept (cons_option (option_map (λ x. (c, x)) (heard fh o e.step change c)) rest) hs (cond n f (if reaches (is_from from fh.0) (flags_in f.subscribed c) then raised c change (told c) f else f))
-    by more None is true nothing = stays more f refl
-    by more None is false some = stays more _ (unheard (subs c ∙ is))
-    by more (Some flags) is true nothing = subst (λ (b : Bool). Kept (cons_option (option_map (λ x. (c, x)) (cond (b || not (hears fh flags e.step change c)) None (Some change))) rest) hs f) (sym nothing) (stays more f refl)
-    by more (Some flags) is false some =
-        subst (λ (b : Bool). Kept (cons_option (option_map (λ x. (c, x)) (cond (b || not (hears fh flags e.step change c)) None (Some change))) rest) hs (if reaches (is_from from fh.0) (flags_in f.subscribed c) then raised c change (told c) f else f)) (sym some)
-        (subst (λ (b : Bool). Kept (cons_option (option_map (λ x. (c, x)) (cond (not b) None (Some change))) rest) hs (if reaches (is_from from fh.0) (flags_in f.subscribed c) then raised c change (told c) f else f)) (sym (hears_reaches fh flags e.step change c))
-        (goes more flags (subs c ∙ is) (reaches (is_from from fh.0) (Some flags)) refl))
 
 -- a step that leaves values, grabs and ranges, and applies no pairs
 abbrev ChangesNoControl : Verdicts → PlanData → Past → Step → Type 0
@@ -778,77 +685,3 @@ events_add verdicts plan entries e fh f plans legal may are =
 pub events_start : (verdicts : Verdicts) (plan : PlanData) (fh : FhId) → AreEvents verdicts plan (past []) fh no_events
 unfolding opened ever_opened
 events_start verdicts plan fh = record { subscribed = λ c. refl; waiting = refl; next = refl }
-
--- picks are at most as many as there are to pick from
-picked_few : {Y : Type 0} (g : ℕ → Option Y) (cs : List ℕ) → length (filter_map g cs) ≤ length cs
-picked_few g [] = omega arith
-picked_few {Y = Y} g (c ∷ cs) = by (g c) (filter_map g cs) (picked_few g cs)
-  where
-    by : (o : Option Y) (ys : List Y) → length ys ≤ length cs → length (cons_option o ys) ≤ suc (length cs)
-    by None ys few = omega (arith, few)
-    by (Some y) ys few = omega (arith, few)
-
--- a step raises at most one event for each control
-raises_few : (told : ℕ → Payload) (rs : List (ℕ × Changes)) (hs : List Happening) → length (raises_in (with_raises told rs hs)) ≤ length (raises_in hs) + length rs
-unfolding with_raises raises_in
-raises_few told [] hs = omega arith
-raises_few told (r ∷ rs) hs =
-    let rest = raises_few told rs (raise (record { control = r.0; changes = r.1; payload = told r.0; sequence = length (raises_in hs) }) ∷ hs) in
-    let one = length-append (raises_in hs) (record { control = r.0; changes = r.1; payload = told r.0; sequence = length (raises_in hs) } ∷ []) in
-    omega (arith, rest, one)
-
--- what is taken or ended leaves the raises
-pub raises_gone : (fh : FhId) (step : Step) (hs : List Happening) → raises_in (with_withdrawn fh step hs) ≡ raises_in hs
-unfolding raises_in
-raises_gone fh (steps.Unsubscribe f (Some c)) hs = by (nat_eq f.0 fh.0)
-  where
-    by : (b : Bool) → raises_in (cond b (withdrawn c ∷ hs) hs) ≡ raises_in hs
-    by true = refl
-    by false = refl
-raises_gone fh (steps.Unsubscribe f None) hs = by (nat_eq f.0 fh.0)
-  where
-    by : (b : Bool) → raises_in (cond b hs hs) ≡ raises_in hs
-    by true = refl
-    by false = refl
-raises_gone fh (steps.Take f c) hs = by (nat_eq f.0 fh.0)
-  where
-    by : (b : Bool) → raises_in (cond b (withdrawn c ∷ hs) hs) ≡ raises_in hs
-    by true = refl
-    by false = refl
-raises_gone fh (steps.OpenFh handler) hs = refl
-raises_gone fh (steps.CloseFh f) hs = refl
-raises_gone fh (steps.Set f pairs) hs = refl
-raises_gone fh (steps.Grab c on) hs = refl
-raises_gone fh (steps.ModifyRange c low high apart default_value) hs = refl
-raises_gone fh steps.Alloc hs = refl
-raises_gone fh (steps.Store r pairs) hs = refl
-raises_gone fh (steps.Buffer r number) hs = refl
-raises_gone fh (steps.Queue r) hs = refl
-raises_gone fh (steps.Begin r) hs = refl
-raises_gone fh (steps.Complete r) hs = refl
-raises_gone fh (steps.Cancel r) hs = refl
-raises_gone fh steps.StreamOff hs = refl
-raises_gone fh (steps.Reinit r) hs = refl
-raises_gone fh (steps.Free r) hs = refl
-raises_gone fh (steps.Subscribe f c flags) hs = refl
-
--- for a file handle at most as many events were raised as each step can raise
-raised_bound : (verdicts : Verdicts) (plan : PlanData) (past : Past) (fh : FhId) → length (raises verdicts plan past fh) ≤ length plan.controls * length past
-unfolding happened raises_in
-raised_bound verdicts plan [] fh = omega arith
-raised_bound verdicts plan (e ∷ older) fh =
-    let before = raised_bound verdicts plan older fh in
-    let more = raises_few (payload verdicts plan (e ∷ older)) (all_raised_for verdicts plan e older fh) (with_withdrawn fh e.step (happened verdicts plan older fh)) in
-    let same : length (raises_in (with_withdrawn fh e.step (happened verdicts plan older fh))) ≡ length (raises_in (happened verdicts plan older fh)) = ap length (raises_gone fh e.step (happened verdicts plan older fh)) in
-    let few = picked_few (λ c. option_map {U = ℕ × Changes} (λ change. (c, change)) (raised_for verdicts plan e older fh c)) (range_with_len 0 (length plan.controls)) in
-    let all = length-range_with_len 0 (length plan.controls) in
-    let next : length plan.controls * suc (length older) ≡ length plan.controls * length older + length plan.controls = mul-suc (length plan.controls) (length older) in
-    omega (arith, before, more, same, few, all, next)
-
--- The number of the next raise is at most the number of controls for each step.
-pub next_bound : (verdicts : Verdicts) (plan : PlanData) (past : Past) (fh : FhId) → next_sequence verdicts plan past fh ≤ length plan.controls * length past
-next_bound verdicts plan past fh = by (is_open past fh) (raised_bound verdicts plan past fh)
-  where
-    by : (b : Bool) → length (raises verdicts plan past fh) ≤ length plan.controls * length past → cond b (length (raises verdicts plan past fh)) 0 ≤ length plan.controls * length past
-    by true bound = bound
-    by false bound = omega (arith, bound)

@@ -20,7 +20,9 @@ pub mod NamingLemmas
 pub mod FreeIdLemmas
 pub mod AskingLemmas
 pub mod SubscriptionLemmas
+pub mod PickLemmas
 pub mod EventLemmas
+pub mod RaiseBounds
 pub mod RaiseLaw
 pub mod FrameLaw
 pub mod QueuedFrames

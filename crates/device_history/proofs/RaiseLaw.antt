@@ -35,7 +35,8 @@ use Rattle.device_history.specs.Snapshots.{begun_pairs}
 use Rattle.device_history.specs.Words.{pairs_applied, changes}
 use Rattle.device_history.specs.Events.{changed, happened, payload, raises, raises_from, all_raised_for, value_differs, with_withdrawn, with_raises, from_of}
 use Rattle.device_history.specs.EventSteps.{AreAround, AreEvents, raised_by}
-use Rattle.device_history.proofs.EventLemmas.{next_bound, raises_gone, values_controls_left}
+use Rattle.device_history.proofs.EventLemmas.{values_controls_left}
+use Rattle.device_history.proofs.RaiseBounds.{next_bound, raises_gone}
 
 -- raises of the same changes, payloads and callers
 raised_same : (change change' : ℕ → Changes) (told told' : ℕ → Payload) (from from' : ℕ → Option ℕ) (fh : ℕ) (cs : List ℕ) (f : FileEvents)

@@ -1,10 +1,13 @@
+ghost use Rattle.std.specs.Prelude.{◌≡◌};
+ghost use Rattle.device_history.specs.Refusals.{refused};
+
 use crate::info::CtrlInfo;
 use crate::pair_list::PairList;
 use ctrl_events::Event;
 use ctrl_forecast::{ClusterList, Forecast};
 use ctrl_handlers::MenuItem;
 use ctrl_lists::ControlList;
-use ctrl_types::{CtrlId, FhId, RequestId, SubFlags};
+use ctrl_types::{Check, CtrlId, Fault, FhId, RequestId, SubFlags};
 use req_book::RequestState;
 
 /// What a caller asks of a device.
@@ -317,6 +320,15 @@ pub enum Step {
         /// The number of the event's control.
         control: u32,
     },
+}
+
+/// The answer to an ask that a check refuses and that isn't about a list (of this project): the check's errno, without an index.
+///
+/// - `check`: the first check that doesn't hold.
+pub fn refused(check: Check) -> Result<Reply, Fault>
+    ensures { result ≡ refused check }
+{
+    Err(check.fault())
 }
 
 // An ask, a reply and a step are let go by hand: a derived drop is written out wherever one may be let go, which makes the proof of each such

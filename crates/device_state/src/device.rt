@@ -12,8 +12,8 @@ ghost use Rattle.device_history.specs.Handles.{opened, handler_of, open_check, s
 ghost use Rattle.device_history.specs.Values.{defaults, now};
 ghost use Rattle.ctrl_clusters.specs.Notified.{HaveWords};
 ghost use Rattle.device_history.specs.Refusals.{is_full, refused, step_check};
-ghost use Rattle.device_history.specs.Queries.{control_shown, has_index, id_behind, item_found, next_answer, query_answer, told_answer, word_of};
-ghost use Rattle.device_history.specs.RequestAnswers.{state_answer, state_found};
+ghost use Rattle.device_history.specs.Queries.{control_shown, has_index, id_behind, item_found, query_answer, told_answer, word_of};
+ghost use Rattle.device_history.specs.RequestAnswers.{state_found};
 ghost use Rattle.device_history.specs.Answers.{MayAnswer};
 ghost use Rattle.device_history.specs.Legal.{IsLegal};
 ghost use Rattle.history_audit.specs.Scratch.{Agrees};
@@ -35,7 +35,7 @@ use ctrl_forecast::Board;
 use ctrl_handlers::{MenuItem, Plan};
 use ctrl_settle::Ctrl;
 use ctrl_types::{Check, CtrlId, CtrlValue, Errno, Fault, FhId, Flags, RequestId};
-use device_history::{Ask, CtrlInfo, MAX_FILE_HANDLES, MAX_STEPS, Reply, Step};
+use device_history::{Ask, CtrlInfo, MAX_FILE_HANDLES, MAX_STEPS, Reply, Step, refused};
 use frame_queue::{Frames, RequestState};
 use history::Entry;
 use history_audit::Scratch;
@@ -421,13 +421,6 @@ impl<D: Driver> Device<D> {
         ensures { (seat : ℕ) → Handles D.verdict self.old self.new seat (asks.StateOf request) result }
     {
         self.work = Work::new();
-        self.state(request)
-    }
-
-    // A request's state.
-    fn state(&self, request: RequestId) -> Result<Reply, Fault>
-        ensures { result ≡ state_answer (past self.now.steps) request }
-    {
         match self.state_found(request) {
             Ok(state) => Ok(Reply::State(state)),
             Err(check) => refused(check),
@@ -449,7 +442,10 @@ impl<D: Driver> Device<D> {
         ensures { (seat : ℕ) → Handles D.verdict self.old self.new seat (asks.NextId fh id) result }
     {
         self.work = Work::new();
-        self.next_id(fh, id)
+        match self.id_behind(fh, id) {
+            Ok(next) => Ok(Reply::Id(next)),
+            Err(check) => refused(check),
+        }
     }
 
     // Answers an ask for an item of a menu.
@@ -601,18 +597,14 @@ impl<D: Driver> Device<D> {
     {
         match own {
             Some(check) => Some(check),
-            None => self.room_check(),
+            None => {
+                if self.is_full() {
+                    Some(Check::HistoryFull)
+                } else {
+                    None
+                }
+            }
         }
-    }
-
-    // Why no further step is kept.
-    fn room_check(&self) -> Option<Check>
-        ensures { result ≡ step_check (past self.now.steps) None }
-    {
-        if self.is_full() {
-            return Some(Check::HistoryFull);
-        }
-        None
     }
 
     // The control that is shown to a file handle under an id.
@@ -673,16 +665,6 @@ impl<D: Driver> Device<D> {
         }
     }
 
-    // The same, as the reply.
-    fn next_id(&self, fh: FhId, id: CtrlId) -> Result<Reply, Fault>
-        ensures { result ≡ next_answer self.now.plan (past self.now.steps) fh id }
-    {
-        match self.id_behind(fh, id) {
-            Ok(next) => Ok(Reply::Id(next)),
-            Err(check) => refused(check),
-        }
-    }
-
     // The item at an index of a menu that is shown to a file handle, where the index lies within the range of the moment, or why there is none.
     fn item_found(&self, fh: FhId, id: CtrlId, index: u32) -> Result<&MenuItem, Check>
         ensures { MatchResult result (λ item. item_found self.now.plan (past self.now.steps) fh id index ≡ Ok item.now) (λ check. item_found self.now.plan (past self.now.steps) fh id index ≡ Err check) }
@@ -740,20 +722,4 @@ impl<D: Driver> Device<D> {
             Err(check) => refused(check),
         }
     }
-}
-
-// The fault of a check, without an index.
-fn plain(check: Check) -> Fault
-    ensures { result ≡ record { errno = errno_of check; index = None } }
-{
-    Fault {
-        errno: check.errno(),
-        index: None,
-    }
-}
-
-fn refused(check: Check) -> Result<Reply, Fault>
-    ensures { result ≡ refused check }
-{
-    Err(plain(check))
 }

@@ -120,7 +120,7 @@ impl Draft {
     pub fn is_news(&self, place: Place, problem: Problem) -> bool {
         let may_follow = match problem {
             Problem::UnknownHandler => self.lacks_handler,
-            Problem::UnknownControl => self.lacks_control,
+            Problem::UnknownControl | Problem::UnknownFollowed => self.lacks_control,
             _ => false,
         };
         match Part::of(self.place_in_file(place)) {

@@ -1,5 +1,7 @@
 //! What to do about a fault, where more can be said than what is wrong: a word that may be meant, or how it is written.
 
+ghost use Rattle.std.specs.Prelude.{◌≤◌};
+
 use crate::explaining::brief;
 use crate::key::Key;
 use crate::place::{Place, table_at};
@@ -38,6 +40,7 @@ pub(crate) fn write_advice(
         Problem::NotOfType(kind) => write!(out, "{}", of_type(kind, told.known)),
         Problem::UnknownId => write_id(out, alloc, told),
         Problem::UnknownControl => write_control(out, alloc, told),
+        Problem::UnknownFollowed => write_followed(out, alloc, told),
         Problem::UnknownMember => write_member(out, alloc, told),
         Problem::UnknownHandler => write_handler(out, alloc, told),
         Problem::OutsideMenu => write_maximum(out, told),
@@ -142,6 +145,65 @@ fn write_control(out: &mut String, alloc: Global, told: &Told<'_>) -> Result<(),
         }
     }
     write_nearest(out, &nearest)
+}
+
+// The control further up that may be meant by the name that a bound follows; or that the one with this name stands further down.
+fn write_followed(out: &mut String, alloc: Global, told: &Told<'_>) -> Result<(), AllocError> {
+    let name = name_followed(told);
+    let mut nearest = Nearest::new(name);
+    for (handler, table) in elements_of(told.file, Key::Handler).iter().enumerate() {
+        let controls = controls_of(table);
+        let (above, below) = around(told.place, handler, controls.len());
+        let mut others = controls[below..].iter();
+        if others.any(|control| is_named(control, name)) {
+            return write!(out, "; put {} above it", brief(name));
+        }
+        offer_names(alloc, &mut nearest, &controls[..above])?;
+    }
+    write_nearest(out, &nearest)
+}
+
+// How many of so many controls of a handler stand above the one that is wrong, and the number from which on they stand below it.
+fn around(place: Place, handler: usize, count: usize) -> (usize, usize)
+    ensures above { result.0 ≤ count }
+    ensures below { result.1 ≤ count }
+{
+    match place {
+        Place::Control(own, number) if own == handler => {
+            (number.min(count), number.saturating_add(1).min(count))
+        }
+        Place::Control(own, _) if own > handler => (count, count),
+        _ => (0, 0),
+    }
+}
+
+// The controls of a handler.
+fn controls_of(handler: &Value) -> &[Value] {
+    match handler {
+        Value::Table(handler) => elements_of(handler, Key::Control),
+        _ => &[],
+    }
+}
+
+// The name that a bound follows.
+fn name_followed<'a>(told: &Told<'a>) -> &'a str {
+    match told.value {
+        Some(Value::Table(source)) => match source.get(Key::Follows.word()) {
+            Some(Value::String(text)) => text.as_str(),
+            _ => "",
+        },
+        _ => "",
+    }
+}
+
+fn is_named(control: &Value, name: &str) -> bool {
+    match control {
+        Value::Table(table) => match table.get(Key::Name.word()) {
+            Some(Value::String(text)) => text.as_str() == name,
+            _ => false,
+        },
+        _ => false,
+    }
 }
 
 fn write_handler(out: &mut String, alloc: Global, told: &Told<'_>) -> Result<(), AllocError> {

@@ -70,6 +70,10 @@ pub enum Key {
     More,
     /// `word`, of what is told.
     Word,
+    /// `follows`, of a bound: the control whose value it follows.
+    Follows,
+    /// `plus`, of a bound: what is added to that value.
+    Plus,
 }
 
 impl Key {
@@ -110,6 +114,8 @@ impl Key {
             Key::Excess => "excess",
             Key::More => "more",
             Key::Word => "word",
+            Key::Follows => "follows",
+            Key::Plus => "plus",
         }
     }
 }

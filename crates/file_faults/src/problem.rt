@@ -20,6 +20,8 @@ pub enum Sort {
     Menu,
     /// A number, or the kernel's name of an id.
     Id,
+    /// A whole number of 64 bits, or what it follows.
+    Bound,
 }
 
 /// What is wrong with a key of a device file, or with the table that it stands in.
@@ -81,6 +83,14 @@ pub enum Problem {
     OnlyArrays,
     /// The control doesn't take its default as it is.
     BadDefault,
+    /// A bound or the default follows a control, and it isn't of an integer or an integer64.
+    CannotFollow,
+    /// No control further up has the name that is followed.
+    UnknownFollowed,
+    /// The control that is followed isn't an integer or an integer64.
+    NotFollowed,
+    /// The control that is followed follows another one itself.
+    FollowsItself,
     /// An item is neither a text nor a number.
     NotItem,
     /// The control is no menu, so it has no items.
@@ -116,6 +126,9 @@ impl fmt::Display for Sort {
             Sort::Table => "a table",
             Sort::Menu => "an array of items, or a table of items by their indexes",
             Sort::Id => "a number, or in quotation marks its name of linux/v4l2-controls.h",
+            Sort::Bound => {
+                "a whole number of 64 bits, or what it follows as { follows = \"vblank\", plus = -4 }"
+            }
         })
     }
 }
@@ -171,6 +184,10 @@ impl Problem {
             Problem::OnlyArrays => "only a u8 has elems",
             Problem::BadDefault =>
                 "the control doesn't take it as it is: it has to lie from min to max, on a step, and not be skipped; left out it is 0",
+            Problem::CannotFollow => "only an integer and an integer64 follow another control",
+            Problem::UnknownFollowed => "no control further up has the name that it follows",
+            Problem::NotFollowed => "it can follow an integer or an integer64 alone",
+            Problem::FollowsItself => "it follows a control that follows another one",
             Problem::NotItem => "an item is a name or a number",
             Problem::NotMenu => "only a menu and an integer_menu have items: leave menu out",
             Problem::OtherItem => "the items of a menu are names, those of an integer_menu numbers",

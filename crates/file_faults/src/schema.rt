@@ -65,6 +65,9 @@ pub const PLUS_KEYS: &[Key] = &[Key::Kind, Key::Member, Key::More];
 /// The keys of what is told of kind `constant`.
 pub const CONSTANT_KEYS: &[Key] = &[Key::Kind, Key::Word];
 
+/// The keys of what a bound follows.
+pub const SOURCE_KEYS: &[Key] = &[Key::Follows, Key::Plus];
+
 // The keys that the table at a place has; none where that is open, since it has no kind that is known.
 pub(crate) fn keys_at(file: &Table, place: Place) -> &'static [Key] {
     match place {

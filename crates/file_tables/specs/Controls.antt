@@ -8,13 +8,15 @@ use Rattle.ctrl_types.specs.declared.flags.Flags.{Flags}
 use Rattle.ctrl_types.specs.declared.ids.CtrlId.{CtrlId}
 use Rattle.ctrl_types.specs.declared.kind.Kind.{Kind}
 use Rattle.ctrl_types.specs.declared.kind.Kind.TheVariants.{Integer, Boolean, Menu, Button, Integer64, Bitmask, IntegerMenu, U8}
-use Rattle.ctrl_settle.specs.Control.{Control, described}
+use Rattle.ctrl_settle.specs.Control.{Control, described, with_range}
 use Rattle.ctrl_settle.specs.FirstFault.{can_skip, first_fault, has_elems}
 use Rattle.ctrl_settle.specs.declared.fault.CtrlFault.{CtrlFault}
 use Rattle.ctrl_settle.specs.declared.fault.CtrlFault.TheVariants.{BadRange, ZeroStep, BadDefault, KindBounds}
 use Rattle.file_faults.specs.Faults.{◌>>=◌, wrong, wrong_at}
+use Rattle.file_tables.specs.Bounds.{bound_in, first_default, first_maximum, first_minimum}
 use Rattle.file_tables.specs.Names.{flag_named, kind_named}
 use Rattle.file_tables.specs.Reading.{elements_at, elements_in, needed, needed_text_in, number_in, number_or_in, truth_in, value_at}
+use Rattle.file_tables.specs.declared.bounds.Bound.{Bound}
 use Rattle.file_faults.specs.declared.fault.KeyFault.{KeyFault}
 use Rattle.file_faults.specs.declared.key.Key.{Key}
 use Rattle.file_faults.specs.declared.key.Key.TheVariants as keys
@@ -135,25 +137,30 @@ flags_in table = do
   bits ← flag_bits_of elements
   Ok (flags_with bits)
 
--- the control that these describe, with so many elements
-abbrev pub described_with : CtrlId → Kind → ℤ → ℤ → ℕ → ℤ → Option ℕ → ℕ → Flags → Bool → Control
-described_with id kind minimum maximum step default_value elems skip flags is_private =
-    record (described id kind minimum maximum step default_value skip flags is_private) { elems = elems }
+-- the control that these describe, with so many elements, of whose range nothing is said yet but the step
+abbrev pub described_with : CtrlId → Kind → ℕ → Option ℕ → ℕ → Flags → Bool → Control
+described_with id kind step elems skip flags is_private =
+    record (described id kind (pos 0) (pos 0) step (pos 0) skip flags is_private) { elems = elems }
 
--- what a table says of a control, key by key
+-- the same with the bounds and the default that are said, before it is known what they follow; this is the usual maximum
+abbrev pub with_first : ℤ → Bound → Bound → Bound → Control → Control
+with_first usual low high default_value c =
+    with_range c (first_minimum usual low high) (first_maximum usual low high) c.step (first_default usual low high default_value)
+
+-- what a table says of a control, key by key; of its range what is known before what it follows is
 abbrev pub description_in : Members → Result Control KeyFault
 description_in table = do
   id ← id_in table
   kind ← kind_in table
-  minimum ← number_or_in keys.Min (pos 0) table
-  maximum ← number_or_in keys.Max (usual_maximum kind (last_item table)) table
+  low ← bound_in kind keys.Min table
+  high ← bound_in kind keys.Max table
   step ← step_in kind table
-  default_value ← number_or_in keys.Default (pos 0) table
+  default_value ← bound_in kind keys.Default table
   elems ← elems_in table
   skip ← skip_in table
   flags ← flags_in table
   is_private ← truth_in keys.Private table
-  Ok (described_with id kind minimum maximum step default_value elems skip flags is_private)
+  Ok (with_first (usual_maximum kind (last_item table)) low high default_value (described_with id kind step elems skip flags is_private))
 
 -- the numbers from one to another
 pub record Range : Type 0 where

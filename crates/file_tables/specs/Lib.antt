@@ -1,3 +1,4 @@
+pub mod Bounds
 pub mod Controls
 pub mod Limits
 pub mod Names

@@ -9,6 +9,7 @@ ghost use Rattle.ctrl_settle.specs.FirstFault.{can_skip, has_elems};
 ghost use Rattle.file_tables.specs.Reading.{read_as};
 ghost use Rattle.file_tables.specs.Controls.{bit_at, control_at, description_in, elems_in, flag_bits_of, flag_of, flags_in, id_by_name, id_by_number, id_in, is_sayable, kind_in, last_item, lies_in, maximums, minimums, misfit, divides, name_at, range, said_of, skip_bits_of, skip_in, skipped, step_in, usual_maximum, usual_step, wrong_elems};
 
+use crate::bounds::{first_default, first_maximum, first_minimum, read_bound};
 use crate::names::{flag_named, kind_named};
 use crate::reading::{elements, elements_of, find, needed_text, number, number_or, truth};
 use bitflags::Flags as FlagSet;
@@ -18,7 +19,8 @@ use ctrl_types::{CtrlId, Flags, Kind};
 use file_faults::{Key, KeyFault, Problem, Sort};
 use toml::{Table, Value};
 
-/// The control that a table describes, whose keys are known (`struct v4l2_ctrl_config`). Its name and its items aren't looked at.
+/// The control that a table describes, whose keys are known (`struct v4l2_ctrl_config`). Its name and its items aren't looked at, nor what its range follows: a bound that
+/// follows another control counts as the other bound, or as 0 where both do, and the default then as the minimum.
 ///
 /// - `table`: the table, which has no other keys.
 ///
@@ -140,21 +142,22 @@ fn config_in(table: &Table) -> Result<CtrlConfig, KeyFault>
 {
     let id = id_of(table)?;
     let kind = kind_of(table)?;
-    let minimum = number_or(table, Key::Min, 0)?;
-    let maximum = number_or(table, Key::Max, maximum_of(kind, last_of(table)))?;
+    let low = read_bound(table, kind, Key::Min)?;
+    let high = read_bound(table, kind, Key::Max)?;
     let step = step_of(table, kind)?;
-    let default_value = number_or(table, Key::Default, 0)?;
+    let default_value = read_bound(table, kind, Key::Default)?;
     let elems = elems_of(table)?;
     let skip = skip_of(table)?;
     let flags = flags_of(table)?;
     let is_private = truth(table, Key::Private)?;
+    let usual = maximum_of(kind, last_of(table));
     Ok(CtrlConfig {
         id,
         kind,
-        minimum,
-        maximum,
+        minimum: first_minimum(usual, low, high),
+        maximum: first_maximum(usual, low, high),
         step,
-        default_value,
+        default_value: first_default(usual, low, high, default_value),
         skip,
         flags,
         is_private,

@@ -6,4 +6,4 @@ mod follower;
 mod wanted;
 
 pub use follower::{DefaultSource, Follower, Source};
-pub use wanted::{have_moved, range_due, range_wanted, wanted_range};
+pub use wanted::{can_follow, have_moved, range_due, range_wanted, wanted_range};

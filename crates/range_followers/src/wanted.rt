@@ -198,8 +198,10 @@ fn has_range_of(ctrl: &Ctrl, wanted: &Ctrl) -> bool
         && ctrl.default_value() == wanted.default_value()
 }
 
-// Whether the bounds of the kind can follow.
-fn can_follow(kind: Kind) -> bool
+/// Whether the bounds of a control of this type can follow another one's value, and its value can be followed: it is an integer or an integer64 (of this project).
+///
+/// - `kind`: any type.
+pub fn can_follow(kind: Kind) -> bool
     ensures { result ≡ kind_follows kind }
 {
     matches!(kind, Kind::Integer | Kind::Integer64)

@@ -14,12 +14,12 @@ ghost use Rattle.device_history.specs.Snapshots.{begun_pairs, frames};
 ghost use Rattle.device_state.specs.Beginning.{BeginsAll, IsBegun};
 ghost use Rattle.device_state.specs.Device.{Handles};
 
-use super::{Device, refused};
+use super::Device;
 use ctrl_calls::{Driver, Work};
 use ctrl_clusters::notify_between;
 use ctrl_forecast::{Forecast, applied};
 use ctrl_types::{Check, Fault, Pair, RequestId};
-use device_history::{Reply, Step};
+use device_history::{Reply, Step, refused};
 use history::Entry;
 use std::alloc::AllocError;
 use step_effects::raise_step;
@@ -56,7 +56,7 @@ impl<D: Driver> Device<D> {
             Ok(request) => request,
             Err(check) => return Err(check),
         };
-        if let Some(check) = self.room_check() {
+        if let Some(check) = self.step_check(None) {
             return Err(check);
         }
         match self.applied_first(request) {

@@ -41,7 +41,7 @@ impl<D: Driver> Device<D> {
             Ask::Begin => self.step_check(self.next_frame().err()),
             Ask::Complete => self.step_check(self.frame_running().err()),
             Ask::Cancel { request } => self.step_check(self.cancel_refusal(*request)),
-            Ask::StreamOff => self.room_check(),
+            Ask::StreamOff => self.step_check(None),
             Ask::Reinit { request } => self.step_check(self.clear_refusal(*request)),
             Ask::Free { request } => self.step_check(self.clear_refusal(*request)),
             Ask::StateOf { request } => self.state_found(*request).err(),

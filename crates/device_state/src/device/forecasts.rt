@@ -10,11 +10,11 @@ ghost use Rattle.device_history.specs.Answers.{MayAnswer};
 ghost use Rattle.device_history.specs.Forecasts.{forecast, forecast_at};
 ghost use Rattle.device_state.specs.Device.{Handles};
 
-use super::{Device, refused};
+use super::Device;
 use ctrl_calls::{Driver, Work};
 use ctrl_forecast::Row;
 use ctrl_types::{Check, Fault};
-use device_history::Reply;
+use device_history::{Reply, refused};
 
 impl<D: Driver> Device<D> {
     /// What the queued frame at a place will have, for a driver's own use, as `forecast` says it; none where no frame is queued there. It takes

@@ -27,8 +27,7 @@ use ctrl_calls::{Driver, Work};
 use ctrl_clusters::{Moment, notify_changed, write_rows};
 use ctrl_lists::{ControlList, Touched, View, plan_set, read_list, try_list};
 use ctrl_types::{Check, CtrlValue, Fault, FhId, Pair, RequestId, Which};
-use device_history::{PairList, Reply, Step};
-use frame_queue::RequestState;
+use device_history::{PairList, Reply, Step, meant, spoken, state_check, writes_defaults};
 use history::Entry;
 use std::alloc::AllocError;
 use step_effects::{clusters_of, copied_values, raise_step};
@@ -265,7 +264,7 @@ impl<D: Driver> Device<D> {
     {
         let view = match self.read_view(fh, which, request) {
             Ok(view) => view,
-            Err(check) => return Err(at(check, list.len())),
+            Err(check) => return Err(check.fault_at(list.len())),
         };
         let controls = match read_list(self.alloc, &view, list) {
             Ok(controls) => controls,
@@ -290,7 +289,7 @@ impl<D: Driver> Device<D> {
     {
         let view = match self.write_view(fh, which, request) {
             Ok(view) => view,
-            Err(check) => return Err(at(check, list.len())),
+            Err(check) => return Err(check.fault_at(list.len())),
         };
         let touch = match try_list(self.alloc, &view, list, work) {
             Ok(touch) => touch,
@@ -319,7 +318,7 @@ impl<D: Driver> Device<D> {
         };
         match self.accept_set(seat, fh, spoken(which, request), touch) {
             Ok(controls) => Ok(Reply::Controls(controls)),
-            Err(_) => Err(at(Check::MemoryRefused, list.len())),
+            Err(_) => Err(Check::MemoryRefused.fault_at(list.len())),
         }
     }
 
@@ -340,14 +339,14 @@ impl<D: Driver> Device<D> {
     {
         let view = match self.write_view(fh, which, request) {
             Ok(view) => view,
-            Err(check) => return Err(at(check, list.len())),
+            Err(check) => return Err(check.fault_at(list.len())),
         };
         let touch = match plan_set(self.alloc, &view, list, work) {
             Ok(touch) => touch,
             Err(refused) => return Err(refused.at_count(list.len())),
         };
         if self.is_full() {
-            return Err(at(Check::ListHistoryFull, list.len()));
+            return Err(Check::ListHistoryFull.fault_at(list.len()));
         }
         Ok(touch)
     }
@@ -452,66 +451,5 @@ impl<D: Driver> Device<D> {
             },
         });
         Ok(controls)
-    }
-}
-
-// The request that a list speaks of, where it does; the caller has read `which`.
-fn spoken(which: u32, request: Option<RequestId>) -> Option<RequestId>
-    ensures { result ≡ meant (which_or (which_of which)) request }
-{
-    match Which::of(which) {
-        Ok(which) => meant(which, request),
-        Err(_) => None,
-    }
-}
-
-// The same, where `which` was read.
-fn meant(which: Which, request: Option<RequestId>) -> Option<RequestId>
-    ensures { result ≡ meant which request }
-{
-    match which {
-        Which::Request => request,
-        Which::Current | Which::Class(_) | Which::Defaults => None,
-    }
-}
-
-// A list that writes can't speak of the defaults.
-fn writes_defaults(writes: bool, which: Which) -> bool
-    ensures { result ≡ writes_defaults writes which }
-{
-    match which {
-        Which::Defaults => writes,
-        Which::Current | Which::Class(_) | Which::Request => false,
-    }
-}
-
-// Why a request in this state refuses a list: for one that writes it isn't idle, for one that reads it isn't complete.
-fn state_check(writes: bool, state: RequestState) -> Option<Check>
-    ensures { (r : RequestData) → r.state ≡ state → result ≡ request_check writes (Some r) }
-{
-    if writes {
-        match state {
-            RequestState::Idle => None,
-            RequestState::Queued | RequestState::Running | RequestState::Complete => {
-                Some(Check::ListRequestNotIdle)
-            }
-        }
-    } else {
-        match state {
-            RequestState::Complete => None,
-            RequestState::Idle | RequestState::Queued | RequestState::Running => {
-                Some(Check::ListRequestNotComplete)
-            }
-        }
-    }
-}
-
-// The fault of a check of a list, with its index.
-fn at(check: Check, index: u32) -> Fault
-    ensures { result ≡ record { errno = errno_of check; index = Some index } }
-{
-    Fault {
-        errno: check.errno(),
-        index: Some(index),
     }
 }

@@ -8,12 +8,12 @@ ghost use Rattle.device_history.specs.Ranges.{control_with_range, range_check, r
 ghost use Rattle.device_state.specs.Device.{Handles};
 ghost use Rattle.device_state.specs.Ranging.{GivesRange, IsRanged};
 
-use super::{Device, refused};
+use super::Device;
 use ctrl_calls::{Driver, Work};
 use ctrl_clusters::notify_cluster;
 use ctrl_settle::Ctrl;
 use ctrl_types::{Check, Fault};
-use device_history::{Reply, Step};
+use device_history::{Reply, Step, refused};
 use history::Entry;
 use std::alloc::AllocError;
 use step_effects::change_range;
@@ -36,7 +36,7 @@ impl<D: Driver> Device<D> {
             Ok(changed) => changed,
             Err(check) => return refused(check),
         };
-        if let Some(check) = self.room_check() {
+        if let Some(check) = self.step_check(None) {
             return refused(check);
         }
         match self.accept_range(seat, control, changed) {

@@ -18,10 +18,10 @@ ghost use Rattle.step_effects.specs.QueuedFrames.{asks_at_most};
 ghost use Rattle.step_effects.specs.Leaving.{NamesKnown, leaves_controls};
 ghost use Rattle.device_state.specs.Entering.{AddsStep};
 
-use super::{Device, refused};
+use super::Device;
 use ctrl_calls::{Driver, Work};
 use ctrl_types::{Check, CtrlValue, Errno, Fault, Pair, RequestId};
-use device_history::{Ask, Reply, Step};
+use device_history::{Ask, Reply, Step, refused};
 use frame_queue::RequestState;
 use history::Entry;
 use std::alloc::AllocError;

@@ -136,6 +136,7 @@ impl Notifies for Strict {
     ghost told = { λ _ _ _. ⊤ };
 }
 
+/// A relation of this number, without bounds.
 pub fn relation(number: u32) -> Relation
     ensures { result.number ≡ number }
 {

@@ -9,5 +9,5 @@ abbrev pub invariant-loop-number : goal.invariant-loop-number
 invariant-loop-number l = record {
   many : length l.builder.handlers ≡ l.number;
   few : l.number ≤ MAX_HANDLERS;
-  rest : with_handlers (map view (take l.number l.tables)) (device l.builder l.words) l.number (map view (drop l.number l.tables)) ≡ with_handlers [] (device l.initial.builder l.initial.words) 0 (map view l.tables);
+  rest : with_handlers (map view (take l.number l.tables)) (device l.builder l.words l.followers.items) l.number (map view (drop l.number l.tables)) ≡ with_handlers [] (device l.initial.builder l.initial.words l.initial.followers.items) 0 (map view l.tables);
 }

@@ -1,4 +1,5 @@
-use Rattle.device_history.proofs.EventLemmas.{events_add, events_start, next_bound}
+use Rattle.device_history.proofs.EventLemmas.{events_add, events_start}
+use Rattle.device_history.proofs.RaiseBounds.{next_bound}
 use Rattle.device_history.proofs.RaiseLaw.{numbers_left}
 use Rattle.device_history.proofs.laws.kept_events.Goals as goal
 

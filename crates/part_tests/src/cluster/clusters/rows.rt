@@ -12,10 +12,12 @@ use ctrl_types::CtrlValue;
 use std::alloc::{AllocError, Global};
 use std::test::Fail;
 
+/// Whether a row has these values.
 pub fn is_row(row: &ClusterRow, want: &[i64]) -> bool {
     row_of(want) == Some(*row)
 }
 
+/// Whether so many validators were asked, and so many notifiers told.
 pub fn is_work(work: &Work, asked: u64, told: u64) -> bool {
     work.asked == asked && work.told == told
 }
@@ -23,6 +25,7 @@ pub fn is_work(work: &Work, asked: u64, told: u64) -> bool {
 /// Rows that two clusters get.
 pub type Two = &'static [(u32, &'static [i64])];
 
+/// The rows of two clusters; none where there are others than two.
 pub fn rows_of(two: Two) -> Option<[NewRow; 2]> {
     let &[(one, first), (other, second)] = two else {
         return None;

@@ -109,6 +109,7 @@ pub type Case = (
     u64,
 );
 
+/// The list of these entries, of at most 100.
 pub fn list_of(alloc: Global, entries: &[Entry]) -> Result<ControlList, Fail> {
     let mut items = Vec::new(alloc);
     for &(id, number) in entries {
@@ -154,6 +155,7 @@ fn answer(
     }
 }
 
+/// Whether the answers are these entries, in their order.
 pub fn are_entries(answers: &[ExtControl], want: &[Entry]) -> bool {
     for (answer, &(id, number)) in answers.iter().zip(want) {
         if answer.id.0 != id || answer.value != CtrlValue::Number(number) {

@@ -154,6 +154,7 @@ pub fn built(
     builder
 }
 
+/// The plan of a builder; a builder that is refused is finished once more, and then the test ends.
 pub fn finished(rt: &impl Abort, builder: PlanBuilder<Alike>) -> Plan<Alike> {
     let refused = match builder.finish() {
         Ok(plan) => return plan,

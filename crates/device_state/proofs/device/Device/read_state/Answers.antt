@@ -1,7 +1,14 @@
+use Rattle.std.proofs.Common.{ap}
+use Rattle.device_history.specs.declared.ask.Reply.TheVariants.{State}
+use Rattle.device_history.specs.Refusals.{replied_with}
 use Rattle.device_state.proofs.HandleLemmas.{handles_state}
 use Rattle.device_state.proofs.device.Device.read_state.Goals as goal
 
 -- reading a state adds no step
-pub returns : goal.returns
-returns g c = λ seat.
-    rw (← c.self.view_is) (handles_state g.D.Validates.verdict _ _ seat c.args.request _ c.new-self-inside.ensures c.state.ensures)
+pub returns-in-Ok : goal.returns-in-Ok
+returns-in-Ok g c = λ seat.
+    rw (← c.self.view_is) (handles_state g.D.Validates.verdict _ _ seat c.args.request _ c.new-self-inside.ensures (ap (replied_with State) c.in-Ok.ensures))
+
+pub returns-in-Err : goal.returns-in-Err
+returns-in-Err g c = λ seat.
+    rw (← c.self.view_is, c.refused.ensures) (handles_state g.D.Validates.verdict _ _ seat c.args.request _ c.new-self-inside.ensures (ap (replied_with State) c.in-Err.ensures))
