@@ -1,5 +1,5 @@
 -- Nothing is wrong with a range that is wanted.
-use Rattle.std.proofs.Common.{◌≡◌, ℕ, ◌<◌, ◌-◌, ◌^◌, ℤ, pos, negsuc, ◌≤ℤ◌, ◌<ℤ◌, int_lt, Bool, true, false, Option, None, Some, is_some, Ok, FitsSigned, w32, w64, to_z, of_z, refl, ap, ◌∙◌, arith}
+use Rattle.std.proofs.Common.{◌≡◌, ◌-◌, ◌^◌, ℤ, pos, negsuc, ◌≤ℤ◌, ◌<ℤ◌, int_lt, Bool, true, false, Option, None, Some, is_some, Ok, FitsSigned, w32, w64, to_z, of_z, refl, ap, ◌∙◌, arith}
 use Rattle.std.specs.Int.{w128}
 use Rattle.std.proofs.lemmas.Bool.{cond_both}
 use Rattle.std.proofs.lemmas.Int.{ints}
@@ -8,7 +8,7 @@ use Rattle.ctrl_types.specs.declared.kind.Kind.{Kind}
 use Rattle.ctrl_types.specs.declared.kind.Kind.TheVariants.{Integer, Boolean, Menu, Button, Integer64, Bitmask, IntegerMenu, U8}
 use Rattle.ctrl_settle.specs.Control.{Control, with_range}
 use Rattle.ctrl_settle.specs.Faults.{HasBounds, IsWellFormed}
-use Rattle.ctrl_settle.specs.Grid.{IsOnGrid, nearest}
+use Rattle.ctrl_settle.specs.Grid.{nearest}
 use Rattle.ctrl_settle.specs.Settle.{settle_as}
 use Rattle.ctrl_settle.proofs.Grid.{IsNearest-nearest}
 use Rattle.ctrl_settle.proofs.Settling.{nearest-on_grid, nearest-within}
@@ -170,6 +170,10 @@ pub bounds_of_words : (c : Control) (low high : Option ℤ) (least most : ℤ) �
 bounds_of_words c low high least most is_least is_most well e =
     let are = are_wanted c low high least most is_least is_most well e in
     rw (are.least_word, are.most_word, are.is_most, are.is_least) (bounds_sound c low high well e)
+
+-- what is found is one
+pub same_found : {X : Type 0} (found : Option X) (a b : X) → found ≡ Some a → found ≡ Some b → a ≡ b
+same_found found a b first second = cc
 
 -- what the default is, within those bounds
 record IsDefault (c : Control) (number least most default_value : ℤ) : Type 0 where

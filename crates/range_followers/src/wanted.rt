@@ -1,6 +1,6 @@
 //! The range that a control is wanted to have.
 
-ghost use Rattle.std.specs.Prelude.{◌≡◌, true, IfSome};
+ghost use Rattle.std.specs.Prelude.{◌≡◌, true, Some, IfSome};
 ghost use Rattle.std.specs.Option.{option_map};
 ghost use Rattle.ctrl_settle.specs.Control.{with_range};
 ghost use Rattle.ctrl_settle.specs.Faults.{IsWellFormed};
@@ -37,20 +37,18 @@ pub fn range_wanted(
     let _id = ctrl.id();
     let least = wanted_minimum(ctrl, minimum, maximum.is_some());
     let most = wanted_maximum(ctrl, least, maximum);
-    let bounds = ranged(ctrl, least, most, least);
+    let bounds = ranged(ctrl, least, most, least)?;
     let default_value = nearest(&bounds, cut(ctrl.kind(), default_value));
-    Some(ranged(ctrl, least, most, default_value))
+    ranged(ctrl, least, most, default_value)
 }
 
-// A control with these bounds and this default, which the caller owes to have no fault.
-fn ranged(ctrl: &Ctrl, minimum: i64, maximum: i64, default_value: i64) -> Ctrl
+// A control with these bounds and this default, which the caller owes to have no fault; so there is one.
+fn ranged(ctrl: &Ctrl, minimum: i64, maximum: i64, default_value: i64) -> Option<Ctrl>
     requires { IsWellFormed (with_range ctrl.now minimum maximum ctrl.now.step default_value) }
-    ensures { result ≡ with_range ctrl.now minimum maximum ctrl.now.step default_value }
+    ensures { result ≡ Some (with_range ctrl.now minimum maximum ctrl.now.step default_value) }
 {
-    match ctrl.with_range(minimum, maximum, ctrl.step(), default_value) {
-        Ok(ranged) => ranged,
-        Err(_) => *ctrl,
-    }
+    ctrl.with_range(minimum, maximum, ctrl.step(), default_value)
+        .ok()
 }
 
 /// A control with the range that it is wanted to have under some values, as `range_wanted` says; none where it follows nothing, or is neither an integer nor
@@ -90,11 +88,7 @@ pub fn range_due(
     ensures well_formed { IfSome result IsWellFormed }
 {
     let wanted = wanted_range(followers, control, ctrl, values)?;
-    if has_range_of(ctrl, &wanted) {
-        None
-    } else {
-        Some(wanted)
-    }
+    (!has_range_of(ctrl, &wanted)).then_some(wanted)
 }
 
 /// Whether a value that is followed has become another (of this project).
