@@ -13,13 +13,16 @@ abbrev pub number_of : ℕ → List ℕ → ℕ
 number_of n [] = n
 number_of n (b ∷ bs) = number_of ((((n * 16) % 2 ^ 32) + digit_of b) % 2 ^ 32) bs
 
+-- whether a row begins with a name, with a space behind it
+abbrev pub is_named : List ℕ → List ℕ → Bool
+is_named name row = bytes_eq (take (length name) row) name && slice_index row (length name) == 32
+
 -- the id of a row, where these bytes begin that of a name: the end of a line, and what is behind it
 abbrev pub row_id : List ℕ → ℕ → List ℕ → Option ℕ
 row_id name first rest =
     if not (first == 10) then None
     else if nat_lt (length rest) (length name + 9) then None
-    else if bytes_eq (take (length name) rest) name && slice_index (drop (length name) rest) 0 == 32
-    then Some (number_of 0 (take 8 (drop 1 (drop (length name) rest))))
+    else if is_named name rest then Some (number_of 0 (take 8 (drop (length name + 1) rest)))
     else None
 
 -- an id, or another where there is none

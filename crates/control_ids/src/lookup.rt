@@ -1,6 +1,6 @@
-ghost use Rattle.std.specs.Prelude.{◌≡◌, ◌==◌};
+ghost use Rattle.std.specs.Prelude.{◌≡◌, ◌<◌, ◌==◌, length};
 ghost use Rattle.std.specs.List.{list_any};
-ghost use Rattle.control_ids.specs.Ids.{digit_of, id_among, is_space, kernel_id, kernel_rows, number_of as number_by, row_id as id_of_row};
+ghost use Rattle.control_ids.specs.Ids.{digit_of, id_among, is_named, is_space, kernel_id, kernel_rows, number_of as number_by, row_id as id_of_row};
 
 use crate::table::ROWS;
 
@@ -52,12 +52,19 @@ fn row_id(first: u8, rest: &[u8], name: &[u8]) -> Option<u32>
     if rest.len() < name.len() + 9 {
         return None;
     }
-    let behind = &rest[name.len()..];
-    if &rest[..name.len()] == name && behind[0] == b' ' {
-        let digits = &behind[1..];
+    if is_named(rest, name) {
+        let digits = &rest[name.len() + 1..];
         return Some(number_of(&digits[..8]));
     }
     None
+}
+
+// Whether a row begins with a name, with a space behind it.
+fn is_named(row: &[u8], name: &[u8]) -> bool
+    requires { length name.now < length row.now }
+    ensures { result ≡ is_named name.now row.now }
+{
+    &row[..name.len()] == name && row[name.len()] == b' '
 }
 
 // The number that hexadecimal digits write, in 32 bits.
