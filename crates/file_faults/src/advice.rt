@@ -6,7 +6,7 @@ use crate::explaining::brief;
 use crate::key::Key;
 use crate::place::{Place, table_at};
 use crate::problem::{Problem, Sort};
-use crate::schema::keys_at;
+use crate::schema::{CONTROL_KEYS, keys_at};
 use control_ids::rows;
 use ctrl_types::Kind;
 use near_words::Nearest;
@@ -36,7 +36,13 @@ pub(crate) fn write_advice(
 ) -> Result<(), AllocError> {
     match problem {
         Problem::UnknownKey => write_keys(out, alloc, told),
+        Problem::Missing => write!(out, "{}", kinds_at(told)),
         Problem::Not(Sort::Tables) => write_header(out, told),
+        Problem::Not(Sort::Table) => write!(out, "{}", kinds_at(told)),
+        Problem::Not(Sort::Array) => write_array(out, told),
+        Problem::Not(Sort::Integer) => write_number(out, told),
+        Problem::Not(Sort::Text) => write_named(out, told),
+        Problem::BadDefault => write_bound(out, told),
         Problem::NotOfType(kind) => write!(out, "{}", of_type(kind, told.known)),
         Problem::UnknownId => write_id(out, alloc, told),
         Problem::UnknownControl => write_control(out, alloc, told),
@@ -66,8 +72,9 @@ fn write_nearest(out: &mut String, nearest: &Nearest<'_, '_>) -> Result<(), Allo
 fn write_keys(out: &mut String, alloc: Global, told: &Told<'_>) -> Result<(), AllocError> {
     let keys = keys_at(told.file, told.place);
     let key = told.key.unwrap_or("");
-    if key == "dims" && matches!(told.place, Place::Control(_, _)) {
-        return write!(out, "; how many elements there are is elems");
+    let place = elsewhere(told.place, key);
+    if !place.is_empty() {
+        return write!(out, "; {place}");
     }
     let mut nearest = Nearest::new(key);
     for key in keys {
@@ -82,6 +89,142 @@ fn write_keys(out: &mut String, alloc: Global, told: &Told<'_>) -> Result<(), Al
         sign = ",";
     }
     Ok(())
+}
+
+// Where a key stands, or by which other it is said, where that is known.
+fn elsewhere(place: Place, key: &str) -> &'static str {
+    match (place, key) {
+        (Place::Control(_, _), "dims") => "how many elements there are is elems",
+        (Place::File, "control") => "write [[handler]], and behind it [[handler.control]]",
+        (Place::Handler(_), "cluster") => "write [[cluster]]",
+        (Place::Handler(_), key) if is_of(CONTROL_KEYS, key) => {
+            "a control has it, behind [[handler.control]]"
+        }
+        (Place::Cluster(_), "auto") => {
+            "manual = 0 or another number makes an auto cluster, with this manual value"
+        }
+        _ => "",
+    }
+}
+
+fn is_of(keys: &[Key], word: &str) -> bool {
+    keys.iter().any(|key| key.word() == word)
+}
+
+// Which kinds there are, where a type or a kind is missing, or the table that has it.
+fn kinds_at(told: &Told<'_>) -> &'static str {
+    match (told.place, told.known) {
+        (Place::Control(_, _), Key::Type) => {
+            "; it is integer, boolean, menu, button, integer64, bitmask, integer_menu or u8"
+        }
+        (Place::Limit(_), Key::Kind) => {
+            "; it is sum, product, at_most, at_most_member or at_most_while"
+        }
+        (Place::Told(_), Key::Kind) => "; it is joined, plus or constant",
+        (Place::Limit(_), Key::Table) => "; as { kind = \"sum\", most = 384 }",
+        (Place::Told(_), Key::Table) => "; as { kind = \"constant\", word = 1 }",
+        _ => "",
+    }
+}
+
+// The array of one element.
+fn write_array(out: &mut String, told: &Told<'_>) -> Result<(), AllocError> {
+    match told.value {
+        Some(Value::String(text)) if !text.as_str().contains(",") => {
+            write!(out, ": write [{:?}]", brief(text.as_str()))
+        }
+        Some(Value::Integer(number)) if matches!(told.known, Key::Skip) => {
+            write!(out, ": write [{number}]")
+        }
+        _ => Ok(()),
+    }
+}
+
+// The number that is meant by what is none.
+fn write_number(out: &mut String, told: &Told<'_>) -> Result<(), AllocError> {
+    match told.value {
+        Some(Value::Boolean(true)) => write!(out, "; true is 1"),
+        Some(Value::Boolean(false)) => write!(out, "; false is 0"),
+        Some(Value::Array(_)) if matches!(told.known, Key::Default) => {
+            write!(out, "; one number stands for all elements")
+        }
+        Some(Value::String(text)) => write_index(out, told, text.as_str()),
+        _ => Ok(()),
+    }
+}
+
+// The index of the item that a control's default names.
+fn write_index(out: &mut String, told: &Told<'_>, name: &str) -> Result<(), AllocError> {
+    let (Some(control), Key::Default) = (table_at(told.file, told.place), told.known) else {
+        return Ok(());
+    };
+    for (index, item) in elements_of(control, Key::Menu).iter().enumerate() {
+        if item.as_str() == Some(name) {
+            return write!(out, "; an item is told by its index: {index}");
+        }
+    }
+    Ok(())
+}
+
+// What is named by a text, and the name of the control whose id stands there.
+fn write_named(out: &mut String, told: &Told<'_>) -> Result<(), AllocError> {
+    let (Key::Members, Some(Value::Integer(id))) = (told.known, told.value) else {
+        return Ok(());
+    };
+    match name_of_id(told.file, *id) {
+        Some(name) => write!(out, "; the name of the control: {:?}", brief(name)),
+        None => write!(out, "; a member is given by the name of its control"),
+    }
+}
+
+fn name_of_id(file: &Table, id: i64) -> Option<&str> {
+    for handler in elements_of(file, Key::Handler) {
+        if let Some(handler) = handler.as_table() {
+            for control in elements_of(handler, Key::Control) {
+                if let Some(name) = name_with_id(control, id) {
+                    return Some(name);
+                }
+            }
+        }
+    }
+    None
+}
+
+fn name_with_id(control: &Value, id: i64) -> Option<&str> {
+    let control = control.as_table()?;
+    if control.get(Key::Id.word())?.as_integer()? == id {
+        control.get(Key::Name.word())?.as_str()
+    } else {
+        None
+    }
+}
+
+// What the maximum is for want of one, where a default lies above it.
+fn write_bound(out: &mut String, told: &Told<'_>) -> Result<(), AllocError> {
+    let (Some(control), Some(Value::Integer(default))) = (
+        table_at(told.file, told.place),
+        told.value,
+    ) else {
+        return Ok(());
+    };
+    if *default <= 0 || control.contains_key(Key::Max.word()) {
+        return Ok(());
+    }
+    match (type_of(control), control.get(Key::Menu.word())) {
+        ("menu" | "integer_menu", Some(Value::Array(_))) => Ok(()),
+        ("menu" | "integer_menu", Some(Value::Table(_)) | None) | ("integer" | "integer64", _) => {
+            write!(out, "; give max, which left out is 0")
+        }
+        ("menu" | "integer_menu", Some(_)) => write!(out, "; menu has to be {}", Sort::Menu),
+        _ => Ok(()),
+    }
+}
+
+fn type_of(control: &Table) -> &str {
+    match control.get(Key::Type.word()) {
+        Some(Value::String(text)) => text.as_str(),
+        _ => "",
+    }
 }
 
 // How the tables of an array are written.

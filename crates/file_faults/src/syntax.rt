@@ -34,11 +34,62 @@ pub(crate) fn syntax_words(
         write!(out, ": a text stands in quotation marks: {:?}", brief(word))?;
     } else if whole.is_empty() {
         write!(out, ": {}", error.message())?;
+        if error.message() == "invalid UTF-8" {
+            write!(out, "; save the file in UTF-8")?;
+        }
     } else {
         let column = before.chars().count().saturating_add(1);
         write!(out, ", column {column}: {}", error.message())?;
+        let rest = text_of(text, span.start, end);
+        let advice = advice_on(error.message(), rest.trim(), whole.trim());
+        if !advice.is_empty() {
+            write!(out, "; {advice}")?;
+        }
     }
     Ok(out)
+}
+
+// What to do about a fault, where that is known.
+//
+// - `rest`: what the line has from the fault on.
+fn advice_on(message: &str, rest: &str, line: &str) -> &'static str {
+    let value = part_behind(line, "=");
+    if message == "invalid string" && rest.is_empty() {
+        "it is closed by a quotation mark on this line"
+    } else if rest.starts_with("//") {
+        "a comment begins with #"
+    } else if value.starts_with("True") || value.starts_with("False") {
+        "true and false are of small letters"
+    } else if begins_in_other_marks(rest) {
+        "the quotation marks of TOML are straight"
+    } else if is_of_hexadecimal(part_before(value, "#")) {
+        "a hexadecimal number begins with 0x, and another one not with 0"
+    } else if line.ends_with(" Controls") {
+        "tools/device_from_v4l2 makes a device file of a listing of v4l2-ctl"
+    } else if line.starts_with("open ") {
+        "a script has no --device before it"
+    } else {
+        ""
+    }
+}
+
+fn part_behind<'a>(text: &'a str, mark: &str) -> &'a str {
+    match text.split_once(mark) {
+        Some((_, part)) => part.trim(),
+        None => "",
+    }
+}
+
+// Whether a text begins with a quotation mark that is none of TOML.
+fn begins_in_other_marks(text: &str) -> bool {
+    match text.chars().next() {
+        Some(first) => matches!(first, '\u{2018}'..='\u{201f}'),
+        None => false,
+    }
+}
+
+fn is_of_hexadecimal(value: &str) -> bool {
+    value.starts_with("0") && value.bytes().all(|byte| byte.is_ascii_hexdigit())
 }
 
 // Where the line of a place begins and ends.
