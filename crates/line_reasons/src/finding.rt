@@ -6,7 +6,7 @@ use crate::names::Names;
 use crate::nearest::{nearest_verb, nearest_word};
 use crate::reason::{Complaint, Fault, Rule};
 use crate::shown::Word;
-use crate::values::{in_bound, in_number, in_step, in_value};
+use crate::values::{in_bound, in_number, in_step, in_value, is_quoted, item_begun};
 use ctrl_calls::Driver;
 use ctrl_types::CtrlId;
 use script_lines::{Command, ControlWords, LineFault, MAX_NAME, decimal_u64, read_line};
@@ -79,12 +79,14 @@ fn in_words<'a, D: Driver>(
 fn in_verb<'a>(alloc: Global, words: &[&'a [u8]]) -> Result<Fault<'a>, AllocError> {
     let verb = match words {
         [b"=="] => return Ok(Fault::Against(Rule::Divides)),
+        [[b'[', ..], ..] => return Ok(Fault::Against(Rule::DeviceFile)),
+        [[b'/', b'/' | b'*', ..], ..] => return Ok(Fault::Against(Rule::CommentMark)),
         [verb, ..] => nearest_verb(alloc, *verb)?,
         [] => None,
     };
     Ok(match verb {
         Some(verb) => Fault::NearCommand(Word(verb)),
-        None => Fault::Against(Rule::Command),
+        None => Fault::NoCommand,
     })
 }
 
@@ -120,6 +122,13 @@ fn in_form<'a, D: Driver>(
             return Ok(Some(Complaint::of_missing(number, slot.what, text)));
         };
         if let Some(fault) = in_slot(alloc, names, slot, word)? {
+            let next = operands.get(place.saturating_add(1)).copied();
+            let is_before = is_before_word(alloc, names.known, slot.kind, next)?;
+            let fault = if is_before {
+                Fault::Further(text)
+            } else {
+                fault
+            };
             return Ok(Some(Complaint::of(number, word, fault)));
         }
     }
@@ -129,6 +138,19 @@ fn in_form<'a, D: Driver>(
         Tail::Nothing => Ok(in_none(rest, first, text)),
         Tail::Subscription => Ok(in_subscription(rest, first)),
         Tail::All(slot) => in_slots(alloc, names, slot, rest, first),
+    }
+}
+
+// Whether a word stands before the one that is to be in its place, as a file handle's name before a control that is grabbed.
+fn is_before_word(
+    alloc: Global,
+    known: &ControlWords,
+    kind: Kind,
+    next: Option<&[u8]>,
+) -> Result<bool, AllocError> {
+    match (kind, next) {
+        (Kind::Word, Some(next)) => is_right(alloc, known, kind, next),
+        _ => Ok(false),
     }
 }
 
@@ -149,10 +171,60 @@ fn in_slots<'a, D: Driver>(
     for (place, &word) in words.iter().enumerate() {
         if let Some(fault) = in_slot(alloc, names, slot, word)? {
             let number = first.saturating_add(place);
+            let fault = match item_around(alloc, names, slot.kind, words, place) {
+                Ok(Some((name, index))) => Fault::Item(name, index),
+                Ok(None) => fault,
+                Err(error) => return Err(error),
+            };
             return Ok(Some(Complaint::of(number, word, fault)));
         }
     }
     Ok(None)
+}
+
+// The item, and its index, that is named by several words, of which this is one.
+fn item_around<'a, D: Driver>(
+    alloc: Global,
+    names: &Names<'a, D>,
+    kind: Kind,
+    words: &[&[u8]],
+    place: usize,
+) -> Result<Option<(&'a str, u32)>, AllocError> {
+    let (Kind::Entry, Some(&word)) = (kind, words.get(place)) else {
+        return Ok(None);
+    };
+    if let Some(&next) = words.get(place.saturating_add(1)) {
+        let item = item_over(alloc, names, word, next)?;
+        if item.is_some() {
+            return Ok(item);
+        }
+    }
+    match place.checked_sub(1) {
+        Some(before) => match words.get(before) {
+            Some(&before) => item_over(alloc, names, before, word),
+            None => Ok(None),
+        },
+        None => Ok(None),
+    }
+}
+
+// The item, and its index, whose first two words are the value of a word and the word behind it.
+fn item_over<'a, D: Driver>(
+    alloc: Global,
+    names: &Names<'a, D>,
+    word: &[u8],
+    next: &[u8],
+) -> Result<Option<(&'a str, u32)>, AllocError> {
+    let Some(at) = word.iter().position(|byte| *byte == b'=') else {
+        return Ok(None);
+    };
+    let (control, value) = word.split_at(at);
+    let id = id_of(alloc, names.known, control)?;
+    let value = value.get(1..).unwrap_or(value);
+    Ok(match names.control(control, id) {
+        Some(control) => item_begun(names, control, value, next),
+        None => None,
+    })
 }
 
 // What is wrong with words that say how a file handle subscribes, of which the first has this number.
@@ -196,6 +268,7 @@ fn fault_in<'a, D: Driver>(
         Kind::Word => in_word(alloc, names, word),
         Kind::Entry => in_entry(alloc, names, word),
         Kind::Id => Ok(in_id(names.known, word)),
+        Kind::Cluster => Ok(in_cluster(names, slot.what, word)),
         kind => Ok(fault_of(kind, slot.what, word)),
     }
 }
@@ -205,7 +278,7 @@ fn fault_of(kind: Kind, what: &'static str, word: &[u8]) -> Fault<'static> {
     match kind {
         Kind::Name if word.len() > MAX_NAME => Fault::LongName(what),
         Kind::Name => Fault::Name(what),
-        Kind::Number => in_number(word, what),
+        Kind::Number | Kind::Cluster => in_number(word, what),
         Kind::Bound => in_bound(word, what),
         Kind::Step => in_step(word, what),
         Kind::Which if word.starts_with(b"req:") => Fault::Against(Rule::Request),
@@ -222,7 +295,7 @@ fn is_right(
 ) -> Result<bool, AllocError> {
     match kind {
         Kind::Name => is_read(alloc, known, b"close ", word, b""),
-        Kind::Number => is_read(alloc, known, b"told ", word, b""),
+        Kind::Number | Kind::Cluster => is_read(alloc, known, b"told ", word, b""),
         Kind::Control => is_read(alloc, known, b"query f ", word, b""),
         Kind::Word => is_read(alloc, known, b"grab ", word, b" on"),
         Kind::Id => is_read(alloc, known, b"next f ", word, b""),
@@ -255,11 +328,28 @@ fn in_control<'a, D: Driver>(
     if let [b'0'..=b'9', ..] = word {
         return Ok(Fault::Against(Rule::Id));
     }
+    if is_quoted(word) {
+        return Ok(Fault::Against(Rule::Quotes));
+    }
+    if has_comma_behind(names.known, word) {
+        return Ok(Fault::Against(Rule::Comma));
+    }
     let words = names.words();
     Ok(match nearest_word(alloc, word, words)? {
         Some(near) => Fault::NearWord(Word(near)),
         None => Fault::NoWord(words),
     })
+}
+
+// Whether a comma stands behind a control's word.
+fn has_comma_behind(known: &ControlWords, word: &[u8]) -> bool {
+    match word.iter().position(|byte| *byte == b',') {
+        Some(at) => {
+            let (control, _) = word.split_at(at);
+            known.number_of(control).is_some()
+        }
+        None => false,
+    }
 }
 
 // Why a word isn't one of the device.
@@ -275,6 +365,18 @@ fn in_word<'a, D: Driver>(
         Some(word) => Fault::IdOfWord(Word(word)),
         None => Fault::NoWord(names.words()),
     })
+}
+
+// Why a word isn't the number of a cluster.
+fn in_cluster<'a, D: Driver>(
+    names: &Names<'a, D>,
+    what: &'static str,
+    word: &'a [u8],
+) -> Fault<'a> {
+    match names.cluster(word) {
+        Some(cluster) => Fault::ClusterOf(Word(word), cluster),
+        None => in_number(word, what),
+    }
 }
 
 // Why a word isn't an id.

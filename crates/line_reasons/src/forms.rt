@@ -7,6 +7,8 @@ pub enum Kind {
     Name,
     /// A number of 32 bits.
     Number,
+    /// The number of a cluster.
+    Cluster,
     /// A word of the device, or an id.
     Control,
     /// A word of the device.
@@ -104,7 +106,7 @@ const INDEX: Slot = Slot {
 };
 
 const CLUSTER: Slot = Slot {
-    kind: Kind::Number,
+    kind: Kind::Cluster,
     what: "a cluster's number",
 };
 

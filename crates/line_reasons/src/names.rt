@@ -76,6 +76,16 @@ impl<'a, D: Driver> Names<'a, D> {
         }
     }
 
+    /// The number of the cluster that a control is in, by the control's word.
+    pub fn cluster(&self, word: &[u8]) -> Option<u32> {
+        match self.known.number_of(word) {
+            Some(control) if control < self.plan.control_count() => {
+                Some(self.plan.cluster_of(control))
+            }
+            _ => None,
+        }
+    }
+
     fn number_of_id(&self, id: CtrlId) -> Option<u32> {
         let place = self
             .plan

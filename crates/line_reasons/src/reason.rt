@@ -2,6 +2,7 @@
 
 use crate::names::Words;
 use crate::shown::{Quoted, Word};
+use script_lines::VERB_WORDS;
 use std::fmt;
 
 /// Which word of a line is wrong, and why.
@@ -28,6 +29,8 @@ pub(crate) enum Fault<'a> {
     Against(Rule),
     /// No command begins with it, and this one is near.
     NearCommand(Word<'a>),
+    /// No command begins with it, and none is near.
+    NoCommand,
     /// It is missing: what it is to be, and the command's form.
     Missing(&'static str, &'static str),
     /// The command ends before it: its form.
@@ -56,6 +59,8 @@ pub(crate) enum Fault<'a> {
     WordOfId(u32),
     /// It has the name of an item in place of its index.
     Item(&'a str, u32),
+    /// It is to be a cluster's number, and is the word of a control in the one with this number.
+    ClusterOf(Word<'a>, u32),
     /// The value is to be so many bytes.
     Bytes(u32),
 }
@@ -71,8 +76,14 @@ pub(crate) enum Rule {
     OrderMark,
     /// A comment begins a line.
     Comment,
-    /// A line begins with a command.
-    Command,
+    /// A comment begins with a sign of its own.
+    CommentMark,
+    /// A device file is no script.
+    DeviceFile,
+    /// Words have no quotation marks.
+    Quotes,
+    /// No comma stands between words.
+    Comma,
     /// What divides two scripts belongs to none.
     Divides,
     /// Two scripts are divided once.
@@ -102,7 +113,7 @@ pub(crate) enum Rule {
 impl<'a> Complaint<'a> {
     /// That a word is wrong: `word`, which has this number from 1.
     pub(crate) fn of(number: usize, word: &'a [u8], fault: Fault<'a>) -> Complaint<'a> {
-        let is_comment = number > 1 && word.starts_with(b"#");
+        let is_comment = number > 1 && (word.starts_with(b"#") || word.starts_with(b"//"));
         let fault = if is_comment {
             Fault::Against(Rule::Comment)
         } else {
@@ -172,11 +183,15 @@ fn write_fault<W: fmt::Write>(
         Fault::NearCommand(verb) => {
             write!(f, "no command begins with this word; the nearest is {verb}")
         }
+        Fault::NoCommand => {
+            f.write_str("no command begins with this word; docs/SCRIPTS.md has a table of them: ")?;
+            write_commands(f)
+        }
         Fault::Missing(what, form) => write!(f, "missing: {what}; the command is: {form}"),
         Fault::Further(form) => write!(f, "a word too many; the command is: {form}"),
         Fault::Not(what) => write!(f, "here belongs {what}"),
         Fault::LongName(what) => write!(f, "{what} has at most 16 characters"),
-        Fault::Name(what) => write!(f, "{what} is of ASCII letters and digits"),
+        Fault::Name(what) => write!(f, "{what} belongs here, of ASCII letters and digits"),
         Fault::Hexadecimal(sign, number) => {
             write!(f, "hexadecimal isn't taken; write {sign}{number}")
         }
@@ -193,11 +208,28 @@ fn write_fault<W: fmt::Write>(
         Fault::IdOfWord(word) => { write!(f, "a word of {device} belongs here, and no id: {word}") }
         Fault::WordOfId(id) => write!(f, "an id belongs here, and no word: 0x{id:08x}"),
         Fault::Item(name, index) => write!(f, "an item's index belongs here: {name} is {index}"),
+        Fault::ClusterOf(word, cluster) => {
+            write!(
+                f,
+                "a cluster's number belongs here: {word} is in cluster {cluster}"
+            )
+        }
         Fault::Bytes(count) => write!(
             f,
             "x and two hexadecimal digits for each byte belong here, and the array has {count}"
         ),
     }
+}
+
+// The first words of all commands.
+fn write_commands<W: fmt::Write>(f: &mut fmt::Formatter<W>) -> fmt::Result {
+    let mut between = "";
+    for verb in VERB_WORDS {
+        let verb = Word(verb);
+        write!(f, "{between}{verb}")?;
+        between = ", ";
+    }
+    Ok(())
 }
 
 impl Rule {
@@ -209,9 +241,12 @@ impl Rule {
             Rule::Tab => "a tab; words are separated by spaces",
             Rule::OrderMark => "a byte order mark before it; save the script without one",
             Rule::Comment => "a comment has a line of its own",
-            Rule::Command => {
-                "no command begins with this word; docs/SCRIPTS.md has a table of the commands"
+            Rule::CommentMark => "a comment begins with #",
+            Rule::DeviceFile => {
+                "no command begins with this word; a device file stands behind --device, and the script is another file"
             }
+            Rule::Quotes => "words and values stand without quotation marks",
+            Rule::Comma => "words are separated by spaces, and not by commas",
             Rule::Divides => "two scripts are for ctl_tool pair, or ctl_view --pair",
             Rule::DividesAgain => "a second one; pair takes two scripts, which are divided once",
             Rule::Audit => "no command of two scripts; pair audits at the end by itself",

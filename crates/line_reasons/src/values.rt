@@ -49,6 +49,8 @@ fn in_number_for<'a, D: Driver>(
             None => Fault::Against(Rule::Index),
         },
         Kind::IntegerMenu => Fault::Against(Rule::Index),
+        _ if is_quoted(value) => Fault::Against(Rule::Quotes),
+        _ if value.contains(&b',') => Fault::Against(Rule::Comma),
         Kind::Boolean => Fault::Against(Rule::ZeroOrOne),
         _ => Fault::Against(Rule::Value),
     }
@@ -68,6 +70,38 @@ fn item_named<'a, D: Driver>(
         }
     }
     None
+}
+
+/// Whether a word begins with a quotation mark.
+pub fn is_quoted(word: &[u8]) -> bool {
+    matches!(word, [b'"' | b'\'', ..])
+}
+
+/// The item of a menu, and its index, whose name begins with these two words, but for capitals.
+pub fn item_begun<'a, D: Driver>(
+    names: &Names<'a, D>,
+    control: u32,
+    first: &[u8],
+    second: &[u8],
+) -> Option<(&'a str, u32)> {
+    for index in 0..MOST_ITEMS {
+        if let Some(name) = names.item(control, index) {
+            if begins_with(name, first, second) {
+                return Some((name, index));
+            }
+        }
+    }
+    None
+}
+
+fn begins_with(name: &str, first: &[u8], second: &[u8]) -> bool {
+    let mut words = name.as_bytes().split(|byte| *byte == b' ');
+    match (words.next(), words.next()) {
+        (Some(one), Some(two)) => {
+            one.eq_ignore_ascii_case(first) && two.eq_ignore_ascii_case(second)
+        }
+        _ => false,
+    }
 }
 
 /// The sign and the size of a number that a word writes in hexadecimal; none where it doesn't, or the number has more than 64 bits.

@@ -28,11 +28,11 @@ const WRONG: &[(&[u8], &str)] = &[
     ),
     (
         b"close \x1b[2J",
-        "2: \"\\u{1b}[2J\": a file handle's name is of ASCII letters and digits",
+        "2: \"\\u{1b}[2J\": a file handle's name belongs here, of ASCII letters and digits",
     ),
     (
         b"close \xff\"",
-        "2: \"\\xff\\\"\": a file handle's name is of ASCII letters and digits",
+        "2: \"\\xff\\\"\": a file handle's name belongs here, of ASCII letters and digits",
     ),
     (
         b"audit aaaaaaaaaabbbbbbbbbbccccccccccddddddddddd",
