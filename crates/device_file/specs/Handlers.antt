@@ -1,6 +1,6 @@
 -- The handlers of a file with their controls (Linux driver API, "V4L2 Controls": `v4l2_ctrl_handler_init`, `v4l2_ctrl_new_custom`,
 -- `v4l2_ctrl_add_handler`), and the words by which scripts name the controls.
-use Rattle.std.specs.Prelude.{ℕ, ◌+◌, Bool, false, List, [], ◌∷◌, ◌++◌, length, position, Option, Some, None, Result, Ok, Err, ok_or}
+use Rattle.std.specs.Prelude.{ℕ, ◌+◌, ℤ, Bool, false, List, [], ◌∷◌, ◌++◌, length, position, Option, Some, None, Result, Ok, Err, ok_or}
 use Rattle.std.specs.Str.{bytes_eq}
 use Rattle.toml.specs.Data.{Data, Members, as_str, as_table}
 use Rattle.ctrl_settle.specs.Control.{Control}

@@ -1,11 +1,12 @@
 -- The ranges of a file that follow other controls of it (of this project; so the driver of a sensor moves the range of exposure where vertical blanking is set: Linux
 -- driver API, `v4l2_ctrl_modify_range`).
-use Rattle.std.specs.Prelude.{ℕ, ℤ, ◌+ℤ◌, List, [], ◌∷◌, ◌++◌, Bool, ◌||◌, if◌then◌else◌, Option, Some, None, is_some, Result, Ok, Err, ok_or, option_map, unwrap_or}
+use Rattle.std.specs.Prelude.{ℕ, ℤ, ◌+ℤ◌, List, [], ◌∷◌, ◌++◌, Bool, ◌==◌, ◌||◌, if◌then◌else◌, Option, Some, None, is_some, Result, Ok, Err, ok_or, option_map, unwrap_or}
+use Rattle.std.specs.List.{list_any}
 use Rattle.toml.specs.Data.{Members}
 use Rattle.ctrl_types.specs.declared.kind.Kind.{Kind}
 use Rattle.ctrl_settle.specs.Control.{Control}
 use Rattle.ctrl_handlers.specs.Plan.{control_in}
-use Rattle.range_followers.specs.Wanted.{can_follow, follower_of, wanted_where}
+use Rattle.range_followers.specs.Wanted.{can_follow, wanted_where}
 use Rattle.range_followers.specs.declared.follower.DefaultSource.{DefaultSource}
 use Rattle.range_followers.specs.declared.follower.DefaultSource.TheVariants.{Number, Value}
 use Rattle.range_followers.specs.declared.follower.Follower.{Follower}
@@ -23,10 +24,13 @@ use Rattle.file_faults.specs.declared.problem.Problem.TheVariants as problems
 abbrev pub unless_other : Key → Kind → Result (Unit {0}) KeyFault
 unless_other key kind = if can_follow kind then Ok tt else Err (wrong key problems.NotFollowed)
 
--- that it follows nothing itself
-abbrev pub unless_follower : Key → Option Follower → Result (Unit {0}) KeyFault
-unless_follower key (Some follower) = Err (wrong key problems.FollowsItself)
-unless_follower key None = Ok tt
+-- whether the control of a number follows something
+abbrev pub is_follower : List Follower → ℕ → Bool
+is_follower followers c = list_any (λ f. f.control == c) followers
+
+-- that a control that is followed doesn't
+abbrev pub unless_follower : Key → Bool → Result (Unit {0}) KeyFault
+unless_follower key follows = if follows then Err (wrong key problems.FollowsItself) else Ok tt
 
 -- the control of a number as what a key follows, and what is added to its value
 abbrev pub source : ℕ → ℤ → Source
@@ -35,7 +39,7 @@ source number plus = record { control = number; plus = plus }
 abbrev pub source_of : List Control → List Follower → Key → ℕ → ℤ → Result Source KeyFault
 source_of controls followers key number plus = do
   _ ← unless_other key (control_in controls number).kind
-  _ ← unless_follower key (follower_of followers number)
+  _ ← unless_follower key (is_follower followers number)
   Ok (source number plus)
 
 -- the same of the control with a name, which stands further up in the file

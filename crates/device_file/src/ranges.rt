@@ -1,10 +1,9 @@
 //! The ranges of a file that follow other controls of it.
 
-ghost use Rattle.std.specs.Prelude.{◌≡◌, is_some, option_map, IfErr, OnOk};
+ghost use Rattle.std.specs.Prelude.{◌≡◌, option_map, IfErr, OnOk};
 ghost use Rattle.toml.specs.View.{table_view};
 ghost use Rattle.ctrl_handlers.specs.Plan.{control_in};
-ghost use Rattle.range_followers.specs.Wanted.{follower_of as first_follower};
-ghost use Rattle.device_file.specs.Ranges.{default_by, default_first as first_number_of_default, followed_in as followed_by, follows_any as any_follows, number_first as first_number, source_in as source_at, source_of as source_with, started as started_as, wanted_first, with_follower};
+ghost use Rattle.device_file.specs.Ranges.{default_by, default_first as first_number_of_default, followed_in as followed_by, follows_any as any_follows, is_follower, number_first as first_number, source_in as source_at, source_of as source_with, started as started_as, wanted_first, with_follower};
 ghost use Rattle.device_file.specs.declared.stop.ReadError.TheVariants.{Memory};
 
 use crate::stop::ReadError;
@@ -109,7 +108,7 @@ fn kind_of(controls: &[Ctrl], number: u32) -> Kind
 
 // Whether the control of a number follows something.
 fn follows(followers: &[Follower], number: u32) -> bool
-    ensures { result ≡ is_some (first_follower followers.now number) }
+    ensures { result ≡ is_follower followers.now number }
 {
     followers.iter().any(|follower| follower.control == number)
 }
