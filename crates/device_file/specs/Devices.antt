@@ -3,7 +3,8 @@ use Rattle.std.specs.Prelude.{◌≡◌, ◌<◌, ◌≤◌, ◌⊎◌, ℕ, IsU
 use Rattle.toml.specs.Data.{Data, Members}
 use Rattle.toml.specs.Parse.{parse_document}
 use Rattle.toml.specs.declared.de.error.Error.{Error}
-use Rattle.ctrl_handlers.specs.Plan.{finished, no_plan}
+use Rattle.ctrl_handlers.specs.Plan.{PlanData, finished, no_plan}
+use Rattle.script_lines.specs.ControlWords.{ControlWord}
 use Rattle.device_file.specs.Clusters.{with_clusters}
 use Rattle.file_faults.specs.Faults.{◌>>=◌, at_place, wrong}
 use Rattle.device_file.specs.Handlers.{DeviceData, device, with_handlers}
@@ -22,25 +23,21 @@ use Rattle.file_faults.specs.declared.problem.Sort.TheVariants as sorts
 abbrev pub file_keys : List Key
 file_keys = keys.Handler ∷ keys.Cluster ∷ []
 
--- a device with the clusters of a file, whose handlers are these
-abbrev pub with_clusters_of : List Data → Members → DeviceData → Result DeviceData FileFault
-with_clusters_of handlers file d = do
+-- a plan with the clusters of a file, whose handlers are these, and whose controls have these words
+abbrev pub with_clusters_of : List Data → Members → List ControlWord → PlanData → Result PlanData FileFault
+with_clusters_of handlers file words plan = do
   tables ← at_place places.File (elements_in keys.Cluster sorts.Tables file)
-  plan ← with_clusters handlers d.words [] d.plan 0 tables
-  Ok (device plan d.words d.followers)
+  with_clusters handlers words [] plan 0 tables
 
--- a device whose plan is finished: each control that is in no cluster is one of its own
-abbrev pub finished_device : DeviceData → DeviceData
-finished_device d = device (finished d.plan) d.words d.followers
-
--- What a file's table describes, or its first fault: it has no other keys; then come its handlers with their controls, and then its clusters.
+-- What a file's table describes, or its first fault: it has no other keys; then come its handlers with their controls, and then its clusters. Each control that is in none
+-- of these is one of its own.
 abbrev pub device_of : Members → Result DeviceData FileFault
 device_of file = do
   _ ← at_place places.File (no_others_in file_keys file)
   tables ← at_place places.File (elements_in keys.Handler sorts.Tables file)
-  handlers ← with_handlers [] (device no_plan [] []) 0 tables
-  clusters ← with_clusters_of tables file handlers
-  Ok (finished_device clusters)
+  d ← with_handlers [] (device no_plan [] []) 0 tables
+  plan ← with_clusters_of tables file d.words d.plan
+  Ok (device (finished plan) d.words d.followers)
 
 -- the same of a text; nothing, where it isn't TOML
 abbrev pub described : List ℕ → Option (Result DeviceData FileFault)

@@ -1,6 +1,6 @@
 -- The handlers of a file with their controls (Linux driver API, "V4L2 Controls": `v4l2_ctrl_handler_init`, `v4l2_ctrl_new_custom`,
 -- `v4l2_ctrl_add_handler`), and the words by which scripts name the controls.
-use Rattle.std.specs.Prelude.{ℕ, ◌+◌, ℤ, Bool, false, List, [], ◌∷◌, ◌++◌, length, position, Option, Some, None, Result, Ok, Err, ok_or}
+use Rattle.std.specs.Prelude.{ℕ, ◌+◌, Bool, false, List, [], ◌∷◌, ◌++◌, length, position, Option, Some, None, Result, Ok, Err, ok_or}
 use Rattle.std.specs.Str.{bytes_eq}
 use Rattle.toml.specs.Data.{Data, Members, as_str, as_table}
 use Rattle.ctrl_settle.specs.Control.{Control}
@@ -8,12 +8,11 @@ use Rattle.ctrl_handlers.specs.Builder.{control_refusal, handler_refusal}
 use Rattle.ctrl_handlers.specs.Plan.{PlanData, with_added, with_control, with_handler}
 use Rattle.range_followers.specs.declared.follower.Follower.{Follower}
 use Rattle.script_lines.specs.ControlWords.{ControlWord, known_number}
-use Rattle.file_tables.specs.Bounds.{number_at}
-use Rattle.file_tables.specs.Controls.{control_at, name_at}
+use Rattle.file_tables.specs.Controls.{name_at}
 use Rattle.file_faults.specs.Faults.{◌>>=◌, at_place, wrong, wrong_at}
 use Rattle.device_file.specs.Items.{with_items}
-use Rattle.device_file.specs.Ranges.{followed_in, started, with_follower}
-use Rattle.device_file.specs.declared.ranges.Followed.{Followed}
+use Rattle.device_file.specs.Ranges.{read_in, with_follower}
+use Rattle.device_file.specs.declared.ranges.Read.{Read}
 use Rattle.file_tables.specs.Reading.{elements_in, needed_text_in, table_with, text_in}
 use Rattle.device_file.specs.Refusals.{control_fault, handler_fault, unless_refused}
 use Rattle.file_faults.specs.declared.fault.FileFault.{FileFault}
@@ -116,18 +115,17 @@ control_keys =
 abbrev pub with_word : List ControlWord → List ℕ → Control → ℕ → List ControlWord
 with_word words name ctrl number = words ++ record { word = name; id = ctrl.id; number = number } ∷ []
 
--- a device with one more control of a handler, which follows so, and whose default in the file is this number
-abbrev pub with_following : DeviceData → ℕ → Members → List ℕ → Control → Followed → ℤ → Result DeviceData KeyFault
-with_following d h table name ctrl f number = do
-  plan ← with_built d.plan h table (started d.plan.controls ctrl f number)
-  Ok (device plan (with_word d.words name ctrl (length d.plan.controls)) (with_follower d.followers (length d.plan.controls) f number))
+-- a device with one more control of a handler, which was read so
+abbrev pub with_read : DeviceData → ℕ → Members → List ℕ → Read → Result DeviceData KeyFault
+with_read d h table name it = do
+  plan ← with_built d.plan h table it.ctrl
+  Ok (device plan (with_word d.words name it.ctrl (length d.plan.controls)) (with_follower d.followers (length d.plan.controls) it))
 
 -- a device with one more control of a handler, that of a table, and its word
 abbrev pub with_named : DeviceData → ℕ → Members → List ℕ → Result DeviceData KeyFault
 with_named d h table name = do
-  ctrl ← control_at table
-  f ← followed_in d.plan.controls d.words d.followers table
-  with_following d h table name ctrl f (number_at keys.Default table)
+  it ← read_in d.plan.controls d.words d.followers table
+  with_read d h table name it
 
 abbrev pub with_control_of : DeviceData → ℕ → Data → Result DeviceData KeyFault
 with_control_of d h value = do

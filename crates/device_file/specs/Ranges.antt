@@ -14,7 +14,9 @@ use Rattle.range_followers.specs.declared.follower.Source.{Source}
 use Rattle.script_lines.specs.ControlWords.{ControlWord, known_number}
 use Rattle.file_faults.specs.Faults.{◌>>=◌, wrong}
 use Rattle.device_file.specs.declared.ranges.Followed.{Followed}
-use Rattle.file_tables.specs.Bounds.{followed_at, plus_at}
+use Rattle.device_file.specs.declared.ranges.Read.{Read}
+use Rattle.file_tables.specs.Bounds.{followed_at, number_at, plus_at}
+use Rattle.file_tables.specs.Controls.{control_at}
 use Rattle.file_faults.specs.declared.fault.KeyFault.{KeyFault}
 use Rattle.file_faults.specs.declared.key.Key.{Key}
 use Rattle.file_faults.specs.declared.key.Key.TheVariants as keys
@@ -95,10 +97,20 @@ wanted_first controls ctrl f number =
 abbrev pub started : List Control → Control → Followed → ℤ → Control
 started controls ctrl f number = if follows_any f then unwrap_or (wanted_first controls ctrl f number) ctrl else ctrl
 
+-- a control as its table describes it, with the range that it has at the start; what it follows; and its default in the file
+abbrev pub read : List Control → Control → Followed → ℤ → Read
+read controls ctrl f number = record { ctrl = started controls ctrl f number; followed = f; of_file = number }
+
+abbrev pub read_in : List Control → List ControlWord → List Follower → Members → Result Read KeyFault
+read_in controls words followers table = do
+  ctrl ← control_at table
+  f ← followed_in controls words followers table
+  Ok (read controls ctrl f (number_at keys.Default table))
+
 -- how the control of a number follows
-abbrev pub follower : ℕ → Followed → ℤ → Follower
-follower c f number = record { control = c; minimum = f.minimum; maximum = f.maximum; default_value = default_by f.default_value number }
+abbrev pub follower : ℕ → Read → Follower
+follower c it = record { control = c; minimum = it.followed.minimum; maximum = it.followed.maximum; default_value = default_by it.followed.default_value it.of_file }
 
 -- these, and behind them that, where it follows something
-abbrev pub with_follower : List Follower → ℕ → Followed → ℤ → List Follower
-with_follower followers c f number = if follows_any f then followers ++ follower c f number ∷ [] else followers
+abbrev pub with_follower : List Follower → ℕ → Read → List Follower
+with_follower followers c it = if follows_any it.followed then followers ++ follower c it ∷ [] else followers

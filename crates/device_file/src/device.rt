@@ -1,5 +1,4 @@
-ghost use Rattle.std.specs.Prelude.{◌≡◌, List, map, Ok, IfOk, IfErr};
-ghost use Rattle.range_followers.specs.declared.follower.Follower.{Follower};
+ghost use Rattle.std.specs.Prelude.{◌≡◌, map, Ok, IfOk, IfErr, OnOk};
 ghost use Rattle.toml.specs.View.{table_view, view};
 ghost use Rattle.device_file.specs.Devices.{Describes, IsRefusedWith, device_of, with_clusters_of};
 ghost use Rattle.device_file.specs.Stops.{FileStops};
@@ -95,8 +94,8 @@ fn add_clusters_of(
     file: &Table,
     words: &ControlWords,
 ) -> Result<(), FileFault>
-    ensures ok { (followers : List Follower) → IfOk result (λ _. with_clusters_of (map view handlers.now) (table_view file.now) (device builder.old words.now followers) ≡ Ok (device builder.new words.now followers)) }
-    ensures err { (followers : List Follower) → IfErr result (FileStops (with_clusters_of (map view handlers.now) (table_view file.now) (device builder.old words.now followers))) }
+    ensures ok { OnOk result (with_clusters_of (map view handlers.now) (table_view file.now) words.now builder.old ≡ Ok builder.new) }
+    ensures err { IfErr result (FileStops (with_clusters_of (map view handlers.now) (table_view file.now) words.now builder.old)) }
 {
     match elements(file, Key::Cluster, Sort::Tables) {
         Ok(tables) => add_clusters(alloc, builder, handlers, tables, words),

@@ -8,15 +8,15 @@ ghost use Rattle.device_file.specs.Stops.{FileStops, Stops};
 ghost use Rattle.device_file.specs.Handlers.{added_in as number_added, device, handler_in, handler_named, has_name as is_named, new_name as name_for, with_built, with_control_of, with_controls, with_handler_of, with_handlers, with_named, with_new_handler, with_other, with_others};
 
 use crate::items::add_items;
-use crate::ranges::{followed_in, keep, started};
+use crate::ranges::{keep, read_in};
 use crate::refusals::{refused_adding, refused_control, refused_handler};
 use crate::stop::ReadError;
 use ctrl_handlers::PlanBuilder;
 use ctrl_settle::Ctrl;
 use data_driver::Data;
 use file_faults::{CONTROL_KEYS, FileFault, HANDLER_KEYS, Key, KeyFault, Place, Problem, Sort};
+use file_tables::name_in;
 use file_tables::reading::{elements, needed_text, table_with, text};
-use file_tables::{control_in, name_in, number_at};
 use range_followers::Follower;
 use script_lines::ControlWords;
 use std::alloc::Global;
@@ -279,21 +279,14 @@ fn add_named(
     ensures ok { OnOk result (with_named (device builder.old words.old followers.old.items) handler (table_view control.now) name.now ≡ Ok (device builder.new words.new followers.new.items)) }
     ensures err { IfErr result (Stops (with_named (device builder.old words.old followers.old.items) handler (table_view control.now) name.now)) }
 {
-    let ctrl = match control_in(control) {
-        Ok(ctrl) => ctrl,
+    let read = match read_in(builder.controls(), words, followers.as_slice(), control) {
+        Ok(read) => read,
         Err(fault) => return Err(ReadError::Key(fault)),
     };
-    match followed_in(builder.controls(), words, followers.as_slice(), control) {
-        Ok(followed) => {
-            let of_file = number_at(control, Key::Default);
-            let ctrl = started(builder.controls(), ctrl, &followed, of_file);
-            let number = build_control(builder, handler, control, ctrl)?;
-            match words.push(alloc, name.as_bytes(), ctrl.id(), number) {
-                Ok(()) => keep(followers, number, &followed, of_file),
-                Err(_) => Err(ReadError::Memory),
-            }
-        }
-        Err(fault) => Err(ReadError::Key(fault)),
+    let number = build_control(builder, handler, control, read.ctrl)?;
+    match words.push(alloc, name.as_bytes(), read.ctrl.id(), number) {
+        Ok(()) => keep(followers, number, &read),
+        Err(_) => Err(ReadError::Memory),
     }
 }
 

@@ -3,14 +3,14 @@
 ghost use Rattle.std.specs.Prelude.{◌≡◌, option_map, IfErr, OnOk};
 ghost use Rattle.toml.specs.View.{table_view};
 ghost use Rattle.ctrl_handlers.specs.Plan.{control_in};
-ghost use Rattle.device_file.specs.Ranges.{default_by, default_first as first_number_of_default, followed_in as followed_by, follows_any as any_follows, is_follower, number_first as first_number, source_in as source_at, source_of as source_with, started as started_as, wanted_first, with_follower};
+ghost use Rattle.device_file.specs.Ranges.{default_by, default_first as first_number_of_default, followed_in as followed_by, follows_any as any_follows, is_follower, number_first as first_number, read_in as read_as, source_in as source_at, source_of as source_with, started as started_as, wanted_first, with_follower};
 ghost use Rattle.device_file.specs.declared.stop.ReadError.TheVariants.{Memory};
 
 use crate::stop::ReadError;
 use ctrl_settle::Ctrl;
 use ctrl_types::Kind;
 use file_faults::{Key, KeyFault, Problem};
-use file_tables::{followed, plus};
+use file_tables::{control_in, followed, number_at, plus};
 use range_followers::{DefaultSource, Follower, Source, can_follow, range_wanted};
 use script_lines::ControlWords;
 use toml::Table;
@@ -24,7 +24,7 @@ pub(crate) struct Followed {
 }
 
 // What the control of a table follows. These controls stand further up.
-pub(crate) fn followed_in(
+fn followed_in(
     controls: &[Ctrl],
     words: &ControlWords,
     followers: &[Follower],
@@ -36,6 +36,35 @@ pub(crate) fn followed_in(
         minimum: source_in(controls, words, followers, table, Key::Min)?,
         maximum: source_in(controls, words, followers, table, Key::Max)?,
         default_value: source_in(controls, words, followers, table, Key::Default)?,
+    })
+}
+
+/// A control as its table describes it.
+#[derive(Clone, Copy)]
+pub(crate) struct Read {
+    /// With the range that it has at the start.
+    pub ctrl: Ctrl,
+    followed: Followed,
+    // its default in the file
+    of_file: i64,
+}
+
+// The control that a table describes, with what it follows. These controls stand further up.
+pub(crate) fn read_in(
+    controls: &[Ctrl],
+    words: &ControlWords,
+    followers: &[Follower],
+    table: &Table,
+) -> Result<Read, KeyFault>
+    ensures { result ≡ read_as controls.now words.now followers.now (table_view table.now) }
+{
+    let ctrl = control_in(table)?;
+    let followed = followed_in(controls, words, followers, table)?;
+    let of_file = number_at(table, Key::Default);
+    Ok(Read {
+        ctrl: started(controls, ctrl, &followed, of_file),
+        followed,
+        of_file,
     })
 }
 
@@ -114,7 +143,7 @@ fn follows(followers: &[Follower], number: u32) -> bool
 }
 
 // A control with the range that it has at the start, whose default in the file is this number.
-pub(crate) fn started(controls: &[Ctrl], ctrl: Ctrl, followed: &Followed, number: i64) -> Ctrl
+fn started(controls: &[Ctrl], ctrl: Ctrl, followed: &Followed, number: i64) -> Ctrl
     ensures { result ≡ started_as controls.now ctrl followed.now number }
 {
     if follows_any(followed) {
@@ -174,20 +203,19 @@ fn default_at(controls: &[Ctrl], number: u32) -> i64
 pub(crate) fn keep(
     followers: &mut Vec<Follower>,
     control: u32,
-    followed: &Followed,
-    number: i64,
+    read: &Read,
 ) -> Result<(), ReadError>
-    ensures ok { OnOk result (followers.new.items ≡ with_follower followers.old.items control followed.now number) }
+    ensures ok { OnOk result (followers.new.items ≡ with_follower followers.old.items control read.now) }
     ensures err { IfErr result (λ error. error ≡ Memory) }
 {
-    if !follows_any(followed) {
+    if !follows_any(&read.followed) {
         return Ok(());
     }
     let follower = Follower {
         control,
-        minimum: followed.minimum,
-        maximum: followed.maximum,
-        default_value: default_of(followed.default_value, number),
+        minimum: read.followed.minimum,
+        maximum: read.followed.maximum,
+        default_value: default_of(read.followed.default_value, read.of_file),
     };
     match followers.push(follower) {
         Ok(()) => Ok(()),
