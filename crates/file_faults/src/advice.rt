@@ -42,7 +42,7 @@ pub(crate) fn write_advice(
         Problem::Not(Sort::Array) => write_array(out, told),
         Problem::Not(Sort::Integer) => write_number(out, told),
         Problem::Not(Sort::Text) => write_named(out, told),
-        Problem::BadDefault => write_bound(out, told),
+        Problem::BadRange | Problem::BadDefault => write_bound(out, told),
         Problem::NotOfType(kind) => write!(out, "{}", of_type(kind, told.known)),
         Problem::UnknownId => write_id(out, alloc, told),
         Problem::UnknownControl => write_control(out, alloc, told),
@@ -199,15 +199,15 @@ fn name_with_id(control: &Value, id: i64) -> Option<&str> {
     }
 }
 
-// What the maximum is for want of one, where a default lies above it.
+// What the maximum is for want of one, where a minimum or a default lies above it.
 fn write_bound(out: &mut String, told: &Told<'_>) -> Result<(), AllocError> {
-    let (Some(control), Some(Value::Integer(default))) = (
+    let (Some(control), Some(Value::Integer(number))) = (
         table_at(told.file, told.place),
         told.value,
     ) else {
         return Ok(());
     };
-    if *default <= 0 || control.contains_key(Key::Max.word()) {
+    if *number <= 0 || control.contains_key(Key::Max.word()) {
         return Ok(());
     }
     match (type_of(control), control.get(Key::Menu.word())) {
