@@ -21,4 +21,4 @@ returns-in-Err-read_list g c =
 
 pub returns-in-Err : goal.returns-in-Err
 returns-in-Err g c =
-    rw (c.at.ensures, c.len.ensures) (get_unread g.D.Validates.verdict c.args.self.now.plan (past c.args.self.now.steps) c.args.self.now.words c.args.fh c.args.which c.args.request c.args.list.now c.in-Err.check c.in-Err.ensures.err)
+    rw (c.fault_at.ensures, c.len.ensures) (get_unread g.D.Validates.verdict c.args.self.now.plan (past c.args.self.now.steps) c.args.self.now.words c.args.fh c.args.which c.args.request c.args.list.now c.in-Err.check c.in-Err.ensures.err)

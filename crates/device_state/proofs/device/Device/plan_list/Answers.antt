@@ -8,7 +8,7 @@ use Rattle.device_state.proofs.device.Device.plan_list.Goals as goal
 -- the first checks refuse it
 pub returns-in-Err-clause-err : goal.returns-in-Err-clause-err
 returns-in-Err-clause-err g c =
-    rw (c.at.ensures, c.len.ensures) (set_unread g.D.Validates.verdict c.args.self.now.plan (past c.args.self.now.steps) c.args.self.now.words c.args.fh c.args.which c.args.request c.args.list.now c.in-Err.check c.in-Err.ensures.err)
+    rw (c.fault_at.ensures, c.len.ensures) (set_unread g.D.Validates.verdict c.args.self.now.plan (past c.args.self.now.steps) c.args.self.now.words c.args.fh c.args.which c.args.request c.args.list.now c.in-Err.check c.in-Err.ensures.err)
 
 pub returns-in-Err-plan_set-clause-err : goal.returns-in-Err-plan_set-clause-err
 returns-in-Err-plan_set-clause-err g c =
@@ -22,7 +22,7 @@ pub returns-then-is_full-clause-err : goal.returns-then-is_full-clause-err
 returns-then-is_full-clause-err g c =
     let device = c.self.inside in
     let plan : c.in-Ok.view.plan ≡ device.plan = rw (← c.self.view_is) at c.in-Ok.ensures.plan in
-    rw (← c.self.view_is, c.at-then-is_full.ensures, c.len-then-is_full.ensures)
+    rw (← c.self.view_is, c.fault_at-then-is_full.ensures, c.len-then-is_full.ensures)
     (set_full g.D.Validates.verdict device.plan (past device.steps.items) device.words.items c.args.fh c.args.which c.args.request c.args.list.now c.in-Ok.view.parts
     (rw (← c.self.view_is) at c.in-Ok.ensures.passed) (rw (← c.self.view_is) at c.in-Ok.ensures.view) (rw plan at c.in-Ok-plan_set.ensures.ok)
     (sym (rw (← c.self.view_is) at c.is_full.ensures) ∙ c.if-is_full.true))

@@ -34,7 +34,7 @@ returns-in-Err-accept_set g c =
     let planned = c.plan_list-planned in
     let device = c.args.self.now in
     let at_least = set_at_least g.D.Validates.verdict device.plan (past device.steps) c.args.fh c.args.which c.args.request c.args.list.now in
-    rw (c.at.ensures, c.len.ensures)
+    rw (c.fault_at.ensures, c.len.ensures)
     (handles_asked g.D.Validates.verdict c.args.self.now _ c.new-work.result planned.new.work c.args.seat _ _
     (c.in-Err-accept_set.ensures.err ∙ ap (λ (d : DeviceData). record d { work = planned.new.work }) c.self.view_is) c.new-work.ensures planned.ensures.told
     (omega (arith, planned.ensures.at_most, at_least)) (λ e. cc) refl

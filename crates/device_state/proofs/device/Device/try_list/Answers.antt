@@ -31,7 +31,7 @@ returns-clause-asked g c =
 
 pub returns-in-Err-clause-answers : goal.returns-in-Err-clause-answers
 returns-in-Err-clause-answers g c =
-    rw (c.at.ensures, c.len.ensures) (try_unread g.D.Validates.verdict c.args.self.now.plan (past c.args.self.now.steps) c.args.self.now.words c.args.fh c.args.which c.args.request c.args.list.now c.in-Err.check c.in-Err.ensures.err)
+    rw (c.fault_at.ensures, c.len.ensures) (try_unread g.D.Validates.verdict c.args.self.now.plan (past c.args.self.now.steps) c.args.self.now.words c.args.fh c.args.which c.args.request c.args.list.now c.in-Err.check c.in-Err.ensures.err)
 
 -- validators are asked as often as is said
 pub returns-clause-at_most : goal.returns-clause-at_most
