@@ -2,6 +2,17 @@
 
 use std::fmt;
 
+// What an unknown flag may mean: one of v4l2-ctl, or the file of a device written otherwise.
+fn meant(word: &str) -> &'static str {
+    if word == "-d" || word.starts_with("--device=") {
+        "; write --device FILE"
+    } else if word == "-l" || word == "-L" || word.starts_with("--list-ctrls") {
+        "; --list lists the device"
+    } else {
+        ""
+    }
+}
+
 /// What is wrong with the words of a command line.
 #[derive(Clone, Copy)]
 pub enum Complaint<'a> {
@@ -28,7 +39,9 @@ pub enum Complaint<'a> {
 impl fmt::Display for Complaint<'_> {
     fn fmt<W: fmt::Write>(&self, f: &mut fmt::Formatter<W>) -> fmt::Result {
         let text = match self {
-            Complaint::Unknown(word) => return write!(f, "{word}: there is no such flag"),
+            Complaint::Unknown(word) => {
+                return write!(f, "{word}: there is no such flag{}", meant(word));
+            }
             Complaint::SecondDevice(file) => {
                 return write!(f, "--device {file}: a device is named already");
             }
@@ -37,6 +50,9 @@ impl fmt::Display for Complaint<'_> {
             }
             Complaint::SecondFlag(first, word) => {
                 return write!(f, "{first} and {word}: only one of them can be");
+            }
+            Complaint::SecondScript(first, file) if *first == "run" => {
+                return write!(f, "run {file}: leave run out, which is ctl_tool's");
             }
             Complaint::SecondScript(first, file) => {
                 return write!(

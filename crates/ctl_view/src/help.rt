@@ -18,7 +18,7 @@ Words stand in any order. A file whose name begins with a hyphen is named as ./-
   --list         the device as v4l2-ctl lists one, behind SCRIPT; without it, at the start
   --board        a line for each frame that is queued at the end, as ctl_tool board prints them
   --pair         two scripts in one, divided by a line ==, as ctl_tool pair runs them
-  --check        how large the device of FILE is, or the first fault of FILE
+  --check        how large the device of FILE is, or its faults, and what it may not mean
   --help         this text
   --version      whether the program that ./ctl_view runs is proved
 

@@ -45,8 +45,13 @@ pub fn put_check<D: Driver>(page: &mut Page, asked: Asked<'_, D>, reason: Reason
     match reason.check {
         Check::RowRefused(_) => put_row(page, asked, reason.entry),
         Check::ValueNotOfKind => put_form(page, asked, reason.entry),
+        Check::ValueOutsideMenu => put_range(page, asked, reason.entry),
         Check::ClassNotShown => put_list_class(page, asked.ask),
-        Check::EntryNamesNone => put_entry_class(page, asked, reason.entry),
+        Check::EntryNamesNone => {
+            put_entry_class(page, asked, reason.entry);
+            put_showing(page, asked, reason.entry);
+        }
+        Check::IdNotShown => put_showing(page, asked, reason.entry),
         _ => {}
     }
 }
@@ -75,9 +80,42 @@ fn put_form<D: Driver>(page: &mut Page, asked: Asked<'_, D>, entry: Option<u32>)
     match ctrl.kind() {
         Kind::U8 => {
             let elems = ctrl.elems();
-            let _ = write!(page, ": it is an array of {elems} bytes");
+            let digits = u64::from(elems) * 2;
+            let _ = write!(
+                page,
+                ": it is an array of {elems} bytes, so write x and {digits} hexadecimal digits"
+            );
         }
         _ => page.put(": it takes a number"),
+    }
+}
+
+// The range of the moment of the control of an entry.
+fn put_range<D: Driver>(page: &mut Page, asked: Asked<'_, D>, entry: Option<u32>) {
+    let Some(control) = control_at(asked, entry) else {
+        return;
+    };
+    if control < asked.device.plan().control_count() {
+        let ctrl = asked.device.range(control);
+        let (least, most) = (ctrl.minimum(), ctrl.maximum());
+        let _ = write!(page, ": it is from {least} to {most}");
+    }
+}
+
+// The first handler that shows the id which the file handle isn't shown.
+fn put_showing<D: Driver>(page: &mut Page, asked: Asked<'_, D>, entry: Option<u32>) {
+    let Some(id) = id_at(asked.ask, entry) else {
+        return;
+    };
+    if asked.control(id).is_some() {
+        return;
+    }
+    let plan = asked.device.plan();
+    for handler in 0..plan.handler_count() {
+        if plan.find(handler, id).is_ok() {
+            let _ = write!(page, ": handler {handler} shows it");
+            return;
+        }
     }
 }
 
