@@ -63,7 +63,7 @@ const HBLANK: Source = Source {
     plus: 0,
 };
 
-// Commands, each with what it is answered and the asks of the device's own: the control, its range, and the errno of a refusal. What moves no followed value
+// Commands, each with what it is answered and the asks of the device's own: the control, its range, and the errno of a refusal; and whether a range is owed then. What moves no followed value
 // has none: a command that is refused, a try, a store, a set of what is there, a range of a control that follows. A maximum isn't below the minimum, a minimum
 // that follows alone not above the maximum, and a bound is one of 32 bits; the default goes back to 100, and by steps.
 const RUN: &str = "\
@@ -93,12 +93,52 @@ set f cur vblank=0 hblank=1 -> ok, 1: 0 96 10 90, 3: -9 100 1 1, 4: 1 1 1 1
 set f cur vblank=80 -> ok, 1: 0 176 10 100, 4: 1 80 1 7
 ";
 
-// The last of 1,000,000 steps are the set and the first of its ranges; what the others are refused stands beside them.
+// The last of 1,000,000 steps are the set and the first of its ranges; what the others are refused stands beside them, and they stay owed.
 const FULL: &str = "\
 open f 0 -> ok
-set f cur vblank=30 hblank=0 -> ok, 1: 4 126 4 100, 3: -10 100 1 0 error 28, 4: 0 30 1 7 error 28
-set f cur vblank=24 -> error 28
+set f cur vblank=30 hblank=0 -> ok, 1: 4 126 4 100, 3: -10 100 1 0 error 28, 4: 0 30 1 7 error 28, owed
+get f cur gain wide -> ok, owed
+set f cur vblank=24 -> error 28, owed
 ";
+
+// The range of exposure is owed: nothing has it asked for but the next accepted change, a set of present values, the begin of a frame or a range change, though it
+// moves no followed value. It is asked once.
+const OWED: [&str; 3] = [
+    "\
+open f 0 -> ok, owed
+get f cur exposure -> ok, owed
+try f cur vblank=30 -> ok, owed
+set f cur vblank=24 flip=1 -> error 22, owed
+grab gain on -> ok, owed
+set f cur vblank=24 -> ok, 1: 0 120 10 100
+set f cur vblank=24 -> ok
+",
+    "\
+open f 0 -> ok, owed
+alloc r -> ok, owed
+set f req:r gain=60 -> ok, owed
+buffer r 1 -> ok, owed
+begin -> error 2, owed
+queue r -> ok, owed
+begin -> ok, 1: 0 120 10 100
+complete -> ok
+",
+    "\
+open f 0 -> ok, owed
+range gain 10 0 1 0 -> error 34, owed
+range gain 40 100 1 50 -> ok, 1: 0 120 10 100
+range gain 40 100 1 50 -> ok
+",
+];
+
+// A range of exposure that isn't the one that it is wanted to have, so that one is due.
+const OTHER: Ask = Ask::ModifyRange {
+    control: 1,
+    min: 0,
+    max: 1000,
+    step: 10,
+    default_value: 20,
+};
 
 // A device of these controls, and the words for them.
 fn device(alloc: Global) -> Option<(Device<Data>, ControlWords)> {
@@ -128,12 +168,13 @@ fn device(alloc: Global) -> Option<(Device<Data>, ControlWords)> {
     Some((Device::new(alloc, builder.finish().ok()?).ok()?, words))
 }
 
-// What a command is answered, and behind it the asks of the device's own.
+// What a command is answered, behind it the asks of the device's own, and whether a range is owed then.
 fn answered(
     alloc: Global,
     device: &mut Device<Data>,
     words: &ControlWords,
     names: &mut Bindings,
+    owed: &mut bool,
     command: &str,
 ) -> Option<String> {
     if command.len() > 1000 {
@@ -143,7 +184,7 @@ fn answered(
     let binding = Binding::of(&command);
     binding.enter(names).ok()?;
     let ask = ask_of(command, names)?;
-    let (answer, asked) = handle_and_follow(alloc, device, &FOLLOWERS, 0, &ask).ok()?;
+    let (answer, asked) = handle_and_follow(alloc, device, &FOLLOWERS, owed, 0, &ask).ok()?;
     binding.bind(names, &answer);
     let mut said = String::new(alloc);
     match answer {
@@ -152,6 +193,9 @@ fn answered(
     }
     for one in asked.as_slice() {
         say(&mut said, one)?;
+    }
+    if *owed {
+        said.push_str(", owed").ok()?;
     }
     Some(said)
 }
@@ -166,16 +210,21 @@ fn say(said: &mut String, one: &RangeAsk) -> Option<()> {
     Some(())
 }
 
-// What is said of the first command that is answered otherwise behind so many ends of the stream; nothing where none is.
-fn first_other(alloc: Global, steps: u32, text: &str) -> Option<String> {
+// What is said of the first command that is answered otherwise behind so many ends of the stream, and where a range is owed, behind another one; nothing where none
+// is.
+fn first_other(alloc: Global, steps: u32, is_owed: bool, text: &str) -> Option<String> {
     let (mut device, words) = device(alloc)?;
     let mut names = Bindings::new(alloc);
+    let mut owed = is_owed;
     for _ in 0..steps {
         device.handle(0, &Ask::StreamOff).ok()?;
     }
+    if is_owed {
+        device.handle(0, &OTHER).ok()?;
+    }
     for line in text.lines() {
         let (command, wanted) = line.split_once(" -> ")?;
-        let said = answered(alloc, &mut device, &words, &mut names, command)?;
+        let said = answered(alloc, &mut device, &words, &mut names, &mut owed, command)?;
         if said.as_str() != wanted {
             return Some(said);
         }
@@ -183,8 +232,8 @@ fn first_other(alloc: Global, steps: u32, text: &str) -> Option<String> {
     Some(String::new(alloc))
 }
 
-fn expect<R: AllocGlobal + Abort>(rt: &R, steps: u32, text: &str) {
-    let other = first_other(rt.alloc(), steps, text);
+fn expect<R: AllocGlobal + Abort>(rt: &R, steps: u32, is_owed: bool, text: &str) {
+    let other = first_other(rt.alloc(), steps, is_owed, text);
     assert!(rt;
         matches!(&other, Some(said) if said.is_empty()),
         "{other:?}"
@@ -193,12 +242,74 @@ fn expect<R: AllocGlobal + Abort>(rt: &R, steps: u32, text: &str) {
 
 #[test]
 fn ranges_follow(rt: HostRuntime) {
-    expect(&rt, 0, RUN);
+    expect(&rt, 0, false, RUN);
 }
 
 #[test]
 fn a_refused_range_lets_the_rest_go_on(rt: HostRuntime) {
-    expect(&rt, 999_997, FULL);
+    expect(&rt, 999_997, false, FULL);
+}
+
+#[test]
+fn what_is_owed_is_asked_behind_the_next_change(rt: HostRuntime) {
+    for text in OWED {
+        expect(&rt, 0, true, text);
+    }
+}
+
+// What a set of vertical blanking is answered, where one that lacks memory is asked again: how many ranges were asked for, and how many of them were refused.
+fn counts_set(
+    alloc: Global,
+    device: &mut Device<Data>,
+    owed: &mut bool,
+    ask: &Ask,
+) -> Option<(usize, usize)> {
+    for _ in 0..2 {
+        if let Ok((Ok(_), asked)) = handle_and_follow(alloc, device, &FOLLOWERS, owed, 0, ask) {
+            let refused = asked.iter().filter(|one| one.refusal.is_some()).count();
+            return Some((asked.len(), refused));
+        }
+    }
+    None
+}
+
+// Whether ranges that are refused for want of memory are asked again: not by the get behind it, and by the next set of the same value, once.
+fn asks_again(alloc: Global) -> Option<bool> {
+    let (mut device, words) = device(alloc)?;
+    let mut names = Bindings::new(alloc);
+    let mut owed = false;
+    answered(
+        alloc,
+        &mut device,
+        &words,
+        &mut names,
+        &mut owed,
+        "open f 0",
+    )?;
+    let set = read_line(alloc, &words, b"set f cur vblank=500").ok()??;
+    let get = read_line(alloc, &words, b"get f cur exposure").ok()??;
+    let (set, get) = (ask_of(set, &names)?, ask_of(get, &names)?);
+    let (asked, refused) = counts_set(alloc, &mut device, &mut owed, &set)?;
+    let is_owed = owed;
+    let (_, got) = handle_and_follow(alloc, &mut device, &FOLLOWERS, &mut owed, 0, &get).ok()?;
+    let stays = owed == is_owed && got.is_empty();
+    let again = counts_set(alloc, &mut device, &mut owed, &set)?;
+    let last = counts_set(alloc, &mut device, &mut owed, &set)?;
+    Some(
+        asked == 2
+            && is_owed == (refused > 0)
+            && stays
+            && again == (refused, 0)
+            && !owed
+            && last == (0, 0),
+    )
+}
+
+// With `rt try --test --fail-alloc N` one allocation fails, which may be that of a range; where it is none of the device's, all is done once more.
+#[test]
+fn a_range_that_lacked_memory_is_asked_again(rt: HostRuntime) {
+    let alloc = rt.alloc();
+    assert!(rt; asks_again(alloc).or_else(|| asks_again(alloc)) == Some(true));
 }
 
 // Before its range is known a control has its minimum alone; the maximum of the start comes of the followed default.

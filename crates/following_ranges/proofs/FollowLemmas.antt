@@ -1,5 +1,5 @@
 -- What is due, what is asked for, and what refuses it.
-use Rattle.std.proofs.Common.{◌≡◌, ◌⊎◌, inl, inr, ℕ, ℤ, ◌<◌, ◌≤◌, ◌+◌, Bool, true, false, if◌then◌else◌, nat_eq, nat_le, List, [], ◌∷◌, ◌++◌, append-nil, length, map, filter_map, slice_index_or, take, IfSome, Option, None, Some, Ok, Err, IsOk, refl, ap, sym, subst, ◌∙◌, arith}
+use Rattle.std.proofs.Common.{◌≡◌, ◌⊎◌, inl, inr, ℕ, ℤ, ◌<◌, ◌≤◌, ◌+◌, Bool, true, false, if◌then◌else◌, nat_eq, nat_le, List, [], ◌∷◌, ◌++◌, append-nil, length, map, filter_map, slice_index_or, take, IfSome, Option, None, Some, Err, refl, ap, sym, subst, ◌∙◌, arith}
 use Rattle.std.specs.List.{All, cons_option, range_with_len}
 use Rattle.std.specs.Map.{lookup}
 use Rattle.std.specs.Option.{option_and_then, option_map}
@@ -9,7 +9,6 @@ use Rattle.std.proofs.lemmas.List.{length_push, map-id, map_push, take_more}
 use Rattle.std.proofs.lemmas.List.Elements.{All-push, filter_map-append}
 use Rattle.std.proofs.lemmas.List.FromFn.{map-range_with_len_more}
 use Rattle.history.specs.Past.{past}
-use Rattle.ctrl_types.specs.declared.check.Check.{Check}
 use Rattle.ctrl_types.specs.declared.check.Check.TheVariants.{ControlMissing, HistoryFull, MemoryRefused}
 use Rattle.ctrl_types.specs.declared.errno.Fault.{Fault}
 use Rattle.ctrl_calls.specs.Meanings.{Verdicts}
@@ -21,8 +20,8 @@ use Rattle.ctrl_handlers.specs.Plan.{PlanData, control, control_in}
 use Rattle.ctrl_clusters.specs.Rows.{Values}
 use Rattle.device_history.specs.declared.ask.Ask.TheVariants.{ModifyRange}
 use Rattle.device_history.specs.declared.ask.Reply.TheVariants.{Done}
-use Rattle.device_history.specs.Ranges.{RangeData, control_now, control_with_range, range_answer, range_check, ranged_if_given, ranges_made, ranges_now}
-use Rattle.device_history.specs.Refusals.{Answer, fault_by, is_full, refused, step_check, stepped, unless_refused}
+use Rattle.device_history.specs.Ranges.{RangeData, control_with_range, range_answer, range_check, ranged_if_given, ranges_made, ranges_now}
+use Rattle.device_history.specs.Refusals.{Answer, fault_by, is_full, stepped, unless_refused}
 use Rattle.device_history.specs.Steps.{Past}
 use Rattle.device_history.proofs.RangeLemmas.{control_at_now}
 use Rattle.device_state.specs.Device.{DeviceData, Handles}
@@ -131,10 +130,10 @@ range_answered plan past c wanted answer there own well (inr lacks) = lacking an
 
 -- what asking for a range does, where its parts are read from the control
 pub asked_so : (verdicts : Verdicts) (old new : DeviceData) (seat c : ℕ) (wanted : Control) (low high : ℤ) (apart : ℕ) (default_value : ℤ) (answer : Answer) (refusal : Option Fault)
-    → IsOwn old.plan (c, wanted) → IsWellFormed wanted → low ≡ wanted.minimum → high ≡ wanted.maximum → apart ≡ wanted.step → default_value ≡ wanted.default_value
+    → IsOwn old.plan (c, wanted) → low ≡ wanted.minimum → high ≡ wanted.maximum → apart ≡ wanted.step → default_value ≡ wanted.default_value
     → Handles verdicts old new seat (ModifyRange c low high apart default_value) answer → refusal ≡ result_err answer
     → IsOfRoom refusal × Handles verdicts old new seat (ModifyRange c wanted.minimum wanted.maximum wanted.step wanted.default_value) (answer_by refusal)
-asked_so verdicts old new seat c wanted low high apart default_value answer refusal own well is_low is_high is_apart is_default does is =
+asked_so verdicts old new seat c wanted low high apart default_value answer refusal own is_low is_high is_apart is_default does is =
     let does_low : Handles verdicts old new seat (ModifyRange c wanted.minimum high apart default_value) answer =
     subst (λ (x : ℤ). Handles verdicts old new seat (ModifyRange c x high apart default_value) answer) is_low does in
     let does_high : Handles verdicts old new seat (ModifyRange c wanted.minimum wanted.maximum apart default_value) answer =
@@ -143,7 +142,7 @@ asked_so verdicts old new seat c wanted low high apart default_value answer refu
     subst (λ (x : ℕ). Handles verdicts old new seat (ModifyRange c wanted.minimum wanted.maximum x default_value) answer) is_apart does_high in
     let does_all : Handles verdicts old new seat (ModifyRange c wanted.minimum wanted.maximum wanted.step wanted.default_value) answer =
     subst (λ (x : ℤ). Handles verdicts old new seat (ModifyRange c wanted.minimum wanted.maximum wanted.step x) answer) is_default does_apart in
-    let told = range_answered old.plan (past old.steps) c wanted answer own.0 own.1 well does_all.answers in (
+    let told = range_answered old.plan (past old.steps) c wanted answer own.0 own.1 own.2 does_all.answers in (
       subst IsOfRoom (sym is) told.0,
       subst (λ (a : Answer). Handles verdicts old new seat (ModifyRange c wanted.minimum wanted.maximum wanted.step wanted.default_value) a) (told.1 ∙ ap answer_by (sym is)) does_all,
     )
@@ -174,10 +173,10 @@ of_wanted ctrl (Some wanted) w e = unless_same wanted w (has_range_of ctrl wante
 
 -- so a range that is due is its control's
 pub due_is_own : (plan : PlanData) (past : Past) (c : ℕ) (followers : List Follower) (values : Values) (ctrl w : Control) → c < length plan.controls → ctrl ≡ control_in (ranges_now plan past) c
-    → Some w ≡ range_due followers c ctrl values → IsOwn plan (c, w)
-due_is_own plan past c followers values ctrl w there at is =
+    → Some w ≡ range_due followers c ctrl values → IsWellFormed w → IsOwn plan (c, w)
+due_is_own plan past c followers values ctrl w there at is well =
     let own : IsRangeOf ctrl w = of_follower ctrl values (follower_of followers c) w (of_wanted ctrl (wanted_range followers c ctrl values) w (sym is)) in
-    (there, due_own plan past c w w.minimum w.maximum w.default_value there (subst (λ (x : Control). IsRangeOf x w) at own))
+    (there, due_own plan past c w w.minimum w.maximum w.default_value there (subst (λ (x : Control). IsRangeOf x w) at own), well)
 
 -- the range at a place is its control's, as long as the plan stays
 pub own_at : (plan now : PlanData) (due : List RangeFor) (i : ℕ) (d : RangeFor) → now ≡ plan → d ≡ slice_index_or due i d → All (IsOwn plan) due → i < length due → IsOwn now d

@@ -1,2 +1,3 @@
 pub mod FollowLemmas
 pub mod QuietLemmas
+pub mod HandledLemmas

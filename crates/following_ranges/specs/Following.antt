@@ -1,21 +1,22 @@
 -- What an ask does on a device some of whose ranges follow other controls (of this project; a driver that moves the range of exposure where vertical blanking is set
 -- does the like: Linux driver API, `v4l2_ctrl_modify_range`).
-use Rattle.std.specs.Prelude.{◌≡◌, ◌<◌, ℕ, Bool, true, false, if◌then◌else◌, [], ◌∷◌, ◌++◌, List, length, map, filter_map, Option, None, Some, Ok, Err, ◌⊎◌}
-use Rattle.std.specs.List.{range_with_len}
+use Rattle.std.specs.Prelude.{◌≡◌, ◌<◌, ℕ, Bool, true, false, ◌&&◌, ◌||◌, if◌then◌else◌, [], ◌∷◌, ◌++◌, List, length, map, filter_map, Option, None, Some, is_none, is_some, Ok, Err, is_ok, ◌⊎◌}
+use Rattle.std.specs.List.{list_any, range_with_len}
 use Rattle.std.specs.Option.{option_map}
 use Rattle.history.specs.Past.{past}
+use Rattle.ctrl_types.specs.Classes.{which_of}
 use Rattle.ctrl_types.specs.declared.check.Check.TheVariants.{HistoryFull, MemoryRefused}
 use Rattle.ctrl_types.specs.declared.errno.Fault.{Fault}
 use Rattle.ctrl_calls.specs.Meanings.{Verdicts}
 use Rattle.ctrl_settle.specs.Control.{Control, with_range}
+use Rattle.ctrl_settle.specs.Faults.{IsWellFormed}
 use Rattle.ctrl_handlers.specs.Plan.{PlanData, control, control_in}
 use Rattle.ctrl_clusters.specs.Rows.{Values}
 use Rattle.device_history.specs.declared.ask.Ask.{Ask}
-use Rattle.device_history.specs.declared.ask.Ask.TheVariants.{ModifyRange}
+use Rattle.device_history.specs.declared.ask.Ask.TheVariants.{Begin, ModifyRange, SetCtrls}
 use Rattle.device_history.specs.declared.ask.Reply.TheVariants.{Done}
-use Rattle.device_history.specs.declared.ask.Step.{Step}
-use Rattle.device_history.specs.declared.ask.Step.TheVariants as steps
 use Rattle.device_history.specs.Steps.{Past}
+use Rattle.device_history.specs.Lists.{meant, which_or}
 use Rattle.device_history.specs.Ranges.{ranges_now}
 use Rattle.device_history.specs.Refusals.{Answer, fault_by}
 use Rattle.device_history.specs.Values.{now}
@@ -50,21 +51,34 @@ abbrev pub with_found : {X : Type 0} → Option X → List X → List X
 with_found None due = due
 with_found (Some one) due = due ++ one ∷ []
 
--- a range for a control that is there, and that is else as the plan describes it
+-- a range for a control that is there, and that is else as the plan describes it; nothing is wrong with it
 abbrev pub IsOwn : PlanData → RangeFor → Type 0
-IsOwn plan due = (due.0 < length plan.controls) × (due.1 ≡ with_range (control plan due.0) due.1.minimum due.1.maximum due.1.step due.1.default_value)
+IsOwn plan due = (due.0 < length plan.controls) × (due.1 ≡ with_range (control plan due.0) due.1.minimum due.1.maximum due.1.step due.1.default_value) × IsWellFormed due.1
 
--- Those that are asked for where the values were these before: the ones that are due, if a value that is followed has moved; else none.
-abbrev pub due_where : Verdicts → List Follower → PlanData → Values → Past → List RangeFor
-due_where verdicts followers plan before past = if have_moved followers before (now verdicts plan past) then ranges_due verdicts followers plan past else []
+-- whether an ask can be a change: a set that speaks of no request, the begin of a frame, and a range change
+abbrev pub is_change : Ask → Bool
+is_change (SetCtrls fh which request list) = is_none (meant (which_or (which_of which)) request)
+is_change Begin = true
+is_change (ModifyRange c low high apart default_value) = true
+is_change _ = false
+
+-- whether it is an accepted one, where this is its answer; it needn't move a value
+abbrev pub is_accepted_change : Ask → Answer → Bool
+is_accepted_change ask answer = is_ok answer && is_change ask
+
+-- Whether ranges are asked for behind an ask that made some values of others: where a value that is followed has moved, or where a range that was refused is owed
+-- and the ask was an accepted change.
+abbrev pub are_asked : List Follower → Values → Values → Bool → Bool → Bool
+are_asked followers before after owed changed = have_moved followers before after || (owed && changed)
 
 -- the same of a device as it is
-abbrev pub due_by : Verdicts → List Follower → Values → DeviceData → List RangeFor
-due_by verdicts followers before device = due_where verdicts followers device.plan before (past device.steps)
+abbrev pub are_asked_now : Verdicts → List Follower → Values → DeviceData → Bool → Bool → Bool
+are_asked_now verdicts followers before device owed changed = are_asked followers before (now verdicts device.plan (past device.steps)) owed changed
 
--- those that are asked for behind an ask, which led from a history to a later one
-abbrev pub asked_behind : Verdicts → List Follower → PlanData → Past → Past → List RangeFor
-asked_behind verdicts followers plan before after = due_where verdicts followers plan (now verdicts plan before) after
+-- the same of an ask that leaves a device as another one
+abbrev pub asks_behind : Verdicts → List Follower → DeviceData → DeviceData → Bool → Ask → Answer → Bool
+asks_behind verdicts followers old behind owed ask answer =
+    are_asked followers (now verdicts old.plan (past old.steps)) (now verdicts old.plan (past behind.steps)) owed (is_accepted_change ask answer)
 
 -- how an ask is answered that is refused so, or else done
 abbrev pub answer_by : Option Fault → Answer
@@ -87,41 +101,20 @@ range_for asked = (asked.control, asked.wanted)
 abbrev pub ranges_of : List RangeAsk → List RangeFor
 ranges_of asked = map range_for asked
 
--- An ask is answered, which leaves the device as `behind`. The ranges that are due there are asked for, one after another, and each is given or refused by
--- itself. Nothing else is asked.
-pub record HandlesAndFollows (verdicts : Verdicts) (followers : List Follower) (old new : DeviceData) (seat : ℕ) (ask : Ask) (answer : Answer) (asked : List RangeAsk) : Type 0 where
+-- whether a range that was asked for was refused
+abbrev pub is_refused : RangeAsk → Bool
+is_refused asked = is_some asked.refusal
+
+-- An ask is answered, which leaves the device as `behind`. Where a followed value moved, or a range is owed and the ask was an accepted change, the ranges that are due there are asked
+-- for, one after another, and each is given or refused by itself; one is owed then, where one of them was refused. Else nothing is asked for, and what was owed stays.
+pub record HandlesAndFollows (verdicts : Verdicts) (followers : List Follower) (old new : DeviceData) (owed owed_then : Bool) (seat : ℕ) (ask : Ask) (answer : Answer) (asked : List RangeAsk) : Type 0 where
   pub behind : DeviceData
   pub answered : Handles verdicts old behind seat ask answer
-  pub exactly : map range_for asked ≡ asked_behind verdicts followers old.plan (past old.steps) (past behind.steps)
+  pub exactly : map range_for asked ≡ (if asks_behind verdicts followers old behind owed ask answer then ranges_due verdicts followers old.plan (past behind.steps) else [])
   pub one_by_one : IsRun verdicts behind (map (range_call seat) asked) new
+  pub owes : owed_then ≡ (if asks_behind verdicts followers old behind owed ask answer then list_any is_refused asked else owed)
 
 -- only want of memory, or the limit of steps, refuses a range
 abbrev pub IsOfRoom : Option Fault → Type 0
 IsOfRoom None = Unit {0}
 IsOfRoom (Some fault) = (fault ≡ fault_by MemoryRefused) ⊎ (fault ≡ fault_by HistoryFull)
-
--- whether a step can move a value: a set of present values, the begin of a frame, and a range change
-abbrev pub can_move : Step → Bool
-can_move (steps.Set fh pairs) = true
-can_move (steps.Begin r) = true
-can_move (steps.ModifyRange c low high apart default_value) = true
-can_move (steps.OpenFh handler) = false
-can_move (steps.CloseFh fh) = false
-can_move (steps.Grab c on) = false
-can_move steps.Alloc = false
-can_move (steps.Store r pairs) = false
-can_move (steps.Buffer r number) = false
-can_move (steps.Queue r) = false
-can_move (steps.Complete r) = false
-can_move (steps.Cancel r) = false
-can_move steps.StreamOff = false
-can_move (steps.Reinit r) = false
-can_move (steps.Free r) = false
-can_move (steps.Subscribe fh c flags) = false
-can_move (steps.Unsubscribe fh c) = false
-can_move (steps.Take fh c) = false
-
--- whether an ask that takes a step can move one; one without a step, as a try and one that is refused, can't
-abbrev pub moves : Option Step → Bool
-moves None = false
-moves (Some step) = can_move step

@@ -1,11 +1,11 @@
 //! The asks of the device's own.
 
-ghost use Rattle.std.specs.Prelude.{◌≡◌, ◌≤◌, ◌<◌, [], length, map, vec_capacity, IfSome};
-ghost use Rattle.std.specs.List.{All};
+ghost use Rattle.std.specs.Prelude.{◌≡◌, ◌≤◌, ◌<◌, if◌then◌else◌, true, [], length, map, vec_capacity, IfSome};
+ghost use Rattle.std.specs.List.{All, list_any};
 ghost use Rattle.device_history.specs.declared.ask.Ask.TheVariants as asks;
 ghost use Rattle.device_state.specs.Device.{Handles};
 ghost use Rattle.device_state.specs.Runs.{IsRun};
-ghost use Rattle.following_ranges.specs.Following.{IsOfRoom, IsOwn, answer_by, due_by, due_now, range_call, range_for, ranges_due_now, ranges_of, with_found};
+ghost use Rattle.following_ranges.specs.Following.{IsOfRoom, IsOwn, answer_by, are_asked, are_asked_now, due_now, is_refused, range_call, range_for, ranges_due_now, ranges_of, with_found};
 
 use ctrl_calls::Driver;
 use ctrl_settle::Ctrl;
@@ -24,11 +24,12 @@ pub struct RangeAsk {
     pub refusal: Option<Fault>,
 }
 
-// Asks for the ranges that are due, where a value that is followed has moved from what it was before.
+// Asks for the ranges that are due behind an accepted change, where a value that is followed has moved from what it was before, or where a range is owed.
 pub(crate) fn follow<D: Driver>(
     device: &mut Device<D>,
     followers: &[Follower],
     before: &[CtrlValue],
+    owed: &mut bool,
     seat: u32,
     due: &mut Vec<(u32, Ctrl)>,
     asked: &mut Vec<RangeAsk>,
@@ -37,14 +38,30 @@ pub(crate) fn follow<D: Driver>(
     requires none { asked.old.items ≡ [] }
     requires room_due { length device.old.plan.controls ≤ vec_capacity due.old }
     requires room { length device.old.plan.controls ≤ vec_capacity asked.old }
-    ensures due { ranges_of asked.new.items ≡ due_by D.verdict followers.now before.now device.old }
+    ensures due { ranges_of asked.new.items ≡ (if are_asked_now D.verdict followers.now before.now device.old owed.old true then ranges_due_now D.verdict followers.now device.old else []) }
     ensures run { IsRun D.verdict device.old (map (range_call seat) asked.new.items) device.new }
     ensures of_room { All (λ one. IsOfRoom one.refusal) asked.new.items }
+    ensures owes { owed.new ≡ (if are_asked_now D.verdict followers.now before.now device.old owed.old true then list_any is_refused asked.new.items else owed.old) }
 {
-    if have_moved(followers, before, device.values()) {
+    if are_asked(followers, before, device.values(), *owed) {
         find_due(device, followers, due);
         ask_due(device, seat, due.as_slice(), asked);
+        *owed = is_one_refused(asked.as_slice());
     }
+}
+
+// Whether ranges are asked for behind an accepted change: a value that is followed has moved, or a range is owed.
+fn are_asked(followers: &[Follower], before: &[CtrlValue], after: &[CtrlValue], owed: bool) -> bool
+    ensures { result ≡ are_asked followers.now before.now after.now owed true }
+{
+    have_moved(followers, before, after) || owed
+}
+
+// Whether one of the ranges that were asked for was refused.
+fn is_one_refused(asked: &[RangeAsk]) -> bool
+    ensures { result ≡ list_any is_refused asked.now }
+{
+    asked.iter().any(|one| one.refusal.is_some())
 }
 
 // The ranges that are due, in rising numbers of their controls.
@@ -127,8 +144,6 @@ fn ask_range<D: Driver>(
     ensures handles { Handles D.verdict device.old device.new seat (asks.ModifyRange control wanted.now.minimum wanted.now.maximum wanted.now.step wanted.now.default_value) (answer_by result) }
     ensures of_room { IsOfRoom result }
 {
-    // nothing is wrong with the range, as the contract of `id` says
-    let _id = wanted.id();
     let ask = Ask::ModifyRange {
         control,
         min: wanted.minimum(),

@@ -9,7 +9,7 @@ use Rattle.following_ranges.proofs.asking.ask_range.Goals as goal
 asked : (g : _) (c : goal.After-drop-ask g) → IsOfRoom c.err.result
     × Handles g.D.Validates.verdict c.args.device.now c.handle.new.self c.args.seat (asks.ModifyRange c.args.control c.args.wanted.now.minimum c.args.wanted.now.maximum c.args.wanted.now.step c.args.wanted.now.default_value) (answer_by c.err.result)
 asked g c =
-    asked_so g.D.Validates.verdict c.args.device.now c.handle.new.self c.args.seat c.args.control c.args.wanted.now _ _ c.step.result _ c.handle.result c.err.result c.requires c.id-id.ensures.well_formed
+    asked_so g.D.Validates.verdict c.args.device.now c.handle.new.self c.args.seat c.args.control c.args.wanted.now _ _ c.step.result _ c.handle.result c.err.result c.requires
     (low ∙ c.minimum.ensures) (high ∙ c.maximum.ensures) c.step.ensures (value ∙ c.default_value.ensures) c.handle.ensures.handles c.err.ensures.value
   where
     low : to_z w64 (of_z w64 c.minimum.result) ≡ c.minimum.result
