@@ -9,6 +9,7 @@ use Rattle.device_file.specs.Clusters.{with_clusters}
 use Rattle.file_faults.specs.Faults.{◌>>=◌, at_place, wrong}
 use Rattle.device_file.specs.Handlers.{DeviceData, device, with_handlers}
 use Rattle.file_tables.specs.Reading.{elements_in, no_others_in}
+use Rattle.device_file.specs.declared.device.DeviceFile.{DeviceFile}
 use Rattle.device_file.specs.declared.device.TheConstants.{MAX_FILE}
 use Rattle.file_faults.specs.declared.fault.FileFault.{FileFault}
 use Rattle.file_faults.specs.declared.fault.FileFault.TheVariants as files
@@ -39,7 +40,11 @@ device_of file = do
   plan ← with_clusters_of tables file d.words d.plan
   Ok (device (finished plan) d.words d.followers)
 
--- the same of a text; nothing, where it isn't TOML
+-- what was read of a file, as the device that it is
+abbrev pub data_of : DeviceFile → DeviceData
+data_of file = device file.plan file.words file.followers.items
+
+-- what a text describes; nothing, where it isn't TOML
 abbrev pub described : List ℕ → Option (Result DeviceData FileFault)
 described text = option_map device_of (parse_document text)
 

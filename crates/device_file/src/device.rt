@@ -1,8 +1,7 @@
 ghost use Rattle.std.specs.Prelude.{◌≡◌, map, Ok, IfOk, IfErr, OnOk};
 ghost use Rattle.toml.specs.View.{table_view, view};
-ghost use Rattle.device_file.specs.Devices.{Describes, IsRefusedWith, device_of, with_clusters_of};
+ghost use Rattle.device_file.specs.Devices.{Describes, IsRefusedWith, data_of, device_of, with_clusters_of};
 ghost use Rattle.device_file.specs.Stops.{FileStops};
-ghost use Rattle.device_file.specs.Handlers.{device};
 
 use crate::clusters::add_clusters;
 use crate::handlers::add_handlers;
@@ -37,7 +36,7 @@ pub struct DeviceFile {
 /// Refused with the first fault that is met, in the order of docs/DEVICES.md; `explain` has it in words.
 #[tactic(auto, using(crate::proofs::Files::too_long, crate::proofs::Files::no_toml, crate::proofs::Files::first_fault))]
 pub fn read_device(alloc: Global, text: &[u8]) -> Result<DeviceFile, FileFault>
-    ensures ok { IfOk result (λ d. Describes text.now (device d.plan d.words d.followers.items)) }
+    ensures ok { IfOk result (λ file. Describes text.now (data_of file)) }
     ensures err { IfErr result (IsRefusedWith text.now) }
 {
     if text.len() > MAX_FILE {
@@ -61,7 +60,7 @@ pub fn read_device(alloc: Global, text: &[u8]) -> Result<DeviceFile, FileFault>
 ///
 /// Refused with the first fault that is met, in the order of docs/DEVICES.md.
 pub fn device_in(alloc: Global, file: &Table) -> Result<DeviceFile, FileFault>
-    ensures ok { IfOk result (λ it. device_of (table_view file.now) ≡ Ok (device it.plan it.words it.followers.items)) }
+    ensures ok { IfOk result (λ it. device_of (table_view file.now) ≡ Ok (data_of it)) }
     ensures err { IfErr result (FileStops (device_of (table_view file.now))) }
 {
     if let Err(fault) = no_others(file, FILE_KEYS) {

@@ -200,12 +200,8 @@ fn default_at(controls: &[Ctrl], number: u32) -> i64
 }
 
 // Keeps how the control of a number follows, where it does.
-pub(crate) fn keep(
-    followers: &mut Vec<Follower>,
-    control: u32,
-    read: &Read,
-) -> Result<(), ReadError>
-    ensures ok { OnOk result (followers.new.items ≡ with_follower followers.old.items control read.now) }
+pub(crate) fn keep(kept: &mut Vec<Follower>, control: u32, read: &Read) -> Result<(), ReadError>
+    ensures ok { OnOk result (kept.new.items ≡ with_follower kept.old.items control read.now) }
     ensures err { IfErr result (λ error. error ≡ Memory) }
 {
     if !follows_any(&read.followed) {
@@ -217,7 +213,7 @@ pub(crate) fn keep(
         maximum: read.followed.maximum,
         default_value: default_of(read.followed.default_value, read.of_file),
     };
-    match followers.push(follower) {
+    match kept.push(follower) {
         Ok(()) => Ok(()),
         Err(_) => Err(ReadError::Memory),
     }
