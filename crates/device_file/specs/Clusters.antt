@@ -124,9 +124,13 @@ numbers_with words earlier before ns place (d ∷ ds) = do
 abbrev pub unless_misfit : List Data → Result (Unit {0}) KeyFault
 unless_misfit names = if length names == 0 || nat_lt MAX_MEMBERS (length names) then Err (wrong keys.Members problems.ClusterSize) else Ok tt
 
--- a member is an array, where there are several, or the cluster has a manual value
+-- whether a cluster has more than one member, or a manual value
+abbrev pub has_more : Option ℤ → List Data → Bool
+has_more manual names = is_some manual || nat_lt 1 (length names)
+
+-- a member is an array, and the cluster has more
 abbrev pub crowds : List Data → Option ℤ → List Data → Bool
-crowds handlers manual names = (is_some manual || nat_lt 1 (length names)) && name_array handlers names
+crowds handlers manual names = has_more manual names && name_array handlers names
 
 abbrev pub unless_crowded : Bool → Result (Unit {0}) KeyFault
 unless_crowded crowded = if crowded then Err (wrong keys.Members problems.ArrayAlone) else Ok tt

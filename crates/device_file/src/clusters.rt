@@ -6,7 +6,7 @@ ghost use Rattle.ctrl_handlers.specs.Builder.{cluster_refusal, IsRefusedBy};
 ghost use Rattle.ctrl_handlers.specs.Plan.{with_cluster};
 ghost use Rattle.toml.specs.Data.{as_table};
 ghost use Rattle.toml.specs.View.{view, table_view};
-ghost use Rattle.device_file.specs.Clusters.{cluster_with, crowds, has_array_among, has_member as has_name_among, is_among, is_array_among, is_of_values, limit_in as cluster_limit, members_in as cluster_members, name_array, number_by, numbers_with, unless_array, with_cluster_of, with_clusters, with_judged, with_members, word_in as cluster_word};
+ghost use Rattle.device_file.specs.Clusters.{cluster_with, crowds, has_array_among, has_member as has_name_among, has_more as has_more_than_one, is_among, is_array_among, is_of_values, limit_in as cluster_limit, members_in as cluster_members, name_array, number_by, numbers_with, unless_array, with_cluster_of, with_clusters, with_judged, with_members, word_in as cluster_word};
 ghost use Rattle.device_file.specs.Stops.{FileStops, Stops};
 ghost use Rattle.file_tables.specs.Reading.{number_in, text_in};
 ghost use Rattle.device_file.specs.declared.stop.ReadError.TheVariants.{Memory};
@@ -273,7 +273,14 @@ fn numbers_of(
 fn is_crowded(handlers: &[Value], manual: Option<i64>, names: &[Value]) -> bool
     ensures { result ≡ crowds (map view handlers.now) manual (map view names.now) }
 {
-    (manual.is_some() || names.len() > 1) && name_array_of(handlers, names)
+    has_more(manual, names) && name_array_of(handlers, names)
+}
+
+// Whether a cluster has more than one member, or a manual value.
+fn has_more(manual: Option<i64>, names: &[Value]) -> bool
+    ensures { result ≡ has_more_than_one manual (map view names.now) }
+{
+    manual.is_some() || names.len() > 1
 }
 
 fn push(members: &mut Vec<u32>, member: u32) -> Result<(), ReadError>

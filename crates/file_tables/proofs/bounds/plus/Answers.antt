@@ -1,0 +1,6 @@
+-- written out so that a wrong body is refused soon (docs/GATE.md)
+use Rattle.std.proofs.Common.{rules}
+use Rattle.file_tables.proofs.bounds.plus.Goals as goal
+
+pub returns-in-Some : goal.returns-in-Some
+returns-in-Some c = search rules
