@@ -25,22 +25,26 @@ pub fn run_file<R: AllocGlobal + Input + Files + Print + Eprint + Threads + Wait
         Ok(text) => device_in(rt, path, text.as_slice()),
         Err(code) => Err(code),
     };
-    match file {
-        Ok(DeviceFile { followers, .. }) if wanted.task == Task::Pair && !followers.is_empty() => {
-            let _ = eprintln!(rt;
-                "{path}: --pair has no range follow a control, and here some do: run the scripts one by one, or write numbers in place of follows"
-            );
-            ExitCode::from(1)
-        }
-        Ok(
-            DeviceFile {
-                plan,
-                words,
-                followers,
-            },
-        ) => run_on(rt, plan, words, followers, "this device", wanted, ink),
-        Err(code) => code,
+    let DeviceFile {
+        plan,
+        words,
+        followers,
+    } = match file {
+        Ok(file) => file,
+        Err(code) => return code,
+    };
+    if wanted.task == Task::Pair && !followers.is_empty() {
+        return unpaired(rt, path);
     }
+    run_on(rt, plan, words, followers, "this device", wanted, ink)
+}
+
+// Says that two scripts have no range follow.
+fn unpaired(rt: &impl Eprint, path: &str) -> ExitCode {
+    let _ = eprintln!(rt;
+        "{path}: --pair has no range follow a control, and here some do: run the scripts one by one, or write numbers in place of follows"
+    );
+    ExitCode::from(1)
 }
 
 // The bytes of a file. The error is how the program ends; why is said.
