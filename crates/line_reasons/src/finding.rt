@@ -81,6 +81,7 @@ fn in_verb<'a>(alloc: Global, words: &[&'a [u8]]) -> Result<Fault<'a>, AllocErro
         [b"=="] => return Ok(Fault::Against(Rule::Divides)),
         [[b'[', ..], ..] => return Ok(Fault::Against(Rule::DeviceFile)),
         [[b'/', b'/' | b'*', ..], ..] => return Ok(Fault::Against(Rule::CommentMark)),
+        [b"v4l2-ctl", ..] => return Ok(Fault::Against(Rule::OtherProgram)),
         [verb, ..] => nearest_verb(alloc, *verb)?,
         [] => None,
     };

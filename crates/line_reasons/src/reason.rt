@@ -80,6 +80,8 @@ pub(crate) enum Rule {
     CommentMark,
     /// A device file is no script.
     DeviceFile,
+    /// A script has commands of its own.
+    OtherProgram,
     /// Words have no quotation marks.
     Quotes,
     /// No comma stands between words.
@@ -244,6 +246,9 @@ impl Rule {
             Rule::CommentMark => "a comment begins with #",
             Rule::DeviceFile => {
                 "no command begins with this word; a device file stands behind --device, and the script is another file"
+            }
+            Rule::OtherProgram => {
+                "no command begins with this word; --set-ctrl=gain=5 is set FH cur gain=5 here, behind open FH HANDLER, and --get-ctrl=gain is get FH cur gain"
             }
             Rule::Quotes => "words and values stand without quotation marks",
             Rule::Comma => "words are separated by spaces, and not by commas",
