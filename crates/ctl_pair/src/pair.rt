@@ -105,7 +105,7 @@ where
 {
     match serve_both(rt, alloc, device, gate, first, second) {
         Ok((device, first, second)) => {
-            let audited = audit_of(alloc, &device);
+            let audited = audit_of(alloc, &device, &mut None);
             let first = first.said.as_slice();
             let second = second.said.as_slice();
             match print_pair(writer, line, first, second, device.steps(), audited) {

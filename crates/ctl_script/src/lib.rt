@@ -12,7 +12,7 @@ mod names;
 mod run;
 
 pub use ask::ask_of;
-pub use auditing::audit_of;
+pub use auditing::{audit_of, compared};
 pub use binding::Binding;
 pub use board::run_board;
 pub use fault::InputFault;
@@ -25,4 +25,4 @@ pub use sample_device::{
     sample_plan, sample_words,
 };
 pub use script_lines::ControlWords;
-pub use script_replies::Outcome;
+pub use script_replies::{Audited, Outcome};

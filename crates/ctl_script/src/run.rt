@@ -1,5 +1,6 @@
 ghost use Rattle.std.specs.Prelude.{◌≡◌, ◌≢◌, ◌==◌, ◌<◌, ◌≤◌, [], ◌∷◌, ◌++◌, length, position, MatchOption, IfSome, IfErr, OnOk};
 ghost use Rattle.std.specs.Io.KnownBytes.{Appends};
+ghost use Rattle.history_audit.specs.Replay.{IsProgressOf};
 ghost use Rattle.script_lines.specs.Commands.{words, line_of};
 ghost use Rattle.script_replies.specs.Replies.{outcome_line};
 ghost use Rattle.ctl_script.specs.Bindings.{bound_in};
@@ -13,7 +14,7 @@ use crate::fault::InputFault;
 use crate::input::read_input;
 use crate::names::Bindings;
 use ctrl_calls::Driver;
-use device_state::Device;
+use device_state::{Device, Progress};
 use script_lines::{ControlWords, LineFault, read_line};
 use script_replies::{
     Outcome, ReplyLine, write_answer, write_audit, write_no_memory, write_outcome,
@@ -111,13 +112,16 @@ fn answer_script<D: Driver, W: Write>(
     requires { length text.now ≤ 1048576 }
     ensures { HasSaid D.verdict D.told (script_in known.now 1 (lines_in text.now)) device.old device.new result (W.contents writer.old) (W.contents writer.new) }
 {
-    let mut names = Bindings::new(alloc);
+    let mut kept = Kept {
+        names: Bindings::new(alloc),
+        made: None,
+    };
     let mut number = 0;
     let mut rest = Some(text);
     while let Some(text) = rest {
         let (line, more) = first_line(text);
         number += 1;
-        match answer_line(alloc, known, device, &mut names, line, writer, reply) {
+        match answer_line(alloc, known, device, &mut kept, line, writer, reply) {
             Ok(()) => rest = more,
             Err(LineEnd::NotACommand) => return Outcome::BadLine(number),
             Err(LineEnd::Memory) => return Outcome::Memory,
@@ -154,19 +158,30 @@ enum LineEnd {
     WriteFault,
 }
 
+// What a script keeps from line to line.
+#[derive(Drop)]
+struct Kept {
+    // what its names stand for
+    names: Bindings,
+    // what the last audit put aside, if there was one
+    made: Option<Progress>,
+}
+
 // Answers one line. All that it needs of memory is taken before the device is asked, so that no step is without its reply line.
 fn answer_line<D: Driver, W: Write>(
     alloc: Global,
     known: &ControlWords,
     device: &mut Device<D>,
-    names: &mut Bindings,
+    kept: &mut Kept,
     line: &[u8],
     writer: &mut W,
     reply: &mut ReplyLine,
 ) -> Result<(), LineEnd>
-    requires { length line.now ≤ 1048576 }
-    ensures line { OnOk result (IsLine D.verdict D.told (line_of known.now (words line.now)) (bound_in names.old) (bound_in names.new) device.old device.new (W.contents writer.old) (W.contents writer.new)) }
-    ensures end { IfErr result (IsLastLine D.verdict D.told (line_of known.now (words line.now)) (bound_in names.old) device.old device.new (W.contents writer.old) (W.contents writer.new)) }
+    requires within { length line.now ≤ 1048576 }
+    requires made { IfSome kept.old.made (IsProgressOf D.verdict device.old.plan device.old.steps) }
+    ensures made { OnOk result (IfSome kept.new.made (IsProgressOf D.verdict device.new.plan device.new.steps)) }
+    ensures line { OnOk result (IsLine D.verdict D.told (line_of known.now (words line.now)) (bound_in kept.old.names) (bound_in kept.new.names) device.old device.new (W.contents writer.old) (W.contents writer.new)) }
+    ensures end { IfErr result (IsLastLine D.verdict D.told (line_of known.now (words line.now)) (bound_in kept.old.names) device.old device.new (W.contents writer.old) (W.contents writer.new)) }
 {
     let command = match read_line(alloc, known, line) {
         Ok(Some(command)) => command,
@@ -175,17 +190,17 @@ fn answer_line<D: Driver, W: Write>(
         Err(LineFault::Memory) => return Err(LineEnd::Memory),
     };
     let binding = Binding::of(&command);
-    if binding.enter(names).is_err() {
+    if binding.enter(&mut kept.names).is_err() {
         return Err(LineEnd::Memory);
     }
-    let Some(ask) = ask_of(command, names) else {
-        return match write_audit(writer, reply, audit_of(alloc, device)) {
+    let Some(ask) = ask_of(command, &kept.names) else {
+        return match write_audit(writer, reply, audit_of(alloc, device, &mut kept.made)) {
             Ok(()) => Ok(()),
             Err(_) => Err(LineEnd::WriteFault),
         };
     };
     let answer = device.handle(SEAT, &ask);
-    binding.bind(names, &answer);
+    binding.bind(&mut kept.names, &answer);
     match write_answer(writer, reply, &ask, &answer) {
         Ok(()) => Ok(()),
         Err(_) => Err(LineEnd::WriteFault),

@@ -1,12 +1,13 @@
 //! What a line of a script is answered.
 
-ghost use Rattle.std.specs.Prelude.{◌≤◌, length};
+ghost use Rattle.std.specs.Prelude.{◌≤◌, length, IfSome};
+ghost use Rattle.history_audit.specs.Replay.{IsProgressOf};
 
 use crate::view::View;
 use ctl_script::{Binding, ask_of, audit_of};
 use ctrl_calls::Driver;
 use ctrl_types::Fault;
-use device_state::{Ask, Device, Reply};
+use device_state::{Ask, Device, Progress, Reply};
 use following_ranges::{RangeAsk, handle_and_follow};
 use script_lines::{LineFault, read_line};
 use script_replies::Audited;
@@ -30,13 +31,18 @@ pub enum Said {
 
 /// Asks what a line says, as `run_script` of `ctl_script` does, binds its names, and has ranges follow that do. All that it needs of memory is taken before the device
 /// is asked.
+///
+/// - `made`: what the last audit of the device put aside, if there was one; it is gone on from.
 pub fn answer_line<D: Driver>(
     alloc: Global,
     view: &mut View,
     device: &mut Device<D>,
+    made: &mut Option<Progress>,
     line: &[u8],
 ) -> Result<Said, LineFault>
-    requires { length line.now ≤ 1048576 }
+    requires within { length line.now ≤ 1048576 }
+    requires made { IfSome made.old (IsProgressOf D.verdict device.old.plan device.old.steps) }
+    ensures made { IfSome made.new (IsProgressOf D.verdict device.new.plan device.new.steps) }
 {
     let Some(command) = read_line(alloc, &view.known, line)? else {
         return Ok(Said::Nothing);
@@ -46,7 +52,7 @@ pub fn answer_line<D: Driver>(
         return Err(LineFault::Memory);
     }
     let Some(ask) = ask_of(command, &view.names) else {
-        return Ok(Said::Audit(audit_of(alloc, device)));
+        return Ok(Said::Audit(audit_of(alloc, device, made)));
     };
     // (behind a begin nothing would tell them any more)
     let Ok(refused) = refused_by(alloc, device, &ask) else {

@@ -1,6 +1,7 @@
 //! The lines of a script in order, each shown as it is answered.
 
-ghost use Rattle.std.specs.Prelude.{◌≤◌, length};
+ghost use Rattle.std.specs.Prelude.{◌≤◌, length, IfSome};
+ghost use Rattle.history_audit.specs.Replay.{IsProgressOf};
 
 use crate::answer::answer_line;
 use crate::shown::{show_end, show_said, show_stray};
@@ -8,7 +9,7 @@ use crate::told::{explain, explain_stray};
 use crate::view::View;
 use ctl_script::first_line;
 use ctrl_calls::Driver;
-use device_state::Device;
+use device_state::{Device, Progress};
 use script_lines::LineFault;
 use script_replies::Outcome;
 use std::io::Write;
@@ -27,13 +28,14 @@ pub fn show_script<D: Driver, R: AllocGlobal + Eprint, W: Write>(
 ) -> Outcome
     requires { length text.now ≤ 1048576 }
 {
+    let mut made = None;
     let mut number = 0;
     let mut rest = Some(text);
     while let Some(text) = rest {
         let (line, more) = first_line(text);
         number += 1;
         let line = Line { number, text: line };
-        match show_line(rt, device, view, line, writer) {
+        match show_line(rt, device, view, &mut made, line, writer) {
             Ok(()) => rest = more,
             Err(outcome) => return outcome,
         }
@@ -44,17 +46,20 @@ pub fn show_script<D: Driver, R: AllocGlobal + Eprint, W: Write>(
     show_end(rt.alloc(), device, view, writer)
 }
 
-// Asks what a line says, and shows it. The error is how the script ends here.
+// Asks what a line says, while this was put aside by the last audit, and shows it. The error is how the script ends here.
 fn show_line<D: Driver, R: AllocGlobal + Eprint, W: Write>(
     rt: &R,
     device: &mut Device<D>,
     view: &mut View,
+    made: &mut Option<Progress>,
     line: Line<'_>,
     writer: &mut W,
 ) -> Result<(), Outcome>
-    requires { length line.text.now ≤ 1048576 }
+    requires within { length line.text.now ≤ 1048576 }
+    requires made { IfSome made.old (IsProgressOf D.verdict device.old.plan device.old.steps) }
+    ensures made { IfSome made.new (IsProgressOf D.verdict device.new.plan device.new.steps) }
 {
-    match answer_line(rt.alloc(), view, device, line.text) {
+    match answer_line(rt.alloc(), view, device, made, line.text) {
         Ok(said) if view.is_told() => explain(rt, device, view, line, &said, writer),
         Ok(said) => show_said(rt.alloc(), device, view, line, &said, writer),
         Err(LineFault::Memory) => Err(Outcome::Memory),

@@ -217,7 +217,7 @@ impl<D: Driver> Device<D> {
     ///
     /// - `scratch`: what an audit answered; the caller sees to it that it was of this device's plan.
     pub fn agrees(&self, scratch: &Scratch) -> bool
-        ensures { IsTrue result ↔ Agrees D.verdict self.now.plan (past self.now.steps) scratch.now }
+        ensures { IsTrue result ↔ Agrees D.verdict self.now.plan (past self.now.steps) scratch.now.shown }
     {
         scratch.has_parts(
             &self.at(),

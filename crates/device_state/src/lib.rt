@@ -14,4 +14,4 @@ pub use device::Device;
 pub use device_history::{Ask, CtrlInfo, MAX_FILE_HANDLES, MAX_STEPS, PairList, Reply, Step};
 pub use frame_queue::RequestState;
 pub use history::Entry;
-pub use history_audit::{AuditFault, Scratch, audit};
+pub use history_audit::{AuditFault, Progress, Scratch, audit, go_on};

@@ -2,6 +2,7 @@
 
 use crate::closures::Counting;
 use crate::scene::{Counters, behind, counters, device, told};
+use ctl_script::{Audited, compared};
 use device_state::{Device, Scratch, audit};
 use std::alloc::{AllocError, Global};
 
@@ -176,7 +177,8 @@ fn wrong_about(
     devices: &[Device<Counting>],
 ) -> Option<usize> {
     for (place, (past, device)) in pasts.iter().zip(devices).enumerate() {
-        if device.agrees(scratch) != (number == past.0) {
+        let is_same = !matches!(compared(device, scratch), Audited::Differs);
+        if is_same != (number == past.0) {
             return Some(place);
         }
     }

@@ -243,9 +243,32 @@ row 0 ->
 row 1 ->
 ";
 
+// An audit asks about each step behind the audit before, once, and about each frame that waits, for its forecast; it tells nobody.
+const AUDITED: &str = "\
+open f 1 ->
+set f cur gain=9 red=200 -> 0:1/1 1:1/1
+set f cur gain=8 -> 0:1/1
+audit -> 0:2/0 1:1/0
+audit ->
+set f cur gain=7 -> 0:1/1
+try f cur gain=6 -> 0:1/0
+audit -> 0:1/0
+alloc r ->
+buffer r 7 ->
+set f req:r red=100 -> 1:1/0
+queue r -> 1:1/0
+audit -> 1:2/0
+audit -> 1:1/0
+set f cur blue=9 -> 1:2/1
+audit -> 1:2/0
+begin -> 1:0/1
+audit -> 1:1/0
+audit ->
+";
+
 // Scripts. Behind each command stand the clusters whose closures it calls: how often the validator is asked, and the notifier told.
 const SCRIPTS: &[&str] = &[
-    SETS, LISTS, REFUSED, RANGED, STORED, BEGUN, PRESSED, GRABBED, OFF, ROWS, DIRECT,
+    SETS, LISTS, REFUSED, RANGED, STORED, BEGUN, PRESSED, GRABBED, OFF, ROWS, DIRECT, AUDITED,
 ];
 
 // How often the validator and the notifier of each cluster were called.
@@ -281,7 +304,7 @@ fn between(alloc: Global, before: &Calls, now: &Calls) -> Result<(String, Work),
     Ok((said, work))
 }
 
-// The first line whose calls are others, or which the device counts otherwise.
+// The first line whose calls are others, or which the device counts otherwise; an audit isn't one of its calls.
 fn miscounted<'a>(alloc: Global, text: &'a str) -> Result<Option<&'a str>, AllocError> {
     let mut script = Vec::new(alloc);
     let mut before = calls_behind(alloc, b"")?.0;
@@ -293,7 +316,8 @@ fn miscounted<'a>(alloc: Global, text: &'a str) -> Result<Option<&'a str>, Alloc
         script.push(b'\n')?;
         let (now, counted) = calls_behind(alloc, script.as_slice())?;
         let (said, work) = between(alloc, &before, &now)?;
-        if said.as_str() != wanted || work != counted {
+        let is_counted = command == "audit" || work == counted;
+        if said.as_str() != wanted || !is_counted {
             return Ok(Some(line));
         }
         before = now;

@@ -11,7 +11,7 @@ use Rattle.device_history.specs.Steps.{History}
 use Rattle.device_history.specs.Legal.{IsLegal}
 use Rattle.device_history.proofs.PastLemmas.{legal_add}
 use Rattle.history_audit.specs.Fault.{StopsAt}
-use Rattle.history_audit.specs.Replay.{IsNextEntry, ReplayData, Replayed}
+use Rattle.history_audit.specs.Replay.{IsAside, IsNextEntry, IsProgressOf, ProgressData, ReplayData, Replayed}
 use Rattle.history_audit.specs.Scratch.{ScratchData, scratch}
 use Rattle.history_audit.proofs.MadeLemmas.{at, behind_next, taken_many}
 
@@ -43,6 +43,25 @@ legal_next verdicts old new e (Ok true) legal here does kept =
 legal_next verdicts old new e (Ok false) legal here does kept = subst (λ (r : ReplayData). IsLegal verdicts r.plan (past r.steps)) (sym (does e here).1) legal
 legal_next verdicts old new e (Err err) legal here does kept = subst (λ (r : ReplayData). IsLegal verdicts r.plan (past r.steps)) (sym kept) legal
 
+-- as a replay begins to be gone on with
+pub rest_starts : (replay : ReplayData) (all : History) (n : ℕ) → replay.all ≡ all → replay.steps ≡ take n replay.all → replay ≡ at replay.plan all n
+rest_starts replay all n is first =
+    let steps : replay.steps ≡ take n all = first ∙ ap (take n) is in
+    λ i. let r : ReplayData = record { plan = replay.plan; steps = steps i; all = is i } in r
+
+-- where the next one may not follow nothing changes
+pub stays_there : (verdicts : Verdicts) (plan : PlanData) (all : History) (old new : ReplayData) (n : ℕ) → old ≡ at plan all n → n < length all
+    → ((e : Entry Step) → IsNextEntry old e → Replayed verdicts old new e false) → new ≡ at plan all n
+stays_there verdicts plan all old new n is h replays =
+    let s = stands all n h in
+    let does : (e : Entry Step) → IsNextEntry (at plan all n) e → Replayed verdicts (at plan all n) new e false =
+    subst (λ (r : ReplayData). (e : Entry Step) → IsNextEntry r e → Replayed verdicts r new e false) is replays in
+    (does s.0 (next_at plan all n s.0 (omega (arith, h)) s.1)).1
+
+-- what is put aside then was replayed of the whole history
+pub aside_of : (verdicts : Verdicts) (plan : PlanData) (all : History) (n : ℕ) (replay : ReplayData) (made : ProgressData) → replay ≡ at plan all n → IsAside verdicts replay made → IsProgressOf verdicts plan all made
+aside_of verdicts plan all n replay made is aside = subst (λ (r : ReplayData). IsProgressOf verdicts r.plan r.all made) is aside.first
+
 -- one more was replayed
 pub audit_next : (verdicts : Verdicts) (plan : PlanData) (all : History) (old new : ReplayData) (n : ℕ) → old ≡ at plan all n → n < length all
     → ((e : Entry Step) → IsNextEntry old e → Replayed verdicts old new e true) → new ≡ at plan all (n + 1)
@@ -56,10 +75,9 @@ audit_next verdicts plan all old new n is h replays =
 pub audit_stops : (verdicts : Verdicts) (plan : PlanData) (all : History) (old new : ReplayData) (n : ℕ) → old ≡ at plan all n → n < length all
     → ((e : Entry Step) → IsNextEntry old e → Replayed verdicts old new e false) → IsLegal verdicts new.plan (past new.steps) → StopsAt verdicts plan all n
 audit_stops verdicts plan all old new n is h replays legal =
-    let s = stands all n h in
     let does : (e : Entry Step) → IsNextEntry (at plan all n) e → Replayed verdicts (at plan all n) new e false =
     subst (λ (r : ReplayData). (e : Entry Step) → IsNextEntry r e → Replayed verdicts r new e false) is replays in
-    let same : new ≡ at plan all n = (does s.0 (next_at plan all n s.0 (omega (arith, h)) s.1)).1 in
+    let same : new ≡ at plan all n = stays_there verdicts plan all old new n is h replays in
     record {
       within = h;
       legal = subst (λ (r : ReplayData). IsLegal verdicts r.plan (past r.steps)) same legal;

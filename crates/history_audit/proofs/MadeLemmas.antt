@@ -1,5 +1,5 @@
 -- What one more step makes of the parts of a replay.
-use Rattle.std.proofs.Common.{◌≡◌, ℕ, suc, zero, ◌+◌, ◌<◌, ◌≤◌, nat_eq, true, false, List, [], ◌∷◌, ◌++◌, length, take, slice_get, Option, Some, None, refl, ap, sym, ◌∙◌, subst, arith}
+use Rattle.std.proofs.Common.{◌≡◌, ℕ, suc, zero, ◌+◌, ◌<◌, ◌≤◌, nat_eq, true, false, List, [], ◌∷◌, ◌++◌, length, take, slice_get, Option, Some, None, refl, ap, sym, ◌∙◌, subst, length-append, arith}
 use Rattle.std.specs.Map.{lookup}
 use Rattle.std.specs.Option.{option_map}
 use Rattle.std.proofs.lemmas.Bool.Decides.{nat_tests}
@@ -34,7 +34,7 @@ use Rattle.device_history.proofs.GrabLemmas.{grabbed_start, grabbed_add, grabbed
 use Rattle.device_history.proofs.PresentLemmas.{length_now}
 use Rattle.device_history.proofs.RangeLemmas.{ranges_add, ranges_more, ranges_own, ranges_start}
 use Rattle.step_effects.specs.Sources.{IsSourceOf}
-use Rattle.history_audit.specs.Replay.{HaveComeAbout, IsNextEntry, IsNextStep, IsReplay, Parts, ReplayData, Replayed, with_next}
+use Rattle.history_audit.specs.Replay.{HaveComeAbout, IsNextEntry, IsNextStep, IsProgressOf, IsReplay, Parts, ReplayData, ProgressData, Replayed, with_next}
 
 -- so many are taken
 pub taken_many : {X : Type 0} (xs : List X) (n : ℕ) → n ≤ length xs → length (take n xs) ≡ n
@@ -51,6 +51,21 @@ taken_next (y ∷ xs) zero x h = (ap (λ (z : _). z ∷ []) (same y x h), omega 
     same : {Y : Type 0} (a b : Y) → Some a ≡ Some b → a ≡ b
     same a b h = cc
 taken_next (y ∷ xs) (suc n) x h = let rest = taken_next xs n x h in (ap (λ (zs : List _). y ∷ zs) rest.0, omega (arith, rest.1))
+
+-- those that are taken of more are the same
+taken_front : {X : Type 0} (xs more : List X) (n : ℕ) → n ≤ length xs → take n (xs ++ more) ≡ take n xs
+taken_front xs more zero h = refl
+taken_front [] more (suc n) h = absurd (omega (arith, h))
+taken_front (x ∷ xs) more (suc n) h = ap (λ (ys : List _). x ∷ ys) (taken_front xs more n (omega (arith, h)))
+
+-- what was replayed of a history was replayed of a longer one
+pub replay_longer : (verdicts : Verdicts) (plan : PlanData) (all more : History) (made : ProgressData) → IsProgressOf verdicts plan all made → IsProgressOf verdicts plan (all ++ more) made
+replay_longer verdicts plan all more made is = record {
+  plans = is.plans;
+  within = omega (arith, is.within, length-append all more);
+  few = is.few;
+  made = subst (λ (s : History). HaveComeAbout verdicts plan s made.parts) (sym (taken_front all more made.count is.within)) is.made;
+}
 
 -- before the first step no file handle is open, there is no request, and the controls are as the plan has them
 pub replay_start : (verdicts : Verdicts) (plan : PlanData) (all : History) (parts : Parts) → parts.file_handles ≡ [] → parts.controls ≡ at_start plan

@@ -15,7 +15,13 @@ use Rattle.ctrl_handlers.specs.Plan.{PlanData}
 use Rattle.device_history.specs.Steps.{Past}
 use Rattle.device_history.specs.Handles.{opened}
 use Rattle.device_history.specs.EventSteps.{AreEvents}
-use Rattle.history_audit.specs.Scratch.{OpenEvents, all_events, events_for, its_events, open_events, open_with}
+use Rattle.history.specs.Past.{past}
+use Rattle.ctrl_types.specs.declared.flags.Flags.{Flags}
+use Rattle.ctrl_forecast.specs.declared.board.Forecast.{Forecast}
+use Rattle.device_history.specs.Steps.{History}
+use Rattle.device_history.specs.Forecasts.{forecast}
+use Rattle.history_audit.specs.Replay.{HaveComeAbout, Parts}
+use Rattle.history_audit.specs.Scratch.{OpenEvents, ScratchData, all_events, all_flags, events_for, its_events, open_events, open_with, scratch, shown_of}
 use Rattle.history_audit.proofs.MadeLemmas.{taken_next}
 
 -- one more is as it is to be
@@ -75,3 +81,10 @@ unlisted events (h ∷ hs) fh none = by (eqb_tells fh.0 h.0) (unlisted events hs
     by : Tells fh.0 h.0 → (None ≡ lookup (nat_eq fh.0) hs → events_for (open_events events hs) fh ≡ None) → events_for (open_events events (h ∷ hs)) fh ≡ None
     by (inl here) further = let is : None ≡ Some h.1 = rw here.0 at none in cc
     by (inr other) further = rw other.0 (further (rw other.0 at none))
+
+-- parts, with the flags and the forecasts of the steps that made them, show what these make of a device
+pub shown_made : (verdicts : Verdicts) (plan : PlanData) (steps : History) (parts : Parts) (flags : List Flags) (rows : List Forecast) → HaveComeAbout verdicts plan steps parts
+    → flags ≡ all_flags verdicts plan (past steps) → rows ≡ forecast verdicts plan (past steps) → shown_of parts flags rows ≡ scratch verdicts plan (past steps)
+shown_made verdicts plan steps parts flags rows made f b =
+    let events : open_events parts.events parts.file_handles ≡ all_events verdicts plan (past steps) = events_made verdicts plan (past steps) parts.events parts.file_handles made.file_handles made.events in
+    λ i. let s : ScratchData = record { ranges = made.ranges i; values = made.values i; flags = f i; frames = made.frames i; forecasts = b i; events = events i } in s

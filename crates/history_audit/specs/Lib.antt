@@ -21,8 +21,8 @@ pub use Rattle.device_history.specs.Legal
 pub use Rattle.device_history.specs.Asking
 pub use Rattle.step_effects.specs.Leaving
 pub use Rattle.step_effects.specs.Sources
-pub mod Scratch
 pub mod Replay
+pub mod Scratch
 pub mod Judged
 pub mod Changing
 pub mod Fault

@@ -66,6 +66,11 @@ pub record Parts : Type 0 where
   -- the events of file handles
   pub events : EventsData
 
+-- what was replayed and put aside: how many steps, and the parts that they made
+pub record ProgressData : Type 0 where
+  pub count : ℕ
+  pub parts : Parts
+
 -- Steps came about, and each part is what they make of it.
 pub record HaveComeAbout (verdicts : Verdicts) (plan : PlanData) (steps : History) (parts : Parts) : Type 0 where
   pub legal : IsLegal verdicts plan (past steps)
@@ -82,6 +87,16 @@ pub record IsReplay (verdicts : Verdicts) (plan : PlanData) (all : History) (cou
   pub within : count ≤ length all
   pub few : count ≤ MAX_STEPS
   pub made : HaveComeAbout verdicts plan (take count all) parts
+
+-- What was put aside are the first steps of a history, with what they make of the device.
+abbrev pub IsProgressOf : Verdicts → PlanData → History → ProgressData → Type 0
+IsProgressOf verdicts plan all made = IsReplay verdicts plan all made.count made.parts
+
+-- What was put aside is a replay: as many steps as were replayed there, the first ones of all, and what they made.
+pub record IsAside (verdicts : Verdicts) (replay : ReplayData) (aside : ProgressData) : Type 0 where
+  pub many : aside.count ≡ length replay.steps
+  pub made : HaveComeAbout verdicts replay.plan replay.steps aside.parts
+  pub first : IsProgressOf verdicts replay.plan replay.all aside
 
 -- a step that is replayed where what it gives the controls was judged: the pairs of a set and of a store, and the range of a range change
 abbrev pub is_judged : Step → Bool

@@ -22,6 +22,7 @@ use Rattle.device_history.specs.Values.{now}
 use Rattle.device_history.specs.Flags.{flags_now}
 use Rattle.device_history.specs.Snapshots.{frames}
 use Rattle.device_history.specs.Forecasts.{forecast}
+use Rattle.history_audit.specs.Replay.{Parts, ProgressData}
 
 -- an open file handle, with the events that wait for it, in order, and the number of its next event
 pub record OpenEvents : Type 0 where
@@ -39,6 +40,11 @@ pub record ScratchData : Type 0 where
   pub forecasts : List Forecast
   pub events : List OpenEvents
 
+-- what a history makes of a device, and what was replayed for it
+pub record AuditedData : Type 0 where
+  pub shown : ScratchData
+  pub made : ProgressData
+
 -- the flags of each control under values and grabs
 abbrev pub flags_of_all : PlanData → Values → Grabs → List Flags
 flags_of_all plan values grabs = map (flags_under plan values grabs) (range_with_len 0 (length plan.controls))
@@ -54,6 +60,17 @@ open_with fh kept = record { fh = record { 0 = fh }; waiting = kept.waiting; nex
 -- the events of some file handles, each with its handler, out of all events that are kept
 abbrev pub open_events : EventsData → List (ℕ × ℕ) → List OpenEvents
 open_events events handles = map (λ h. open_with h.0 (events_of events h.0)) handles
+
+-- what parts show, with the flags and the forecasts that they make
+abbrev pub shown_of : Parts → List Flags → List Forecast → ScratchData
+shown_of parts flags forecasts = record {
+  ranges = parts.controls.ranges;
+  values = parts.controls.values;
+  flags = flags;
+  frames = parts.frames;
+  forecasts = forecasts;
+  events = open_events parts.events parts.file_handles;
+}
 
 -- what is listed of a file handle, where it is open
 abbrev pub events_for : List OpenEvents → FhId → Option OpenEvents

@@ -3,10 +3,12 @@
 
 mod auditing;
 mod fault;
+mod progress;
 mod replay;
 mod scratch;
 
-pub use auditing::audit;
+pub use auditing::{audit, go_on};
 pub use fault::AuditFault;
+pub use progress::Progress;
 pub use replay::Replay;
 pub use scratch::Scratch;

@@ -1,4 +1,4 @@
-ghost use Rattle.std.specs.Prelude.{◌≡◌, ◌<◌, false, [], length, IfOk, OnOk, OnErr};
+ghost use Rattle.std.specs.Prelude.{◌≡◌, ◌<◌, ◌≤◌, false, [], length, take, IfOk, IfErr, OnOk, OnErr};
 ghost use Rattle.history.specs.Past.{past};
 ghost use Rattle.device_history.specs.Ranges.{ranges_now};
 ghost use Rattle.device_history.specs.Grabs.{grabbed};
@@ -6,7 +6,7 @@ ghost use Rattle.device_history.specs.Handles.{handler_of};
 ghost use Rattle.device_history.specs.Legal.{IsLegal};
 ghost use Rattle.device_history.specs.Refusals.{is_full};
 ghost use Rattle.device_history.specs.Values.{now};
-ghost use Rattle.history_audit.specs.Replay.{IsNextStep, TriesNext, is_judged};
+ghost use Rattle.history_audit.specs.Replay.{IsAside, IsNextStep, IsProgressOf, TriesNext, is_judged};
 ghost use Rattle.history_audit.specs.Scratch.{scratch};
 
 mod begins;
@@ -16,6 +16,7 @@ mod fitting;
 mod lists;
 mod plain;
 
+use crate::progress::Progress;
 use crate::scratch::Scratch;
 use ctrl_calls::Driver;
 use ctrl_clusters::{Controls, Moment};
@@ -107,9 +108,45 @@ impl<'a, D: Driver> Replay<'a, D> {
         })
     }
 
+    /// A history of which the first steps were replayed and put aside. It takes no memory, and asks nobody.
+    ///
+    /// - `alloc`: where the parts lie.
+    /// - `plan`: what the device is built of.
+    /// - `steps`: the history, oldest first; the caller owes that it begins with the steps that were replayed.
+    /// - `made`: what was put aside.
+    pub fn resume(
+        alloc: Global,
+        plan: &'a Plan<D>,
+        steps: &'a [Entry<Step>],
+        made: Progress,
+    ) -> Replay<'a, D>
+        requires { IsProgressOf D.verdict plan.now steps.now made }
+        ensures { result ≡ record { plan = plan.now; steps = take made.count steps.now; all = steps.now } }
+    {
+        let Progress {
+            count,
+            file_handles,
+            controls,
+            frames,
+            events,
+        } = made;
+        Replay {
+            plan,
+            steps,
+            count,
+            file_handles,
+            controls,
+            frames,
+            events,
+            alloc,
+        }
+    }
+
     /// How many steps were replayed, at most 1,000,000. It takes no memory.
     pub fn replayed(&self) -> u32
-        ensures { result ≡ length self.now.steps }
+        ensures count { result ≡ length self.now.steps }
+        ensures first { self.now.steps ≡ take result self.now.all }
+        ensures within { result ≤ length self.now.all }
     {
         self.count as u32
     }
@@ -170,24 +207,40 @@ impl<'a, D: Driver> Replay<'a, D> {
 
     /// What the history that was replayed makes of a device. It asks validators for the forecasts; nobody is told.
     ///
-    /// The error is that a growth was refused.
-    pub fn finish(self) -> Result<Scratch, AllocError>
-        ensures scratch { IfOk result (λ s. s ≡ scratch D.verdict self.entry.plan (past self.entry.steps)) }
+    /// The error is that a growth was refused; what was replayed is handed back, put aside.
+    pub fn finish(self) -> Result<Scratch, Progress>
+        ensures scratch { IfOk result (λ s. s.shown ≡ scratch D.verdict self.entry.plan (past self.entry.steps)) }
         ensures legal { OnOk result (IsLegal D.verdict self.entry.plan (past self.entry.steps)) }
+        ensures aside { IfOk result (λ s. IsAside D.verdict self.entry s.made) }
+        ensures err { IfErr result (IsAside D.verdict self.entry) }
     {
-        let flags = self.flags()?;
-        let forecasts = self.forecasts()?;
+        match self.evaluated() {
+            Ok((flags, forecasts)) => Ok(Scratch::of(self.put_aside(), flags, forecasts)),
+            Err(_) => Err(self.put_aside()),
+        }
+    }
+
+    /// Puts aside what was replayed, so that `resume` can go on from there. It takes no memory.
+    pub fn put_aside(self) -> Progress
+        ensures aside { IsAside D.verdict self.entry result }
+    {
         let Replay {
             plan: _,
             steps: _,
-            count: _,
+            count,
             file_handles,
             controls,
             frames,
             events,
             alloc: _,
         } = self;
-        Ok(Scratch::of(controls, flags, frames, forecasts, file_handles, events))
+        Progress {
+            count,
+            file_handles,
+            controls,
+            frames,
+            events,
+        }
     }
 
     // The present moment.

@@ -2,10 +2,11 @@ ghost use Rattle.std.specs.Prelude.{◌≡◌, ◌<◌, ◌↔◌, IsTrue, lengt
 ghost use Rattle.std.specs.Option.{option_and_then, option_map_or};
 ghost use Rattle.ctrl_clusters.specs.Moments.{parts};
 ghost use Rattle.ctrl_events.specs.Events.{event_at};
-ghost use Rattle.history_audit.specs.Scratch.{HasParts, events_for, flags_of_all, open_events};
+ghost use Rattle.history_audit.specs.Scratch.{HasParts, events_for, flags_of_all, open_events, shown_of};
 
+use crate::progress::Progress;
 use ctrl_calls::Driver;
-use ctrl_clusters::{Controls, Moment, Ranges, flags_under};
+use ctrl_clusters::{Moment, Ranges, flags_under};
 use ctrl_events::{Event, Events};
 use ctrl_forecast::Board;
 use ctrl_types::{CtrlValue, FhId, Flags};
@@ -13,84 +14,81 @@ use frame_queue::Frames;
 use indexmap::IndexMap;
 use std::marker::Model;
 
-/// What a history makes of a device, worked out of its steps alone. Contracts see it as its parts: the present ranges, values and flags, the
+/// What a history makes of a device, worked out of its steps alone. Contracts see it as what it shows: the present ranges, values and flags, the
 /// requests with their queue, what the queued frames will have, and, for each open file handle in the order of opening, the events that wait
-/// for it and the number of its next event.
+/// for it and the number of its next event; and as what was replayed, from which an audit can go on.
 #[derive(Drop)]
 pub struct Scratch {
-    // the present ranges and values; the grabs are seen in the flags alone
-    controls: Controls,
+    // the parts that the steps made; the grabs are seen in the flags alone
+    made: Progress,
     // by control
     flags: Vec<Flags>,
-    frames: Frames,
     forecasts: Board,
-    // the open file handles, each with its handler, in the order of their opening
-    file_handles: IndexMap<u32, u32>,
-    // the events of file handles
-    events: Events,
 }
 
 impl Model for Scratch {
-    ghost use Rattle.history_audit.specs.Scratch.{ScratchData, open_events};
+    ghost use Rattle.history_audit.specs.Scratch.{AuditedData, shown_of};
 
-    ghost Value = { ScratchData };
+    ghost Value = { AuditedData };
 
-    ghost view = { λ s. record { ranges = s.controls.ranges; values = s.controls.values; flags = s.flags.items; frames = s.frames; forecasts = s.forecasts.forecasts; events = open_events s.events s.file_handles.entries } };
+    ghost view = { λ s. record { shown = shown_of s.made.parts s.flags.items s.forecasts.forecasts; made = s.made } };
 }
 
 impl Scratch {
-    // These parts.
-    pub(crate) fn of(
-        controls: Controls,
-        flags: Vec<Flags>,
-        frames: Frames,
-        forecasts: Board,
-        file_handles: IndexMap<u32, u32>,
-        events: Events,
-    ) -> Scratch
-        ensures { result ≡ record { ranges = controls.ranges; values = controls.values; flags = flags.items; frames = frames; forecasts = forecasts.forecasts; events = open_events events file_handles.entries } }
+    // These parts, with the flags and the forecasts that they make.
+    pub(crate) fn of(made: Progress, flags: Vec<Flags>, forecasts: Board) -> Scratch
+        ensures { result ≡ record { shown = shown_of made.parts flags.items forecasts.forecasts; made = made } }
     {
         Scratch {
-            controls,
+            made,
             flags,
-            frames,
             forecasts,
-            file_handles,
-            events,
         }
+    }
+
+    /// What was replayed, from which an audit of a longer history can go on, see `go_on`. It takes no memory.
+    pub fn put_aside(self) -> Progress
+        ensures { result ≡ self.made }
+    {
+        let Scratch {
+            made,
+            flags: _,
+            forecasts: _,
+        } = self;
+        made
     }
 
     /// The controls with their present ranges, in the order of the plan's numbers. It takes no memory.
     pub fn ranges(&self) -> &Ranges
-        ensures { result.now ≡ self.now.ranges }
+        ensures { result.now ≡ self.now.shown.ranges }
     {
-        self.controls.ranges()
+        self.made.controls.ranges()
     }
 
     /// The present values, one for each control, in the order of the plan's numbers. It takes no memory.
     pub fn values(&self) -> &[CtrlValue]
-        ensures { result.now ≡ self.now.values }
+        ensures { result.now ≡ self.now.shown.values }
     {
-        self.controls.values()
+        self.made.controls.values()
     }
 
     /// The present flags, likewise. It takes no memory.
     pub fn flags(&self) -> &[Flags]
-        ensures { result.now ≡ self.now.flags }
+        ensures { result.now ≡ self.now.shown.flags }
     {
         self.flags.as_slice()
     }
 
     /// The requests, the queue of frames, and the request whose frame is being made. It takes no memory.
     pub fn frames(&self) -> &Frames
-        ensures { result.now ≡ self.now.frames }
+        ensures { result.now ≡ self.now.shown.frames }
     {
-        &self.frames
+        &self.made.frames
     }
 
     /// What the queued frames will have, in the order of the queue. It takes no memory.
     pub fn forecasts(&self) -> &Board
-        ensures { result.now.forecasts ≡ self.now.forecasts }
+        ensures { result.now.forecasts ≡ self.now.shown.forecasts }
     {
         &self.forecasts
     }
@@ -98,22 +96,16 @@ impl Scratch {
     /// The event that waits for a file handle at a place, from 0, with the number of its control; none where fewer wait, or where the file
     /// handle isn't open. It is as it would be taken there: `pending` is the number of those that wait behind it. It takes no memory.
     pub fn waiting(&self, fh: FhId, place: usize) -> Option<(u32, Event)>
-        ensures { result ≡ option_and_then (λ o. event_at o.waiting place) (events_for self.now.events fh) }
+        ensures { result ≡ option_and_then (λ o. event_at o.waiting place) (events_for self.now.shown.events fh) }
     {
-        match self.file_handles.get(&fh.0) {
-            Some(_) => self.events.waiting(fh, place),
-            None => None,
-        }
+        self.made.waiting(fh, place)
     }
 
     /// The number of the next event that is raised for a file handle: how many were; 0 where it isn't open. It takes no memory.
     pub fn next_sequence(&self, fh: FhId) -> u32
-        ensures { result ≡ option_map_or (λ o. o.next) (events_for self.now.events fh) 0 }
+        ensures { result ≡ option_map_or (λ o. o.next) (events_for self.now.shown.events fh) 0 }
     {
-        match self.file_handles.get(&fh.0) {
-            Some(_) => self.events.next_sequence(fh),
-            None => 0,
-        }
+        self.made.next_sequence(fh)
     }
 
     /// Whether it has these ranges and values, the flags that they make with these grabs, these requests with their queue, the same of each queued frame, and
@@ -133,7 +125,7 @@ impl Scratch {
         file_handles: &IndexMap<u32, u32>,
         events: &Events,
     ) -> bool
-        ensures { IsTrue result ↔ HasParts self.now at.now.plan.now (parts at.now) frames.now board.now.forecasts file_handles.now.entries events.now }
+        ensures { IsTrue result ↔ HasParts self.now.shown at.now.plan.now (parts at.now) frames.now board.now.forecasts file_handles.now.entries events.now }
     {
         if !self.ranges().is_like(at.ranges) {
             return false;
@@ -155,9 +147,14 @@ impl Scratch {
 
     // Whether it has these open file handles and their events.
     fn has_events(&self, file_handles: &IndexMap<u32, u32>, events: &Events) -> bool
-        ensures { IsTrue result ↔ (self.now.events ≡ open_events events.now file_handles.now.entries) }
+        ensures { IsTrue result ↔ (self.now.shown.events ≡ open_events events.now file_handles.now.entries) }
     {
-        are_events(&self.file_handles, &self.events, file_handles, events)
+        are_events(
+            &self.made.file_handles,
+            &self.made.events,
+            file_handles,
+            events,
+        )
     }
 }
 

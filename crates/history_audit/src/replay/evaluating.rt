@@ -17,8 +17,18 @@ use ctrl_types::{Flags, RequestId};
 use std::alloc::AllocError;
 
 impl<'a, D: Driver> Replay<'a, D> {
+    // The present flags of each control, and what each queued frame will have.
+    pub(super) fn evaluated(&self) -> Result<(Vec<Flags>, Board), AllocError>
+        ensures flags { IfOk result (λ all. all.0.items ≡ all_flags D.verdict self.now.plan (past self.now.steps)) }
+        ensures forecasts { IfOk result (λ all. all.1.forecasts ≡ forecast D.verdict self.now.plan (past self.now.steps)) }
+    {
+        let flags = self.flags()?;
+        let forecasts = self.forecasts()?;
+        Ok((flags, forecasts))
+    }
+
     // The present flags of each control.
-    pub(super) fn flags(&self) -> Result<Vec<Flags>, AllocError>
+    fn flags(&self) -> Result<Vec<Flags>, AllocError>
         ensures { IfOk result (λ all. all.items ≡ all_flags D.verdict self.now.plan (past self.now.steps)) }
     {
         let at = self.at();
@@ -31,7 +41,7 @@ impl<'a, D: Driver> Replay<'a, D> {
     }
 
     // What each queued frame will have.
-    pub(super) fn forecasts(&self) -> Result<Board, AllocError>
+    fn forecasts(&self) -> Result<Board, AllocError>
         ensures { IfOk result (λ b. b.forecasts ≡ forecast D.verdict self.now.plan (past self.now.steps)) }
     {
         let queued = self.queued_frames()?;

@@ -9,7 +9,7 @@ fewer text line None parts = omega arith
 fewer text line (Some m) parts = let n = ap length parts ∙ length-append line (10 ∷ m.now) in omega arith
 
 pub loop-rest-init : goal.loop-rest-init
-loop-rest-init g c = omega (arith, c.requires)
+loop-rest-init g c = (omega (arith, c.requires), tt)
 
 pub loop-rest-preserved : goal.loop-rest-preserved
 loop-rest-preserved g c =
@@ -17,4 +17,4 @@ loop-rest-preserved g c =
     let line = c.first_line.result.0.now in
     let more = c.first_line.result.1 in
     let left = ap lines_left c.in-Some.is in
-    omega (arith, fewer c.in-Some.text.now line more c.first_line.ensures.parts, loop.invariant, left)
+    (omega (arith, fewer c.in-Some.text.now line more c.first_line.ensures.parts, loop.invariant.0, left), c.show_line.ensures)

@@ -14,9 +14,9 @@ returns g c =
     let d = c.self.inside in
     let plan : c.at.result.plan.now ≡ d.plan = rw (← c.self.view_is) at c.at.ensures.plan in
     let controls : ControlsData = as_one c.at.result.ranges.now c.at.result.values.now c.at.result.grabs.now in
-    let has : IsTrue c.has_parts.result ↔ HasParts c.args.scratch.now d.plan controls d.frames d.board.forecasts d.file_handles.entries d.events =
-    subst (λ (p : PlanData). IsTrue c.has_parts.result ↔ HasParts c.args.scratch.now p controls d.frames d.board.forecasts d.file_handles.entries d.events) plan c.has_parts.ensures in
+    let has : IsTrue c.has_parts.result ↔ HasParts c.args.scratch.now.shown d.plan controls d.frames d.board.forecasts d.file_handles.entries d.events =
+    subst (λ (p : PlanData). IsTrue c.has_parts.result ↔ HasParts c.args.scratch.now.shown p controls d.frames d.board.forecasts d.file_handles.entries d.events) plan c.has_parts.ensures in
     let both =
-    agrees_both g.D.Validates.verdict d.plan (past d.steps.items) c.args.scratch.now controls d.frames d.board.forecasts d.file_handles.entries d.events (rw (← c.self.view_is) at c.at.ensures.ranges) (rw (← c.self.view_is) at c.at.ensures.values)
+    agrees_both g.D.Validates.verdict d.plan (past d.steps.items) c.args.scratch.now.shown controls d.frames d.board.forecasts d.file_handles.entries d.events (rw (← c.self.view_is) at c.at.ensures.ranges) (rw (← c.self.view_is) at c.at.ensures.values)
     (rw (← c.self.view_is) at c.at.ensures.grabs) c.self.invariant.frames (ap (λ (b : BoardData). b.forecasts) c.self.invariant.board) (events_made g.D.Validates.verdict d.plan (past d.steps.items) d.events d.file_handles.entries c.self.invariant.file_handles c.self.invariant.events) in
     rw (← c.self.view_is) (λ h. both.0 (has.0 h), λ agrees. has.1 (both.1 agrees))

@@ -2,7 +2,7 @@ use Rattle.std.proofs.Common.{◌∙◌, Option, ap, sym}
 use Rattle.std.specs.Option.{option_map_or}
 use Rattle.history_audit.specs.Scratch.{OpenEvents}
 use Rattle.history_audit.proofs.ScratchLemmas.{listed_open, unlisted}
-use Rattle.history_audit.proofs.scratch.Scratch.next_sequence.Goals as goal
+use Rattle.history_audit.proofs.progress.Progress.next_sequence.Goals as goal
 
 -- the file handle is open
 pub returns-in-Some : goal.returns-in-Some

@@ -3,7 +3,7 @@ use Rattle.std.specs.Option.{option_and_then}
 use Rattle.ctrl_events.specs.Events.{event_at}
 use Rattle.history_audit.specs.Scratch.{OpenEvents}
 use Rattle.history_audit.proofs.ScratchLemmas.{listed_open, unlisted}
-use Rattle.history_audit.proofs.scratch.Scratch.waiting.Goals as goal
+use Rattle.history_audit.proofs.progress.Progress.waiting.Goals as goal
 
 -- the file handle is open
 pub returns-in-Some : goal.returns-in-Some

@@ -1,7 +1,7 @@
 use Rattle.std.proofs.Common.{◌≡◌}
 use Rattle.history_audit.proofs.MadeLemmas.{at}
-use Rattle.history_audit.proofs.auditing.audit.Given as goal
+use Rattle.history_audit.proofs.auditing.replay_rest.Given as goal
 
 -- the steps so far were replayed
 abbrev pub invariant-loop : goal.invariant-loop
-invariant-loop g l = l.replay ≡ at l.plan l.steps l.counter
+invariant-loop g l = l.replay ≡ at l.fn.replay.plan l.steps l.counter
