@@ -1,4 +1,4 @@
-ghost use Rattle.std.specs.Prelude.{◌≡◌, ◌≢◌, length, IfSome, ⊥};
+ghost use Rattle.std.specs.Prelude.{◌≡◌, ◌≢◌, length, IfSome};
 ghost use Rattle.history.specs.Past.{past};
 ghost use Rattle.history_audit.specs.Replay.{IsProgressOf};
 ghost use Rattle.history_audit.specs.Scratch.{Agrees};
