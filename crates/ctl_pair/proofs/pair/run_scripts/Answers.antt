@@ -39,7 +39,7 @@ returns-in-Ok-print_pair-clause-finished g c =
         at_second = subst (λ said. HasServed (λ p s. IsLegal verdicts p (past s)) (may_answer verdicts tells) (λ p s. taken verdicts p (past s)) plan 1 said c.in-Ok.second.said.items steps) c.requires.second c.in-Ok.ensures.second;
         only = c.in-Ok.ensures.only;
         audited = c.audit_of-audited.result;
-        agrees = c.audit_of-audited.ensures;
+        agrees = c.audit_of-audited.ensures.agrees;
         printed = subst (λ (l : List ℕ). Appends (contents c.args.writer.now) (contents c.print_pair.new.writer) l)
             (λ i. pair_lines (c.as_slice-first.ensures.value i) (c.as_slice-second.ensures.value i) (c.steps.ensures.steps i) c.audit_of-audited.result) c.in-Ok-print_pair.ensures;
       },

@@ -2,5 +2,5 @@
 use Rattle.std.proofs.Common.{rules}
 use Rattle.ctl_script.proofs.auditing.compared.Goals as goal
 
-pub returns-then-agrees-clause-equal : goal.returns-then-clause-equal
+pub returns-then-agrees-clause-equal : goal.returns-then-agrees-clause-equal
 returns-then-agrees-clause-equal g c = search rules
