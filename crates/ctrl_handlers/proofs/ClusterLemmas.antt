@@ -1,7 +1,7 @@
 -- The clusters of a plan: a control is in one at most.
-use Rattle.std.proofs.Common.{◌≡◌, ℕ, ℤ, suc, eq-eqb, ◌+◌, ◌<◌, ◌≤◌, ◌||◌, Bool, true, false, not, cond, if◌then◌else◌, ltb, nat_eq, nat_lt, List, [], ◌∷◌, ◌++◌, length, map, Option, None, Some, is_some, position, slice_index, refl, sym, ap, subst, ◌∙◌, arith, get_or, inl, inr, ◌⊎◌}
+use Rattle.std.proofs.Common.{◌≡◌, ℕ, ℤ, suc, eq-eqb, ◌+◌, ◌<◌, ◌≤◌, ◌&&◌, ◌||◌, Bool, true, false, not, cond, if◌then◌else◌, ltb, nat_eq, nat_lt, List, [], ◌∷◌, ◌++◌, length, map, Option, None, Some, is_some, position, slice_index, refl, sym, ap, subst, ◌∙◌, arith, get_or, inl, inr, ◌⊎◌}
 use Rattle.std.specs.List.{All, list_any, list_all, position_or_len, IsDistinct}
-use Rattle.std.proofs.lemmas.Bool.{cases_lt}
+use Rattle.std.proofs.lemmas.Bool.{cases_lt, eqb-true}
 use Rattle.std.proofs.lemmas.List.{length-map, get_or-map, get_or_append_left, get_or_at, get_or_past, length_push, get_or_default}
 use Rattle.std.proofs.lemmas.List.Elements.{All-nil}
 use Rattle.std.proofs.lemmas.List.Folds.{list_any_at, list_all_at, list_any_none}
@@ -11,13 +11,14 @@ use Rattle.std.proofs.lemmas.Bool.Decides.{nat_tests}
 use Rattle.std.proofs.lemmas.Map.Steps.{length-le_from_distinct_below}
 use Rattle.std.proofs.lemmas.Map.Keys.{IsDistinct-from_apart}
 use Rattle.ctrl_calls.specs.declared.relation.Relations.{Relations}
+use Rattle.ctrl_settle.specs.Control.{is_array}
 use Rattle.ctrl_handlers.specs.ClusterData.{ClusterData}
 use Rattle.ctrl_handlers.specs.declared.limits.TheConstants.{MAX_CONTROLS}
 use Rattle.ctrl_handlers.specs.declared.fault.PlanFault.{PlanFault}
 use Rattle.ctrl_handlers.specs.declared.fault.PlanFault.TheVariants.{ArrayAlone, InCluster, ClusterSize, UnknownNumber}
 use Rattle.ctrl_calls.specs.declared.row.TheConstants.{MAX_MEMBERS}
-use Rattle.ctrl_handlers.specs.Plan.{PlanData, IsPlan, with_cluster, names_twice, has_member, cluster_of, cluster_at, members, master_of, no_cluster, leads}
-use Rattle.ctrl_handlers.specs.Builder.{cluster_refusal, crowds_array, some_clustered, misfits}
+use Rattle.ctrl_handlers.specs.Plan.{PlanData, IsPlan, with_cluster, names_twice, crowds_array, control, has_member, cluster_of, cluster_at, members, master_of, no_cluster, leads}
+use Rattle.ctrl_handlers.specs.Builder.{cluster_refusal, some_clustered, misfits}
 
 -- one more in front of a search
 step : (b : Bool) (n m : ℕ) (r : Bool) → ltb n m ≡ r → ltb (cond (not b) (1 + n) 0) (suc m) ≡ (b || r)
@@ -164,9 +165,10 @@ few_clusters plan is =
 unfoldable refusal_by : Bool → Bool → Bool → Bool → Option PlanFault
 refusal_by size known taken crowded = if size then Some ClusterSize else if not known then Some UnknownNumber else if taken then Some InCluster else if crowded then Some ArrayAlone else None
 
-passes : (size known taken crowded : Bool) → refusal_by size known taken crowded ≡ None → (size ≡ false) × (known ≡ true) × (taken ≡ false)
+passes : (size known taken crowded : Bool) → refusal_by size known taken crowded ≡ None → (size ≡ false) × (known ≡ true) × (taken ≡ false) × (crowded ≡ false)
 unfolding refusal_by
-passes false true false crowded is = (refl, refl, refl)
+passes false true false false is = (refl, refl, refl, refl)
+passes false true false true is = cc
 passes false true true crowded is = cc
 passes false false taken crowded is = cc
 passes true known taken crowded is = cc
@@ -180,14 +182,15 @@ or_false_right true b h = cc
 or_false_right false b h = h
 
 -- what a cluster that isn't refused is
-pub record MayCluster (plan : PlanData) (named : List ℕ) : Type 0 where
+pub record MayCluster (plan : PlanData) (named : List ℕ) (manual : Option ℤ) : Type 0 where
   pub some : 0 < length named
   pub few : length named ≤ MAX_MEMBERS
   pub known : All (λ c. c < length plan.controls) named
   pub differ : names_twice named ≡ false
   pub apart : (c : ℕ) → list_any (nat_eq c) named ≡ true → is_some (cluster_of plan c) ≡ false
+  pub lone : crowds_array plan named manual ≡ false
 
-pub may_cluster : (plan : PlanData) (named : List ℕ) (manual : Option ℤ) → cluster_refusal plan named manual ≡ None → MayCluster plan named
+pub may_cluster : (plan : PlanData) (named : List ℕ) (manual : Option ℤ) → cluster_refusal plan named manual ≡ None → MayCluster plan named manual
 unfolding refusal_by
 may_cluster plan named manual is =
     let each = passes (misfits named) (list_all (λ c. nat_lt c (length plan.controls)) named) (some_clustered plan named || names_twice named) (crowds_array plan named manual) is in
@@ -197,6 +200,7 @@ may_cluster plan named manual is =
       differ = or_false_right (some_clustered plan named) (names_twice named) each.2;
       known = all_of (length plan.controls) named each.1;
       apart = λ c among. none_of (λ c. is_some (cluster_of plan c)) c named (or_false (some_clustered plan named) (names_twice named) each.2) among;
+      lone = each.3;
     }
 
 -- the cluster at a place, with one more at the end: one of those before, the new one, or none
@@ -222,22 +226,22 @@ cluster_more clusters new k = by (cases_lt k (length clusters)) (cases_lt (lengt
 abbrev named_as : List ℕ → Option ℤ → Relations → ClusterData
 named_as named manual calls = record { members = named; manual = manual; calls = calls }
 
--- what holds of the members of each, also of no cluster, holds of one more
-members_more : (P : List ℕ → Type 0) (plan : PlanData) (named : List ℕ) (manual : Option ℤ) (calls : Relations) (k : ℕ) → ((i : ℕ) → P (members plan i)) → P [] → P named
+-- what holds of each, also of no cluster, holds of one more
+clusters_more : (P : ClusterData → Type 0) (plan : PlanData) (named : List ℕ) (manual : Option ℤ) (calls : Relations) (k : ℕ) → ((i : ℕ) → P (cluster_at plan i)) → P no_cluster → P (named_as named manual calls)
     → Before plan.clusters (named_as named manual calls) k ⊎ (Last plan.clusters (named_as named manual calls) k ⊎ Past plan.clusters (named_as named manual calls) k)
-    → P (members (with_cluster plan named manual calls) k)
-members_more P plan named manual calls k each none new (inl old) = subst (λ (x : ClusterData). P x.members) (sym old.1) (each k)
-members_more P plan named manual calls k each none new (inr (inl last)) = subst (λ (x : ClusterData). P x.members) (sym last.1) new
-members_more P plan named manual calls k each none new (inr (inr past)) = subst (λ (x : ClusterData). P x.members) (sym past.1) none
+    → P (cluster_at (with_cluster plan named manual calls) k)
+clusters_more P plan named manual calls k each none new (inl old) = subst P (sym old.1) (each k)
+clusters_more P plan named manual calls k each none new (inr (inl last)) = subst P (sym last.1) new
+clusters_more P plan named manual calls k each none new (inr (inr past)) = subst P (sym past.1) none
 
-some_more : (plan : PlanData) (named : List ℕ) (manual : Option ℤ) (calls : Relations) (k : ℕ) → IsPlan plan → MayCluster plan named → k < length (plan.clusters ++ named_as named manual calls ∷ [])
+some_more : (plan : PlanData) (named : List ℕ) (manual : Option ℤ) (calls : Relations) (k : ℕ) → IsPlan plan → MayCluster plan named manual → k < length (plan.clusters ++ named_as named manual calls ∷ [])
     → Before plan.clusters (named_as named manual calls) k ⊎ (Last plan.clusters (named_as named manual calls) k ⊎ Past plan.clusters (named_as named manual calls) k)
     → 0 < length (members (with_cluster plan named manual calls) k)
 some_more plan named manual calls k is may within (inl old) = subst (λ (x : ClusterData). 0 < length x.members) (sym old.1) (is.some_members k old.0)
 some_more plan named manual calls k is may within (inr (inl new)) = subst (λ (x : ClusterData). 0 < length x.members) (sym new.1) may.some
 some_more plan named manual calls k is may within (inr (inr none)) = absurd (omega (arith, within, none.0, length_push plan.clusters (named_as named manual calls)))
 
-apart_more : (plan : PlanData) (named : List ℕ) (manual : Option ℤ) (calls : Relations) (k c : ℕ) → IsPlan plan → MayCluster plan named → k < length (plan.clusters ++ named_as named manual calls ∷ [])
+apart_more : (plan : PlanData) (named : List ℕ) (manual : Option ℤ) (calls : Relations) (k c : ℕ) → IsPlan plan → MayCluster plan named manual → k < length (plan.clusters ++ named_as named manual calls ∷ [])
     → list_any (nat_eq c) (members (with_cluster plan named manual calls) k) ≡ true
     → Before plan.clusters (named_as named manual calls) k ⊎ (Last plan.clusters (named_as named manual calls) k ⊎ Past plan.clusters (named_as named manual calls) k)
     → cluster_of (with_cluster plan named manual calls) c ≡ Some k
@@ -259,7 +263,7 @@ apart_more plan named manual calls k c is may within among (inr (inl new)) =
 apart_more plan named manual calls k c is may within among (inr (inr none)) = absurd (omega (arith, within, none.0, length_push plan.clusters (named_as named manual calls)))
 
 -- one more named cluster, of controls that are in none
-pub is_plan_add : (plan : PlanData) (named : List ℕ) (manual : Option ℤ) (calls : Relations) → IsPlan plan → MayCluster plan named → IsPlan (with_cluster plan named manual calls)
+pub is_plan_add : (plan : PlanData) (named : List ℕ) (manual : Option ℤ) (calls : Relations) → IsPlan plan → MayCluster plan named manual → IsPlan (with_cluster plan named manual calls)
 is_plan_add plan named manual calls is may = record {
   few_controls = is.few_controls;
   few_handlers = is.few_handlers;
@@ -267,16 +271,47 @@ is_plan_add plan named manual calls is may = record {
   items_known = is.items_known;
   items_taken = is.items_taken;
   some_members = λ k within. some_more plan named manual calls k is may within (cluster_more plan.clusters (named_as named manual calls) k);
-  few_members = λ k. members_more (λ cs. length cs ≤ MAX_MEMBERS) plan named manual calls k is.few_members (omega arith) may.few (cluster_more plan.clusters (named_as named manual calls) k);
+  few_members = λ k. clusters_more (λ x. length x.members ≤ MAX_MEMBERS) plan named manual calls k is.few_members (omega arith) may.few (cluster_more plan.clusters (named_as named manual calls) k);
   members_known = λ k.
-      members_more (λ cs. All (λ c. c < length plan.controls) cs) plan named manual calls k is.members_known (All-nil (λ c. c < length plan.controls)) may.known
+      clusters_more (λ x. All (λ c. c < length plan.controls) x.members) plan named manual calls k is.members_known (All-nil (λ c. c < length plan.controls)) may.known
       (cluster_more plan.clusters (named_as named manual calls) k);
-  members_differ = λ k. members_more (λ cs. names_twice cs ≡ false) plan named manual calls k is.members_differ refl may.differ (cluster_more plan.clusters (named_as named manual calls) k);
+  members_differ = λ k. clusters_more (λ x. names_twice x.members ≡ false) plan named manual calls k is.members_differ refl may.differ (cluster_more plan.clusters (named_as named manual calls) k);
   members_apart = λ k c within among. apart_more plan named manual calls k c is may within among (cluster_more plan.clusters (named_as named manual calls) k);
+  lone_arrays = λ k.
+      clusters_more (λ x. crowds_array plan x.members x.manual ≡ false) plan named manual calls k is.lone_arrays refl may.lone (cluster_more plan.clusters (named_as named manual calls) k);
   own_known = is.own_known;
   own_differ = is.own_differ;
   added_before = is.added_before;
 }
+
+-- where one of some controls passes, one of them does
+any_among : (f : ℕ → Bool) (c : ℕ) (cs : List ℕ) → list_any (nat_eq c) cs ≡ true → f c ≡ true → list_any f cs ≡ true
+any_among f c cs among is = by (list_any f cs) refl
+  where
+    by : (b : Bool) → list_any f cs ≡ b → b ≡ true
+    by true e = refl
+    by false e = let not_it : f c ≡ false = none_of f c cs e among in cc
+
+-- some members of which one is an array, and which crowd none, are this one
+only_by : (c : ℕ) (manual : Option ℤ) (cs : List ℕ) (some : Bool) → some ≡ true → ((is_some manual || nat_lt 1 (length cs)) && some) ≡ false → list_any (nat_eq c) cs ≡ true → (cs ≡ c ∷ []) × (manual ≡ None)
+only_by c manual cs false is free among = absurd (cc)
+only_by c (Some number) cs true is free among = absurd (cc)
+only_by c None [] true is free among = absurd (cc)
+only_by c None (d ∷ []) true is free among = (ap (λ (x : ℕ). x ∷ []) (sym (eqb-true c d (whole (nat_eq c d) among))), refl)
+  where
+    whole : (b : Bool) → (b || false) ≡ true → b ≡ true
+    whole true h = refl
+    whole false h = h
+only_by c None (d ∷ e ∷ cs) true is free among = absurd (many (length cs) free)
+  where
+    many : (n : ℕ) → ((false || nat_lt 1 (suc (suc n))) && true) ≡ false → ⊥
+    many n h = grind (arith, nat_tests, h)
+
+-- an array is the only member of its cluster, which is no auto cluster
+pub lone_array : (plan : PlanData) (c k : ℕ) → IsPlan plan → cluster_of plan c ≡ Some k → is_array (control plan c) ≡ true → (members plan k ≡ c ∷ []) × ((cluster_at plan k).manual ≡ None)
+lone_array plan c k is own array =
+    let among = cluster_of_member plan c k own in
+    only_by c (cluster_at plan k).manual (members plan k) (list_any (λ d. is_array (control plan d)) (members plan k)) (any_among (λ d. is_array (control plan d)) c (members plan k) among array) (is.lone_arrays k) among
 
 -- a cluster's number is small
 pub place_within : (plan : PlanData) (c k : ℕ) → IsPlan plan → cluster_of plan c ≡ Some k → k < MAX_CONTROLS

@@ -96,13 +96,14 @@ abbrev clustered_as : PlanData → List ClusterData → PlanData
 clustered_as plan clusters = record plan { clusters = clusters }
 
 -- a control that none of the clusters has may have one of its own
-alone_may : (plan : PlanData) (c : ℕ) → c < length plan.controls → list_any (has_member c) plan.clusters ≡ false → MayCluster plan (c ∷ [])
+alone_may : (plan : PlanData) (c : ℕ) → c < length plan.controls → list_any (has_member c) plan.clusters ≡ false → MayCluster plan (c ∷ []) None
 alone_may plan c within none = record {
   some = omega arith;
   few = omega arith;
   known = All-push (λ d. d < length plan.controls) [] c (All-nil (λ d. d < length plan.controls)) within;
   differ = refl;
   apart = λ d among. ap (λ (n : ℕ). is_some (cluster_of plan n)) (only d c among) ∙ is_some_any (has_member c) plan.clusters ∙ none;
+  lone = refl;
 }
 
 -- with these clusters it is a plan, and each control below the number is in one

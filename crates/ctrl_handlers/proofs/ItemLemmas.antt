@@ -63,6 +63,7 @@ is_plan_item plan c index item is within taken = record {
   members_known = is.members_known;
   members_differ = is.members_differ;
   members_apart = is.members_apart;
+  lone_arrays = is.lone_arrays;
   own_known = is.own_known;
   own_differ = is.own_differ;
   added_before = is.added_before;

@@ -1,15 +1,15 @@
 -- Each call of a builder keeps what holds of every plan.
-use Rattle.std.proofs.Common.{◌≡◌, ◌≢◌, ℕ, zero, suc, ◌<◌, Bool, true, false, if◌then◌else◌, nat_le, None, Some, is_some, List, [], ◌∷◌, ◌++◌, length, sym, ap, ◌∙◌, subst, arith, get_or, slice_set, refl, inl, inr, ◌⊎◌}
-use Rattle.std.specs.List.{All}
+use Rattle.std.proofs.Common.{◌≡◌, ◌≢◌, ℕ, zero, suc, ◌<◌, ◌&&◌, ◌||◌, Bool, true, false, if◌then◌else◌, nat_le, nat_lt, None, Some, is_some, List, [], ◌∷◌, ◌++◌, length, sym, ap, ◌∙◌, subst, arith, get_or, slice_set, refl, inl, inr, ◌⊎◌}
+use Rattle.std.specs.List.{All, list_any}
 use Rattle.std.proofs.lemmas.Bool.{cases_eq}
 use Rattle.std.proofs.lemmas.Bool.Decides.{nat_tests}
 use Rattle.std.proofs.lemmas.List.{get_or-set_same, get_or-set_other, get_or_append_left, length_push, length-set}
-use Rattle.std.proofs.lemmas.List.Elements.{All-push, All-weaker}
-use Rattle.ctrl_settle.specs.Control.{Control}
+use Rattle.std.proofs.lemmas.List.Elements.{All-head, All-push, All-tail, All-weaker}
+use Rattle.ctrl_settle.specs.Control.{Control, is_array}
 use Rattle.ctrl_settle.specs.Faults.{IsWellFormed}
 use Rattle.ctrl_handlers.specs.HandlerData.{HandlerData}
 use Rattle.ctrl_handlers.specs.declared.limits.TheConstants.{MAX_CONTROLS, MAX_HANDLERS}
-use Rattle.ctrl_handlers.specs.Plan.{PlanData, IsPlan, no_plan, no_control, no_handler, handler_at, own, added, members, names_twice, ids_of, owning, with_handler, with_control}
+use Rattle.ctrl_handlers.specs.Plan.{PlanData, IsPlan, no_plan, no_control, control_in, no_handler, handler_at, cluster_at, own, added, members, names_twice, ids_of, owning, with_handler, with_control}
 use Rattle.ctrl_handlers.specs.Visible.{first_with_id}
 use Rattle.ctrl_handlers.specs.Builder.{adding_refusal, control_refusal}
 use Rattle.ctrl_handlers.specs.declared.fault.PlanFault.TheVariants.{DuplicateId, LaterHandler, UnknownNumber, Limit}
@@ -28,6 +28,7 @@ is_plan_start = record {
   some_members = λ k lt. absurd (omega (arith, lt));
   few_members = λ k. omega arith;
   members_differ = λ k. refl;
+  lone_arrays = λ k. refl;
   own_known = λ h k d lt. absurd (omega (arith, lt));
   own_differ = λ h. refl;
   added_before = λ h k d lt. absurd (omega (arith, lt));
@@ -53,6 +54,7 @@ is_plan_more plan is room = record {
   members_known = is.members_known;
   members_differ = is.members_differ;
   members_apart = is.members_apart;
+  lone_arrays = is.lone_arrays;
   own_known = λ g. subst (λ (x : HandlerData). All (λ c. c < length plan.controls) x.own) (sym (with_none plan.handlers g)) (is.own_known g);
   own_differ = λ g. subst (λ (x : HandlerData). names_twice (ids_of plan.controls x.own) ≡ false) (sym (with_none plan.handlers g)) (is.own_differ g);
   added_before = λ g. subst (λ (x : HandlerData). All (λ a. a < g) x.added) (sym (with_none plan.handlers g)) (is.added_before g);
@@ -67,6 +69,12 @@ set_handler handlers h g x within = by (cases_eq g h)
         → ((g ≡ h) × (get_or (slice_set handlers h x) g no_handler ≡ x)) ⊎ ((g ≢ h) × (get_or (slice_set handlers h x) g no_handler ≡ get_or handlers g no_handler))
     by (inl same) = inl (same, ap (λ (n : ℕ). get_or (slice_set handlers h x) n no_handler) same ∙ get_or-set_same handlers h x no_handler within)
     by (inr other) = inr (other, get_or-set_other handlers h g x no_handler other)
+
+-- one more control leaves which of the others are arrays
+same_arrays : (controls : List Control) (ctrl : Control) (cs : List ℕ) → All (λ c. c < length controls) cs → list_any (λ c. is_array (control_in (controls ++ ctrl ∷ []) c)) cs ≡ list_any (λ c. is_array (control_in controls c)) cs
+same_arrays controls ctrl [] known = refl
+same_arrays controls ctrl (c ∷ cs) known =
+    rw (get_or_append_left controls (ctrl ∷ []) no_control c (All-head (λ d. d < length controls) c cs known), same_arrays controls ctrl cs (All-tail (λ d. d < length controls) c cs known)) refl
 
 -- one more control
 pub is_plan_control : (plan : PlanData) (h : ℕ) (ctrl : Control) → IsPlan plan → h < length plan.handlers → length plan.controls < MAX_CONTROLS
@@ -86,6 +94,8 @@ is_plan_control plan h ctrl is within room whole new = record {
   some_members = is.some_members;
   few_members = is.few_members;
   members_differ = is.members_differ;
+  lone_arrays = λ k.
+      ap (λ (some : Bool). (is_some (cluster_at plan k).manual || nat_lt 1 (length (members plan k))) && some) (same_arrays plan.controls ctrl (members plan k) (is.members_known k)) ∙ is.lone_arrays k;
   own_known = λ g. known g (set_handler plan.handlers h g (owning (handler_at plan h) (length plan.controls)) within);
   own_differ = λ g. differ g (set_handler plan.handlers h g (owning (handler_at plan h) (length plan.controls)) within);
   added_before = λ g. before g (set_handler plan.handlers h g (owning (handler_at plan h) (length plan.controls)) within);
@@ -170,6 +180,7 @@ is_plan_handler plan h handler is within same before = record {
   some_members = is.some_members;
   few_members = is.few_members;
   members_differ = is.members_differ;
+  lone_arrays = is.lone_arrays;
   own_known = λ g. owns g (set_handler plan.handlers h g handler within);
   own_differ = λ g. differ g (set_handler plan.handlers h g handler within);
   added_before = λ g. adds g (set_handler plan.handlers h g handler within);

@@ -1,14 +1,14 @@
 -- When the calls of a plan builder refuse (of this project).
-use Rattle.std.specs.Prelude.{◌≡◌, ℕ, ℤ, Bool, not, ◌&&◌, ◌||◌, List, nat_eq, nat_le, nat_lt, if◌then◌else◌, length, Option, None, Some, is_some}
+use Rattle.std.specs.Prelude.{◌≡◌, ℕ, ℤ, Bool, not, ◌||◌, List, nat_eq, nat_le, nat_lt, if◌then◌else◌, length, Option, None, Some, is_some}
 use Rattle.std.specs.List.{list_any, list_all}
-use Rattle.ctrl_settle.specs.Control.{Control, is_array}
+use Rattle.ctrl_settle.specs.Control.{Control}
 use Rattle.menu_items.specs.Places.{takes_name, takes_number}
 use Rattle.menu_items.specs.declared.name.TheConstants.{MAX_MENU_NAME}
 use Rattle.ctrl_handlers.specs.declared.fault.PlanFault.{PlanFault}
 use Rattle.ctrl_handlers.specs.declared.fault.PlanFault.TheVariants.{DuplicateId, InCluster, ClusterSize, LaterHandler, UnknownNumber, Limit, Memory, ArrayAlone}
 use Rattle.ctrl_handlers.specs.declared.limits.TheConstants.{MAX_CONTROLS, MAX_HANDLERS}
 use Rattle.ctrl_calls.specs.declared.row.TheConstants.{MAX_MEMBERS}
-use Rattle.ctrl_handlers.specs.Plan.{PlanData, own, control, cluster_of, names_twice}
+use Rattle.ctrl_handlers.specs.Plan.{PlanData, own, control, cluster_of, names_twice, crowds_array}
 use Rattle.ctrl_handlers.specs.Visible.{first_with_id}
 
 -- Why a further handler is refused: there are as many as there can be.
@@ -54,10 +54,6 @@ some_clustered plan members = list_any (λ c. is_some (cluster_of plan c)) membe
 -- there are none, or more than a cluster can have
 abbrev pub misfits : List ℕ → Bool
 misfits members = nat_eq (length members) 0 || nat_lt MAX_MEMBERS (length members)
-
--- an array is beside other members, or in an auto cluster
-abbrev pub crowds_array : PlanData → List ℕ → Option ℤ → Bool
-crowds_array plan members manual = (is_some manual || nat_lt 1 (length members)) && list_any (λ c. is_array (control plan c)) members
 
 -- Why a cluster, which is an auto cluster where it has a manual value, is refused: it has no member or more than 8; some control isn't there; one is in a cluster already
 -- or is named twice; an array isn't alone, or in an auto cluster.

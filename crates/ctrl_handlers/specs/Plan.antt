@@ -1,6 +1,6 @@
 -- What a plan holds, as plain data, and what each call of a builder adds to it (Linux driver API, "V4L2 Controls", "Control
 -- Clusters").
-use Rattle.std.specs.Prelude.{◌≡◌, ℕ, ℤ, pos, Bool, false, true, not, ◌==◌, ◌&&◌, ◌||◌, ◌<◌, ◌≤◌, List, [], ◌∷◌, ◌++◌, length, Option, None, Some, is_some, map, nat_eq, position, if◌then◌else◌, slice_index, slice_index_or, slice_set}
+use Rattle.std.specs.Prelude.{◌≡◌, ℕ, ℤ, pos, Bool, false, true, not, ◌==◌, ◌&&◌, ◌||◌, ◌<◌, ◌≤◌, List, [], ◌∷◌, ◌++◌, length, Option, None, Some, is_some, map, nat_eq, nat_lt, position, if◌then◌else◌, slice_index, slice_index_or, slice_set}
 use Rattle.std.specs.List.{All, list_any, filter, range_with_len}
 use Rattle.std.specs.Map.{lookup}
 use Rattle.indexmap.specs.IndexMap.{insert_entry}
@@ -10,7 +10,7 @@ use Rattle.ctrl_types.specs.declared.flags.Flags.{Flags}
 use Rattle.ctrl_types.specs.declared.flags.TheConstants.Flags.{UPDATE}
 use Rattle.ctrl_calls.specs.declared.relation.Relations.{Relations}
 use Rattle.ctrl_calls.specs.declared.row.TheConstants.{MAX_MEMBERS}
-use Rattle.ctrl_settle.specs.Control.{Control}
+use Rattle.ctrl_settle.specs.Control.{Control, is_array}
 use Rattle.ctrl_settle.specs.Faults.{IsWellFormed}
 use Rattle.menu_items.specs.Places.{takes}
 use Rattle.ctrl_handlers.specs.HandlerData.{HandlerData}
@@ -118,13 +118,18 @@ abbrev pub names_twice : List ℕ → Bool
 names_twice [] = false
 names_twice (c ∷ cs) = list_any (nat_eq c) cs || names_twice cs
 
+-- an array is beside other members, or in an auto cluster
+abbrev pub crowds_array : PlanData → List ℕ → Option ℤ → Bool
+crowds_array plan members manual = (is_some manual || nat_lt 1 (length members)) && list_any (λ c. is_array (control plan c)) members
+
 -- the ids of some controls
 abbrev pub ids_of : List Control → List ℕ → List ℕ
 ids_of controls numbers = map (λ c. (control_in controls c).id.0) numbers
 
 -- What holds of every plan: the limits, that nothing is wrong with a control, that an item stands only where its control takes it, that a
--- cluster has members, not too many, that they are there and differ, that a control is in one cluster at most, that each handler's own
--- controls are there and their ids differ, and that it adds only handlers with smaller numbers.
+-- cluster has members, not too many, that they are there and differ, that a control is in one cluster at most, that an array is alone in its
+-- cluster, which is no auto cluster, that each handler's own controls are there and their ids differ, and that it adds only handlers with
+-- smaller numbers.
 pub record IsPlan (plan : PlanData) : Type 0 where
   pub few_controls : length plan.controls ≤ MAX_CONTROLS
   pub few_handlers : length plan.handlers ≤ MAX_HANDLERS
@@ -136,6 +141,7 @@ pub record IsPlan (plan : PlanData) : Type 0 where
   pub members_known : (k : ℕ) → All (λ c. c < length plan.controls) (members plan k)
   pub members_differ : (k : ℕ) → names_twice (members plan k) ≡ false
   pub members_apart : (k c : ℕ) → k < length plan.clusters → list_any (nat_eq c) (members plan k) ≡ true → cluster_of plan c ≡ Some k
+  pub lone_arrays : (k : ℕ) → crowds_array plan (members plan k) (cluster_at plan k).manual ≡ false
   pub own_known : (h : ℕ) → All (λ c. c < length plan.controls) (own plan h)
   pub own_differ : (h : ℕ) → names_twice (ids_of plan.controls (own plan h)) ≡ false
   pub added_before : (h : ℕ) → All (λ a. a < h) (added plan h)

@@ -1,6 +1,6 @@
 ghost use Rattle.std.specs.Prelude.{◌≡◌, ◌==◌, ◌<◌, ◌≤◌, ◌+◌, ℕ, true, false, if◌then◌else◌, [], ◌∷◌, ◌++◌, map, length, vec_capacity, None, Some, is_some, nat_lt, OnOk, OnErr, MatchOption, position, IfOk, IfSome, IsTrue, ◌↔◌};
-ghost use Rattle.ctrl_handlers.specs.Plan.{IsPlan, IsFinished, no_plan, with_handler, with_control, with_added, with_item, with_cluster, finished, in_none, alone, control as control_of, control_in, own, added, menu_item, cluster_of, cluster_at, members, has_member, plan_flags, names_twice, HasClusterTable};
-ghost use Rattle.ctrl_handlers.specs.Builder.{control_refusal, adding_refusal, name_refusal, number_refusal, cluster_refusal, crowds_array};
+ghost use Rattle.ctrl_handlers.specs.Plan.{IsPlan, IsFinished, no_plan, with_handler, with_control, with_added, with_item, with_cluster, finished, in_none, alone, control as control_of, control_in, own, added, menu_item, cluster_of, cluster_at, members, has_member, plan_flags, names_twice, crowds_array, HasClusterTable};
+ghost use Rattle.ctrl_handlers.specs.Builder.{control_refusal, adding_refusal, name_refusal, number_refusal, cluster_refusal};
 ghost use Rattle.ctrl_settle.specs.Control.{is_array};
 ghost use Rattle.ctrl_settle.specs.Faults.{IsWellFormed};
 ghost use Rattle.menu_items.specs.Places.{takes};

@@ -17,7 +17,6 @@ use Rattle.ctrl_lists.specs.Answers.{answered, entries_judged, fault_at_count}
 use Rattle.ctrl_lists.specs.Checks.{at_first, entry_checks, first_refusal, judging_check, pairs_judged, refused_if, write_checks}
 use Rattle.ctrl_lists.specs.Touched.{list_asks, none_where, touched}
 use Rattle.ctrl_lists.specs.View.{ViewData, pairs_of}
-use Rattle.device_history.specs.declared.ask.Ask.TheVariants as asks
 use Rattle.device_history.specs.declared.ask.Reply.TheVariants.{Controls}
 use Rattle.device_history.specs.Forecasts.{queued_frames}
 use Rattle.device_history.specs.Handles.{handler_of}
@@ -25,7 +24,7 @@ use Rattle.device_history.specs.Lists.{checks_before_judging, controls_of, list_
 use Rattle.device_history.specs.Refusals.{is_full}
 use Rattle.device_history.specs.Steps.{Past}
 use Rattle.device_history.proofs.ListLemmas.{first_behind, none_of_both}
-use Rattle.device_state.specs.Device.{forecast_asks, list_most, list_touches, may_ask}
+use Rattle.device_state.specs.Device.{forecast_asks, list_most, list_touches}
 
 -- a bound that is larger where nothing refuses is larger
 most_more : (o : Option Refusal) (n m : ℕ) → none_where o n ≤ none_where o (n + m)
@@ -34,7 +33,8 @@ most_more (Some refusal) n m = omega arith
 
 -- a set may ask for what its list touches, however many frames are queued
 pub set_at_least : (verdicts : Verdicts) (plan : PlanData) (older : Past) (fh : FhId) (which : ℕ) (request : Option RequestId) (list : List ExtControl)
-    → list_most verdicts plan older fh which request true list (list_touches plan older fh which list) ≤ may_ask verdicts plan older (asks.SetCtrls fh which request list)
+    → list_most verdicts plan older fh which request true list (list_touches plan older fh which list)
+    ≤ list_most verdicts plan older fh which request true list (list_touches plan older fh which list + forecast_asks plan older (which_or (which_of which)) (touched plan (list_pairs plan older fh which list)))
 set_at_least verdicts plan older fh which request list =
     most_more (first_refusal (checks_before_judging verdicts plan older fh which request true list)) (list_touches plan older fh which list) (forecast_asks plan older (which_or (which_of which)) (touched plan (list_pairs plan older fh which list)))
 

@@ -1,5 +1,5 @@
 -- Steps that leave file handles, grabs, ranges and values: when they may follow, and what a call that adds one does.
-use Rattle.std.proofs.Common.{◌≡◌, ℕ, ◌+◌, ◌≤◌, Bool, true, false, List, [], length, is_some, if◌then◌else◌, Option, None, Some, Ok, Err, IsOk, refl, ap, sym, subst, ◌∙◌, arith, inl, inr}
+use Rattle.std.proofs.Common.{◌≡◌, ℕ, ◌+◌, ◌≤◌, Bool, true, false, List, length, is_some, if◌then◌else◌, Option, None, Some, Ok, Err, IsOk, refl, ap, sym, ◌∙◌, arith, inl, inr}
 use Rattle.history.specs.Past.{past}
 use Rattle.ctrl_types.specs.declared.check.Check.{Check}
 use Rattle.ctrl_types.specs.declared.check.Check.TheVariants.{ListRequestNotComplete, MemoryRefused, NotComplete}
@@ -15,7 +15,7 @@ use Rattle.device_history.specs.declared.ask.Reply.{Reply}
 use Rattle.device_history.specs.declared.ask.Step.{Step}
 use Rattle.device_history.specs.declared.ask.Step.TheVariants as steps
 use Rattle.device_history.specs.Steps.{History, Past}
-use Rattle.device_history.specs.Refusals.{fault_of, refused, step_check, stepped}
+use Rattle.device_history.specs.Refusals.{fault_of, refused, step_check}
 use Rattle.device_history.specs.Values.{now, values_after}
 use Rattle.device_history.specs.Words.{changes}
 use Rattle.device_history.specs.Forecasts.{queued_frames}
@@ -25,13 +25,13 @@ use Rattle.std.specs.Option.{option_map}
 use Rattle.req_book.specs.Refusals as book
 use Rattle.req_book.specs.declared.state.RequestState.{RequestState}
 use Rattle.device_history.specs.declared.ask.Reply.TheVariants.{Controls}
-use Rattle.device_history.specs.Answers.{MayAnswer, MayLackMemory, answer_of, step_of, no_memory}
+use Rattle.device_history.specs.Answers.{MayAnswer, step_of}
 use Rattle.device_history.specs.Legal.{MayFollow}
 use Rattle.device_history.proofs.FrameLaw.{found_request}
 use Rattle.ctrl_lists.specs.Touched.{with_calls}
 use Rattle.device_state.specs.Device.{DeviceData, Handles, list_most, list_touches, may_ask, must_ask, with_step, step_changes}
 use Rattle.step_effects.specs.QueuedFrames.{asks_at_most}
-use Rattle.step_effects.specs.Leaving.{NamesKnown, leaves_controls}
+use Rattle.step_effects.specs.Leaving.{leaves_controls}
 use Rattle.device_state.specs.Entering.{AddsStep}
 use Rattle.device_state.specs.Kept.{Caches, IsKept}
 use Rattle.device_state.proofs.HandleLemmas.{at_rest, asked_since, handles_asked, handles_set, told_since}
@@ -52,15 +52,6 @@ use Rattle.ctrl_types.specs.declared.value.CtrlValue.{CtrlValue}
 use Rattle.req_book.proofs.SettingLemmas.{snapshot_long}
 use Rattle.device_history.proofs.PresentLemmas.{length_now}
 use Rattle.step_effects.proofs.LeavingLemmas.{acted_controls_left}
-
--- an ask that adds such a step, where its refusal was read
-pub entered : (verdicts : Verdicts) (plan : PlanData) (older : Past) (words : List ℕ) (ask : Ask) (check own : Option Check) (step : Step) (reply : Reply) → check ≡ own → leaves_controls step ≡ true
-    → answer_of verdicts plan older words ask ≡ stepped own older reply → answer_of verdicts plan older [] ask ≡ stepped own older reply → (own ≡ None → step_of verdicts plan older ask ≡ Some step)
-    → (IsOk (stepped own older reply) → MayLackMemory verdicts plan older ask) → no_memory ask ≡ refused MemoryRefused → must_ask plan older ask ≡ 0 → (own ≡ None → NamesKnown (length plan.controls) step)
-    → asks_at_most plan (frames verdicts plan older) step (queued_frames plan older) ≤ may_ask verdicts plan older ask → AddsStep verdicts plan older words ask check step reply
-entered verdicts plan older words ask check own step reply is leaves answers alone adds lacks plain nobody known most =
-    subst (λ (o : Option Check). AddsStep verdicts plan older words ask o step reply) (sym is)
-    (record { leaves = leaves; answers = answers; answers_alone = alone; adds = adds; lacks = lacks; plain = plain; asks_nobody = nobody; known = known; most = most })
 
 -- a check refuses it
 pub entered_refused : (verdicts : Verdicts) (plan : PlanData) (older : Past) (words : List ℕ) (ask : Ask) (own : Option Check) (check : Check) (step : Step) (reply : Reply)
@@ -84,7 +75,7 @@ left_unchanged verdicts plan older step c leaves =
     ap (λ (l : Option (List Pair)). changes plan (now verdicts plan older) (values_after verdicts plan older step (now verdicts plan older)) l c) (acted_controls_left verdicts plan older step leaves)
 
 -- a call that adds one
-pub handles_controls_left : (verdicts : Verdicts) (old : DeviceData) (work : Work) (seat : ℕ) (ask : Ask) (step : Step) (reply : Reply) → work.told ≡ 0 → work.asked ≤ may_ask verdicts old.plan (past old.steps) ask
+pub handles_controls_left : (verdicts : Verdicts) (old : DeviceData) (work : Work) (seat : ℕ) (ask : Ask) (step : Step) (reply : Reply) → work.told ≡ 0 → work.asked ≤ may_ask verdicts old.plan (past old.steps) ask (Ok reply)
     → (with_calls (must_ask old.plan (past old.steps) ask) 0 ≤ work.asked) → MayAnswer verdicts old.plan (past old.steps) old.words ask (Ok reply)
     → step_of verdicts old.plan (past old.steps) ask ≡ Some step → leaves_controls step ≡ true
     → Handles verdicts old (with_step (record old { work = work }) seat step) seat ask (Ok reply)
@@ -103,7 +94,7 @@ pub handles_entered : (verdicts : Verdicts) (old : DeviceData) (start work : Wor
     → work.asked ≤ start.asked + asks_at_most old.plan (frames verdicts old.plan (past old.steps)) step (queued_frames old.plan (past old.steps)) → AddsStep verdicts old.plan (past old.steps) old.words ask own step reply → step_check (past old.steps) own ≡ None
     → Handles verdicts old (with_step (record old { work = work }) seat step) seat ask (Ok reply)
 handles_entered verdicts old start work seat ask own step reply rest untold asked is free =
-    handles_controls_left verdicts old work seat ask step reply (told_since start work rest untold) (omega (arith, asked_since start work _ rest asked, is.most)) (rw is.asks_nobody (omega arith))
+    handles_controls_left verdicts old work seat ask step reply (told_since start work rest untold) (omega (arith, asked_since start work _ rest asked, is.most (Ok reply))) (rw is.asks_nobody (omega arith))
     (inl (sym (is.answers ∙ step_answered (past old.steps) own reply free))) (is.adds (step_passes (past old.steps) own free).0) is.leaves
 
 -- one for which there is no memory
@@ -111,7 +102,7 @@ pub handles_lacking : (verdicts : Verdicts) (old new : DeviceData) (start work :
     → work.asked ≤ start.asked + asks_at_most old.plan (frames verdicts old.plan (past old.steps)) step (queued_frames old.plan (past old.steps)) → AddsStep verdicts old.plan (past old.steps) old.words ask own step reply → step_check (past old.steps) own ≡ None
     → Handles verdicts old new seat ask (refused MemoryRefused)
 handles_lacking verdicts old new start work seat ask own step reply begin rest untold asked is free =
-    handles_asked verdicts old new start work seat ask (refused MemoryRefused) begin rest untold (omega (arith, asked, is.most)) (λ e. cc) refl (entered_lacks verdicts old.plan (past old.steps) old.words ask own step reply is free)
+    handles_asked verdicts old new start work seat ask (refused MemoryRefused) begin rest untold (omega (arith, asked, is.most (refused MemoryRefused))) (λ e. cc) refl (entered_lacks verdicts old.plan (past old.steps) old.words ask own step reply is free)
 
 -- the request that is kept under an id
 pub found : (verdicts : Verdicts) (told : Words) (plan : PlanData) (entries : History) (caches : Caches) (r : ℕ) → IsKept verdicts told plan entries caches

@@ -54,7 +54,7 @@ pub asked_at_rest : (work : Work) (n : ℕ) → work ≡ at_rest → work.asked 
 asked_at_rest work n rest = omega (arith, ap (λ (w : Work). w.asked) rest)
 
 -- a call that adds no step
-pub handles_none : (verdicts : Verdicts) (old : DeviceData) (work : Work) (seat : ℕ) (ask : Ask) (answer : Answer) → work.told ≡ 0 → work.asked ≤ may_ask verdicts old.plan (past old.steps) ask
+pub handles_none : (verdicts : Verdicts) (old : DeviceData) (work : Work) (seat : ℕ) (ask : Ask) (answer : Answer) → work.told ≡ 0 → work.asked ≤ may_ask verdicts old.plan (past old.steps) ask answer
     → (IsOk answer → with_calls (must_ask old.plan (past old.steps) ask) 0 ≤ work.asked) → taken verdicts old.plan (past old.steps) ask answer ≡ None → MayAnswer verdicts old.plan (past old.steps) old.words ask answer
     → Handles verdicts old (record old { work = work }) seat ask answer
 handles_none verdicts old work seat ask answer told asked all none may = record {
@@ -213,7 +213,7 @@ handles_grab verdicts old start work seat c on rest untold asked is = record {
 
 -- a call that changes nothing, where validators were asked
 pub handles_asked : (verdicts : Verdicts) (old new : DeviceData) (start work : Work) (seat : ℕ) (ask : Ask) (answer : Answer) → new ≡ record old { work = work } → start ≡ at_rest
-    → work.told ≡ start.told → work.asked ≤ start.asked + may_ask verdicts old.plan (past old.steps) ask → (IsOk answer → with_calls (must_ask old.plan (past old.steps) ask) 0 ≤ work.asked) → taken verdicts old.plan (past old.steps) ask answer ≡ None
+    → work.told ≡ start.told → work.asked ≤ start.asked + may_ask verdicts old.plan (past old.steps) ask answer → (IsOk answer → with_calls (must_ask old.plan (past old.steps) ask) 0 ≤ work.asked) → taken verdicts old.plan (past old.steps) ask answer ≡ None
     → MayAnswer verdicts old.plan (past old.steps) old.words ask answer → Handles verdicts old new seat ask answer
 handles_asked verdicts old new start work seat ask answer begin rest told asked all none may =
     rw begin (handles_none verdicts old work seat ask answer (told_since start work rest told) (asked_since start work _ rest asked) all none may)

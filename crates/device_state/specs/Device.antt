@@ -1,5 +1,5 @@
 -- What a device is seen as, and what a call does to it (of this project).
-use Rattle.std.specs.Prelude.{◌≡◌, ◌+◌, ℕ, Bool, true, false, ◌≤◌, [], ◌∷◌, ◌++◌, List, Option, None, Some, IsErr, IsOk, length, ◌<◌, slice_index}
+use Rattle.std.specs.Prelude.{◌≡◌, ◌+◌, ℕ, Bool, true, false, ◌≤◌, [], ◌∷◌, ◌++◌, List, Option, None, Some, Ok, Err, IsErr, IsOk, length, ◌<◌, slice_index}
 use Rattle.std.specs.List.{list_any}
 use Rattle.history.specs.Past.{past, entered}
 use Rattle.ctrl_calls.specs.declared.work.Work.{Work}
@@ -71,20 +71,25 @@ abbrev pub cluster_asks : PlanData → Past → Option ℕ → ℕ
 cluster_asks plan past None = 0
 cluster_asks plan past (Some k) = named_by_frames plan (queued_frames plan past) (k ∷ [])
 
--- How many validators an ask may have asked: a set and a try one for each cluster that they touch, and a set of present values one more for each
+-- so many where an ask is accepted, and none where it is refused
+abbrev pub where_accepted : Answer → ℕ → ℕ
+where_accepted (Ok reply) most = most
+where_accepted (Err fault) most = 0
+
+-- How many validators an ask may have asked with this answer: a set and a try one for each cluster that they touch, and a set of present values one more for each
 -- queued frame that names the cluster, but none where the list is refused before a cluster is judged; queueing one for each cluster that its
 -- request names, and a cancellation one for each of these and each frame queued behind that names it too; a grab and a range change one for each queued
--- frame that names the cluster; every other ask none, so that the begin of a frame and a forecast ask nobody.
-abbrev pub may_ask : Verdicts → PlanData → Past → Ask → ℕ
-may_ask verdicts plan past (asks.SetCtrls fh which request list) =
+-- frame that names the cluster, but none where they are refused; every other ask none, so that the begin of a frame and a forecast ask nobody.
+abbrev pub may_ask : Verdicts → PlanData → Past → Ask → Answer → ℕ
+may_ask verdicts plan past (asks.SetCtrls fh which request list) answer =
     list_most verdicts plan past fh which request true list
     (list_touches plan past fh which list + forecast_asks plan past (which_or (which_of which)) (touched plan (list_pairs plan past fh which list)))
-may_ask verdicts plan past (asks.TryCtrls fh which request list) = list_most verdicts plan past fh which request false list (list_touches plan past fh which list)
-may_ask verdicts plan past (asks.Queue id) = asks_at_most plan (frames verdicts plan past) (steps.Queue id) (queued_frames plan past)
-may_ask verdicts plan past (asks.Cancel id) = asks_at_most plan (frames verdicts plan past) (steps.Cancel id) (queued_frames plan past)
-may_ask verdicts plan past (asks.Grab c on) = cluster_asks plan past (cluster_of plan c)
-may_ask verdicts plan past (asks.ModifyRange c low high apart default_value) = cluster_asks plan past (cluster_of plan c)
-may_ask verdicts plan past _ = 0
+may_ask verdicts plan past (asks.TryCtrls fh which request list) answer = list_most verdicts plan past fh which request false list (list_touches plan past fh which list)
+may_ask verdicts plan past (asks.Queue id) answer = asks_at_most plan (frames verdicts plan past) (steps.Queue id) (queued_frames plan past)
+may_ask verdicts plan past (asks.Cancel id) answer = asks_at_most plan (frames verdicts plan past) (steps.Cancel id) (queued_frames plan past)
+may_ask verdicts plan past (asks.Grab c on) answer = where_accepted answer (cluster_asks plan past (cluster_of plan c))
+may_ask verdicts plan past (asks.ModifyRange c low high apart default_value) answer = where_accepted answer (cluster_asks plan past (cluster_of plan c))
+may_ask verdicts plan past _ answer = 0
 
 -- how many validators a set and a try ask at least, where they are accepted: one for each cluster that they touch and that has one; every other ask none
 abbrev pub must_ask : PlanData → Past → Ask → ℕ
@@ -126,5 +131,5 @@ pub record Handles (verdicts : Verdicts) (old new : DeviceData) (seat : ℕ) (as
       → list_any (step_changes verdicts old.plan (past old.steps) (taken verdicts old.plan (past old.steps) ask answer)) (members old.plan k) ≡ false
       → slice_index new.words k ≡ slice_index old.words k
   pub notified : new.work.told ≡ notified_count old.plan (λ k. list_any (step_changes verdicts old.plan (past old.steps) (taken verdicts old.plan (past old.steps) ask answer)) (members old.plan k))
-  pub asked : new.work.asked ≤ may_ask verdicts old.plan (past old.steps) ask
+  pub asked : new.work.asked ≤ may_ask verdicts old.plan (past old.steps) ask answer
   pub asked_all : IsOk answer → with_calls (must_ask old.plan (past old.steps) ask) 0 ≤ new.work.asked

@@ -11,7 +11,7 @@ use Rattle.device_history.specs.Steps.{Past}
 use Rattle.device_history.specs.Snapshots.{frames}
 use Rattle.device_history.specs.Forecasts.{queued_frames}
 use Rattle.step_effects.specs.QueuedFrames.{asks_at_most}
-use Rattle.device_history.specs.Refusals.{refused, stepped}
+use Rattle.device_history.specs.Refusals.{Answer, refused, stepped}
 use Rattle.device_history.specs.Answers.{answer_of, step_of, no_memory, MayLackMemory}
 use Rattle.step_effects.specs.Leaving.{NamesKnown, leaves_controls}
 use Rattle.device_state.specs.Device.{may_ask, must_ask}
@@ -26,6 +26,6 @@ pub record AddsStep (verdicts : Verdicts) (plan : PlanData) (past : Past) (words
   pub lacks : IsOk (stepped check past reply) → MayLackMemory verdicts plan past ask
   pub plain : no_memory ask ≡ refused MemoryRefused
   pub asks_nobody : must_ask plan past ask ≡ 0
-  -- validators are asked as often as for the step, at most
-  pub most : asks_at_most plan (frames verdicts plan past) step (queued_frames plan past) ≤ may_ask verdicts plan past ask
+  -- whatever the answer, validators may be asked as often as for the step
+  pub most : (answer : Answer) → asks_at_most plan (frames verdicts plan past) step (queued_frames plan past) ≤ may_ask verdicts plan past ask answer
   pub known : check ≡ None → NamesKnown (length plan.controls) step

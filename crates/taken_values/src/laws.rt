@@ -1,15 +1,12 @@
 //! What follows from the definitions. Each law is the contract of a function that does nothing.
 
-ghost use Rattle.std.specs.Prelude.{◌≡◌, ◌<◌, ◌↔◌, ℕ, ℤ, true, List, [], ◌∷◌, Option, None, Some, length, slice_get};
+ghost use Rattle.std.specs.Prelude.{◌≡◌, ◌<◌, ◌↔◌, ℕ, true, [], ◌∷◌, None, Some, length, slice_get};
 ghost use Rattle.ctrl_types.specs.declared.value.CtrlValue.{CtrlValue};
 ghost use Rattle.ctrl_calls.specs.Meanings.{Verdicts};
-ghost use Rattle.ctrl_calls.specs.declared.relation.Relations.{Relations};
 ghost use Rattle.ctrl_settle.specs.Control.{Control, is_array};
 ghost use Rattle.ctrl_settle.specs.Faults.{IsWellFormed};
 ghost use Rattle.ctrl_settle.specs.Settle.{IsSettled};
-ghost use Rattle.ctrl_handlers.specs.Builder.{cluster_refusal};
-ghost use Rattle.ctrl_handlers.specs.Plan.{PlanData, IsPlan, cluster_at, cluster_of, control_in, finished, members, no_plan, with_added, with_cluster, with_control, with_handler, with_item};
-ghost use Rattle.menu_items.specs.declared.item.MenuItem.{MenuItem};
+ghost use Rattle.ctrl_handlers.specs.Plan.{PlanData, IsPlan, cluster_at, cluster_of, control_in, members};
 ghost use Rattle.ctrl_clusters.specs.Rows.{value_at};
 ghost use Rattle.ctrl_forecast.specs.declared.board.Forecast.{Forecast};
 ghost use Rattle.device_history.specs.Forecasts.{forecast};
@@ -17,7 +14,6 @@ ghost use Rattle.device_history.specs.Legal.{IsLegal};
 ghost use Rattle.device_history.specs.Ranges.{ranges_now};
 ghost use Rattle.device_history.specs.Steps.{Past};
 ghost use Rattle.device_history.specs.Values.{now};
-ghost use Rattle.taken_values.specs.Arrays.{HasLoneArrays};
 ghost use Rattle.taken_values.specs.Kinds.{IsValueOf};
 
 /// A control takes the values of its kind as they are, and no others.
@@ -47,16 +43,8 @@ pub fn taken_forecast_values()
         → IsValueOf (control_in (ranges_now plan older) c) (value_at row.values c) }
 {}
 
-/// A builder begins with a plan whose arrays are alone, and each of its calls leaves them so: one that makes a cluster, where it isn't refused. So are they once the plan is finished. An array of
-/// such a plan is at every moment the only member of its cluster, which is no auto cluster. `IsFinished` alone doesn't say that of a plan.
+/// After every history an array is the only member of its cluster, which is no auto cluster.
 pub fn lone_arrays()
-    ensures start { HasLoneArrays no_plan }
-    ensures handler { (plan : PlanData) → HasLoneArrays plan → HasLoneArrays (with_handler plan) }
-    ensures control { (plan : PlanData) (handler : ℕ) (ctrl : Control) → IsPlan plan → HasLoneArrays plan → HasLoneArrays (with_control plan handler ctrl) }
-    ensures adding { (plan : PlanData) (to added : ℕ) → HasLoneArrays plan → HasLoneArrays (with_added plan to added) }
-    ensures item { (plan : PlanData) (c index : ℕ) (item : MenuItem) → HasLoneArrays plan → HasLoneArrays (with_item plan c index item) }
-    ensures cluster { (plan : PlanData) (named : List ℕ) (manual : Option ℤ) (calls : Relations) → cluster_refusal plan named manual ≡ None → HasLoneArrays plan → HasLoneArrays (with_cluster plan named manual calls) }
-    ensures finished { (plan : PlanData) → HasLoneArrays plan → HasLoneArrays (finished plan) }
-    ensures alone { (plan : PlanData) (older : Past) (c k : ℕ) → HasLoneArrays plan → cluster_of plan c ≡ Some k → is_array (control_in (ranges_now plan older) c) ≡ true
+    ensures { (plan : PlanData) (older : Past) (c k : ℕ) → IsPlan plan → cluster_of plan c ≡ Some k → is_array (control_in (ranges_now plan older) c) ≡ true
         → (members plan k ≡ c ∷ []) × ((cluster_at plan k).manual ≡ None) }
 {}
