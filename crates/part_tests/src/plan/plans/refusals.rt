@@ -1,12 +1,11 @@
-// The numbers of the refusals, a builder that is full, and one that is refused memory.
-ghost use Rattle.std.specs.Prelude.{◌≤◌, length};
-
+// The numbers of the refusals, a builder that is full, and one whose growths are refused in turn.
 use super::building::{Call, answer, built, declare, finished, make};
 use super::closures::{Alike, calling};
 use super::looks::{Look, holds, same};
-use ctrl_handlers::{PlanBuilder, PlanFault};
+use ctrl_handlers::PlanFault;
 use ctrl_types::Kind;
-use std::alloc::Global;
+use hoard::Hoard;
+use std::alloc::{AllocError, Global};
 use std::process::Abort;
 use std::sync::Arc;
 use std::sync::atomic::AtomicU64;
@@ -130,42 +129,87 @@ const ALL_FOUND: &[Look] = &[
     Look::Number(7, 1, Some(-7)),
 ];
 
-// What is refused memory is accepted the second time.
+// The plan has these looks where nothing is refused.
 #[test]
-fn refused_memory(rt: HostRuntime) {
+fn all_calls(rt: HostRuntime) {
     holds(&rt, rt.alloc(), 0, ALL, ALL_FOUND);
 }
 
-// Makes the calls, up to one that is refused memory; how many were accepted.
-fn accepted(
+// So often a call is made, each time with so many bytes more than before, until it isn't refused memory.
+const MOST: usize = 1024;
+
+const MORE: usize = 16;
+
+// Makes the call at a place behind those before it, first without memory. Where it is refused that the builder is as before: it finishes the plan of the
+// calls before, and closures are handed back. How often it was refused; none where something else came of it.
+fn refusals_at(
     rt: &impl Abort,
-    builder: &mut PlanBuilder<Alike>,
+    alloc: Global,
+    hoard: &mut Hoard,
     called: &Arc<AtomicU64>,
-    calls: &[(Call, Result<u32, PlanFault>)],
-) -> usize
-    ensures { result ≤ length calls.now }
-{
-    for (place, &(call, want)) in calls.iter().enumerate() {
-        let got = answer(rt, builder, called, call);
-        if got == Err(PlanFault::Memory) {
-            return place;
+    place: usize,
+) -> Option<usize> {
+    let (before, behind) = ALL.split_at_checked(place)?;
+    let &(call, want) = behind.first()?;
+    for times in 0..MOST {
+        let mut builder = built(rt, alloc, called, 0, before);
+        hoard.leave(MORE * times);
+        let got = answer(rt, &mut builder, called, call);
+        hoard.give();
+        if got == want {
+            return Some(times);
         }
-        assert!(rt; got == want, "{call:?}");
+        let is_as_before = same(
+            &finished(rt, builder),
+            &finished(rt, built(rt, alloc, called, 0, before)),
+            called,
+        );
+        if got != Err(PlanFault::Memory) || !is_as_before {
+            return None;
+        }
     }
-    calls.len()
+    None
 }
 
-// A builder that was refused memory is as before: it finishes the plan of the calls that were accepted.
-fn keeps(rt: &impl Abort, alloc: Global, calls: &[(Call, Result<u32, PlanFault>)]) {
-    let called = calling(rt, alloc);
-    let mut builder = PlanBuilder::new(alloc);
-    let count = accepted(rt, &mut builder, &called, calls);
-    let plan = finished(rt, builder);
-    let other = finished(rt, built(rt, alloc, &called, 0, &calls[..count]));
-    assert!(rt; same(&plan, &other, &called), "{count}");
+// The same of finishing: the builder is handed back, and finishes the same plan when it has memory.
+fn refusals_at_the_end(
+    rt: &impl Abort,
+    alloc: Global,
+    hoard: &mut Hoard,
+    called: &Arc<AtomicU64>,
+) -> Option<usize> {
+    let mut builder = built(rt, alloc, called, 0, ALL);
+    for times in 0..MOST {
+        hoard.leave(MORE * times);
+        let done = builder.finish();
+        hoard.give();
+        builder = match done {
+            Ok(plan) => {
+                let other = finished(rt, built(rt, alloc, called, 0, ALL));
+                return same(&plan, &other, called).then_some(times);
+            }
+            Err((builder, PlanFault::Memory)) => builder,
+            Err(_) => return None,
+        };
+    }
+    None
 }
 
+// Each call with the growths of which it is refused; a place without any takes no memory of its own.
 #[test]
-fn a_refusal_changes_nothing(rt: HostRuntime) {
-    keeps(&rt, rt.alloc(), ALL);
+fn a_builder_that_is_refused_memory_is_as_before(rt: HostRuntime) -> Result<(), AllocError> {
+    let alloc = rt.alloc();
+    let called = calling(&rt, alloc);
+    let mut hoard = Hoard::new(alloc)?;
+    let mut refused = 0u32;
+    for place in 0..ALL.len() {
+        let times = refusals_at(&rt, alloc, &mut hoard, &called, place);
+        assert!(rt; times.is_some(), "{place}");
+        if times != Some(0) {
+            refused = refused.saturating_add(1);
+        }
+    }
+    let at_the_end = refusals_at_the_end(&rt, alloc, &mut hoard, &called);
+    assert!(rt; refused > 5 && at_the_end.is_some() && at_the_end != Some(0), "{refused} {at_the_end:?}");
+    Ok(())
 }
