@@ -1,5 +1,5 @@
 //! Tests of the device that no script with its replies can show: how often closures are called, each by a count of its own; a device with as many
-//! steps as are kept; what a driver's readers tell; with which other devices an audit agrees; and, in `replay`, what an audit makes of histories
+//! steps as are kept; what a driver's readers tell; what sets answer whose validators answer what clusters can't take; with which other devices an audit agrees; and, in `replay`, what an audit makes of histories
 //! that no device has.
 #![tactic(auto)]
 
@@ -23,3 +23,5 @@ mod readers;
 mod replay;
 #[cfg(test)]
 mod scene;
+#[cfg(test)]
+mod verdicts;

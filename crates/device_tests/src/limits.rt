@@ -2,7 +2,7 @@
 //! without a step answers as ever.
 
 use crate::closures::Counting;
-use crate::scene::{Counters, behind, counters, device};
+use crate::scene::{Counters, behind, counters, device, parts};
 use device_state::{Ask, Device};
 use std::alloc::{AllocError, Global};
 use std::process::Abort;
@@ -124,21 +124,6 @@ fn device_with(
         }
     }
     Ok(device)
-}
-
-// The commands of a script and their replies, each with a line feed.
-fn parts(alloc: Global, text: &str) -> Result<(Vec<u8>, Vec<u8>), AllocError> {
-    let mut commands = Vec::new(alloc);
-    let mut replies = Vec::new(alloc);
-    for line in text.lines() {
-        if let Some((command, reply)) = line.split_once(" -> ") {
-            commands.extend_from_slice(command.as_bytes())?;
-            commands.push(b'\n')?;
-            replies.extend_from_slice(reply.as_bytes())?;
-            replies.push(b'\n')?;
-        }
-    }
-    Ok((commands, replies))
 }
 
 // Whether a script is answered so and asks so many validators. Where it isn't, the replies are handed back.

@@ -112,6 +112,21 @@ pub fn behind(
     }
 }
 
+/// The commands of a script, a line `COMMAND -> REPLY` each, and their replies, each with a line feed.
+pub fn parts(alloc: Global, text: &str) -> Result<(Vec<u8>, Vec<u8>), AllocError> {
+    let mut commands = Vec::new(alloc);
+    let mut replies = Vec::new(alloc);
+    for line in text.lines() {
+        if let Some((command, reply)) = line.split_once(" -> ") {
+            commands.extend_from_slice(command.as_bytes())?;
+            commands.push(b'\n')?;
+            replies.extend_from_slice(reply.as_bytes())?;
+            replies.push(b'\n')?;
+        }
+    }
+    Ok((commands, replies))
+}
+
 /// How often notifiers were told in all.
 pub fn told(counters: &Counters) -> u64 {
     let mut sum = 0u64;

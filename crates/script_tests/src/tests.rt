@@ -165,39 +165,64 @@ fn readers_fail_at_each_read(rt: HostRuntime) -> Result<(), AllocError> {
     Ok(())
 }
 
-// How many bytes an input has, which of its reads fails, what it prints, how it ends, and how many reads there are.
-type Input = (usize, Option<(u32, ErrorKind)>, &'static str, Outcome, u32);
+// How many signs of a comment an input has and what stands behind them, which of its reads fails, what it prints, how it ends, and how many reads there are.
+type Input = (
+    usize,
+    &'static str,
+    Option<(u32, ErrorKind)>,
+    &'static str,
+    Outcome,
+    u32,
+);
 
-// Every read is interrupted; an input has the most bytes, and one more.
+// Every read is interrupted; an input has the most bytes, also where its last line is no command, and one more.
 const INPUTS: &[Input] = &[
     (
         0,
+        "",
         Some((0, ErrorKind::Interrupted)),
         "read fault\n",
         Outcome::ReadFault,
         MAX_READS,
     ),
-    (0, None, "", Outcome::Finished, 1),
-    (MAX_INPUT, None, "", Outcome::Finished, 257),
+    (0, "", None, "", Outcome::Finished, 1),
+    (MAX_INPUT, "", None, "", Outcome::Finished, 257),
+    (
+        1_048_571,
+        "\nwalk",
+        None,
+        "line 2: not a command\n",
+        Outcome::BadLine(2),
+        257,
+    ),
     (
         MAX_INPUT,
+        "",
         Some((257, ErrorKind::Other)),
         "read fault\n",
         Outcome::ReadFault,
         257,
     ),
-    (1_048_577, None, "input too long\n", Outcome::TooLong, 257),
+    (
+        1_048_577,
+        "",
+        None,
+        "input too long\n",
+        Outcome::TooLong,
+        257,
+    ),
 ];
 
 // A run of an input without commands prints that on the sample device, which gets no step.
 fn ends(alloc: Global, input: &Input) -> Result<bool, AllocError> {
-    let text = vec![in alloc; b'#'; input.0]?;
+    let mut text = vec![in alloc; b'#'; input.0]?;
+    text.extend_from_slice(input.1.as_bytes())?;
     let streams = Streams {
-        read_fault: input.1,
+        read_fault: input.2,
         ..WHOLE
     };
     let ran = run(alloc, Kept::Sample, text.as_slice(), streams)?;
-    Ok(is_run(&ran, input.2.as_bytes(), input.3, 0) && ran.reads == input.4)
+    Ok(is_run(&ran, input.3.as_bytes(), input.4, 0) && ran.reads == input.5)
 }
 
 #[test]

@@ -1,7 +1,8 @@
-//! The numbers of errors, checks, kinds, flags and classes.
+//! The numbers of errors, checks, kinds, flags and classes, and how values are shown.
 
 use bitflags::Flags as FlagSet;
-use ctrl_types::{Check, CtrlId, Errno, Flags, Kind, Which};
+use ctrl_types::{ByteRow, Check, CtrlId, CtrlValue, Errno, Flags, Kind, Which};
+use std::alloc::{AllocError, Global};
 use std::process::Abort;
 
 #[derive(Clone, Copy)]
@@ -119,4 +120,23 @@ fn which_reads(rt: HostRuntime) {
 #[test]
 fn flags_keep_their_bits(rt: HostRuntime) {
     check(&rt, FLAGS);
+}
+
+// Whether a number is shown as it is, and each byte of an array by two digits.
+fn is_shown(alloc: Global) -> Result<bool, AllocError> {
+    let number = CtrlValue::Number(-5);
+    let bytes = ByteRow::from_slice(&[0x05, 0xa0, 0x00, 0xff]).map(CtrlValue::Bytes);
+    match bytes {
+        Some(bytes) => {
+            let shown = format!(in alloc; "{number} {bytes}")?;
+            Ok(shown.as_str() == "-5 x05a000ff")
+        }
+        None => Ok(false),
+    }
+}
+
+#[test]
+fn values_are_shown(rt: HostRuntime) -> Result<(), AllocError> {
+    assert!(rt; is_shown(rt.alloc())?);
+    Ok(())
 }
