@@ -1,67 +1,57 @@
 //! A device some of whose ranges follow: the ranges that it asks for by itself behind each command of a script, through `handle_and_follow`.
 
-use bitflags::Flags as FlagSet;
 use ctl_script::{Binding, Bindings, ControlWords, ask_of};
-use ctrl_settle::CtrlConfig;
-use ctrl_types::{CtrlId, Flags, Kind};
+use ctrl_types::Fault;
 use data_driver::Data;
-use device_state::{Ask, Device, PlanBuilder};
-use following_ranges::{
-    DefaultSource, Follower, RangeAsk, Source, handle_and_follow, range_wanted,
-};
+use device_file::{DeviceFile, read_device};
+use device_state::{Ask, Device};
+use following_ranges::{Follower, RangeAsk, handle_and_follow};
 use script_lines::read_line;
-use std::alloc::Global;
+use std::alloc::{AllocError, Global};
 use std::fmt::Write;
 use std::process::Abort;
 
-// Kind, minimum, maximum and default of each control, and its step. The ranges of 1, 3 and 4 are those that they are wanted to have.
-const CONTROLS: [(Kind, i64, i64, i64, u64); 5] = [
-    (Kind::Integer, 24, 1000, 24, 1),
-    (Kind::Integer, 4, 120, 100, 4),
-    (Kind::Integer64, -5_000_000_000, 5_000_000_000, 50, 1),
-    (Kind::Integer, 40, 100, 50, 1),
-    (Kind::Integer64, 50, 50, 50, 1),
-];
-
-const WORDS: [&[u8]; 5] = [b"vblank", b"exposure", b"hblank", b"gain", b"wide"];
-
-// What exposure, gain and wide follow: the last two are numbered in falling order.
-const FOLLOWERS: [Follower; 3] = [
-    Follower {
-        control: 4,
-        minimum: Some(HBLANK),
-        maximum: Some(VBLANK),
-        default_value: DefaultSource::Number(7),
-    },
-    Follower {
-        control: 3,
-        minimum: Some(Source {
-            control: 2,
-            plus: -10,
-        }),
-        maximum: None,
-        default_value: DefaultSource::Value(HBLANK),
-    },
-    Follower {
-        control: 1,
-        minimum: None,
-        maximum: Some(Source {
-            control: 0,
-            plus: 96,
-        }),
-        default_value: DefaultSource::Number(100),
-    },
-];
-
-const VBLANK: Source = Source {
-    control: 0,
-    plus: 0,
-};
-
-const HBLANK: Source = Source {
-    control: 2,
-    plus: 0,
-};
+// Of exposure the maximum follows, of gain the minimum and the default, of wide both bounds.
+const FILE: &[u8] = b"\
+[[handler]]
+name = 'sensor'
+[[handler.control]]
+name = 'vblank'
+id = 0x00981000
+type = 'integer'
+min = 24
+max = 1000
+default = 24
+[[handler.control]]
+name = 'exposure'
+id = 0x00981001
+type = 'integer'
+min = 4
+max = { follows = 'vblank', plus = 96 }
+step = 4
+default = 100
+[[handler.control]]
+name = 'hblank'
+id = 0x00981002
+type = 'integer64'
+min = -5000000000
+max = 5000000000
+default = 50
+[[handler.control]]
+name = 'gain'
+id = 0x00981003
+type = 'integer'
+min = { follows = 'hblank', plus = -10 }
+max = 100
+default = { follows = 'hblank' }
+[[handler.control]]
+name = 'wide'
+id = 0x00981004
+type = 'integer64'
+min = { follows = 'hblank' }
+max = { follows = 'vblank' }
+default = 7
+";
 
 // Commands, each with what it is answered and the asks of the device's own: the control, its range, and the errno of a refusal; and whether a range is owed then. What moves no followed value
 // has none: a command that is refused, a try, a store, a set of what is there, a range of a control that follows. A maximum isn't below the minimum, a minimum
@@ -71,7 +61,7 @@ open f 0 -> ok
 set f cur vblank=500 -> ok, 1: 4 596 4 100, 4: 50 500 1 50
 set f cur vblank=500 -> ok
 try f cur vblank=24 -> ok
-set f cur vblank=24 flip=1 -> error 22
+set f cur vblank=24 0x00982000=1 -> error 22
 set f cur exposure=400 -> ok
 set f cur vblank=0 -> ok, 1: 4 120 4 100, 4: 50 50 1 50
 get f cur exposure wide -> ok
@@ -108,7 +98,7 @@ const OWED: [&str; 3] = [
 open f 0 -> ok, owed
 get f cur exposure -> ok, owed
 try f cur vblank=30 -> ok, owed
-set f cur vblank=24 flip=1 -> error 22, owed
+set f cur vblank=24 0x00982000=1 -> error 22, owed
 grab gain on -> ok, owed
 set f cur vblank=24 -> ok, 1: 0 120 10 100
 set f cur vblank=24 -> ok
@@ -140,104 +130,173 @@ const OTHER: Ask = Ask::ModifyRange {
     default_value: 20,
 };
 
-// A device of these controls, and the words for them.
-fn device(alloc: Global) -> Option<(Device<Data>, ControlWords)> {
-    let mut builder = PlanBuilder::new(alloc);
-    let mut words = ControlWords::new(alloc);
-    let handler = builder.handler().ok()?;
-    for (number, (kind, minimum, maximum, default_value, step)) in CONTROLS.iter().enumerate() {
-        let id = CtrlId(0x0098_1000u32.wrapping_add(number as u32));
-        let config = CtrlConfig {
-            id,
-            kind: *kind,
-            minimum: *minimum,
-            maximum: *maximum,
-            step: *step,
-            default_value: *default_value,
-            skip: 0,
-            flags: Flags::empty(),
-            is_private: false,
-            elems: None,
-        };
-        builder.control(handler, config.build().ok()?).ok()?;
-        words
-            .push(alloc, WORDS.get(number).copied()?, id, number as u32)
-            .ok()?;
-    }
-    words.push(alloc, b"flip", CtrlId(0x0098_2000), 5).ok()?;
-    Some((Device::new(alloc, builder.finish().ok()?).ok()?, words))
+// What commands are answered where no growth is refused; and where one is for the first range, for the set itself, or before the device is asked. A range that lacked
+// memory is asked again by the next set of the same value, once, and not by the get before it. That range is the fifth step, for which the list of steps grows.
+const LACKED: [&str; 4] = [
+    "\
+open f 0 -> ok
+open g 0 -> ok
+open h 0 -> ok
+set f cur vblank=500 -> ok, 1: 4 596 4 100, 4: 50 500 1 50
+get f cur exposure -> ok
+set f cur vblank=500 -> ok
+set f cur vblank=500 -> ok
+",
+    "\
+open f 0 -> ok
+open g 0 -> ok
+open h 0 -> ok
+set f cur vblank=500 -> ok, 1: 4 596 4 100 error 12, 4: 50 500 1 50, owed
+get f cur exposure -> ok, owed
+set f cur vblank=500 -> ok, 1: 4 596 4 100
+set f cur vblank=500 -> ok
+",
+    "\
+open f 0 -> ok
+open g 0 -> ok
+open h 0 -> ok
+set f cur vblank=500 -> error 12
+get f cur exposure -> ok
+set f cur vblank=500 -> ok, 1: 4 596 4 100, 4: 50 500 1 50
+set f cur vblank=500 -> ok
+",
+    "\
+open f 0 -> ok
+open g 0 -> ok
+open h 0 -> ok
+set f cur vblank=500 -> no memory
+get f cur exposure -> ok
+set f cur vblank=500 -> ok, 1: 4 596 4 100, 4: 50 500 1 50
+set f cur vblank=500 -> ok
+",
+];
+
+// Controls that follow, with the minimum, the maximum and the default that each has at the start.
+const STARTS: [(u32, i64, i64, i64); 3] = [(1, 4, 120, 100), (3, 40, 100, 50), (4, 50, 50, 50)];
+
+// A device in the midst of a script.
+#[derive(Drop)]
+struct Run {
+    device: Device<Data>,
+    words: ControlWords,
+    followers: Vec<Follower>,
+    names: Bindings,
+    owed: bool,
 }
 
-// What a command is answered, behind it the asks of the device's own, and whether a range is owed then.
-fn answered(
-    alloc: Global,
-    device: &mut Device<Data>,
-    words: &ControlWords,
-    names: &mut Bindings,
-    owed: &mut bool,
-    command: &str,
-) -> Option<String> {
+// A fresh device of the file. Its followers are numbered in falling order, and their ranges are asked for in rising order all the same.
+fn begun(alloc: Global) -> Option<Run> {
+    let Ok(file) = read_device(alloc, FILE) else {
+        return None;
+    };
+    let DeviceFile {
+        plan,
+        words,
+        mut followers,
+    } = file;
+    followers.as_mut_slice().reverse();
+    match Device::new(alloc, plan) {
+        Ok(device) => Some(Run {
+            device,
+            words,
+            followers,
+            names: Bindings::new(alloc),
+            owed: false,
+        }),
+        Err(_) => None,
+    }
+}
+
+// Asks for so many ends of the stream, and where a range is to be owed, for another one. What is answered behind them shows that they were accepted.
+fn prepare(run: &mut Run, steps: u32, is_owed: bool) {
+    for _ in 0..steps {
+        let _ = run.device.handle(0, &Ask::StreamOff);
+    }
+    if is_owed {
+        let _ = run.device.handle(0, &OTHER);
+    }
+    run.owed = is_owed;
+}
+
+// Asks what a command says, and adds what it is answered, the asks of the device's own, and whether a range is owed then.
+fn answer(alloc: Global, run: &mut Run, command: &str, said: &mut String) -> Option<()> {
     if command.len() > 1000 {
         return None;
     }
-    let command = read_line(alloc, words, command.as_bytes()).ok()??;
+    let Ok(Some(command)) = read_line(alloc, &run.words, command.as_bytes()) else {
+        return None;
+    };
     let binding = Binding::of(&command);
-    binding.enter(names).ok()?;
-    let ask = ask_of(command, names)?;
-    let (answer, asked) = handle_and_follow(alloc, device, &FOLLOWERS, owed, 0, &ask).ok()?;
-    binding.bind(names, &answer);
+    if binding.enter(&mut run.names).is_err() {
+        return None;
+    }
+    let ask = ask_of(command, &run.names)?;
+    let followers = run.followers.as_slice();
+    let Ok((answer, asked)) = handle_and_follow(
+        alloc,
+        &mut run.device,
+        followers,
+        &mut run.owed,
+        0,
+        &ask,
+    ) else {
+        return said.push_str("no memory").ok();
+    };
+    binding.bind(&mut run.names, &answer);
+    say(said, answer.err(), asked.as_slice(), run.owed).ok()
+}
+
+fn say(
+    said: &mut String,
+    refusal: Option<Fault>,
+    asked: &[RangeAsk],
+    owed: bool,
+) -> Result<(), AllocError> {
+    match refusal {
+        None => said.push_str("ok")?,
+        Some(fault) => write!(said, "error {}", fault.errno.number())?,
+    }
+    for one in asked {
+        say_range(said, one)?;
+    }
+    if owed {
+        said.push_str(", owed")?;
+    }
+    Ok(())
+}
+
+fn say_range(said: &mut String, one: &RangeAsk) -> Result<(), AllocError> {
+    let (control, min, max) = (one.control, one.wanted.minimum(), one.wanted.maximum());
+    let (step, default_value) = (one.wanted.step(), one.wanted.default_value());
+    write!(said, ", {control}: {min} {max} {step} {default_value}")?;
+    match one.refusal {
+        Some(fault) => write!(said, " error {}", fault.errno.number()),
+        None => Ok(()),
+    }
+}
+
+// The commands of a script, each with what it is answered; none where memory was wanting.
+fn transcript(alloc: Global, run: &mut Run, text: &str) -> Option<String> {
     let mut said = String::new(alloc);
-    match answer {
-        Ok(_) => said.push_str("ok").ok()?,
-        Err(fault) => write!(said, "error {}", fault.errno.number()).ok()?,
-    }
-    for one in asked.as_slice() {
-        say(&mut said, one)?;
-    }
-    if *owed {
-        said.push_str(", owed").ok()?;
+    for line in text.lines() {
+        let (command, _) = line.split_once(" -> ")?;
+        write!(said, "{command} -> ").ok()?;
+        answer(alloc, run, command, &mut said)?;
+        said.push('\n').ok()?;
     }
     Some(said)
 }
 
-fn say(said: &mut String, one: &RangeAsk) -> Option<()> {
-    let (control, min, max) = (one.control, one.wanted.minimum(), one.wanted.maximum());
-    let (step, default_value) = (one.wanted.step(), one.wanted.default_value());
-    write!(said, ", {control}: {min} {max} {step} {default_value}").ok()?;
-    if let Some(fault) = one.refusal {
-        write!(said, " error {}", fault.errno.number()).ok()?;
-    }
-    Some(())
-}
-
-// What is said of the first command that is answered otherwise behind so many ends of the stream, and where a range is owed, behind another one; nothing where none
-// is.
-fn first_other(alloc: Global, steps: u32, is_owed: bool, text: &str) -> Option<String> {
-    let (mut device, words) = device(alloc)?;
-    let mut names = Bindings::new(alloc);
-    let mut owed = is_owed;
-    for _ in 0..steps {
-        device.handle(0, &Ask::StreamOff).ok()?;
-    }
-    if is_owed {
-        device.handle(0, &OTHER).ok()?;
-    }
-    for line in text.lines() {
-        let (command, wanted) = line.split_once(" -> ")?;
-        let said = answered(alloc, &mut device, &words, &mut names, &mut owed, command)?;
-        if said.as_str() != wanted {
-            return Some(said);
-        }
-    }
-    Some(String::new(alloc))
+// The same of a fresh device behind so many ends of the stream, and where a range is to be owed, behind another one.
+fn transcript_behind(alloc: Global, steps: u32, is_owed: bool, text: &str) -> Option<String> {
+    let mut run = begun(alloc)?;
+    prepare(&mut run, steps, is_owed);
+    transcript(alloc, &mut run, text)
 }
 
 fn expect<R: AllocGlobal + Abort>(rt: &R, steps: u32, is_owed: bool, text: &str) {
-    let other = first_other(rt.alloc(), steps, is_owed, text);
-    assert!(rt;
-        matches!(&other, Some(said) if said.is_empty()),
-        "{other:?}"
-    );
+    let said = transcript_behind(rt.alloc(), steps, is_owed, text);
+    assert!(rt; said.as_deref() == Some(text), "{said:?}");
 }
 
 #[test]
@@ -257,80 +316,47 @@ fn what_is_owed_is_asked_behind_the_next_change(rt: HostRuntime) {
     }
 }
 
-// What a set of vertical blanking is answered, where one that lacks memory is asked again: how many ranges were asked for, and how many of them were refused.
-fn counts_set(
-    alloc: Global,
-    device: &mut Device<Data>,
-    owed: &mut bool,
-    ask: &Ask,
-) -> Option<(usize, usize)> {
-    for _ in 0..2 {
-        if let Ok((Ok(_), asked)) = handle_and_follow(alloc, device, &FOLLOWERS, owed, 0, ask) {
-            let refused = asked.iter().filter(|one| one.refusal.is_some()).count();
-            return Some((asked.len(), refused));
-        }
+// Whether a range that is refused for want of memory is asked again.
+fn asks_again(alloc: Global) -> bool {
+    match transcript_behind(alloc, 0, false, LACKED[0]) {
+        Some(said) => LACKED.contains(&said.as_str()),
+        None => false,
     }
-    None
-}
-
-// Whether ranges that are refused for want of memory are asked again: not by the get behind it, and by the next set of the same value, once.
-fn asks_again(alloc: Global) -> Option<bool> {
-    let (mut device, words) = device(alloc)?;
-    let mut names = Bindings::new(alloc);
-    let mut owed = false;
-    answered(
-        alloc,
-        &mut device,
-        &words,
-        &mut names,
-        &mut owed,
-        "open f 0",
-    )?;
-    let set = read_line(alloc, &words, b"set f cur vblank=500").ok()??;
-    let get = read_line(alloc, &words, b"get f cur exposure").ok()??;
-    let (set, get) = (ask_of(set, &names)?, ask_of(get, &names)?);
-    let (asked, refused) = counts_set(alloc, &mut device, &mut owed, &set)?;
-    let is_owed = owed;
-    let (_, got) = handle_and_follow(alloc, &mut device, &FOLLOWERS, &mut owed, 0, &get).ok()?;
-    let stays = owed == is_owed && got.is_empty();
-    let again = counts_set(alloc, &mut device, &mut owed, &set)?;
-    let last = counts_set(alloc, &mut device, &mut owed, &set)?;
-    Some(
-        asked == 2
-            && is_owed == (refused > 0)
-            && stays
-            && again == (refused, 0)
-            && !owed
-            && last == (0, 0),
-    )
 }
 
 // With `rt try --test --fail-alloc N` one allocation fails, which may be that of a range; where it is none of the device's, all is done once more.
 #[test]
 fn a_range_that_lacked_memory_is_asked_again(rt: HostRuntime) {
     let alloc = rt.alloc();
-    assert!(rt; asks_again(alloc).or_else(|| asks_again(alloc)) == Some(true));
+    assert!(rt; asks_again(alloc) || asks_again(alloc));
 }
 
-// Before its range is known a control has its minimum alone; the maximum of the start comes of the followed default.
-fn range_at_start() -> Option<bool> {
-    let config = CtrlConfig {
-        id: CtrlId(0x0098_1001),
-        kind: Kind::Integer,
-        minimum: 4,
-        maximum: 4,
-        step: 4,
-        default_value: 4,
-        skip: 0,
-        flags: Flags::empty(),
-        is_private: false,
-        elems: None,
-    };
-    let ctrl = range_wanted(&config.build().ok()?, None, Some(120), 100)?;
-    Some(ctrl.minimum() == 4 && ctrl.maximum() == 120 && ctrl.default_value() == 100)
+fn starts_with(device: &Device<Data>, start: &(u32, i64, i64, i64)) -> bool {
+    let (control, min, max, default_value) = *start;
+    if device.plan().control_count() <= control {
+        return false;
+    }
+    let range = device.range(control);
+    (range.minimum(), range.maximum(), range.default_value()) == (min, max, default_value)
+}
+
+fn has_its_ranges(device: &Device<Data>) -> bool {
+    for start in &STARTS {
+        if !starts_with(device, start) {
+            return false;
+        }
+    }
+    true
+}
+
+fn fresh_has_its_ranges(alloc: Global) -> bool {
+    match begun(alloc) {
+        Some(run) => has_its_ranges(&run.device),
+        None => false,
+    }
 }
 
 #[test]
 fn the_start_has_its_ranges(rt: HostRuntime) {
-    assert!(rt; range_at_start() == Some(true));
+    assert!(rt; fresh_has_its_ranges(rt.alloc()));
 }
