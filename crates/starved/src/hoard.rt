@@ -1,0 +1,163 @@
+//! All memory that can be had.
+
+use std::alloc::{AllocError, Global};
+
+// What is given back for work is this many blocks of so many bytes. The C library maps no block of this size on its own, so that those beside each
+// other make one room when they are given back.
+const BLOCKS: usize = 64;
+
+const BLOCK: usize = 126_976;
+
+// A budget is given back in blocks of so many bytes, more than any growth of a case needs.
+const ROOMS: usize = 8;
+
+const ROOM: usize = 32_768;
+
+/// The largest budget, in bytes.
+pub const MOST_BUDGET: usize = ROOMS * ROOM;
+
+// In blocks of these sizes it is taken again. Each size that is refused costs some calls of the system.
+const PARTS: [usize; 5] = [BLOCK, 16_384, 2048, 256, 8];
+
+// Of each size of small blocks, in steps of 16 bytes, the C library keeps some of those that were given back, which no other size can have.
+const SIZES: usize = 65;
+
+const KEPT: usize = 7;
+
+// More blocks of one size are never there to be had.
+const MOST: usize = 65_536;
+
+// The C library gives a thread whole pages. A block of this size is mapped on its own, each time, and leaves no place for an arena of a thread.
+const PAGE: usize = 4096;
+
+const REGION: usize = 12_288 * PAGE;
+// More pages than those of what is given back for work.
+const MAPPED: usize = 4096;
+
+/// The most pages that threads can be left.
+pub const MOST_PAGES: usize = 2048;
+
+/// All memory that can be had, in blocks that are never written, but for a part that is given back for work.
+#[derive(Drop)]
+pub struct Hoard {
+    alloc: Global,
+    // what is given back, and taken again
+    near: Vec<Vec<u8>>,
+    rooms: Vec<Vec<u8>>,
+    // where the stacks of two threads lie, and what they can have besides
+    stacks: Vec<Vec<u8>>,
+    pages: Vec<Vec<u8>>,
+    // all else
+    far: Vec<Vec<u8>>,
+}
+
+impl Hoard {
+    /// Takes all memory, and gives back what work needs. The error is that there isn't as much.
+    pub fn new(alloc: Global) -> Result<Hoard, AllocError> {
+        let mut hoard = Hoard {
+            alloc,
+            near: Vec::with_capacity(alloc, MOST)?,
+            rooms: Vec::with_capacity(alloc, ROOMS)?,
+            stacks: Vec::with_capacity(alloc, 1)?,
+            pages: Vec::with_capacity(alloc, 1)?,
+            far: Vec::with_capacity(alloc, 2 * MOST)?,
+        };
+        hoard.stacks.push(Vec::with_capacity(alloc, REGION)?)?;
+        hoard.pages.push(Vec::with_capacity(alloc, REGION)?)?;
+        for _ in 0..BLOCKS {
+            hoard.near.push(Vec::with_capacity(alloc, BLOCK)?)?;
+        }
+        take_halves(alloc, &mut hoard.far, 1 << 46);
+        hoard.feed();
+        Ok(hoard)
+    }
+
+    /// Leaves this many bytes, of at most `MOST_BUDGET`, and what the C library needs to hand them out.
+    pub fn starve(&mut self, budget: usize) {
+        take(self.alloc, &mut self.rooms, ROOM, ROOMS);
+        for step in 1..SIZES {
+            take(self.alloc, &mut self.near, 16 * step - 8, KEPT);
+        }
+        for size in PARTS {
+            take(self.alloc, &mut self.near, size, MOST);
+        }
+        for _ in 0..budget / ROOM {
+            drop(self.rooms.pop());
+        }
+        let rest = budget % ROOM;
+        if rest > 0 {
+            drop(self.rooms.pop());
+            take(self.alloc, &mut self.rooms, ROOM - rest, 1);
+        }
+    }
+
+    /// Gives back what work needs.
+    pub fn feed(&mut self) {
+        self.near.clear();
+        self.rooms.clear();
+    }
+
+    /// Gives back where the stacks of two threads lie. They stay there, so that `fence` takes what is left.
+    pub fn give_stacks(&mut self) {
+        self.stacks.clear();
+    }
+
+    /// Takes what is left beside the stacks of the threads that have run, to a page.
+    pub fn fence(&mut self) {
+        let before = self.far.len();
+        for pages in 0..REGION / PAGE - MAPPED {
+            take(self.alloc, &mut self.far, REGION - pages * PAGE, 1);
+            if self.far.len() > before {
+                return;
+            }
+        }
+    }
+
+    /// Leaves threads this many pages, of at most `MOST_PAGES`.
+    pub fn leave_pages(&mut self, pages: usize) {
+        self.pages.clear();
+        take(
+            self.alloc,
+            &mut self.pages,
+            REGION - pages.min(MOST_PAGES) * PAGE,
+            1,
+        );
+    }
+
+    /// Whether nothing is left where nothing is to be left.
+    pub fn is_all(&mut self) -> bool {
+        self.starve(0);
+        let is_refused = Vec::<u8>::with_capacity(self.alloc, 16).is_err();
+        self.feed();
+        is_refused
+    }
+}
+
+// Takes what is left, in blocks of at most this size, each half as large as the one before.
+fn take_halves(alloc: Global, blocks: &mut Vec<Vec<u8>>, most: usize) {
+    let mut size = most;
+    for _ in 0..48 {
+        take(alloc, blocks, size, MOST);
+        size = size / 2;
+    }
+}
+
+// Takes at most so many blocks of a size, as far as there are any and room to name them.
+fn take(alloc: Global, blocks: &mut Vec<Vec<u8>>, size: usize, most: usize) {
+    if size < 8 {
+        return;
+    }
+    for _ in 0..most {
+        if blocks.len() == blocks.capacity() {
+            return;
+        }
+        match Vec::with_capacity(alloc, size) {
+            Ok(block) => {
+                if blocks.push(block).is_err() {
+                    return;
+                }
+            }
+            Err(_) => return,
+        }
+    }
+}
