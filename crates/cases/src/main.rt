@@ -5,16 +5,15 @@
 //! of the files.
 #![tactic(auto)]
 
-mod case;
 mod differing;
 mod why;
 
 ghost use Rattle.std.specs.Prelude.{◌≡◌, []};
 ghost use Rattle.ctrl_calls.specs.Meanings.{JudgesBy, TellsBy};
 
-use crate::case::{Case, Cases, Program};
 use crate::differing::{show_difference, show_why};
 use crate::why::{Ran, why_of};
+use case_files::{Case, Program, cases_of, read_files};
 use ctl_pair::{Gate, Remains, run_pair};
 use ctl_script::{
     BALANCE_LIMIT, BRIGHTNESS_WORDS, BUTTON_WORDS, ControlWords, GAIN_LIMIT, Outcome, PAIR_WORDS,
@@ -26,42 +25,17 @@ use device_file::{explain, read_device};
 use device_state::Device;
 use file_check::check_file;
 use line_reasons::Names;
+use hoard::Hoard;
+use starved::starve_cases;
 use std::alloc::{AllocError, Global};
+use std::io;
 use std::process::ExitCode;
-use std::rt::Files;
 use std::sync::Wait;
 use std::thread::Threads;
-use std::{fs, io};
 
 type Judge = Box<dyn Fn(ClusterRow) -> Verdict + Send>;
 
 type Teller = Box<dyn Fn(ClusterRow) -> u64 + Send>;
-
-// The files that are read, in this order.
-const FILES: &[&str] = &[
-    "sample.txt",
-    "words.txt",
-    "lists.txt",
-    "requests.txt",
-    "forecasts.txt",
-    "audits.txt",
-    "events.txt",
-    "errors.txt",
-    "examples.txt",
-    "pairs.txt",
-    "wrong.txt",
-    "allowed.txt",
-    "checks.txt",
-    "devices.txt",
-    "handlers.txt",
-    "kinds.txt",
-    "flags.txt",
-    "clusters.txt",
-    "limits.txt",
-    "crowds.txt",
-    "ranges.txt",
-    "arrays.txt",
-];
 
 // Lets each command of two scripts pass at once.
 struct OpenGate;
@@ -75,6 +49,13 @@ fn main(rt: HostRuntime) -> io::Result<ExitCode> {
     let Some(cases) = cases_of(&rt, texts.as_slice())? else {
         return Ok(ExitCode::from(1));
     };
+    let mut hoard = Hoard::new(rt.alloc())?;
+    if !hoard.is_all() {
+        println!(rt; "memory can't be exhausted here")?;
+        return Ok(ExitCode::from(3));
+    }
+    let is_well = starve_cases(&rt, &mut hoard, cases.as_slice())?;
+    drop(hoard);
     let known = sample_words(rt.alloc())?;
     let mut differing = 0u32;
     for case in cases.as_slice() {
@@ -87,30 +68,7 @@ fn main(rt: HostRuntime) -> io::Result<ExitCode> {
         }
     }
     println!(rt; "{} cases, {differing} differ", cases.len())?;
-    Ok(ExitCode::from(if differing == 0 { 0 } else { 1 }))
-}
-
-fn read_files<R: AllocGlobal + Files>(rt: &R) -> io::Result<Vec<String>> {
-    let mut texts = Vec::new(rt.alloc());
-    for file in FILES {
-        texts.push(fs::read_to_string(rt, file)?)?;
-    }
-    Ok(texts)
-}
-
-// The cases of the files' texts. Where a line doesn't belong there, this is printed, and there are none.
-fn cases_of<'a, R: AllocGlobal + Files + Print>(
-    rt: &R,
-    texts: &'a [String],
-) -> io::Result<Option<Vec<Case<'a>>>> {
-    let mut cases = Cases::of_device(rt, "sample.toml")?;
-    for (file, text) in FILES.iter().zip(texts) {
-        if let Some(number) = cases.read(rt, file, text.as_str())? {
-            println!(rt; "{file}, line {number}: not a line of a case")?;
-            return Ok(None);
-        }
-    }
-    Ok(Some(cases.all))
+    Ok(ExitCode::from(if differing == 0 && is_well { 0 } else { 1 }))
 }
 
 // Runs a case on the device of its file, and shows it where something else came of it.

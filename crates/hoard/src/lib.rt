@@ -3,156 +3,162 @@
 
 use std::alloc::{AllocError, Global};
 
+// What is given back for work is this many blocks of so many bytes. The C library maps no block of this size on its own, so that those beside each
+// other make one room when they are given back.
+const BLOCKS: usize = 64;
+
+const BLOCK: usize = 126_976;
+
+// A budget is given back in blocks of so many bytes, more than any growth of a case needs.
+const ROOMS: usize = 8;
+
+const ROOM: usize = 32_768;
+
+/// The largest budget, in bytes.
+pub const MOST_BUDGET: usize = ROOMS * ROOM;
+
+// In blocks of these sizes it is taken again. Each size that is refused costs some calls of the system.
+const PARTS: [usize; 5] = [BLOCK, 16_384, 2048, 256, 8];
+
+// Of each size of small blocks, in steps of 16 bytes, the C library keeps some of those that were given back, which no other size can have.
+const SIZES: usize = 65;
+
+const KEPT: usize = 7;
+
+// More blocks of one size are never there to be had.
+const MOST: usize = 65_536;
+
+// The C library gives a thread whole pages. A block of this size is mapped on its own, each time, and leaves no place for an arena of a thread.
 const PAGE: usize = 4096;
 
-// What the C library puts before a block of whole pages.
-const HEAD: usize = 24;
+const REGION: usize = 12_288 * PAGE;
+// More pages than those of what is given back for work.
+const MAPPED: usize = 4096;
 
-// So many pages that lie together are too few for it to lay out a part of its heap.
-const TOGETHER: usize = 32;
+/// The most pages that threads can be left.
+pub const MOST_PAGES: usize = 2048;
 
-const ROOMS: usize = 64;
-
-// So many blocks are given back for a run. The C library keeps some 450 small blocks of what was freed apart, which divide others.
-const GIVEN: usize = 2048;
-
-// How many blocks are kept at most.
-const BLOCKS: usize = 131_072;
-
-/// All memory that can be had, in blocks that are never written: whoever else wants some is really refused, but for what is left.
-///
-/// As long as there is one thread, the C library gives it parts of its heap alone. Once there was a second one it gives whole pages, too: each growth then
-/// takes one at least.
+/// All memory that can be had, in blocks that are never written, but for a part that is given back for work.
 #[derive(Drop)]
 pub struct Hoard {
     alloc: Global,
-    // what is kept for good
-    blocks: Vec<Vec<u8>>,
-    // what is given back for runs
-    rest: Vec<Vec<u8>>,
-    // what is kept of the blocks of which some is left
-    held: Vec<Vec<u8>>,
-    heap: Store,
-    rooms: Store,
-}
-
-// Blocks of one size, of which some are given back for a while.
-#[derive(Drop)]
-struct Store {
-    size: usize,
-    blocks: Vec<Vec<u8>>,
-}
-
-impl Store {
-    fn new(alloc: Global, size: usize, most: usize) -> Result<Store, AllocError> {
-        let mut store = Store {
-            size,
-            blocks: Vec::with_capacity(alloc, most)?,
-        };
-        store.refill(alloc);
-        Ok(store)
-    }
-
-    // Takes what was given back.
-    fn refill(&mut self, alloc: Global) {
-        take(alloc, &mut self.blocks, self.size);
-    }
-
-    // Gives so many bytes of a block back; the rest of it is kept there.
-    fn give(&mut self, alloc: Global, bytes: usize, held: &mut Vec<Vec<u8>>) {
-        if bytes == 0 {
-            return;
-        }
-        drop(self.blocks.pop());
-        if let Ok(block) = Vec::with_capacity(alloc, self.size.saturating_sub(bytes)) {
-            keep(held, block);
-        }
-    }
+    // what is given back, and taken again
+    near: Vec<Vec<u8>>,
+    rooms: Vec<Vec<u8>>,
+    // where the stacks of two threads lie, and what they can have besides
+    stacks: Vec<Vec<u8>>,
+    pages: Vec<Vec<u8>>,
+    // all else
+    far: Vec<Vec<u8>>,
 }
 
 impl Hoard {
-    /// Takes all.
+    /// Takes all memory, and gives back what work needs. The error is that there isn't as much.
     pub fn new(alloc: Global) -> Result<Hoard, AllocError> {
         let mut hoard = Hoard {
             alloc,
-            blocks: Vec::with_capacity(alloc, BLOCKS)?,
-            rest: Vec::with_capacity(alloc, BLOCKS)?,
-            held: Vec::with_capacity(alloc, ROOMS)?,
-            heap: Store::new(alloc, 4 * PAGE, 16)?,
-            rooms: Store::new(alloc, 16_384 * PAGE - HEAD, ROOMS)?,
+            near: Vec::with_capacity(alloc, MOST)?,
+            rooms: Vec::with_capacity(alloc, ROOMS)?,
+            stacks: Vec::with_capacity(alloc, 1)?,
+            pages: Vec::with_capacity(alloc, 1)?,
+            far: Vec::with_capacity(alloc, 2 * MOST)?,
         };
-        for _ in 0..GIVEN {
-            keep(&mut hoard.rest, Vec::with_capacity(alloc, 4 * PAGE)?);
+        hoard.stacks.push(Vec::with_capacity(alloc, REGION)?)?;
+        hoard.pages.push(Vec::with_capacity(alloc, REGION)?)?;
+        for _ in 0..BLOCKS {
+            hoard.near.push(Vec::with_capacity(alloc, BLOCK)?)?;
         }
-        fill(alloc, &mut hoard.blocks, 1 << 46);
+        take_halves(alloc, &mut hoard.far, 1 << 46);
+        hoard.feed();
         Ok(hoard)
     }
 
-    /// Takes what is left but for so many bytes, at most 16,384. It is called as long as there is one thread.
-    pub fn leave(&mut self, bytes: usize) {
-        self.take_all();
-        self.heap.give(self.alloc, bytes, &mut self.held);
+    /// Leaves this many bytes, of at most `MOST_BUDGET`, and what the C library needs to hand them out.
+    pub fn starve(&mut self, budget: usize) {
+        take(self.alloc, &mut self.rooms, ROOM, ROOMS);
+        for step in 1..SIZES {
+            take(self.alloc, &mut self.near, 16 * step - 8, KEPT);
+        }
+        for size in PARTS {
+            take(self.alloc, &mut self.near, size, MOST);
+        }
+        for _ in 0..budget / ROOM {
+            drop(self.rooms.pop());
+        }
+        let rest = budget % ROOM;
+        if rest > 0 {
+            drop(self.rooms.pop());
+            take(self.alloc, &mut self.rooms, ROOM - rest, 1);
+        }
     }
 
-    /// Takes what is left but for so many pages, at most 2,000. It is called once there was a second thread.
+    /// Gives back what work needs.
+    pub fn feed(&mut self) {
+        self.near.clear();
+        self.rooms.clear();
+    }
+
+    /// Gives back where the stacks of two threads lie. They stay there, so that `fence` takes what is left.
+    pub fn give_stacks(&mut self) {
+        self.stacks.clear();
+    }
+
+    /// Takes what is left beside the stacks of the threads that have run, to a page.
+    pub fn fence(&mut self) {
+        let before = self.far.len();
+        for pages in 0..REGION / PAGE - MAPPED {
+            take(self.alloc, &mut self.far, REGION - pages * PAGE, 1);
+            if self.far.len() > before {
+                return;
+            }
+        }
+    }
+
+    /// Leaves threads this many pages, of at most `MOST_PAGES`.
     pub fn leave_pages(&mut self, pages: usize) {
-        self.take_all();
-        let mut left = pages;
-        for _ in 0..ROOMS {
-            let some = left.min(TOGETHER);
-            self.rooms.give(self.alloc, PAGE * some, &mut self.held);
-            left -= some;
-        }
+        self.pages.clear();
+        take(
+            self.alloc,
+            &mut self.pages,
+            REGION - pages.min(MOST_PAGES) * PAGE,
+            1,
+        );
     }
 
-    /// Takes what is left but for so many pages that lie together, at most 16,384.
-    pub fn leave_together(&mut self, pages: usize) {
-        self.take_all();
-        self.rooms
-            .give(self.alloc, PAGE.saturating_mul(pages), &mut self.held);
-    }
-
-    fn take_all(&mut self) {
-        self.held.clear();
-        self.rest.clear();
-        self.rooms.refill(self.alloc);
-        self.heap.refill(self.alloc);
-        fill(self.alloc, &mut self.rest, 1 << 25);
-    }
-
-    /// Gives enough for a run back.
-    pub fn give(&mut self) {
-        self.rest.clear();
+    /// Whether nothing is left where nothing is to be left.
+    pub fn is_all(&mut self) -> bool {
+        self.starve(0);
+        let is_refused = Vec::<u8>::with_capacity(self.alloc, 16).is_err();
+        self.feed();
+        is_refused
     }
 }
 
-fn keep(blocks: &mut Vec<Vec<u8>>, block: Vec<u8>) {
-    if blocks.len() < blocks.capacity() {
-        let _ = blocks.push(block);
-    }
-}
-
-// Takes blocks of a size as long as there is one, and room to keep it.
-fn take(alloc: Global, blocks: &mut Vec<Vec<u8>>, size: usize) {
-    for _ in blocks.len()..blocks.capacity() {
-        match Vec::with_capacity(alloc, size) {
-            Ok(block) => keep(blocks, block),
-            Err(_) => return,
-        }
-    }
-}
-
-// Takes all, in blocks of at most this size: each time of half as many bytes, and then, since the C library keeps blocks of up to 1,032 bytes for
-// growths of their size, of each such size.
-fn fill(alloc: Global, blocks: &mut Vec<Vec<u8>>, most: usize) {
+// Takes what is left, in blocks of at most this size, each half as large as the one before.
+fn take_halves(alloc: Global, blocks: &mut Vec<Vec<u8>>, most: usize) {
     let mut size = most;
     for _ in 0..48 {
-        if size >= 1024 {
-            take(alloc, blocks, size - HEAD);
-            size /= 2;
-        }
+        take(alloc, blocks, size, MOST);
+        size = size / 2;
     }
-    for k in 0..64 {
-        take(alloc, blocks, 1032 - 16 * k);
+}
+
+// Takes at most so many blocks of a size, as far as there are any and room to name them.
+fn take(alloc: Global, blocks: &mut Vec<Vec<u8>>, size: usize, most: usize) {
+    if size < 8 {
+        return;
+    }
+    for _ in 0..most {
+        if blocks.len() == blocks.capacity() {
+            return;
+        }
+        match Vec::with_capacity(alloc, size) {
+            Ok(block) => {
+                if blocks.push(block).is_err() {
+                    return;
+                }
+            }
+            Err(_) => return,
+        }
     }
 }

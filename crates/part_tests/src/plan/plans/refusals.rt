@@ -153,9 +153,9 @@ fn refusals_at(
     let &(call, want) = behind.first()?;
     for times in 0..MOST {
         let mut builder = built(rt, alloc, called, 0, before);
-        hoard.leave(MORE * times);
+        hoard.starve(MORE * times);
         let got = answer(rt, &mut builder, called, call);
-        hoard.give();
+        hoard.feed();
         if got == want {
             return Some(times);
         }
@@ -180,9 +180,9 @@ fn refusals_at_the_end(
 ) -> Option<usize> {
     let mut builder = built(rt, alloc, called, 0, ALL);
     for times in 0..MOST {
-        hoard.leave(MORE * times);
+        hoard.starve(MORE * times);
         let done = builder.finish();
-        hoard.give();
+        hoard.feed();
         builder = match done {
             Ok(plan) => {
                 let other = finished(rt, built(rt, alloc, called, 0, ALL));
