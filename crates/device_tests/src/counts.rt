@@ -1,6 +1,6 @@
 //! How often the closures of clusters are called: as often as the device counts, and those of no other cluster.
 
-use crate::scene::{behind, counters, device, told};
+use crate::scene::{behind, counters, device};
 use ctrl_calls::Work;
 use std::alloc::{AllocError, Global};
 
@@ -331,17 +331,5 @@ fn closures_are_called_as_often_as_is_counted(rt: HostRuntime) -> Result<(), All
         let found = miscounted(rt.alloc(), *script)?;
         assert!(rt; found.is_none(), "{found:?}");
     }
-    Ok(())
-}
-
-// A device that is made has told each notifier once, and one that is refused nobody.
-#[test]
-fn a_device_tells_once_or_nobody(rt: HostRuntime) -> Result<(), AllocError> {
-    let counters = counters(rt.alloc())?;
-    let wanted = match device(rt.alloc(), &counters) {
-        Ok(_) => 4,
-        Err(_) => 0,
-    };
-    assert!(rt; told(&counters) == wanted);
     Ok(())
 }

@@ -24,4 +24,6 @@ mod replay;
 #[cfg(test)]
 mod scene;
 #[cfg(test)]
+mod short;
+#[cfg(test)]
 mod verdicts;

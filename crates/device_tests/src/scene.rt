@@ -61,7 +61,8 @@ pub fn array_device(alloc: Global, counters: &Counters) -> Result<Device<Countin
     }
 }
 
-fn plan(alloc: Global, counters: &Counters) -> Result<Plan<Counting>, AllocError> {
+/// The sample's plan, whose closures count there.
+pub fn plan(alloc: Global, counters: &Counters) -> Result<Plan<Counting>, AllocError> {
     let [of_gain, of_balance, of_button, of_brightness] = calls(counters)?;
     finished(sample_builder(alloc, of_gain, of_balance, of_button, of_brightness))
 }
@@ -125,6 +126,15 @@ pub fn parts(alloc: Global, text: &str) -> Result<(Vec<u8>, Vec<u8>), AllocError
         }
     }
     Ok((commands, replies))
+}
+
+/// How often validators were asked in all.
+pub fn asked(counters: &Counters) -> u64 {
+    let mut sum = 0u64;
+    for counter in counters {
+        sum = sum.saturating_add(counter.calls().0);
+    }
+    sum
 }
 
 /// How often notifiers were told in all.

@@ -1,4 +1,4 @@
-//! Devices whose closures take each row and say 0, and count how often they are told.
+//! Devices that call no closure.
 
 ghost use Rattle.std.specs.Prelude.{⊤, ◌≡◌, [], IfOk};
 ghost use Rattle.ctrl_calls.specs.declared.verdict.Verdict.TheVariants.{Accept};
@@ -6,19 +6,14 @@ ghost use Rattle.ctrl_calls.specs.declared.verdict.Verdict.TheVariants.{Accept};
 use bitflags::Flags as FlagSet;
 use ctl_script::{ControlWords, sample_builder, sample_words};
 use ctrl_calls::{
-    Calls, ClusterRow, Driver, Judging, Notifier, Notifies, Relation, Telling, Validates, Verdict,
+    Calls, ClusterRow, Driver, Judging, Notifies, Telling, Validates, Verdict,
 };
 use ctrl_settle::Ctrl;
 use ctrl_types::{CtrlId, Flags, Kind};
 use device_state::{Device, Plan, PlanBuilder, PlanFault};
 use std::alloc::{AllocError, Global};
-use std::sync::Arc;
-use std::sync::atomic::{AtomicU64, Ordering};
 
-/// How often notifiers were told.
-pub type Told = Arc<AtomicU64>;
-
-/// A driver that takes each row, and whose notifiers only count.
+/// A driver that takes each row, and whose notifiers say 0.
 pub enum Silent {}
 
 #[derive(Drop)]
@@ -35,9 +30,7 @@ impl Judging for Accepts {
 }
 
 #[derive(Drop)]
-pub struct Says {
-    told: Told,
-}
+pub struct Says;
 
 impl Telling for Says {
     ghost callable = { λ _. ⊤ };
@@ -46,7 +39,6 @@ impl Telling for Says {
 
     fn tell(&self, row: ClusterRow) -> u64 {
         let _ = row;
-        self.told.fetch_add(1, Ordering::SeqCst);
         0
     }
 }
@@ -72,11 +64,10 @@ pub enum Kept {
     Menus,
 }
 
-/// A fresh device, whose notifiers count there. The error is want of memory, and it stands for any fault of the plan, too: a test that meets
-/// it fails.
-pub fn kept_device(alloc: Global, kept: Kept, told: &Told) -> Result<Device<Silent>, AllocError> {
+/// A fresh device. The error is want of memory, and it stands for any fault of the plan, too: a test that meets it fails.
+pub fn kept_device(alloc: Global, kept: Kept) -> Result<Device<Silent>, AllocError> {
     match kept {
-        Kept::Sample => device_of(alloc, heard_sample(alloc, told)?),
+        Kept::Sample => sample(alloc),
         Kept::Menus => device_of(alloc, menus(alloc)),
     }
 }
@@ -124,32 +115,6 @@ pub fn device_of<D: Driver>(
 // The plan of the sample device, but that no cluster has closures.
 fn sample_without(alloc: Global) -> Result<Plan<Silent>, PlanFault> {
     finished(sample_builder(alloc, none(), none(), none(), none())?)
-}
-
-// The same, but that the four clusters have notifiers.
-fn heard_sample(alloc: Global, told: &Told) -> Result<Result<Plan<Silent>, PlanFault>, AllocError> {
-    let (gain, balance) = (heard(told)?, heard(told)?);
-    let (button, brightness) = (heard(told)?, heard(told)?);
-    Ok(
-        match sample_builder(alloc, gain, balance, button, brightness) {
-            Ok(builder) => finished(builder),
-            Err(fault) => Err(fault),
-        },
-    )
-}
-
-fn heard(told: &Told) -> Result<Calls<Silent>, AllocError> {
-    let relation = Relation {
-        number: 0,
-        bounds: [0; 4],
-    };
-    let teller = Says {
-        told: told.clone()?,
-    };
-    Ok(Calls {
-        validator: None,
-        notifier: Some(Notifier::new(relation, teller)),
-    })
 }
 
 fn none() -> Calls<Silent> {

@@ -373,13 +373,11 @@ impl Script {
         lines_in(self.text.as_bytes())
     }
 
-    /// Its bytes. The line with the number `left_out`, from 0, is empty in place of a command.
-    pub fn text(&self, alloc: Global, left_out: Option<usize>) -> Result<Vec<u8>, AllocError> {
+    /// Its bytes.
+    pub fn text(&self, alloc: Global) -> Result<Vec<u8>, AllocError> {
         let mut text = Vec::with_capacity(alloc, 4096)?;
-        for (number, line) in self.text.lines().enumerate() {
-            if left_out != Some(number) {
-                text.extend_from_slice(parts(line).0.as_bytes())?;
-            }
+        for line in self.text.lines() {
+            text.extend_from_slice(parts(line).0.as_bytes())?;
             text.push(b'\n')?;
         }
         if self.is_cut {

@@ -1,11 +1,10 @@
 //! Readers and writers over memory that fail when they are told to, and what a run with them came to.
 
-use crate::devices::{Kept, Told, kept_device, kept_words};
+use crate::devices::{Kept, kept_device, kept_words};
 use ctl_script::{Outcome, run_script};
 use std::alloc::{AllocError, Global};
 use std::io;
 use std::io::{ErrorKind, Read, Write};
-use std::sync::atomic::{AtomicU64, Ordering};
 
 /// Gives the bytes of a text, at most `most` a read. The read with the number `fault`, from 1, fails with this kind of error, and with
 /// the number 0 every read does.
@@ -92,16 +91,13 @@ pub struct Ran {
     /// How many reads and writes there were.
     pub reads: u32,
     pub writes: u32,
-    /// How often notifiers were told, at the making of the device, too.
-    pub told: u64,
 }
 
 /// Runs a script on a fresh device.
 pub fn run(alloc: Global, kept: Kept, text: &[u8], streams: Streams) -> Result<Ran, AllocError> {
     let bytes = Vec::with_capacity(alloc, 1024)?;
     let known = kept_words(alloc, kept)?;
-    let told = Told::new(alloc, AtomicU64::new(0))?;
-    let device = kept_device(alloc, kept, &told)?;
+    let device = kept_device(alloc, kept)?;
     let mut source = Source {
         text,
         most: streams.most_read,
@@ -121,6 +117,5 @@ pub fn run(alloc: Global, kept: Kept, text: &[u8], streams: Streams) -> Result<R
         steps: device.steps().len(),
         reads: source.reads,
         writes: sink.writes,
-        told: told.load(Ordering::SeqCst),
     })
 }

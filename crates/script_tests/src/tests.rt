@@ -15,14 +15,9 @@ fn is_run(ran: &Ran, bytes: &[u8], outcome: Outcome, steps: usize) -> bool {
     ran.bytes.as_slice() == bytes && ran.outcome == outcome && ran.steps == steps
 }
 
-// Runs a script; its line with the number `left_out` is empty in place of a command.
-fn run_of(
-    alloc: Global,
-    script: &Script,
-    left_out: Option<usize>,
-    streams: Streams,
-) -> Result<Ran, AllocError> {
-    let text = script.text(alloc, left_out)?;
+// Runs a script.
+fn run_of(alloc: Global, script: &Script, streams: Streams) -> Result<Ran, AllocError> {
+    let text = script.text(alloc)?;
     run(alloc, script.kept, text.as_slice(), streams)
 }
 
@@ -39,7 +34,7 @@ fn prints(alloc: Global, script: &Script, most: usize) -> Result<bool, AllocErro
         most_written: most,
         ..WHOLE
     };
-    let ran = run_of(alloc, script, None, streams)?;
+    let ran = run_of(alloc, script, streams)?;
     let lines = script.count();
     let fewest = if most == 1 { ran.bytes.len() } else { lines };
     // a writer that takes a line whole takes it in one write
@@ -72,7 +67,7 @@ fn fails_at(
         write_fault: Some((number, fault)),
         ..WHOLE
     };
-    let ran = run_of(alloc, script, None, streams)?;
+    let ran = run_of(alloc, script, streams)?;
     if ran.writes < number {
         return Ok(None);
     }
@@ -132,7 +127,7 @@ fn read_fails(alloc: Global, script: &Script, number: u32) -> Result<bool, Alloc
         read_fault: Some((number, ErrorKind::Other)),
         ..WHOLE
     };
-    let failed = run_of(alloc, script, None, streams)?;
+    let failed = run_of(alloc, script, streams)?;
     let has_failed = is_run(&failed, b"read fault\n", Outcome::ReadFault, 0);
     Ok(failed.reads == number && has_failed)
 }
@@ -144,7 +139,7 @@ fn read_is_interrupted(alloc: Global, script: &Script, number: u32) -> Result<bo
         read_fault: Some((number, ErrorKind::Interrupted)),
         ..WHOLE
     };
-    let ran = run_of(alloc, script, None, streams)?;
+    let ran = run_of(alloc, script, streams)?;
     is_whole(alloc, script, &ran)
 }
 
@@ -155,7 +150,7 @@ fn reads(alloc: Global, script: &Script, number: u32) -> Result<bool, AllocError
 #[test]
 fn readers_fail_at_each_read(rt: HostRuntime) -> Result<(), AllocError> {
     for (number, script) in scripts().iter().enumerate() {
-        let length = script.text(rt.alloc(), None)?.len();
+        let length = script.text(rt.alloc())?.len();
         let count = u32::try_from(length.div_ceil(8)).unwrap_or(0);
         // the last read shows the end
         for read in 1..=count.saturating_add(1) {
@@ -231,83 +226,4 @@ fn inputs_at_the_limits(rt: HostRuntime) -> Result<(), AllocError> {
         assert!(rt; ends(rt.alloc(), input)?, "{number}");
     }
     Ok(())
-}
-
-// Runs a script, in which one growth may be refused. Where a growth of the tool's own was, the run ends behind the lines that were
-// answered, and the device has their steps. Where one of the device's was, the line is answered with error 12, and all else is as if
-// an empty line had stood in its place, and nobody was told more.
-fn stands_refusals(alloc: Global, script: &Script, refused: &mut u32) -> Result<bool, AllocError> {
-    let ran = run_of(alloc, script, None, WHOLE)?;
-    if is_whole(alloc, script, &ran)? {
-        return Ok(true);
-    }
-    *refused = refused.saturating_add(1);
-    let (start, lines) = beginning(alloc, script, &ran)?;
-    stands_refusal(alloc, script, &ran, start, lines)
-}
-
-// How many bytes and how many lines a run wrote as the script does.
-fn beginning(alloc: Global, script: &Script, ran: &Ran) -> Result<(usize, usize), AllocError> {
-    let reply = script.reply(alloc)?;
-    Ok(alike(ran.bytes.as_slice(), reply.as_slice()))
-}
-
-// A run in which one growth was refused, behind so many bytes and lines.
-fn stands_refusal(
-    alloc: Global,
-    script: &Script,
-    ran: &Ran,
-    start: usize,
-    lines: usize,
-) -> Result<bool, AllocError> {
-    let Some((same, rest)) = ran.bytes.as_slice().split_at_checked(start) else {
-        return Ok(false);
-    };
-    if ran.outcome == Outcome::Memory {
-        return Ok(rest == b"no memory\n".as_slice() && ran.steps == script.steps(lines));
-    }
-    let without = run_of(alloc, script, Some(lines), WHOLE)?;
-    let is_as_without = without.outcome == ran.outcome
-        && without.steps == ran.steps
-        && without.told == ran.told;
-    Ok(is_as_without && is_refused_line(same, rest, without.bytes.as_slice()))
-}
-
-// Whether a text is another with a line put in behind `same`, which says error 12; `rest` begins with this line.
-fn is_refused_line(same: &[u8], rest: &[u8], without: &[u8]) -> bool {
-    let Some(behind) = without.strip_prefix(same) else {
-        return false;
-    };
-    rest.starts_with(b"error 12")
-        && rest.ends_with(behind)
-        && lines_in(rest) == lines_in(behind).saturating_add(1)
-}
-
-// How many bytes two texts begin with alike, up to the end of a line, and how many lines these are.
-fn alike(a: &[u8], b: &[u8]) -> (usize, usize) {
-    let (mut end, mut lines) = (0, 0usize);
-    for (i, (x, y)) in a.iter().zip(b).enumerate() {
-        if x != y {
-            break;
-        }
-        if *x == b'\n' {
-            end = i + 1;
-            lines = lines.saturating_add(1);
-        }
-    }
-    (end, lines)
-}
-
-#[test]
-fn scripts_with_a_refused_growth(rt: HostRuntime) {
-    let mut refused = 0u32;
-    for (number, script) in scripts().iter().enumerate() {
-        let mut stood = stands_refusals(rt.alloc(), script, &mut refused);
-        if stood.is_err() {
-            refused = refused.saturating_add(1);
-            stood = stands_refusals(rt.alloc(), script, &mut refused);
-        }
-        // no second one is refused
-        assert!(rt; stood == Ok(true) && refused < 2, "{number} {refused}");
-    }
 }
