@@ -1,57 +1,71 @@
 //! A device some of whose ranges follow: the ranges that it asks for by itself behind each command of a script, through `handle_and_follow`.
 
+use bitflags::Flags as FlagSet;
 use ctl_script::{Binding, Bindings, ControlWords, ask_of};
-use ctrl_types::Fault;
+use ctrl_handlers::{Plan, PlanBuilder};
+use ctrl_settle::CtrlConfig;
+use ctrl_types::{CtrlId, Fault, Flags, Kind};
 use data_driver::Data;
-use device_file::{DeviceFile, read_device};
 use device_state::{Ask, Device};
-use following_ranges::{Follower, RangeAsk, handle_and_follow};
+use following_ranges::{
+    DefaultSource, Follower, RangeAsk, Source, handle_and_follow, range_wanted,
+};
 use script_lines::read_line;
 use std::alloc::{AllocError, Global};
 use std::fmt::Write;
 use std::process::Abort;
 
-// Of exposure the maximum follows, of gain the minimum and the default, of wide both bounds.
-const FILE: &[u8] = b"\
-[[handler]]
-name = 'sensor'
-[[handler.control]]
-name = 'vblank'
-id = 0x00981000
-type = 'integer'
-min = 24
-max = 1000
-default = 24
-[[handler.control]]
-name = 'exposure'
-id = 0x00981001
-type = 'integer'
-min = 4
-max = { follows = 'vblank', plus = 96 }
-step = 4
-default = 100
-[[handler.control]]
-name = 'hblank'
-id = 0x00981002
-type = 'integer64'
-min = -5000000000
-max = 5000000000
-default = 50
-[[handler.control]]
-name = 'gain'
-id = 0x00981003
-type = 'integer'
-min = { follows = 'hblank', plus = -10 }
-max = 100
-default = { follows = 'hblank' }
-[[handler.control]]
-name = 'wide'
-id = 0x00981004
-type = 'integer64'
-min = { follows = 'hblank' }
-max = { follows = 'vblank' }
-default = 7
-";
+// Kind, minimum, maximum, default and step of a control.
+type Row = (Kind, i64, i64, i64, u64);
+
+// The ranges of 1, 3 and 4 are those that they are wanted to have.
+const CONTROLS: [Row; 5] = [
+    (Kind::Integer, 24, 1000, 24, 1),
+    (Kind::Integer, 4, 120, 100, 4),
+    (Kind::Integer64, -5_000_000_000, 5_000_000_000, 50, 1),
+    (Kind::Integer, 40, 100, 50, 1),
+    (Kind::Integer64, 50, 50, 50, 1),
+];
+
+const WORDS: [&[u8]; 5] = [b"vblank", b"exposure", b"hblank", b"gain", b"wide"];
+
+// What exposure, gain and wide follow: the last two are numbered in falling order.
+const FOLLOWERS: [Follower; 3] = [
+    Follower {
+        control: 4,
+        minimum: Some(HBLANK),
+        maximum: Some(VBLANK),
+        default_value: DefaultSource::Number(7),
+    },
+    Follower {
+        control: 3,
+        minimum: Some(Source {
+            control: 2,
+            plus: -10,
+        }),
+        maximum: None,
+        default_value: DefaultSource::Value(HBLANK),
+    },
+    Follower {
+        control: 1,
+        minimum: None,
+        maximum: Some(Source {
+            control: 0,
+            plus: 96,
+        }),
+        default_value: DefaultSource::Number(100),
+    },
+];
+
+const VBLANK: Source = Source {
+    control: 0,
+    plus: 0,
+};
+
+const HBLANK: Source = Source {
+    control: 2,
+    plus: 0,
+};
 
 // Commands, each with what it is answered and the asks of the device's own: the control, its range, and the errno of a refusal; and whether a range is owed then. What moves no followed value
 // has none: a command that is refused, a try, a store, a set of what is there, a range of a control that follows. A maximum isn't below the minimum, a minimum
@@ -171,35 +185,71 @@ set f cur vblank=500 -> ok
 ",
 ];
 
-// Controls that follow, with the minimum, the maximum and the default that each has at the start.
-const STARTS: [(u32, i64, i64, i64); 3] = [(1, 4, 120, 100), (3, 40, 100, 50), (4, 50, 50, 50)];
-
 // A device in the midst of a script.
 #[derive(Drop)]
 struct Run {
     device: Device<Data>,
     words: ControlWords,
-    followers: Vec<Follower>,
     names: Bindings,
     owed: bool,
 }
 
-// A fresh device of the file. Its followers are numbered in falling order, and their ranges are asked for in rising order all the same.
-fn begun(alloc: Global) -> Option<Run> {
-    let Ok(file) = read_device(alloc, FILE) else {
+fn config(number: u32, row: &Row) -> CtrlConfig {
+    let (kind, minimum, maximum, default_value, step) = *row;
+    CtrlConfig {
+        id: CtrlId(0x0098_1000u32.wrapping_add(number)),
+        kind,
+        minimum,
+        maximum,
+        step,
+        default_value,
+        skip: 0,
+        flags: Flags::empty(),
+        is_private: false,
+        elems: None,
+    }
+}
+
+// Adds the control of a number; whether it was.
+fn add(builder: &mut PlanBuilder<Data>, handler: u32, number: u32, row: &Row) -> bool {
+    match config(number, row).build() {
+        Ok(ctrl) => builder.control(handler, ctrl).is_ok(),
+        Err(_) => false,
+    }
+}
+
+fn plan(alloc: Global) -> Option<Plan<Data>> {
+    let mut builder = PlanBuilder::new(alloc);
+    let Ok(handler) = builder.handler() else {
         return None;
     };
-    let DeviceFile {
-        plan,
-        words,
-        mut followers,
-    } = file;
-    followers.as_mut_slice().reverse();
+    for (number, row) in CONTROLS.iter().enumerate() {
+        if !add(&mut builder, handler, number as u32, row) {
+            return None;
+        }
+    }
+    builder.finish().ok()
+}
+
+fn words(alloc: Global) -> Option<ControlWords> {
+    let mut words = ControlWords::new(alloc);
+    for (number, word) in WORDS.iter().enumerate() {
+        let number = number as u32;
+        let id = CtrlId(0x0098_1000u32.wrapping_add(number));
+        if words.push(alloc, word, id, number).is_err() {
+            return None;
+        }
+    }
+    Some(words)
+}
+
+fn begun(alloc: Global) -> Option<Run> {
+    let words = words(alloc)?;
+    let plan = plan(alloc)?;
     match Device::new(alloc, plan) {
         Ok(device) => Some(Run {
             device,
             words,
-            followers,
             names: Bindings::new(alloc),
             owed: false,
         }),
@@ -231,11 +281,10 @@ fn answer(alloc: Global, run: &mut Run, command: &str, said: &mut String) -> Opt
         return None;
     }
     let ask = ask_of(command, &run.names)?;
-    let followers = run.followers.as_slice();
     let Ok((answer, asked)) = handle_and_follow(
         alloc,
         &mut run.device,
-        followers,
+        &FOLLOWERS,
         &mut run.owed,
         0,
         &ask,
@@ -331,32 +380,14 @@ fn a_range_that_lacked_memory_is_asked_again(rt: HostRuntime) {
     assert!(rt; asks_again(alloc) || asks_again(alloc));
 }
 
-fn starts_with(device: &Device<Data>, start: &(u32, i64, i64, i64)) -> bool {
-    let (control, min, max, default_value) = *start;
-    if device.plan().control_count() <= control {
-        return false;
-    }
-    let range = device.range(control);
-    (range.minimum(), range.maximum(), range.default_value()) == (min, max, default_value)
-}
-
-fn has_its_ranges(device: &Device<Data>) -> bool {
-    for start in &STARTS {
-        if !starts_with(device, start) {
-            return false;
-        }
-    }
-    true
-}
-
-fn fresh_has_its_ranges(alloc: Global) -> bool {
-    match begun(alloc) {
-        Some(run) => has_its_ranges(&run.device),
-        None => false,
-    }
+// Before its range is known a control has its minimum alone; the maximum of the start comes of the followed default.
+fn range_at_start() -> Option<bool> {
+    let ctrl = config(1, &(Kind::Integer, 4, 4, 4, 4)).build().ok()?;
+    let ctrl = range_wanted(&ctrl, None, Some(120), 100)?;
+    Some(ctrl.minimum() == 4 && ctrl.maximum() == 120 && ctrl.default_value() == 100)
 }
 
 #[test]
 fn the_start_has_its_ranges(rt: HostRuntime) {
-    assert!(rt; fresh_has_its_ranges(rt.alloc()));
+    assert!(rt; range_at_start() == Some(true));
 }
