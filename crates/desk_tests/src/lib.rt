@@ -1,11 +1,9 @@
 //! Tests of the desk through its public calls, over a counter that stands in for the device: seats that meet and desks that are closed,
-//! two clients on two threads, a thread that is refused, a look while another seat calls, and memory that runs out.
+//! two clients on two threads, a thread that is refused, and memory that runs out.
 #![tactic(auto)]
 
 #[cfg(test)]
 mod counter;
-#[cfg(test)]
-mod front;
 #[cfg(test)]
 mod pairs;
 #[cfg(test)]
