@@ -1,8 +1,8 @@
 //! Runs the scripts of the files in `data/`, each on a fresh device, and compares what they print and how they end with what the files
 //! say; of a device file that describes no device, or is checked, it compares what is said. A script that names no device runs on the
 //! sample device, and on the device of `sample.toml`. Of each case that differs it prints the lines that do, with their place in the file and
-//! their command, what was wanted and what came; and at last it prints how many cases there are. `data/sample.txt` begins with the format
-//! of the files.
+//! their command, what was wanted and what came; and at last it prints how many cases there are. Before that it runs cases out of memory, and
+//! prints a line for each; where memory can't be exhausted it says so, and ends with 3. `data/sample.txt` begins with the format of the files.
 #![tactic(auto)]
 
 mod differing;

@@ -4,7 +4,7 @@ use std::alloc::{AllocError, Global};
 
 // What is given back for work is this many blocks of so many bytes. The C library maps no block of this size on its own, so that those beside each
 // other make one room when they are given back.
-const BLOCKS: usize = 64;
+const BLOCKS: usize = 128;
 
 const BLOCK: usize = 126_976;
 
@@ -17,10 +17,11 @@ const ROOM: usize = 32_768;
 pub const MOST_BUDGET: usize = ROOMS * ROOM;
 
 // In blocks of these sizes it is taken again. Each size that is refused costs some calls of the system.
-const PARTS: [usize; 5] = [BLOCK, 16_384, 2048, 256, 8];
+const PARTS: [usize; 7] = [4_194_304, 524_288, 65_536, 8192, 1024, 128, 8];
 
-// Of each size of small blocks, in steps of 16 bytes, the C library keeps some of those that were given back, which no other size can have.
-const SIZES: usize = 65;
+// Of each size of small blocks, in steps of 16 bytes, the C library keeps some of those that were given back, which no other size can have. It keeps some
+// of twice these sizes, too: a growth of just such a size may get through with less.
+const SIZES: usize = 33;
 
 const KEPT: usize = 7;
 

@@ -25,7 +25,6 @@ const SWEPT: &[&str] = &[
     "pairs.txt",
     "ranges.txt",
     "arrays.txt",
-    "devices.txt",
 ];
 
 // A script of more lines than these isn't run out of memory, or only before it runs.

@@ -7,7 +7,7 @@ use std::io::Write;
 use std::sync::atomic::{AtomicU64, Ordering};
 
 // More than any case prints.
-const ROOM: usize = 65_536;
+const ROOM: usize = 16_384;
 
 /// When memory is short.
 #[derive(Clone, Copy)]
