@@ -92,6 +92,9 @@ fn a_device_and_an_audit_that_are_refused_memory(rt: HostRuntime) -> Result<(), 
     let before = told(&counters);
     let audited = refusals_of_an_audit(alloc, &mut hoard, &device, &counters);
     let is_told = told(&counters) != before;
-    assert!(rt; made > Some(4) && audited > Some(10) && !is_told, "{made:?} {audited:?}");
+    assert!(rt;
+        made > Some(4) && audited > Some(10) && !is_told,
+        "{made:?} {audited:?}"
+    );
     Ok(())
 }

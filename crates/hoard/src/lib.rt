@@ -17,8 +17,8 @@ const ROOM: usize = 32_768;
 /// The largest budget, in bytes.
 pub const MOST_BUDGET: usize = ROOMS * ROOM;
 
-// In blocks of these sizes it is taken again. Each size that is refused costs some calls of the system.
-const PARTS: [usize; 7] = [4_194_304, 524_288, 65_536, 8192, 1024, 128, 8];
+// In blocks of at most this size it is taken again, each half as large as those before: what lies between two blocks that stay is so taken in few.
+const LARGEST: usize = 4_194_304;
 
 // Of each size of small blocks, in steps of 16 bytes, the C library keeps some of those that were given back, which no other size can have. It keeps some
 // of twice these sizes, too: a growth of just such a size may get through with less.
@@ -80,9 +80,7 @@ impl Hoard {
         for step in 1..SIZES {
             take(self.alloc, &mut self.near, 16 * step - 8, KEPT);
         }
-        for size in PARTS {
-            take(self.alloc, &mut self.near, size, MOST);
-        }
+        take_halves(self.alloc, &mut self.near, LARGEST);
         for _ in 0..budget / ROOM {
             drop(self.rooms.pop());
         }

@@ -5,9 +5,7 @@ ghost use Rattle.ctrl_calls.specs.declared.verdict.Verdict.TheVariants.{Accept};
 
 use bitflags::Flags as FlagSet;
 use ctl_script::{ControlWords, sample_builder, sample_words};
-use ctrl_calls::{
-    Calls, ClusterRow, Driver, Judging, Notifies, Telling, Validates, Verdict,
-};
+use ctrl_calls::{Calls, ClusterRow, Driver, Judging, Notifies, Telling, Validates, Verdict};
 use ctrl_settle::Ctrl;
 use ctrl_types::{CtrlId, Flags, Kind};
 use device_state::{Device, Plan, PlanBuilder, PlanFault};

@@ -4,7 +4,6 @@ ghost use Rattle.std.specs.Prelude.{◌≡◌, []};
 
 use crate::counting::counted_sample;
 use crate::ground::Ground;
-use hoard::Hoard;
 use crate::writer::{Kept, Short};
 use case_files::Program;
 use ctl_pair::{Gate, Remains, run_pair};
@@ -12,6 +11,7 @@ use ctl_script::{ControlWords, Outcome, run_board, run_script};
 use ctrl_calls::Driver;
 use device_file::read_device;
 use device_state::Device;
+use hoard::Hoard;
 use std::alloc::AllocError;
 use std::sync::atomic::AtomicU64;
 use std::sync::{Arc, Wait};

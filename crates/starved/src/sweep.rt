@@ -3,12 +3,12 @@
 use crate::climb::{Climb, STEP};
 use crate::commands::Wanting;
 use crate::ground::Ground;
-use hoard::{Hoard, MOST_BUDGET, MOST_PAGES};
 use crate::lines::{is_answered, lines_of, want_of};
 use crate::run::{Ran, run};
 use crate::writer::Short;
 use case_files::{Case, Program};
 use ctl_script::{ControlWords, Outcome, sample_words};
+use hoard::{Hoard, MOST_BUDGET, MOST_PAGES};
 use std::alloc::{AllocError, Global};
 use std::io;
 use std::sync::Wait;
@@ -28,9 +28,9 @@ const SWEPT: &[&str] = &[
 ];
 
 // A script of more lines than these isn't run out of memory, or only before it runs.
-const LONGEST: usize = 150;
+const LONGEST: usize = 100;
 
-const LONG: usize = 20;
+const LONG: usize = 10;
 
 // Two scripts without a command.
 const NOTHING: &[u8] = b"==\n";

@@ -210,6 +210,9 @@ fn a_builder_that_is_refused_memory_is_as_before(rt: HostRuntime) -> Result<(), 
         }
     }
     let at_the_end = refusals_at_the_end(&rt, alloc, &mut hoard, &called);
-    assert!(rt; refused > 5 && at_the_end.is_some() && at_the_end != Some(0), "{refused} {at_the_end:?}");
+    assert!(rt;
+        refused > 5 && at_the_end.is_some() && at_the_end != Some(0),
+        "{refused} {at_the_end:?}"
+    );
     Ok(())
 }
