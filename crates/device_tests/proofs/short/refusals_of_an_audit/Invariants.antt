@@ -4,5 +4,5 @@ use Rattle.history_audit.specs.Replay.{IsProgressOf}
 use Rattle.device_tests.proofs.short.refusals_of_an_audit.Given as goal
 
 -- what was put aside is of the device
-abbrev pub invariant-loop : goal.invariant-loop
-invariant-loop l = IfSome l.made (IsProgressOf data_verdict l.device.plan l.device.steps)
+abbrev pub invariant-loop-times : goal.invariant-loop-times
+invariant-loop-times l = IfSome l.made (IsProgressOf data_verdict l.device.plan l.device.steps)
