@@ -114,5 +114,5 @@ fn plan_of(alloc: Global, of_brightness: Calls<Waiting>) -> Result<Plan<Waiting>
 
 /// Whether the audit of a device agrees, and it has so many steps.
 pub fn agrees(alloc: Global, device: &Device<Waiting>, steps: usize) -> bool {
-    matches!(audit_of(alloc, device), Audited::Equal(count) if count == steps)
+    matches!(audit_of(alloc, device, &mut None), Audited::Equal(count) if count == steps)
 }
