@@ -17,4 +17,4 @@ loop-rest-preserved g c =
     let line = c.first_line.result.0.now in
     let more = c.first_line.result.1 in
     let left = ap lines_left c.in-Some.is in
-    (omega (arith, fewer c.in-Some.text.now line more c.first_line.ensures.parts, loop.invariant.0, left), c.show_line.ensures)
+    (omega (arith, fewer c.in-Some.text.now line more c.first_line.ensures.parts, loop.invariant.0, left), c.show_line.ensures.made)
