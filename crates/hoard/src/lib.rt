@@ -32,23 +32,34 @@ const MOST: usize = 65_536;
 // The C library gives a thread whole pages. A block of this size is mapped on its own, each time, and leaves no place for an arena of a thread.
 const PAGE: usize = 4096;
 
+// It puts so many bytes before a block of whole pages.
+const HEAD: usize = 24;
+
 const REGION: usize = 12_288 * PAGE;
 // More pages than those of what is given back for work.
 const MAPPED: usize = 4096;
 
+// How many places for stacks there are.
+const STACKS: usize = 2;
+
 /// The most pages that threads can be left.
 pub const MOST_PAGES: usize = 2048;
 
-/// All memory that can be had, in blocks that are never written, but for a part that is given back for work.
+/// All memory that can be had, in blocks that are never written, but for a part that is given back for work: whoever wants more is really refused.
+///
+/// As long as there is one thread, the C library gives it parts of its heap alone. Once there was a second one it gives whole pages, too, and to threads
+/// that were made later these alone: each growth takes one at least.
 #[derive(Drop)]
 pub struct Hoard {
     alloc: Global,
     // what is given back, and taken again
     near: Vec<Vec<u8>>,
     rooms: Vec<Vec<u8>>,
-    // where the stacks of two threads lie, and what they can have besides
+    // two places for the stacks of threads, and what these can have besides
     stacks: Vec<Vec<u8>>,
     pages: Vec<Vec<u8>>,
+    // what is taken of that again
+    taken: Vec<Vec<u8>>,
     // all else
     far: Vec<Vec<u8>>,
 }
@@ -60,11 +71,14 @@ impl Hoard {
             alloc,
             near: Vec::with_capacity(alloc, MOST)?,
             rooms: Vec::with_capacity(alloc, ROOMS)?,
-            stacks: Vec::with_capacity(alloc, 1)?,
+            stacks: Vec::with_capacity(alloc, STACKS)?,
             pages: Vec::with_capacity(alloc, 1)?,
+            taken: Vec::with_capacity(alloc, MOST_PAGES)?,
             far: Vec::with_capacity(alloc, 2 * MOST)?,
         };
-        hoard.stacks.push(Vec::with_capacity(alloc, REGION)?)?;
+        for _ in 0..STACKS {
+            hoard.stacks.push(Vec::with_capacity(alloc, REGION)?)?;
+        }
         hoard.pages.push(Vec::with_capacity(alloc, REGION)?)?;
         for _ in 0..BLOCKS {
             hoard.near.push(Vec::with_capacity(alloc, BLOCK)?)?;
@@ -97,9 +111,9 @@ impl Hoard {
         self.rooms.clear();
     }
 
-    /// Gives back where the stacks of two threads lie. They stay there, so that `fence` takes what is left.
+    /// Gives back one of two places for the stacks of threads. They stay there, so that `fence` takes what is left.
     pub fn give_stacks(&mut self) {
-        self.stacks.clear();
+        drop(self.stacks.pop());
     }
 
     /// Takes what is left beside the stacks of the threads that have run, to a page.
@@ -113,15 +127,24 @@ impl Hoard {
         }
     }
 
-    /// Leaves threads this many pages, of at most `MOST_PAGES`.
+    /// Leaves threads this many pages, of at most `MOST_PAGES`. None is in use then.
     pub fn leave_pages(&mut self, pages: usize) {
         self.pages.clear();
+        self.taken.clear();
         take(
             self.alloc,
             &mut self.pages,
             REGION - pages.min(MOST_PAGES) * PAGE,
             1,
         );
+    }
+
+    /// Takes the pages that threads were left and don't use, but for this many. One of these threads calls it.
+    pub fn take_pages(&mut self, left: usize) {
+        take(self.alloc, &mut self.taken, PAGE - HEAD, MOST_PAGES);
+        for _ in 0..left {
+            drop(self.taken.pop());
+        }
     }
 
     /// Whether nothing is left where nothing is to be left.

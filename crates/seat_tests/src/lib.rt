@@ -10,8 +10,6 @@ mod devices;
 #[cfg(test)]
 mod front;
 #[cfg(test)]
-mod hoard;
-#[cfg(test)]
 mod limits;
 #[cfg(test)]
 mod pairs;

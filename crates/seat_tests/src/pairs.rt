@@ -3,10 +3,10 @@
 ghost use Rattle.std.specs.Prelude.{◌≡◌, []};
 
 use crate::devices::{Waiting, agrees, sample};
-use crate::hoard::Hoard;
 use ctl_pair::{Gate, run_pair};
 use ctl_script::{ControlWords, Outcome, first_line, run_script, sample_words};
 use device_state::Device;
+use hoard::Hoard;
 use std::alloc::{AllocError, Global};
 use std::sync::{Mutex, Wait};
 use std::test::Fail;
@@ -62,15 +62,10 @@ const NEVER: (u32, u32) = (2, 0);
 // How many pages both threads need at most.
 const PAGES: usize = 200;
 
-// How many pages are 1 MiB, and how many MiB the stack of a thread has at most.
-const MIB: usize = 256;
-
-const STACK: usize = 64;
-
 // How many budgets there are at most, each of one page more than the one before.
 const BUDGETS: usize = 512;
 
-// At a command of a seat memory runs short, but for so many pages.
+// At a command of a seat memory runs short, on the thread that asks: so many pages are left.
 #[derive(Drop)]
 struct Short<'a, R> {
     rt: &'a R,
@@ -82,7 +77,7 @@ struct Short<'a, R> {
 impl<R: Wait> Gate for Short<'_, R> {
     fn pass(&self, seat: u32, k: u32) {
         if (seat, k) == self.at {
-            self.hoard.lock(self.rt).leave_pages(self.left);
+            self.hoard.lock(self.rt).take_pages(self.left);
         }
     }
 }
@@ -209,7 +204,7 @@ fn came(
     })
 }
 
-// Runs both scripts. Memory is short from this point on, but for so many pages.
+// Runs both scripts. Memory is short from this point on: so many pages are left.
 fn goes<R: Threads + Wait + Sync>(
     rt: &R,
     alloc: Global,
@@ -218,7 +213,7 @@ fn goes<R: Threads + Wait + Sync>(
     at: (u32, u32),
     left: usize,
 ) -> Result<Run, AllocError> {
-    hoard.lock(rt).give();
+    hoard.lock(rt).leave_pages(PAGES);
     let mut text = Vec::with_capacity(alloc, 4096)?;
     text.extend_from_slice(SETS)?;
     text.extend_from_slice(b"==\n")?;
@@ -233,10 +228,10 @@ fn goes<R: Threads + Wait + Sync>(
         left,
     };
     if at == START {
-        hoard.lock(rt).leave_pages(left);
+        leave_alone(&mut hoard.lock(rt), left);
     }
     let (remains, outcome) = run_pair(rt, alloc, known, device, &gate, &mut reader, &mut printed);
-    hoard.lock(rt).give();
+    hoard.lock(rt).feed();
     let Ok(device) = remains else {
         return Ok(Run::Wrong);
     };
@@ -247,6 +242,13 @@ fn goes<R: Threads + Wait + Sync>(
         }
         _ => Ok(Run::Wrong),
     }
+}
+
+// Leaves so many pages, and nothing else.
+fn leave_alone(hoard: &mut Hoard, pages: usize) {
+    hoard.leave_pages(0);
+    hoard.starve(0);
+    hoard.leave_pages(pages);
 }
 
 fn is_unasked(printed: &[u8]) -> bool {
@@ -263,7 +265,6 @@ fn swept<R: Threads + Wait + Sync>(
 ) -> Result<Option<(usize, usize)>, AllocError> {
     let (mut unasked, mut refused) = (0usize, 0usize);
     for left in 0..BUDGETS {
-        hoard.lock(rt).leave_pages(PAGES);
         match goes(rt, alloc, known, hoard, at, left)? {
             Run::Unasked => unasked = unasked.saturating_add(1),
             Run::Ran(0) => return Ok(Some((unasked, refused))),
@@ -279,17 +280,6 @@ fn makes_thread<R: Threads + Wait + Sync>(rt: &R) -> bool {
     thread::scope(thread::scope_env(), rt, |scope| scope.spawn(|| ()).is_ok())
 }
 
-// Leaves more and more pages together, until the stack of one thread has room. The C library keeps it for the next.
-fn with_thread<R: Threads + Wait + Sync>(rt: &R, hoard: &Mutex<Hoard>) {
-    for k in 1..STACK {
-        hoard.lock(rt).leave_together(MIB * k);
-        hoard.lock(rt).give();
-        if makes_thread(rt) {
-            return;
-        }
-    }
-}
-
 // Whether nothing is asked where no thread can be made, and where one alone can; both are made then.
 fn wants_threads<R: Threads + Wait + Sync>(
     rt: &R,
@@ -297,13 +287,15 @@ fn wants_threads<R: Threads + Wait + Sync>(
     known: &ControlWords,
     hoard: &Mutex<Hoard>,
 ) -> Result<bool, AllocError> {
-    hoard.lock(rt).leave_pages(0);
     let none = goes(rt, alloc, known, hoard, NEVER, 0)?;
-    with_thread(rt, hoard);
+    hoard.lock(rt).give_stacks();
+    let is_made = makes_thread(rt);
+    hoard.lock(rt).fence();
     let one = goes(rt, alloc, known, hoard, NEVER, 0)?;
-    hoard.lock(rt).leave_together(MIB * STACK);
+    hoard.lock(rt).give_stacks();
     let both = goes(rt, alloc, known, hoard, NEVER, 0)?;
-    Ok(none == Run::Unasked && one == Run::Unasked && both == Run::Ran(0))
+    hoard.lock(rt).fence();
+    Ok(is_made && none == Run::Unasked && one == Run::Unasked && both == Run::Ran(0))
 }
 
 #[test]

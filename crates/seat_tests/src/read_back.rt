@@ -5,9 +5,9 @@ ghost use Rattle.turn_desk.specs.Views.{IsSeatOf};
 
 use crate::asks::{get, handle_of, has_value, set};
 use crate::devices::{Waiting, agrees, sample};
-use crate::hoard::Hoard;
 use ctrl_types::{Errno, Fault, FhId};
 use device_state::{Ask, Device, Reply};
+use hoard::Hoard;
 use std::alloc::Global;
 use std::sync::Wait;
 use std::test::Fail;
@@ -36,14 +36,14 @@ impl Short<'_> {
     // Before a call.
     fn begin(&mut self) {
         if self.next == self.call {
-            self.hoard.leave(self.left);
+            self.hoard.starve(self.left);
         }
     }
 
     // Behind it.
     fn end(&mut self) {
         if self.next == self.call {
-            self.hoard.give();
+            self.hoard.feed();
         }
         self.next = self.next.saturating_add(1);
     }
@@ -112,7 +112,7 @@ fn closed(
     requires second { IsSeatOf desk second }
 {
     let mut seats = Vec::with_capacity(alloc, 2).ok()?;
-    hoard.leave(0);
+    hoard.starve(0);
     seats.push_reserved(first);
     let Err((desk, seats, fault)) = desk.close(SeatList::from_vec(seats)) else {
         return None;
@@ -120,7 +120,7 @@ fn closed(
     let mut seats = seats.into_vec();
     seats.push(second).ok()?;
     let device = desk.close(SeatList::from_vec(seats)).ok()?;
-    hoard.give();
+    hoard.feed();
     if fault == (DeskFault::SeatsOut { given: 1, made: 2 }) {
         Some(device)
     } else {
@@ -157,7 +157,7 @@ fn goes<R: Wait>(rt: &R, alloc: Global, mut short: Short<'_>) -> Option<bool> {
 // Whether a call was refused at the least budget, and no more at a greater one, and each run was as told.
 fn is_swept<R: Wait>(rt: &R, alloc: Global, hoard: &mut Hoard, call: u32) -> bool {
     for k in 0..BUDGETS {
-        hoard.give();
+        hoard.feed();
         let short = Short {
             hoard,
             call,
