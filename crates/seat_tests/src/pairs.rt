@@ -59,11 +59,8 @@ const START: (u32, u32) = (0, 0);
 
 const NEVER: (u32, u32) = (2, 0);
 
-// How many pages both threads need at most.
+// More pages than both threads need. Budgets are smaller, each of one page more than the one before.
 const PAGES: usize = 200;
-
-// How many budgets there are at most, each of one page more than the one before.
-const BUDGETS: usize = 512;
 
 // At a command of a seat memory runs short, on the thread that asks: so many pages are left.
 #[derive(Drop)]
@@ -264,7 +261,7 @@ fn swept<R: Threads + Wait + Sync>(
     at: (u32, u32),
 ) -> Result<Option<(usize, usize)>, AllocError> {
     let (mut unasked, mut refused) = (0usize, 0usize);
-    for left in 0..BUDGETS {
+    for left in 0..PAGES {
         match goes(rt, alloc, known, hoard, at, left)? {
             Run::Unasked => unasked = unasked.saturating_add(1),
             Run::Ran(0) => return Ok(Some((unasked, refused))),
