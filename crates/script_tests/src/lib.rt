@@ -1,9 +1,6 @@
-//! Tests of the run of a script that no file of `cases` can show: readers and writers that fail, the longest input, refused growths,
-//! and a device of a plan of its own; of each reply line on writers that take few bytes or fail; of command lines; of why lines
-//! aren't commands; and of words of values that no control takes. The devices have no closures.
-//!
-//! `rt try --test --fail-alloc N` refuses the Nth growth: a command that is refused for want of memory is answered with its error and
-//! does nothing, and where a growth of the tool's own is refused the run ends behind the commands that were answered.
+//! Tests of the run of a script that no file of `cases` can show: readers and writers that fail, the longest input, and a device of a
+//! plan of its own; of each reply line on writers that take few bytes or fail; of command lines; of why lines aren't commands; and of
+//! words of values that no control takes. But for those of `pair`, the devices have no closures.
 #![tactic(auto)]
 
 #[cfg(test)]

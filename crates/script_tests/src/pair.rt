@@ -1,5 +1,5 @@
 //! Tests of the device at the desk, and of two scripts on two threads: a gate that lets each go on only once the other has come as far, a
-//! write that is read back through another seat, seats that are left out, readers and writers that fail, and many asks at once.
+//! seat that is left out, readers and writers that fail, and many asks at once.
 
 mod closures;
 mod desk;

@@ -2,7 +2,7 @@
 
 ghost use Rattle.ctrl_calls.specs.Meanings.{JudgesBy, TellsBy};
 
-use crate::pair::desk::{one_seat, read_back};
+use crate::pair::desk::one_seat;
 use crate::pair::many::both_run;
 use crate::pair::sample::sample_of;
 use ctl_script::{
@@ -22,7 +22,6 @@ type Teller = Box<dyn Fn(ClusterRow) -> u64 + Send>;
 #[derive(Clone, Copy)]
 pub enum Course<'a> {
     OneSeat,
-    ReadBack,
     /// Two scripts with their dividing line, and how many steps each has at least.
     Scripts(&'a [u8], usize),
 }
@@ -69,7 +68,6 @@ where
     let device = sample_of::<D>(rt.alloc(), judges, tellers)?;
     match course {
         Course::OneSeat => one_seat(rt, rt.alloc(), device),
-        Course::ReadBack => read_back(rt, rt.alloc(), device),
         Course::Scripts(text, least) => both_run(rt, rt.alloc(), device, text, least),
     }
 }

@@ -104,27 +104,6 @@ fn closes_alone<D: Driver>(
     Some((fault, device.steps().len()))
 }
 
-// The same with one of its two seats, and then with both.
-fn closes_both<D: Driver>(
-    alloc: Global,
-    desk: Desk<Device<D>>,
-    first: DeskSeat<Device<D>>,
-    second: DeskSeat<Device<D>>,
-) -> Option<(DeskFault, usize)>
-    requires first { IsSeatOf desk first }
-    requires second { IsSeatOf desk second }
-{
-    let mut one = Vec::new(alloc);
-    one.push(first).ok()?;
-    let Err((desk, one, fault)) = desk.close(SeatList::from_vec(one)) else {
-        return None;
-    };
-    let mut seats = one.into_vec();
-    seats.push(second).ok()?;
-    let device = desk.close(SeatList::from_vec(seats)).ok()?;
-    Some((fault, device.steps().len()))
-}
-
 /// Whether one seat opens a file handle, sets brightness to 2 and reads 4, and the desk isn't closed without it, and is with it.
 pub fn one_seat<D: Driver, R: Wait>(
     rt: &R,
@@ -149,53 +128,5 @@ pub fn one_seat<D: Driver, R: Wait>(
 #[test]
 fn one_seat_reads_what_it_set(rt: HostRuntime) -> Result<(), Fail> {
     assert!(rt; goes(&rt, Course::OneSeat)?);
-    Ok(())
-}
-
-/// Whether a write is read back through another seat before the two have met and after it, and the desk isn't closed with one of them.
-pub fn read_back<D: Driver, R: Wait>(
-    rt: &R,
-    alloc: Global,
-    device: Device<D>,
-) -> Result<bool, AllocError>
-    requires { device.steps ≡ [] }
-{
-    let Ok((desk, first)) = Desk::new(alloc, device) else {
-        return Err(AllocError);
-    };
-    let (first, fh) = opens(rt, &desk, first);
-    let (first, second) = desk.another(rt, first);
-    let (Some(fh), Ok(second)) = (fh, second) else {
-        return Ok(false);
-    };
-    let (first, is_set) = answers(rt, &desk, first, set(alloc, fh, 4), 4);
-    let (second, is_read) = answers(rt, &desk, second, get(alloc, fh), 4);
-    Ok(is_set && is_read && reads_again(rt, alloc, desk, fh, first, second))
-}
-
-fn reads_again<D: Driver, R: Wait>(
-    rt: &R,
-    alloc: Global,
-    desk: Desk<Device<D>>,
-    fh: FhId,
-    first: DeskSeat<Device<D>>,
-    second: DeskSeat<Device<D>>,
-) -> bool
-    requires first { IsSeatOf desk first }
-    requires second { IsSeatOf desk second }
-{
-    let (first, is_set) = answers(rt, &desk, first, set(alloc, fh, 8), 8);
-    let mut second = second;
-    let front = desk.front(&mut second);
-    let (first, second) = desk.meet(first, second);
-    let (second, is_read) = answers(rt, &desk, second, get(alloc, fh), 8);
-    let closed = closes_both(alloc, desk, first, second);
-    let is_closed = closed == Some((DeskFault::SeatsOut { given: 1, made: 2 }, 3));
-    is_set && is_read && front == 3 && is_closed
-}
-
-#[test]
-fn reads_back_through_another_seat(rt: HostRuntime) -> Result<(), Fail> {
-    assert!(rt; goes(&rt, Course::ReadBack)?);
     Ok(())
 }
