@@ -26,6 +26,9 @@ const SIZES: usize = 33;
 
 const KEPT: usize = 7;
 
+// These are of so many bytes together.
+const SMALL: usize = 65_536;
+
 // More blocks of one size are never there to be had.
 const MOST: usize = 65_536;
 
@@ -55,6 +58,9 @@ pub struct Hoard {
     // what is given back, and taken again
     near: Vec<Vec<u8>>,
     rooms: Vec<Vec<u8>>,
+    // where the small blocks lie that the C library keeps, and these while it doesn't
+    small: Vec<Vec<u8>>,
+    kept: Vec<Vec<u8>>,
     // two places for the stacks of threads, and what these can have besides
     stacks: Vec<Vec<u8>>,
     pages: Vec<Vec<u8>>,
@@ -71,6 +77,8 @@ impl Hoard {
             alloc,
             near: Vec::with_capacity(alloc, MOST)?,
             rooms: Vec::with_capacity(alloc, ROOMS)?,
+            small: Vec::with_capacity(alloc, 1)?,
+            kept: Vec::with_capacity(alloc, SIZES * KEPT)?,
             stacks: Vec::with_capacity(alloc, STACKS)?,
             pages: Vec::with_capacity(alloc, 1)?,
             taken: Vec::with_capacity(alloc, MOST_PAGES)?,
@@ -91,9 +99,7 @@ impl Hoard {
     /// Leaves this many bytes, of at most `MOST_BUDGET`, and what the C library needs to hand them out.
     pub fn starve(&mut self, budget: usize) {
         take(self.alloc, &mut self.rooms, ROOM, ROOMS);
-        for step in 1..SIZES {
-            take(self.alloc, &mut self.near, 16 * step - 8, KEPT);
-        }
+        take_kept(self.alloc, &mut self.near);
         take_halves(self.alloc, &mut self.near, LARGEST);
         for _ in 0..budget / ROOM {
             drop(self.rooms.pop());
@@ -106,9 +112,16 @@ impl Hoard {
     }
 
     /// Gives back what work needs.
+    ///
+    /// The first small blocks of each size that it gives back stay apart, and divide what lies around them. So they are cut out of one block: else
+    /// there were hundreds of rooms to be taken the next time.
     pub fn feed(&mut self) {
+        self.small.clear();
+        take_kept(self.alloc, &mut self.kept);
+        self.kept.clear();
         self.near.clear();
         self.rooms.clear();
+        take(self.alloc, &mut self.small, SMALL, 1);
     }
 
     /// Gives back one of two places for the stacks of threads. They stay there, so that `fence` takes what is left.
@@ -153,6 +166,13 @@ impl Hoard {
         let is_refused = Vec::<u8>::with_capacity(self.alloc, 16).is_err();
         self.feed();
         is_refused
+    }
+}
+
+// Takes small blocks of each size, as many as the C library keeps.
+fn take_kept(alloc: Global, blocks: &mut Vec<Vec<u8>>) {
+    for step in 1..SIZES {
+        take(alloc, blocks, 16 * step - 8, KEPT);
     }
 }
 
