@@ -20,14 +20,16 @@ pub const MOST_BUDGET: usize = ROOMS * ROOM;
 // In blocks of at most this size it is taken again, each half as large as those before: what lies between two blocks that stay is so taken in few.
 const LARGEST: usize = 4_194_304;
 
-// Of each size of small blocks, in steps of 16 bytes, the C library keeps some of those that were given back, which no other size can have. It keeps some
-// of twice these sizes, too: a growth of just such a size may get through with less.
-const SIZES: usize = 33;
+// Of each size of small blocks, in steps of 16 bytes up to 1,032, the C library keeps some of those that were given back, which no other size can have.
+const SIZES: usize = 66;
 
 const KEPT: usize = 7;
 
-// These are of so many bytes together.
-const SMALL: usize = 65_536;
+// These are of so many bytes together, at most.
+const SMALL: usize = 262_144;
+
+// Where so many blocks were taken, what is kept lies apart, and divides the rest.
+const MANY: usize = 800;
 
 // More blocks of one size are never there to be had.
 const MOST: usize = 65_536;
@@ -112,16 +114,20 @@ impl Hoard {
     }
 
     /// Gives back what work needs.
-    ///
-    /// The first small blocks of each size that it gives back stay apart, and divide what lies around them. So they are cut out of one block: else
-    /// there were hundreds of rooms to be taken the next time.
     pub fn feed(&mut self) {
-        self.small.clear();
-        take_kept(self.alloc, &mut self.kept);
-        self.kept.clear();
+        if self.near.len() > MANY {
+            self.gather();
+        }
         self.near.clear();
         self.rooms.clear();
         take(self.alloc, &mut self.small, SMALL, 1);
+    }
+
+    // Has the C library keep small blocks that lie together: they are the first that are given back, and are cut out of one block.
+    fn gather(&mut self) {
+        self.small.clear();
+        take_kept(self.alloc, &mut self.kept);
+        self.kept.clear();
     }
 
     /// Gives back one of two places for the stacks of threads. They stay there, so that `fence` takes what is left.
