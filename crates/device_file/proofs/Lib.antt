@@ -1,3 +1,5 @@
 mod Files
+mod Finishing
+mod Headings
 mod Indexes
 mod Refused

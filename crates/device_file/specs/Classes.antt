@@ -33,10 +33,6 @@ is_of_class _ = false
 abbrev pub is_class : ℕ → Bool
 is_class number = is_of_class (which_of number)
 
--- whether a control is of a class
-abbrev pub is_of : ℕ → Control → Bool
-is_of class ctrl = class_of ctrl.id.0 == class
-
 -- whether some of these names is of a class
 abbrev pub names_class : List ClassName → ℕ → Bool
 names_class names class = list_any (λ it. it.class == class) names
@@ -71,7 +67,7 @@ new_class controls names table = do
   number ← needed_number_in keys.Id table
   class ← class_by number
   _ ← unless_named (names_class names class)
-  _ ← unless_foreign (list_any (is_of class) controls)
+  _ ← unless_foreign (list_any (λ ctrl. class_of ctrl.id.0 == class) controls)
   Ok class
 
 -- a byte is a printable character of ASCII

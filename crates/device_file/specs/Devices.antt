@@ -11,7 +11,7 @@ use Rattle.device_file.specs.Classes.{ClassName, with_classes}
 use Rattle.device_file.specs.Clusters.{with_clusters}
 use Rattle.file_faults.specs.Faults.{◌>>=◌, at_place, wrong}
 use Rattle.device_file.specs.Handlers.{DeviceData, device, with_handlers}
-use Rattle.device_file.specs.Headings.{with_headings}
+use Rattle.device_file.specs.Headings.{headed}
 use Rattle.file_tables.specs.Reading.{elements_in, no_others_in}
 use Rattle.device_file.specs.declared.device.DeviceFile.{DeviceFile}
 use Rattle.device_file.specs.declared.device.TheConstants.{MAX_FILE}
@@ -69,11 +69,11 @@ device_of file = do
   it ← parts_of file
   Ok (with_plan it (finished it.device.plan))
 
--- the device as a camera shows it to programs: the same with the headings of classes behind its controls
+-- the device as a camera shows it to programs: the same with the headings of classes
 abbrev pub camera_of : Members → Result FileData FileFault
 camera_of file = do
-  it ← parts_of file
-  Ok (with_plan it (finished (with_headings (finished it.device.plan) it.device.plan)))
+  it ← device_of file
+  Ok (with_plan it (headed it.device.plan))
 
 -- what was read of a file, as what it describes
 abbrev pub data_of : DeviceFile → FileData

@@ -1,10 +1,11 @@
 //! The names that a file gives to classes of controls.
 
-ghost use Rattle.std.specs.Prelude.{◌≡◌, ◌≤◌, length, map, Ok, IfOk, IfErr, OnOk};
+ghost use Rattle.std.specs.Prelude.{◌≡◌, ◌==◌, ◌≤◌, length, map, Ok, IfOk, IfErr, OnOk};
 ghost use Rattle.std.specs.List.{list_all, list_any};
 ghost use Rattle.toml.specs.View.{view, table_view};
+ghost use Rattle.ctrl_types.specs.Classes.{class_of as number_of_class};
 ghost use Rattle.file_tables.specs.Reading.{read_as};
-ghost use Rattle.device_file.specs.Classes.{class_by, class_name_in, is_class as is_known_as_class, is_name as is_class_name, is_of as is_of_class, is_printable as can_be_shown, new_class as class_for, with_class_of, with_classes};
+ghost use Rattle.device_file.specs.Classes.{class_by, class_name_in, is_class as is_known_as_class, is_name as is_class_name, is_printable as can_be_shown, new_class as class_for, with_class_of, with_classes};
 ghost use Rattle.device_file.specs.Stops.{FileStops, Stops};
 ghost use Rattle.device_file.specs.declared.class_names.TheConstants.{MAX_CLASS_NAME};
 
@@ -101,7 +102,7 @@ pub(crate) fn is_class(number: u32) -> bool
 
 // Whether some of these controls is of a class.
 fn have_class(controls: &[Ctrl], class: u32) -> bool
-    ensures { result ≡ list_any (is_of_class class) controls.now }
+    ensures { result ≡ list_any (λ ctrl. number_of_class ctrl.id.0 == class) controls.now }
 {
     controls.iter().any(|ctrl| ctrl.id().class() == class)
 }

@@ -1,9 +1,9 @@
 //! The headings of classes, as a camera shows them to programs.
 
-ghost use Rattle.std.specs.Prelude.{◌≡◌, ◌<◌, ◌≤◌, length, OnOk};
+ghost use Rattle.std.specs.Prelude.{◌≡◌, ◌==◌, ◌≤◌, OnOk};
 ghost use Rattle.std.specs.List.{list_any};
+ghost use Rattle.ctrl_types.specs.Classes.{class_of};
 ghost use Rattle.ctrl_handlers.specs.Plan.{control_in};
-ghost use Rattle.device_file.specs.Classes.{is_of};
 ghost use Rattle.device_file.specs.Headings.{heading as heading_for, lacks_heading as has_none, shows_class as shows, with_heading, with_headings, with_headings_of, with_lacking};
 ghost use Rattle.device_file.specs.declared.headings.TheConstants.{CLASSES};
 
@@ -67,7 +67,7 @@ fn shows_class(plain: &Plan<Data>, handler: u32, class: u32) -> bool
 
 // Whether some of these numbers is that of a control of a class.
 fn some_is_of(controls: &[Ctrl], numbers: &[u32], class: u32) -> bool
-    ensures { result ≡ list_any (λ c. is_of class (control_in controls.now c)) numbers.now }
+    ensures { result ≡ list_any (λ c. class_of (control_in controls.now c).id.0 == class) numbers.now }
 {
     numbers
         .iter()
@@ -94,6 +94,7 @@ fn add_heading(builder: &mut PlanBuilder<Data>, handler: u32, class: u32) -> Res
     }
 }
 
+#[tactic(auto, using(crate::proofs::Headings::heading_is_well_formed))]
 fn heading(class: u32) -> Ctrl
     ensures { result ≡ heading_for class }
 {
