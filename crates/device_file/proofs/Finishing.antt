@@ -1,9 +1,9 @@
 -- A finished plan with headings, once it is finished again, is the plan that is finished once, with them: those of its controls that were in no cluster have one already.
-use Rattle.std.proofs.Common.{◌≡◌, ℕ, zero, suc, ◌+◌, ◌<◌, ◌≤◌, ◌||◌, Bool, true, false, cond, nat_eq, List, [], ◌∷◌, ◌++◌, length, is_some, refl, sym, ap, subst, ◌∙◌, arith, absurd, inl, inr, ◌⊎◌}
+use Rattle.std.proofs.Common.{◌≡◌, ℕ, zero, suc, ◌+◌, ◌*◌, ◌<◌, ◌≤◌, Bool, true, false, cond, List, [], ◌∷◌, ◌++◌, length, is_some, refl, sym, ap, subst, ◌∙◌, arith, absurd, inl, inr, ◌⊎◌}
 use Rattle.std.specs.List.{list_any}
 use Rattle.std.proofs.lemmas.Bool.{cases_lt}
 use Rattle.std.proofs.lemmas.Bool.Decides.{nat_tests}
-use Rattle.std.proofs.lemmas.List.{length-append}
+use Rattle.std.proofs.lemmas.List.{length_push}
 use Rattle.std.proofs.lemmas.List.Folds.{list_any-append}
 use Rattle.ctrl_handlers.specs.Builder.{control_refusal}
 use Rattle.ctrl_handlers.specs.ClusterData.{ClusterData}
@@ -24,17 +24,18 @@ kept clusters n c h = by (list_any (has_member n) clusters)
   where
     by : (b : Bool) → list_any (has_member c) (cond b clusters (clusters ++ alone n ∷ [])) ≡ true
     by true = h
-    by false = list_any-append (has_member c) clusters (alone n ∷ []) ∙ ap (λ (x : Bool). x || list_any (has_member c) (alone n ∷ [])) h
+    by false = rw (list_any-append (has_member c) clusters (alone n ∷ []), h) refl
+
+own_member : (c : ℕ) → list_any (has_member c) (alone c ∷ []) ≡ true
+own_member c = grind (arith, nat_tests)
 
 -- and one that was in none has its own
 own_one : (clusters : List ClusterData) (n : ℕ) → list_any (has_member n) (with_alone clusters n) ≡ true
 own_one clusters n = by (list_any (has_member n) clusters) refl
   where
-    itself : nat_eq n n ≡ true
-    itself = grind (arith, nat_tests)
     by : (b : Bool) → list_any (has_member n) clusters ≡ b → list_any (has_member n) (cond b clusters (clusters ++ alone n ∷ [])) ≡ true
     by true e = e
-    by false e = list_any-append (has_member n) clusters (alone n ∷ []) ∙ rw (e, itself) refl
+    by false e = rw (list_any-append (has_member n) clusters (alone n ∷ []), e, own_member n) refl
 
 -- so each below a number is in a cluster
 each_has : (clusters : List ClusterData) (n c : ℕ) → c < n → list_any (has_member c) (with_each clusters n) ≡ true
@@ -88,7 +89,7 @@ grown_lacking clusters plain before plan on_others h class g =
   where
     by : (lacks full : Bool) → Grown clusters before (cond lacks (cond full plan (with_control plan h (heading class))) plan) (cond lacks (cond full (on clusters plan) (with_control (on clusters plan) h (heading class))) (on clusters plan))
     by true true = record { others = refl; clusters_stay = g.clusters_stay; more = g.more }
-    by true false = record { others = refl; clusters_stay = g.clusters_stay; more = omega (arith, g.more, length-append plan.controls (heading class ∷ [])) }
+    by true false = record { others = refl; clusters_stay = g.clusters_stay; more = omega (arith, g.more, length_push plan.controls (heading class)) }
     by false full = record { others = refl; clusters_stay = g.clusters_stay; more = g.more }
 
 grown_of : (clusters : List ClusterData) (plain before plan on_others : PlanData) (h n : ℕ) → Grown clusters before plan on_others
@@ -113,7 +114,9 @@ headed_first plan =
   where
     plain : PlanData
     plain = finished plan
+
     made : PlanData
     made = with_headings plain plan
+
     g : Grown plain.clusters plan made (with_headings plain plain)
     g = grown_below plain.clusters plain plan (length plain.handlers)

@@ -1,5 +1,5 @@
 mod Files
 mod Finishing
-mod Headings
+mod HeadingLemmas
 mod Indexes
 mod Refused

@@ -19,6 +19,7 @@ use std::alloc::{AllocError, Global};
 const CLASSES: u32 = 0x1000;
 
 // Adds the headings of all handlers, as they are in the plan without headings. The error is that a growth was refused.
+#[tactic(auto, using(crate::proofs::HeadingLemmas::below_none, crate::proofs::HeadingLemmas::below_more))]
 pub(crate) fn add_headings(
     builder: &mut PlanBuilder<Data>,
     plain: &Plan<Data>,
@@ -32,6 +33,7 @@ pub(crate) fn add_headings(
 }
 
 // Adds those of a handler, of the classes below this many times 0x10000.
+#[tactic(auto, using(crate::proofs::HeadingLemmas::of_none, crate::proofs::HeadingLemmas::of_more))]
 fn add_headings_of(
     builder: &mut PlanBuilder<Data>,
     plain: &Plan<Data>,
@@ -94,7 +96,7 @@ fn add_heading(builder: &mut PlanBuilder<Data>, handler: u32, class: u32) -> Res
     }
 }
 
-#[tactic(auto, using(crate::proofs::Headings::heading_is_well_formed))]
+#[tactic(auto, using(crate::proofs::HeadingLemmas::heading_is_well_formed))]
 fn heading(class: u32) -> Ctrl
     ensures { result ≡ heading_for class }
 {
