@@ -20,6 +20,7 @@ const FILES: &[&str] = &[
     "allowed.txt",
     "checks.txt",
     "devices.txt",
+    "cameras.txt",
     "handlers.txt",
     "kinds.txt",
     "flags.txt",

@@ -1,3 +1,5 @@
 mod Files
+mod Finishing
+mod HeadingLemmas
 mod Indexes
 mod Refused
