@@ -1,0 +1,4 @@
+pub mod Calls
+pub mod Ids
+pub mod Lists
+pub mod Session
