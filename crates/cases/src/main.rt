@@ -21,13 +21,14 @@ use ctl_script::{
     run_script, sample_plan, sample_words,
 };
 use ctrl_calls::{Calls, ClusterRow, Driver, Notifier, Validator, Verdict};
-use device_file::{explain, read_device};
+use device_file::{DeviceFile, explain, read_camera, read_device};
 use device_state::Device;
 use file_check::check_file;
 use hoard::Hoard;
 use line_reasons::Names;
 use starved::starve_cases;
 use std::alloc::{AllocError, Global};
+use std::fmt::Write;
 use std::io;
 use std::process::ExitCode;
 use std::sync::Wait;
@@ -80,14 +81,16 @@ fn is_same_on_file<R: AllocGlobal + Threads + Wait + Print + Sync>(
     let Some(file) = cases.get(case.device) else {
         return Ok(false);
     };
-    let ran = run_on_file(rt, file.text.as_slice(), case)?;
+    let is_camera = matches!(file.program, Program::Camera);
+    let ran = run_on_file(rt, file.text.as_slice(), is_camera, case)?;
     is_wanted(rt, file.name, case, &ran)
 }
 
-// What a case prints on the device that a file describes, and how it ends; or why the file describes none, or what a check says of it.
+// What a case prints on the device that a file describes, as a camera shows it or without headings, and how it ends; or why the file describes none, or what a check says of it.
 fn run_on_file<R: AllocGlobal + Threads + Wait + Sync>(
     rt: &R,
     file: &[u8],
+    is_camera: bool,
     case: &Case<'_>,
 ) -> Result<Ran, AllocError> {
     let alloc = rt.alloc();
@@ -98,13 +101,13 @@ fn run_on_file<R: AllocGlobal + Threads + Wait + Sync>(
             why: String::new(alloc),
         });
     }
-    match read_device(alloc, file) {
-        Ok(read) => {
-            let Ok(device) = Device::new(alloc, read.plan) else {
-                return Err(AllocError);
-            };
-            run(rt, &read.words, device, case)
-        }
+    let read = if is_camera {
+        read_camera(alloc, file)
+    } else {
+        read_device(alloc, file)
+    };
+    match read {
+        Ok(read) => run_on_read(rt, read, case),
         Err(fault) => {
             let mut said = Vec::new(alloc);
             said.extend_from_slice(explain(alloc, file, &fault)?.as_bytes())?;
@@ -116,6 +119,42 @@ fn run_on_file<R: AllocGlobal + Threads + Wait + Sync>(
             })
         }
     }
+}
+
+// What a case prints on a device that was read; of a camera's file its headings.
+fn run_on_read<R: AllocGlobal + Threads + Wait + Sync>(
+    rt: &R,
+    read: DeviceFile,
+    case: &Case<'_>,
+) -> Result<Ran, AllocError> {
+    let alloc = rt.alloc();
+    if let Program::Camera = case.program {
+        return Ok(Ran {
+            printed: headings_of(alloc, &read)?,
+            outcome: Outcome::Finished,
+            why: String::new(alloc),
+        });
+    }
+    let Ok(device) = Device::new(alloc, read.plan) else {
+        return Err(AllocError);
+    };
+    run(rt, &read.words, device, case)
+}
+
+// A line for each control that has no word: its number, its id, and the name that the file gives to its class.
+fn headings_of(alloc: Global, read: &DeviceFile) -> Result<Vec<u8>, AllocError> {
+    let mut said = String::new(alloc);
+    for (number, ctrl) in read.plan.controls().iter().enumerate() {
+        let id = ctrl.id();
+        if read.words.word_of(number as u32).is_none() {
+            write!(said, "control {number}: 0x{:08x}", id.0)?;
+            if let Some(name) = read.classes.name_of(id.class()) {
+                write!(said, " {name}")?;
+            }
+            said.push('\n')?;
+        }
+    }
+    Ok(said.into_bytes())
 }
 
 // The lines that a check says of a file, and whether it answers a device though one of them is a fault, or none though each is a warning.
@@ -236,7 +275,7 @@ where
             &mut reader,
             &mut printed,
         ),
-        Program::File | Program::Check => (Ok(device), Outcome::Finished),
+        Program::File | Program::Camera | Program::Check => (Ok(device), Outcome::Finished),
     };
     let why = match (&remains, outcome) {
         (Ok(device), Outcome::BadLine(number)) => {

@@ -45,7 +45,7 @@ pub fn why_of<D: Driver>(
     };
     let found = match case.program {
         Program::Pair => reason_in_pair(alloc, names, line)?,
-        Program::Run | Program::Board | Program::File | Program::Check => {
+        Program::Run | Program::Board | Program::File | Program::Camera | Program::Check => {
             reason_of(alloc, names, line)?
         }
     };

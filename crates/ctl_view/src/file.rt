@@ -29,6 +29,7 @@ pub fn run_file<R: AllocGlobal + Input + Files + Print + Eprint + Threads + Wait
         plan,
         words,
         followers,
+        classes: _,
     } = match file {
         Ok(file) => file,
         Err(code) => return code,

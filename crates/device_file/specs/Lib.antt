@@ -1,6 +1,8 @@
+pub mod Classes
 pub mod Clusters
 pub mod Devices
 pub mod Handlers
+pub mod Headings
 pub mod Items
 pub mod Ranges
 pub mod Refusals

@@ -8,17 +8,21 @@ use std::alloc::{AllocError, Global};
 use toml::{Table, Value};
 
 /// A file in which each table with a fault is replaced by one that has none and keeps what others may refer to: of a handler its name and its controls, of a control its
-/// name, its id and whether it is an array, of a cluster its members.
+/// name, its id and whether it is an array, of a cluster its members, of a class its id.
 #[derive(Drop)]
 pub struct Draft {
     file: Value,
     // the numbers of the clusters in the file: one that has no member left is taken out
     clusters: Vec<usize>,
+    // those of the classes: one with a wrong id is taken out
+    classes: Vec<usize>,
     // what had a fault, by its numbers in the file
     faulty: Vec<Part>,
     // whether a handler, or a control, has a name that isn't known, since it was mended
     lacks_handler: bool,
     lacks_control: bool,
+    // the same of the id of a control
+    lacks_id: bool,
 }
 
 impl Draft {
@@ -32,16 +36,16 @@ impl Draft {
             Err(error) if error.is_memory() => return Err(AllocError),
             Err(_) => return Ok(None),
         };
-        let mut clusters = Vec::new(alloc);
-        for number in 0..elements(&file, Key::Cluster).len() {
-            clusters.push(number)?;
-        }
+        let clusters = numbers(alloc, elements(&file, Key::Cluster).len())?;
+        let classes = numbers(alloc, elements(&file, Key::Class).len())?;
         Ok(Some(Draft {
             file,
             clusters,
+            classes,
             faulty: Vec::new(alloc),
             lacks_handler: false,
             lacks_control: false,
+            lacks_id: false,
         }))
     }
 
@@ -96,6 +100,7 @@ impl Draft {
             Place::Cluster(number) => Place::Cluster(self.cluster_in_file(number)),
             Place::Limit(number) => Place::Limit(self.cluster_in_file(number)),
             Place::Told(number) => Place::Told(self.cluster_in_file(number)),
+            Place::Class(number) => Place::Class(in_file(self.classes.as_slice(), number)),
             place => place,
         }
     }
@@ -113,7 +118,7 @@ impl Draft {
     }
 
     fn cluster_in_file(&self, number: usize) -> usize {
-        self.clusters().get(number).copied().unwrap_or(number)
+        in_file(self.clusters(), number)
     }
 
     /// Whether a fault is said: it is the first of its part, and doesn't come of another one, as a name that nobody has where a control lost its own.
@@ -121,6 +126,7 @@ impl Draft {
         let may_follow = match problem {
             Problem::UnknownHandler => self.lacks_handler,
             Problem::UnknownControl | Problem::UnknownFollowed => self.lacks_control,
+            Problem::UnknownClass => self.lacks_id,
             _ => false,
         };
         match Part::of(self.place_in_file(place)) {
@@ -154,6 +160,7 @@ impl Draft {
             }
             Place::Cluster(number) => self.mend_cluster(alloc, number, fault)?,
             Place::Limit(number) | Place::Told(number) => self.cut_cluster(alloc, number)?,
+            Place::Class(number) => self.mend_class(alloc, number, fault.key)?,
         }
         Ok(true)
     }
@@ -178,6 +185,7 @@ impl Draft {
             _ => {
                 if !table.contains_key(Key::Control.word()) {
                     self.lacks_control = true;
+                    self.lacks_id = true;
                 }
             }
         }
@@ -208,7 +216,10 @@ impl Draft {
                 put(alloc, &mut table, Key::Name, Value::String(name))?;
                 self.lacks_control = true;
             }
-            Key::Id => put(alloc, &mut table, Key::Id, Value::Integer(id))?,
+            Key::Id => {
+                put(alloc, &mut table, Key::Id, Value::Integer(id))?;
+                self.lacks_id = true;
+            }
             _ => {}
         }
         let kind = if is_array { "u8" } else { "integer" };
@@ -236,9 +247,7 @@ impl Draft {
             }
             (Key::Members, None) => {
                 remove(&mut self.file, Key::Cluster, number);
-                if number < self.clusters.len() {
-                    self.clusters.remove(number);
-                }
+                forget(&mut self.clusters, number);
                 Ok(())
             }
             _ => self.cut_cluster(alloc, number),
@@ -252,6 +261,42 @@ impl Draft {
             *cluster = Value::Table(table);
         }
         Ok(())
+    }
+
+    // Leaves a class its id, where that isn't the wrong key; else the class is taken out.
+    fn mend_class(&mut self, alloc: Global, number: usize, key: Key) -> Result<(), AllocError> {
+        if let Key::Id = key {
+            remove(&mut self.file, Key::Class, number);
+            forget(&mut self.classes, number);
+            return Ok(());
+        }
+        if let Some(class) = element_mut(&mut self.file, Key::Class, number) {
+            let mut table = cut(alloc, class, &[Key::Id])?;
+            put(alloc, &mut table, Key::Name, Value::string(alloc, "0")?)?;
+            *class = Value::Table(table);
+        }
+        Ok(())
+    }
+}
+
+// The numbers below one.
+fn numbers(alloc: Global, count: usize) -> Result<Vec<usize>, AllocError> {
+    let mut numbers = Vec::new(alloc);
+    for number in 0..count {
+        numbers.push(number)?;
+    }
+    Ok(numbers)
+}
+
+// The number in the file of what has a number here.
+fn in_file(numbers: &[usize], number: usize) -> usize {
+    numbers.get(number).copied().unwrap_or(number)
+}
+
+// Takes out the number in the file of what is taken out here.
+fn forget(numbers: &mut Vec<usize>, number: usize) {
+    if number < numbers.len() {
+        numbers.remove(number);
     }
 }
 

@@ -9,6 +9,8 @@ pub enum Part {
     Control(usize, usize),
     /// A cluster, with its limit and what is told of it.
     Cluster(usize),
+    /// A class.
+    Class(usize),
 }
 
 impl Part {
@@ -21,6 +23,7 @@ impl Part {
             Place::Cluster(number) | Place::Limit(number) | Place::Told(number) => {
                 Some(Part::Cluster(number))
             }
+            Place::Class(number) => Some(Part::Class(number)),
         }
     }
 }

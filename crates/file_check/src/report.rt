@@ -25,7 +25,7 @@ pub struct Report {
 ///
 /// - `text`: the bytes of the file.
 ///
-/// Of each handler, each control and each cluster the first fault is said, of the first 20 that have one, in the order in which `read_device` meets them; so the first
+/// Of each handler, each control, each cluster and each class the first fault is said, of the first 20 that have one, in the order in which `read_device` meets them; so the first
 /// line is the fault that it answers. What may only come of a fault further up isn't said: a table with a fault counts as one that has none, with the same name, id
 /// and members; and where a control, or a handler, has a name that can't be known, no name of a control, or of a handler, is said to be unknown. Where the file as a
 /// whole is wrong, as its syntax is, or a handler or control is one too many, nothing that stands behind it is said. Warnings are of controls and clusters without a fault.

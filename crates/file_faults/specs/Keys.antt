@@ -9,6 +9,7 @@ key_word keys.Table = []
 key_word (keys.Other _) = []
 key_word keys.Handler = codes "handler"
 key_word keys.Cluster = codes "cluster"
+key_word keys.Class = codes "class"
 key_word keys.Name = codes "name"
 key_word keys.Adds = codes "adds"
 key_word keys.Control = codes "control"

@@ -8,7 +8,7 @@ use crate::place::{Place, table_at};
 use crate::problem::{Problem, Sort};
 use crate::schema::{CONTROL_KEYS, keys_at};
 use control_ids::rows;
-use ctrl_types::Kind;
+use ctrl_types::{CtrlId, Kind, Which};
 use near_words::Nearest;
 use std::alloc::{AllocError, Global};
 use std::fmt::Write;
@@ -50,6 +50,7 @@ pub(crate) fn write_advice(
         Problem::UnknownMember => write_member(out, alloc, told),
         Problem::UnknownHandler => write_handler(out, alloc, told),
         Problem::OutsideMenu => write_maximum(out, told),
+        Problem::NotClass => write_class(out, told),
         _ => Ok(()),
     }
 }
@@ -97,6 +98,7 @@ fn elsewhere(place: Place, key: &str) -> &'static str {
         (Place::Control(_, _), "dims") => "how many elements there are is elems",
         (Place::File, "control") => "write [[handler]], and behind it [[handler.control]]",
         (Place::Handler(_), "cluster") => "write [[cluster]]",
+        (Place::Handler(_), "class") => "write [[class]]",
         (Place::Handler(_), key) if is_of(CONTROL_KEYS, key) => {
             "a control has it, behind [[handler.control]]"
         }
@@ -396,6 +398,23 @@ fn write_maximum(out: &mut String, told: &Told<'_>) -> Result<(), AllocError> {
         Some(control) if !control.contains_key(Key::Max.word()) => write!(out, "; give max"),
         _ => Ok(()),
     }
+}
+
+// The class of the id that stands in its place.
+fn write_class(out: &mut String, told: &Told<'_>) -> Result<(), AllocError> {
+    let Some(Value::Integer(number)) = told.value else {
+        return Ok(());
+    };
+    match u32::try_from(*number) {
+        Ok(id) if is_class(CtrlId(id).class()) => {
+            write!(out, "; that of this id is 0x{:08x}", CtrlId(id).class())
+        }
+        _ => Ok(()),
+    }
+}
+
+fn is_class(number: u32) -> bool {
+    matches!(Which::read(number), Ok(Which::Class(_)))
 }
 
 // The elements of a key's array.

@@ -121,6 +121,11 @@ fn write_place(out: &mut String, file: &Table, place: Place) -> Result<(), Alloc
         Place::Cluster(number) => write!(out, "cluster {number}: "),
         Place::Limit(number) => write!(out, "limit of cluster {number}: "),
         Place::Told(number) => write!(out, "told of cluster {number}: "),
+        Place::Class(number) => {
+            write!(out, "class {number}")?;
+            write_name(out, file, place)?;
+            write!(out, ": ")
+        }
     }
 }
 

@@ -12,13 +12,15 @@ pub enum Key {
     Handler,
     /// `cluster`, of a file.
     Cluster,
-    /// `name`, of a handler or a control.
+    /// `class`, of a file.
+    Class,
+    /// `name`, of a handler, a control or a class.
     Name,
     /// `adds`, of a handler.
     Adds,
     /// `control`, of a handler.
     Control,
-    /// `id`, of a control.
+    /// `id`, of a control or a class.
     Id,
     /// `type`, of a control.
     Type,
@@ -85,6 +87,7 @@ impl Key {
             Key::Table | Key::Other(_) => "",
             Key::Handler => "handler",
             Key::Cluster => "cluster",
+            Key::Class => "class",
             Key::Name => "name",
             Key::Adds => "adds",
             Key::Control => "control",

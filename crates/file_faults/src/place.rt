@@ -18,6 +18,8 @@ pub enum Place {
     Limit(usize),
     /// What is told of a cluster.
     Told(usize),
+    /// A class with its name.
+    Class(usize),
 }
 
 // The value at a place that isn't the whole file, where there is one.
@@ -32,6 +34,7 @@ pub(crate) fn value_at(file: &Table, place: Place) -> Option<&Value> {
         Place::Cluster(number) => element(file, Key::Cluster, number),
         Place::Limit(number) => in_cluster(file, number, Key::Limit),
         Place::Told(number) => in_cluster(file, number, Key::Told),
+        Place::Class(number) => element(file, Key::Class, number),
     }
 }
 

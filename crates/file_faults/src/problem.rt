@@ -107,12 +107,18 @@ pub enum Problem {
     ClusterSize,
     /// A member is in this cluster already.
     InCluster(usize),
-    /// A member is named twice.
+    /// A member, or a class, is named twice.
     NamedTwice,
     /// An array isn't the only member of its cluster, or the cluster has a manual value.
     ArrayAlone,
     /// A limit, or a word that is made of values, has an array among its members.
     OfArray,
+    /// The number isn't one that `which` of a list takes for a class.
+    NotClass,
+    /// No control of the file is of the class.
+    UnknownClass,
+    /// The name of a class isn't 1 to 31 printable characters of ASCII.
+    NotClassName,
 }
 
 impl fmt::Display for Sort {
@@ -198,6 +204,9 @@ impl Problem {
             Problem::NamedTwice => "it is named twice",
             Problem::ArrayAlone => "an array is alone in its cluster, which has no manual value",
             Problem::OfArray => "an array has no such limit or word",
+            Problem::NotClass => "has to be a class as which takes it, as 0x0098_0000",
+            Problem::UnknownClass => "no control is of this class",
+            Problem::NotClassName => "has to be 1 to 31 printable characters of ASCII",
             Problem::Syntax(_) | Problem::Not(_) | Problem::NotOfType(_) | Problem::InCluster(_) =>
                 "",
         }

@@ -5,7 +5,7 @@ use crate::place::{Place, table_at};
 use toml::Table;
 
 /// The keys of a file.
-pub const FILE_KEYS: &[Key] = &[Key::Handler, Key::Cluster];
+pub const FILE_KEYS: &[Key] = &[Key::Handler, Key::Cluster, Key::Class];
 
 /// The keys of a handler.
 pub const HANDLER_KEYS: &[Key] = &[Key::Name, Key::Adds, Key::Control];
@@ -28,6 +28,9 @@ pub const CONTROL_KEYS: &[Key] = &[
 
 /// The keys of a cluster.
 pub const CLUSTER_KEYS: &[Key] = &[Key::Members, Key::Manual, Key::Limit, Key::Told];
+
+/// The keys of a class.
+pub const CLASS_KEYS: &[Key] = &[Key::Id, Key::Name];
 
 /// The keys of a limit of kind `sum`.
 pub const SUM_KEYS: &[Key] = &[Key::Kind, Key::Most];
@@ -89,6 +92,7 @@ pub(crate) fn keys_at(file: &Table, place: Place) -> &'static [Key] {
             Some("constant") => CONSTANT_KEYS,
             _ => &[],
         },
+        Place::Class(_) => CLASS_KEYS,
     }
 }
 

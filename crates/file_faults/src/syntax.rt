@@ -126,7 +126,7 @@ fn write_duplicate(out: &mut String, statement: &str) -> Result<(), AllocError> 
     if let Some(rest) = statement.strip_prefix("[") {
         let name = brief(part_before(rest, "]"));
         return match name {
-            "handler" | "cluster" | "handler.control" => {
+            "handler" | "cluster" | "class" | "handler.control" => {
                 write!(out, ": duplicate key {name}: write [[{name}]], each time")
             }
             _ => write!(out, ": duplicate key {name}: it stands further up, too"),

@@ -121,7 +121,7 @@ where
             &mut reader,
             &mut writer,
         ),
-        Program::File | Program::Check => (Ok(device), Outcome::Finished),
+        Program::File | Program::Camera | Program::Check => (Ok(device), Outcome::Finished),
     };
     let (printed, told) = writer.end();
     let mut ran = Ran {

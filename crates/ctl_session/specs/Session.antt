@@ -1,0 +1,36 @@
+-- What a session is seen as, and what an ask of it does (of this project).
+use Rattle.std.specs.Prelude.{◌≡◌, ◌⊎◌, ℕ, Bool, List, Option, None, Some, Ok, Err}
+use Rattle.ctrl_calls.specs.Meanings.{Verdicts}
+use Rattle.ctrl_types.specs.Numbers.{errno_number}
+use Rattle.ctrl_types.specs.declared.errno.Errno.TheVariants.{ENOMEM}
+use Rattle.device_history.specs.declared.ask.Ask.{Ask}
+use Rattle.device_history.specs.Refusals.{Answer}
+use Rattle.device_state.specs.Device.{DeviceData}
+use Rattle.range_followers.specs.declared.follower.Follower.{Follower}
+use Rattle.following_ranges.specs.declared.asking.RangeAsk.{RangeAsk}
+use Rattle.following_ranges.specs.Following.{HandlesAndFollows}
+
+-- A session: its device, how ranges of it follow other controls, and whether one that was refused is owed.
+pub record SessionData : Type 0 where
+  pub device : DeviceData
+  pub followers : List Follower
+  pub owed : Bool
+
+-- no room was made
+abbrev pub without_room : Answer
+without_room = Err (record { errno = ENOMEM; index = None })
+
+-- The device handles an ask, and the ranges follow that are to.
+abbrev pub Follows : Verdicts → SessionData → SessionData → Ask → Answer → Type 0
+Follows verdicts old new ask answer =
+    (new.followers ≡ old.followers)
+    × ((ranges : List RangeAsk) × HandlesAndFollows verdicts old.followers old.device new.device old.owed new.owed 0 ask answer ranges)
+
+-- What an ask of a session does: that; or there was no room for the answers of ranges, and nothing was asked.
+abbrev pub Asked : Verdicts → SessionData → SessionData → Ask → Answer → Type 0
+Asked verdicts old new ask answer = Follows verdicts old new ask answer ⊎ ((new ≡ old) × (answer ≡ without_room))
+
+-- the errno of an answer, 0 for none
+abbrev pub errno_in : Answer → ℕ
+errno_in (Ok reply) = 0
+errno_in (Err fault) = errno_number fault.errno

@@ -1,0 +1,207 @@
+ghost use Rattle.std.specs.Prelude.{◌≡◌};
+ghost use Rattle.ctl_session.specs.Session.{Asked, errno_in};
+
+use crate::names::{heading_name, kernel_name};
+use ask_reasons::{Reason, reason_of};
+use call_structs::is_heading;
+use ctrl_calls::Driver;
+use ctrl_types::{CtrlId, Errno, Fault, FhId, Flags};
+use device_file::ClassNames;
+use device_state::{Ask, CtrlInfo, Device, Reply};
+use following_ranges::{Follower, handle_and_follow};
+use script_lines::ControlWords;
+use std::alloc::Global;
+use std::marker::Model;
+
+/// What controls and classes are called.
+#[derive(Drop)]
+pub struct Names {
+    /// The words of the controls, in the order of their numbers.
+    pub words: ControlWords,
+    /// The names of classes that aren't the kernel's.
+    pub classes: ClassNames,
+}
+
+/// A device behind control calls.
+#[derive(Drop)]
+pub struct Session<D: Driver> {
+    device: Device<D>,
+    followers: Vec<Follower>,
+    owed: bool,
+    names: Names,
+    // why the last ask was refused
+    reason: Option<Reason>,
+    alloc: Global,
+}
+
+impl<D: Driver> Model for Session<D> {
+    ghost use Rattle.ctl_session.specs.Session.{SessionData};
+
+    ghost Value = { SessionData };
+
+    ghost view = { λ s. record { device = s.device; followers = s.followers.items; owed = s.owed } };
+}
+
+impl<D: Driver> Session<D> {
+    /// A session over a device.
+    ///
+    /// - `alloc`: where lists lie for the moment.
+    /// - `device`: any; what it has by then stays.
+    /// - `names`: what its controls are called; a control without a word is called by its id.
+    /// - `followers`: how ranges of it follow other controls, as `handle_and_follow` of `following_ranges` takes them.
+    pub fn new(
+        alloc: Global,
+        device: Device<D>,
+        names: Names,
+        followers: Vec<Follower>,
+    ) -> Session<D>
+        ensures { result ≡ record { device = device; followers = followers.items; owed = false } }
+    {
+        Session {
+            device,
+            followers,
+            owed: false,
+            names,
+            reason: None,
+            alloc,
+        }
+    }
+
+    /// The device, to read it.
+    pub fn device(&self) -> &Device<D>
+        ensures { result.now ≡ self.now.device }
+    {
+        &self.device
+    }
+
+    /// What its controls are called.
+    pub fn names(&self) -> &Names {
+        &self.names
+    }
+
+    /// How its ranges follow other controls.
+    pub fn followers(&self) -> &[Follower]
+        ensures { result.now ≡ self.now.followers }
+    {
+        self.followers.as_slice()
+    }
+
+    /// Why the last call, or the last ask, was refused; none where it was accepted, where the call asked nothing, or where it isn't known for want of memory.
+    pub fn reason(&self) -> Option<Reason> {
+        self.reason
+    }
+
+    /// Takes another device in place of this one, of which no range is owed.
+    pub fn replace(&mut self, device: Device<D>)
+        ensures { self.new ≡ record self.old { device = device; owed = false } }
+    {
+        self.device = device;
+        self.owed = false;
+        self.reason = None;
+    }
+
+    /// Asks the device as `handle_and_follow` of `following_ranges` does, at seat 0: an accepted change has the ranges follow that are to.
+    ///
+    /// Refused as `Device::handle` refuses it; and with ENOMEM (12) where there was no room for the answers of ranges: then nothing was asked.
+    pub fn ask(&mut self, ask: &Ask) -> Result<Reply, Fault>
+        ensures { Asked D.verdict self.old self.new ask.now result }
+    {
+        let answer = self.answer(ask);
+        self.reason = self.why(ask, &answer);
+        answer
+    }
+
+    // The same, but for why.
+    fn answer(&mut self, ask: &Ask) -> Result<Reply, Fault>
+        ensures { Asked D.verdict self.old self.new ask.now result }
+    {
+        match handle_and_follow(
+            self.alloc,
+            &mut self.device,
+            self.followers.as_slice(),
+            &mut self.owed,
+            0,
+            ask,
+        ) {
+            Ok((answer, _)) => answer,
+            Err(_) => Err(no_memory()),
+        }
+    }
+
+    // Why an ask was refused.
+    fn why(&self, ask: &Ask, answer: &Result<Reply, Fault>) -> Option<Reason> {
+        match answer {
+            Ok(_) => None,
+            Err(_) => match reason_of(self.alloc, &self.device, ask) {
+                Ok(reason) => reason,
+                Err(_) => None,
+            },
+        }
+    }
+
+    // Forgets why the last ask was refused.
+    pub(crate) fn begin_call(&mut self)
+        ensures { self.new ≡ self.old }
+    {
+        self.reason = None;
+    }
+
+    pub(crate) fn alloc(&self) -> Global {
+        self.alloc
+    }
+
+    // The handler of a file handle; where it isn't open, a number that no handler has.
+    pub(crate) fn handler(&self, fh: FhId) -> u32 {
+        match self.device.handler_of(fh) {
+            Some(handler) => handler,
+            None => u32::MAX,
+        }
+    }
+
+    // The name of a control that is shown to a file handle.
+    pub(crate) fn name(&self, fh: FhId, info: &CtrlInfo) -> &[u8] {
+        if is_heading(info.id, info.flags) {
+            return self.class_name(info.id);
+        }
+        let word = match self.device.plan().find(self.handler(fh), info.id) {
+            Ok(control) => self.names.words.word_of(control),
+            Err(_) => None,
+        };
+        match word {
+            Some(word) => match kernel_name(info.id, word) {
+                Some(name) => name.as_bytes(),
+                None => word,
+            },
+            None => b"Control",
+        }
+    }
+
+    // The name of a class, by its heading: the one that the device gives it, or else the kernel's.
+    fn class_name(&self, heading: CtrlId) -> &[u8] {
+        match self.names.classes.name_of(heading.class()) {
+            Some(name) => name.as_bytes(),
+            None => match heading_name(heading) {
+                Some(name) => name.as_bytes(),
+                None => b"Driver Controls",
+            },
+        }
+    }
+}
+
+// No room was made, and nothing was asked.
+pub(crate) fn no_memory() -> Fault {
+    Fault {
+        errno: Errno::ENOMEM,
+        index: None,
+    }
+}
+
+// The errno of an answer, 0 for none.
+pub(crate) fn errno_of(answer: &Result<Reply, Fault>) -> u32
+    ensures { result ≡ errno_in answer.now }
+{
+    match answer {
+        Ok(_) => 0,
+        Err(fault) => fault.errno.number(),
+    }
+}
