@@ -1,8 +1,8 @@
 use crate::lines::Lines;
-use ctl_session::Session;
+use ctl_session::{Names, Session};
 use ctrl_types::Fault;
 use data_driver::Data;
-use device_file::{DeviceFile, FileFault, read_device};
+use device_file::{DeviceFile, FileFault, read_camera};
 use device_renewal::{carry, is_alike, is_quiet};
 use device_state::{Ask, Device, Reply};
 use std::alloc::{AllocError, Global};
@@ -31,7 +31,7 @@ impl Camera {
     ///
     /// The error is the first fault of the file, or that a growth was refused; the bytes are handed back.
     pub fn of_file(alloc: Global, text: Vec<u8>) -> Result<Camera, (Vec<u8>, FileFault)> {
-        let file = match read_device(alloc, text.as_slice()) {
+        let file = match read_camera(alloc, text.as_slice()) {
             Ok(file) => file,
             Err(fault) => return Err((text, fault)),
         };
@@ -70,14 +70,9 @@ impl Camera {
         if !is_quiet(self.session.device()) {
             return Err(EBUSY);
         }
-        let Ok(file) = read_device(self.alloc, self.text.as_slice()) else {
+        let Ok(DeviceFile { plan, .. }) = read_camera(self.alloc, self.text.as_slice()) else {
             return Err(ENOMEM);
         };
-        let DeviceFile {
-            plan,
-            words,
-            followers,
-        } = file;
         let Ok(mut fresh) = Device::new(self.alloc, plan) else {
             return Err(ENOMEM);
         };
@@ -92,7 +87,7 @@ impl Camera {
         }
         let before = self.session.device().steps().len() as u32;
         let after = fresh.steps().len() as u32;
-        self.session = Session::new(self.alloc, fresh, words, followers);
+        self.session.replace(fresh);
         self.lines = lines;
         Ok((before, after))
     }
@@ -103,9 +98,13 @@ fn session_of(alloc: Global, file: DeviceFile) -> Result<Session<Data>, AllocErr
         plan,
         words,
         followers,
+        classes,
     } = file;
     match Device::new(alloc, plan) {
-        Ok(device) => Ok(Session::new(alloc, device, words, followers)),
+        Ok(device) => {
+            let names = Names { words, classes };
+            Ok(Session::new(alloc, device, names, followers))
+        }
         Err(_) => Err(AllocError),
     }
 }
