@@ -66,8 +66,8 @@ impl<D: Driver> Session<D> {
             return CUT;
         }
         match self.ask(&Ask::Take { fh }) {
-            Ok(Reply::Event(event)) => {
-                put_event(arg, &event);
+            Ok(Reply::Event(ref event, ..)) => {
+                put_event(arg, event);
                 0
             }
             Ok(_) => NO_CALL,

@@ -49,7 +49,7 @@ impl<D: Driver> Session<D> {
             return Err(Errno::EINVAL.number());
         };
         match self.ask(&Ask::Query { fh, id }) {
-            Ok(Reply::Info(info)) => Ok(info),
+            Ok(Reply::Info(info, ..)) => Ok(info),
             Ok(_) => Err(NO_CALL),
             Err(fault) => Err(fault.errno.number()),
         }

@@ -79,6 +79,11 @@ impl<D: Driver> Session<D> {
         &self.names
     }
 
+    /// The words of its controls, by which scripts name them.
+    pub fn words(&self) -> &ControlWords {
+        &self.names.words
+    }
+
     /// How its ranges follow other controls.
     pub fn followers(&self) -> &[Follower]
         ensures { result.now ≡ self.now.followers }
