@@ -71,9 +71,8 @@ fn put_others(page: &mut Page, fields: &[Field], bytes: &[u8]) {
     let mut others = 0u32;
     let mut at = 0;
     for byte in bytes {
-        let is_in = fields
-            .iter()
-            .any(|(_, start, form)| *start <= at && at - *start < width(*form));
+        let is_in = fields.iter().any(|(_, start, form)| *start <= at
+            && at - *start < width(*form));
         if *byte != 0 && !is_in {
             others = others.saturating_add(1);
         }

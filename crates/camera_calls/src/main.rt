@@ -12,11 +12,10 @@ use crate::recorded::{Recorded, read_recorded};
 use crate::replies::put_exchange;
 use camera_messages::{Camera, ReplyBuffer, serve};
 use device_file::explain;
-use std::fs;
-use std::io;
 use std::io::BufReader;
 use std::process::ExitCode;
 use std::rt::Files;
+use std::{fs, io};
 use view_layout::Page;
 
 // The device files, and the messages that each is asked.
@@ -45,7 +44,11 @@ fn main(rt: HostRuntime) -> io::Result<ExitCode> {
 }
 
 // Answers the messages of a file on the camera of a device file, and prints them. Whether both could be read; where not, that is printed.
-fn replay<R: AllocGlobal + Files + Print>(rt: &R, device: &str, messages: &str) -> io::Result<bool> {
+fn replay<R: AllocGlobal + Files + Print>(
+    rt: &R,
+    device: &str,
+    messages: &str,
+) -> io::Result<bool> {
     let text = fs::read(rt, device)?;
     let mut camera = match Camera::of_file(rt.alloc(), text) {
         Ok(camera) => camera,
@@ -75,7 +78,11 @@ fn replay<R: AllocGlobal + Files + Print>(rt: &R, device: &str, messages: &str) 
 }
 
 // Prints each message that was answered beside its reply.
-fn print_all<R: AllocGlobal + Print>(rt: &R, recorded: &Recorded, replies: &[u8]) -> io::Result<()> {
+fn print_all<R: AllocGlobal + Print>(
+    rt: &R,
+    recorded: &Recorded,
+    replies: &[u8],
+) -> io::Result<()> {
     let mut page = Page::new(rt.alloc());
     let mut rest = replies;
     for place in recorded.places.as_slice() {

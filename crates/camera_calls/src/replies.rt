@@ -11,12 +11,15 @@ use view_layout::Page;
 const HEAD: usize = 16;
 // The sizes of a list's head, of its entries and of their payloads' room.
 const LIST_SIZE: usize = 32;
+
 const ENTRY_SIZE: usize = 20;
+
 const SLOT_SIZE: usize = 32;
 // As many entries of a list stand in a message at most.
 const MOST_ENTRIES: u32 = 65;
 // The sizes of what is said of a control, and of a value.
 const CONTROL_SIZE: usize = 44;
+
 const VALUE_SIZE: usize = 36;
 
 /// Puts a message and its reply on a page. What a refused call leaves as it was isn't shown again.
@@ -61,7 +64,9 @@ fn put_asked(page: &mut Page, message: &Message<'_>) {
             page.put("line ");
             return put_text(page, line);
         }
-        Message::Open { handler: Some(handler) } => write!(page, "open handler={handler}"),
+        Message::Open {
+            handler: Some(handler),
+        } => write!(page, "open handler={handler}"),
         Message::Open { handler: None } => write!(page, "open the last handler"),
         Message::Close { fh } => write!(page, "close fh={fh}"),
         Message::Alloc => write!(page, "alloc"),
@@ -175,7 +180,11 @@ fn put_list(page: &mut Page, arg: &[u8]) {
     let count = u32_at(head, 4).unwrap_or(0).min(MOST_ENTRIES) as usize;
     let entries = arg.get(LIST_SIZE..).unwrap_or(&[]);
     let slots = entries.get(count * ENTRY_SIZE..).unwrap_or(&[]);
-    for (entry, slot) in entries.chunks(ENTRY_SIZE).take(count).zip(slots.chunks(SLOT_SIZE)) {
+    for (entry, slot) in entries
+        .chunks(ENTRY_SIZE)
+        .take(count)
+        .zip(slots.chunks(SLOT_SIZE))
+    {
         page.put(" [");
         put_entry(page, entry, slot);
         page.put("]");

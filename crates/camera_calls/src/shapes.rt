@@ -59,21 +59,11 @@ const QUERY_EXT_CTRL: &[Field] = &[
     ("dims", 88, Form::Number),
 ];
 
-const ITEM: &[Field] = &[
-    ID,
-    ("index", 4, Form::Number),
-];
+const ITEM: &[Field] = &[ID, ("index", 4, Form::Number)];
 
-const QUERYMENU: &[Field] = &[
-    ID,
-    ("index", 4, Form::Number),
-    ("name", 8, Form::Text),
-];
+const QUERYMENU: &[Field] = &[ID, ("index", 4, Form::Number), ("name", 8, Form::Text)];
 
-const CONTROL: &[Field] = &[
-    ID,
-    ("value", 4, Form::Signed),
-];
+const CONTROL: &[Field] = &[ID, ("value", 4, Form::Signed)];
 
 const SUBSCRIPTION: &[Field] = &[
     ("type", 0, Form::Number),

@@ -79,7 +79,10 @@ impl Camera {
         if carry(self.alloc, self.session.device(), &mut fresh).is_err() {
             return Err(ENOMEM);
         }
-        let Ok(lines) = self.lines.carried(self.alloc, self.session.device(), &mut fresh) else {
+        let Ok(lines) = self
+            .lines
+            .carried(self.alloc, self.session.device(), &mut fresh)
+        else {
             return Err(ENOMEM);
         };
         if !is_alike(self.session.device(), &fresh) {

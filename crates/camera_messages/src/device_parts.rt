@@ -18,7 +18,11 @@ pub(crate) fn put_controls<D: Driver>(reply: &mut ReplyBuffer, session: &Session
         let word = session.words().word_of(number).unwrap_or(&[]);
         reply.put_u32(control.id().0);
         reply.put_u32(type_number(control));
-        reply.put_u32(if control.is_array() { control.elems() } else { 0 });
+        reply.put_u32(if control.is_array() {
+            control.elems()
+        } else {
+            0
+        });
         reply.put_wide(word.get(..NAME - 1).unwrap_or(word), NAME);
         number += 1;
     }

@@ -111,7 +111,9 @@ impl Lines {
             return self.refuse("refused: a running camera makes no audit\n");
         };
         if is_of_frames(&ask) {
-            return self.refuse("refused: frames and requests are those of the programs that use the camera\n");
+            return self.refuse(
+                "refused: frames and requests are those of the programs that use the camera\n",
+            );
         }
         let answer = session.ask(&ask);
         binding.bind(&mut self.names, &answer);
@@ -182,9 +184,9 @@ impl Lines {
 // Whether an ask is about frames, buffers and requests.
 fn is_of_frames(ask: &Ask) -> bool {
     match ask {
-        Ask::GetCtrls { request, .. } | Ask::SetCtrls { request, .. } | Ask::TryCtrls { request, .. } => {
-            request.is_some()
-        }
+        Ask::GetCtrls { request, .. }
+        | Ask::SetCtrls { request, .. }
+        | Ask::TryCtrls { request, .. } => { request.is_some() }
         Ask::Alloc
         | Ask::AddBuffer { .. }
         | Ask::Queue { .. }
