@@ -57,15 +57,21 @@ with_bounds info bytes =
     (with_low query.MAXIMUM info.maximum
     (with_low query.MINIMUM info.minimum bytes)))
 
--- `struct v4l2_queryctrl` of a control with a name; a heading, a 64-bit number and an array have no bounds there
+-- the same where they are told: a heading, a 64-bit number and an array have no bounds there
+abbrev pub with_bounds_told : CtrlInfo → List ℕ → List ℕ
+with_bounds_told info bytes = if is_narrow info.kind && not (is_heading info.id info.flags) then with_bounds info bytes else bytes
+
+-- `struct v4l2_queryctrl` of a control with a name, without bounds
+abbrev pub queryctrl_named : CtrlInfo → List ℕ → List ℕ
+queryctrl_named info name =
+    with_u32 query.FLAGS (flags_told info.kind info.flags)
+    (with_name query.NAME name
+    (with_u32 query.TYPE (type_told info.id info.flags info.kind)
+    (with_u32 query.ID info.id.0 (zeros query.SIZE))))
+
+-- `struct v4l2_queryctrl` of a control with a name
 abbrev pub queryctrl : CtrlInfo → List ℕ → List ℕ
-queryctrl info name =
-    let named =
-        with_u32 query.FLAGS (flags_told info.kind info.flags)
-        (with_name query.NAME name
-        (with_u32 query.TYPE (type_told info.id info.flags info.kind)
-        (with_u32 query.ID info.id.0 (zeros query.SIZE)))) in
-    if is_narrow info.kind && not (is_heading info.id info.flags) then with_bounds info named else named
+queryctrl info name = with_bounds_told info (queryctrl_named info name)
 
 -- the bounds in `struct v4l2_query_ext_ctrl`
 abbrev pub with_wide_bounds : CtrlInfo → List ℕ → List ℕ
@@ -80,17 +86,23 @@ abbrev pub with_dimension : Kind → ℕ → List ℕ → List ℕ
 with_dimension U8 elems bytes = with_u32 ext.DIMS elems (with_u32 ext.NR_OF_DIMS 1 bytes)
 with_dimension _ elems bytes = bytes
 
--- `struct v4l2_query_ext_ctrl` of a control with a name; a heading has no bounds
+-- the same where they are told: a heading has no bounds
+abbrev pub with_wide_bounds_told : CtrlInfo → List ℕ → List ℕ
+with_wide_bounds_told info bytes = if is_heading info.id info.flags then bytes else with_wide_bounds info bytes
+
+-- `struct v4l2_query_ext_ctrl` of a control with a name, without bounds and dimensions
+abbrev pub query_ext_ctrl_named : CtrlInfo → List ℕ → List ℕ
+query_ext_ctrl_named info name =
+    with_u32 ext.ELEMS info.elems
+    (with_u32 ext.ELEM_SIZE (size_of info.kind)
+    (with_u32 ext.FLAGS (flags_told info.kind info.flags)
+    (with_name ext.NAME name
+    (with_u32 ext.TYPE (type_told info.id info.flags info.kind)
+    (with_u32 ext.ID info.id.0 (zeros ext.SIZE))))))
+
+-- `struct v4l2_query_ext_ctrl` of a control with a name
 abbrev pub query_ext_ctrl : CtrlInfo → List ℕ → List ℕ
-query_ext_ctrl info name =
-    let named =
-        with_u32 ext.ELEMS info.elems
-        (with_u32 ext.ELEM_SIZE (size_of info.kind)
-        (with_u32 ext.FLAGS (flags_told info.kind info.flags)
-        (with_name ext.NAME name
-        (with_u32 ext.TYPE (type_told info.id info.flags info.kind)
-        (with_u32 ext.ID info.id.0 (zeros ext.SIZE)))))) in
-    with_dimension info.kind info.elems (if is_heading info.id info.flags then named else with_wide_bounds info named)
+query_ext_ctrl info name = with_dimension info.kind info.elems (with_wide_bounds_told info (query_ext_ctrl_named info name))
 
 -- the name or the number of an item
 abbrev pub with_item : MenuItem → List ℕ → List ℕ

@@ -77,20 +77,12 @@ pub fn value_at(
             let number = i32_at(bytes, at + v4l2_ext_control::VALUE);
             Ok(CtrlValue::Number(i64::from(number)))
         }
-        Form::Wide => Ok(CtrlValue::Number(i64_at(
-            bytes,
-            at + v4l2_ext_control::VALUE64,
-        ))),
+        Form::Wide => Ok(CtrlValue::Number(i64_at(bytes, at + v4l2_ext_control::VALUE64))),
         Form::Array(elems) => array_at(bytes, count, place, elems),
     }
 }
 
-fn array_at(
-    bytes: &[u8],
-    count: usize,
-    place: usize,
-    elems: u32,
-) -> Result<CtrlValue, PayloadFault>
+fn array_at(bytes: &[u8], count: usize, place: usize, elems: u32) -> Result<CtrlValue, PayloadFault>
     requires count { count ≤ 65 }
     requires place { place < count }
     requires whole { list_size count ≤ length bytes.now }
@@ -127,7 +119,11 @@ pub fn put_size(bytes: &mut [u8], count: usize, place: usize, size: u32)
     ensures told { bytes.new ≡ with_size place size bytes.old }
     ensures length { length bytes.new ≡ length bytes.old }
 {
-    put_u32(bytes, entry_start(place) + v4l2_ext_control::SIZE_OF_PAYLOAD, size);
+    put_u32(
+        bytes,
+        entry_start(place) + v4l2_ext_control::SIZE_OF_PAYLOAD,
+        size,
+    );
 }
 
 /// Writes a value into an entry: a number into its field, in as many bits as `form` has, and an array into its slot, with its size. `reserved2` is then 1 where

@@ -1,16 +1,18 @@
 ghost use Rattle.std.specs.Prelude.{◌≡◌, length};
-ghost use Rattle.call_structs.specs.Told.{event_told, flags_told, is_heading, is_narrow, query_ext_ctrl, queryctrl, querymenu, size_of, step_told, type_told, with_bounds, with_change, with_dimension, with_item, with_value, with_wide_bounds};
+ghost use Rattle.call_structs.specs.Told.{event_told, flags_told, is_heading, is_narrow, query_ext_ctrl, query_ext_ctrl_named, queryctrl, queryctrl_named, querymenu, size_of, step_told, type_told, with_bounds, with_bounds_told, with_change, with_dimension, with_value, with_wide_bounds, with_wide_bounds_told};
 ghost use Rattle.ioctl_bytes.specs.declared.layout.v4l2_queryctrl.TheConstants as query;
 ghost use Rattle.ioctl_bytes.specs.declared.layout.v4l2_query_ext_ctrl.TheConstants as ext;
 ghost use Rattle.ioctl_bytes.specs.declared.layout.v4l2_querymenu.TheConstants as menu;
-ghost use Rattle.ioctl_bytes.specs.declared.layout.v4l2_event.TheConstants as event;
+ghost use Rattle.ioctl_bytes.specs.declared.layout.v4l2_event.TheConstants as event_struct;
 
 use bitflags::Flags as FlagSet;
 use ctrl_events::Event;
 use ctrl_types::{CtrlId, Flags, Kind};
 use device_history::CtrlInfo;
 use ioctl_bytes::calls::{V4L2_CTRL_FLAG_HAS_PAYLOAD, V4L2_CTRL_TYPE_CTRL_CLASS, V4L2_EVENT_CTRL};
-use ioctl_bytes::layout::{v4l2_event, v4l2_event_ctrl, v4l2_query_ext_ctrl, v4l2_queryctrl, v4l2_querymenu};
+use ioctl_bytes::layout::{
+    v4l2_event, v4l2_event_ctrl, v4l2_query_ext_ctrl, v4l2_queryctrl, v4l2_querymenu,
+};
 use ioctl_bytes::{clear, put, put_i64, put_low, put_name, put_u32, put_u64};
 use menu_items::MenuItem;
 
@@ -72,13 +74,38 @@ fn step_told(step: u64) -> i64
 /// - `name`: its name, of which 31 bytes are told at most.
 pub fn put_query(bytes: &mut [u8], info: &CtrlInfo, name: &[u8])
     requires { length bytes.old ≡ query.SIZE }
-    ensures { bytes.new ≡ queryctrl info.now name.now }
+    ensures told { bytes.new ≡ queryctrl info.now name.now }
+    ensures length { length bytes.new ≡ query.SIZE }
+{
+    put_query_named(bytes, info, name);
+    put_bounds_told(bytes, info);
+}
+
+fn put_query_named(bytes: &mut [u8], info: &CtrlInfo, name: &[u8])
+    requires { length bytes.old ≡ query.SIZE }
+    ensures told { bytes.new ≡ queryctrl_named info.now name.now }
+    ensures length { length bytes.new ≡ query.SIZE }
 {
     clear(bytes);
     put_u32(bytes, v4l2_queryctrl::ID, info.id.0);
-    put_u32(bytes, v4l2_queryctrl::TYPE, type_told(info.id, info.flags, info.kind));
+    put_u32(
+        bytes,
+        v4l2_queryctrl::TYPE,
+        type_told(info.id, info.flags, info.kind),
+    );
     put_name(bytes, v4l2_queryctrl::NAME, name);
-    put_u32(bytes, v4l2_queryctrl::FLAGS, flags_told(info.kind, info.flags));
+    put_u32(
+        bytes,
+        v4l2_queryctrl::FLAGS,
+        flags_told(info.kind, info.flags),
+    );
+}
+
+fn put_bounds_told(bytes: &mut [u8], info: &CtrlInfo)
+    requires { length bytes.old ≡ query.SIZE }
+    ensures told { bytes.new ≡ with_bounds_told info.now bytes.old }
+    ensures length { length bytes.new ≡ query.SIZE }
+{
     if is_narrow(info.kind) && !is_heading(info.id, info.flags) {
         put_bounds(bytes, info);
     }
@@ -86,7 +113,8 @@ pub fn put_query(bytes: &mut [u8], info: &CtrlInfo, name: &[u8])
 
 fn put_bounds(bytes: &mut [u8], info: &CtrlInfo)
     requires { length bytes.old ≡ query.SIZE }
-    ensures { bytes.new ≡ with_bounds info.now bytes.old }
+    ensures told { bytes.new ≡ with_bounds info.now bytes.old }
+    ensures length { length bytes.new ≡ query.SIZE }
 {
     put_low(bytes, v4l2_queryctrl::MINIMUM, info.minimum);
     put_low(bytes, v4l2_queryctrl::MAXIMUM, info.maximum);
@@ -97,19 +125,44 @@ fn put_bounds(bytes: &mut [u8], info: &CtrlInfo)
 /// Writes what is told of a control over a `struct v4l2_query_ext_ctrl`, as `put_query`; it has 232 bytes.
 pub fn put_query_ext(bytes: &mut [u8], info: &CtrlInfo, name: &[u8])
     requires { length bytes.old ≡ ext.SIZE }
-    ensures { bytes.new ≡ query_ext_ctrl info.now name.now }
+    ensures told { bytes.new ≡ query_ext_ctrl info.now name.now }
+    ensures length { length bytes.new ≡ ext.SIZE }
+{
+    put_query_ext_named(bytes, info, name);
+    put_wide_bounds_told(bytes, info);
+    put_dimension(bytes, info.kind, info.elems);
+}
+
+fn put_query_ext_named(bytes: &mut [u8], info: &CtrlInfo, name: &[u8])
+    requires { length bytes.old ≡ ext.SIZE }
+    ensures told { bytes.new ≡ query_ext_ctrl_named info.now name.now }
+    ensures length { length bytes.new ≡ ext.SIZE }
 {
     clear(bytes);
     put_u32(bytes, v4l2_query_ext_ctrl::ID, info.id.0);
-    put_u32(bytes, v4l2_query_ext_ctrl::TYPE, type_told(info.id, info.flags, info.kind));
+    put_u32(
+        bytes,
+        v4l2_query_ext_ctrl::TYPE,
+        type_told(info.id, info.flags, info.kind),
+    );
     put_name(bytes, v4l2_query_ext_ctrl::NAME, name);
-    put_u32(bytes, v4l2_query_ext_ctrl::FLAGS, flags_told(info.kind, info.flags));
+    put_u32(
+        bytes,
+        v4l2_query_ext_ctrl::FLAGS,
+        flags_told(info.kind, info.flags),
+    );
     put_u32(bytes, v4l2_query_ext_ctrl::ELEM_SIZE, size_of(info.kind));
     put_u32(bytes, v4l2_query_ext_ctrl::ELEMS, info.elems);
+}
+
+fn put_wide_bounds_told(bytes: &mut [u8], info: &CtrlInfo)
+    requires { length bytes.old ≡ ext.SIZE }
+    ensures told { bytes.new ≡ with_wide_bounds_told info.now bytes.old }
+    ensures length { length bytes.new ≡ ext.SIZE }
+{
     if !is_heading(info.id, info.flags) {
         put_wide_bounds(bytes, info);
     }
-    put_dimension(bytes, info.kind, info.elems);
 }
 
 fn put_wide_bounds(bytes: &mut [u8], info: &CtrlInfo)
@@ -120,12 +173,17 @@ fn put_wide_bounds(bytes: &mut [u8], info: &CtrlInfo)
     put_i64(bytes, v4l2_query_ext_ctrl::MINIMUM, info.minimum);
     put_i64(bytes, v4l2_query_ext_ctrl::MAXIMUM, info.maximum);
     put_u64(bytes, v4l2_query_ext_ctrl::STEP, info.step);
-    put_i64(bytes, v4l2_query_ext_ctrl::DEFAULT_VALUE, info.default_value);
+    put_i64(
+        bytes,
+        v4l2_query_ext_ctrl::DEFAULT_VALUE,
+        info.default_value,
+    );
 }
 
 fn put_dimension(bytes: &mut [u8], kind: Kind, elems: u32)
     requires { length bytes.old ≡ ext.SIZE }
-    ensures { bytes.new ≡ with_dimension kind elems bytes.old }
+    ensures told { bytes.new ≡ with_dimension kind elems bytes.old }
+    ensures length { length bytes.new ≡ ext.SIZE }
 {
     match kind {
         Kind::U8 => {
@@ -139,7 +197,8 @@ fn put_dimension(bytes: &mut [u8], kind: Kind, elems: u32)
 /// Writes an item of a menu into a `struct v4l2_querymenu` of 44 bytes, whose id and index stay.
 pub fn put_item(bytes: &mut [u8], item: &MenuItem)
     requires { length bytes.old ≡ menu.SIZE }
-    ensures { bytes.new ≡ querymenu item.now bytes.old }
+    ensures told { bytes.new ≡ querymenu item.now bytes.old }
+    ensures length { length bytes.new ≡ menu.SIZE }
 {
     put(bytes, v4l2_querymenu::NAME, &[0; 36]);
     match item {
@@ -150,8 +209,9 @@ pub fn put_item(bytes: &mut [u8], item: &MenuItem)
 
 /// Writes an event over a `struct v4l2_event` of 136 bytes, but for its time, which stays 0.
 pub fn put_event(bytes: &mut [u8], event: &Event)
-    requires { length bytes.old ≡ event.SIZE }
-    ensures { bytes.new ≡ event_told event.now }
+    requires { length bytes.old ≡ event_struct.SIZE }
+    ensures told { bytes.new ≡ event_told event.now }
+    ensures length { length bytes.new ≡ event_struct.SIZE }
 {
     clear(bytes);
     put_u32(bytes, v4l2_event::TYPE, V4L2_EVENT_CTRL);
@@ -162,24 +222,52 @@ pub fn put_event(bytes: &mut [u8], event: &Event)
 }
 
 fn put_change(bytes: &mut [u8], event: &Event)
-    requires { length bytes.old ≡ event.SIZE }
+    requires { length bytes.old ≡ event_struct.SIZE }
     ensures told { bytes.new ≡ with_change event.now bytes.old }
-    ensures length { length bytes.new ≡ event.SIZE }
+    ensures length { length bytes.new ≡ event_struct.SIZE }
 {
-    put_u32(bytes, v4l2_event::U + v4l2_event_ctrl::CHANGES, event.changes.bits());
-    put_u32(bytes, v4l2_event::U + v4l2_event_ctrl::TYPE, type_told(event.id, event.flags, event.kind));
+    put_u32(
+        bytes,
+        v4l2_event::U + v4l2_event_ctrl::CHANGES,
+        event.changes.bits(),
+    );
+    put_u32(
+        bytes,
+        v4l2_event::U + v4l2_event_ctrl::TYPE,
+        type_told(event.id, event.flags, event.kind),
+    );
     put_event_value(bytes, event.kind, event.value);
-    put_u32(bytes, v4l2_event::U + v4l2_event_ctrl::FLAGS, flags_told(event.kind, event.flags));
-    put_low(bytes, v4l2_event::U + v4l2_event_ctrl::MINIMUM, event.minimum);
-    put_low(bytes, v4l2_event::U + v4l2_event_ctrl::MAXIMUM, event.maximum);
-    put_low(bytes, v4l2_event::U + v4l2_event_ctrl::STEP, step_told(event.step));
-    put_low(bytes, v4l2_event::U + v4l2_event_ctrl::DEFAULT_VALUE, event.default_value);
+    put_u32(
+        bytes,
+        v4l2_event::U + v4l2_event_ctrl::FLAGS,
+        flags_told(event.kind, event.flags),
+    );
+    put_low(
+        bytes,
+        v4l2_event::U + v4l2_event_ctrl::MINIMUM,
+        event.minimum,
+    );
+    put_low(
+        bytes,
+        v4l2_event::U + v4l2_event_ctrl::MAXIMUM,
+        event.maximum,
+    );
+    put_low(
+        bytes,
+        v4l2_event::U + v4l2_event_ctrl::STEP,
+        step_told(event.step),
+    );
+    put_low(
+        bytes,
+        v4l2_event::U + v4l2_event_ctrl::DEFAULT_VALUE,
+        event.default_value,
+    );
 }
 
 fn put_event_value(bytes: &mut [u8], kind: Kind, value: i64)
-    requires { length bytes.old ≡ event.SIZE }
+    requires { length bytes.old ≡ event_struct.SIZE }
     ensures told { bytes.new ≡ with_value kind value bytes.old }
-    ensures length { length bytes.new ≡ event.SIZE }
+    ensures length { length bytes.new ≡ event_struct.SIZE }
 {
     match kind {
         Kind::Integer64 => put_i64(bytes, v4l2_event::U + v4l2_event_ctrl::VALUE64, value),

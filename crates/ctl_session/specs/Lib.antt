@@ -1,1 +1,4 @@
+pub mod Calls
+pub mod Ids
+pub mod Lists
 pub mod Session

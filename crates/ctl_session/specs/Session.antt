@@ -23,7 +23,7 @@ without_room = Err (record { errno = ENOMEM; index = None })
 -- The device handles an ask, and the ranges follow that are to.
 abbrev pub Follows : Verdicts → SessionData → SessionData → Ask → Answer → Type 0
 Follows verdicts old new ask answer =
-    (new.followers ≡ old.followers)
+    (new.followers ≡ old.followers) × (new.device.plan ≡ old.device.plan)
     × ((ranges : List RangeAsk) × HandlesAndFollows verdicts old.followers old.device new.device old.owed new.owed 0 ask answer ranges)
 
 -- What an ask of a session does: that; or there was no room for the answers of ranges, and nothing was asked.

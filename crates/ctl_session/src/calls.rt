@@ -1,3 +1,7 @@
+ghost use Rattle.std.specs.Prelude.{ℕ, List, length, ◌≡◌};
+ghost use Rattle.device_history.specs.declared.info.CtrlInfo.{CtrlInfo};
+ghost use Rattle.ctl_session.specs.Calls.{Calls, call_of};
+
 use crate::list_calls::Access;
 use crate::session::Session;
 use ctrl_calls::Driver;
@@ -9,9 +13,9 @@ use ioctl_bytes::calls::{
 };
 
 /// No such call, ENOTTY.
-pub(crate) const NO_CALL: u32 = 25;
+pub const NO_CALL: u32 = 25;
 /// The struct of the call, or a payload, isn't whole, EFAULT.
-pub(crate) const CUT: u32 = 14;
+pub const CUT: u32 = 14;
 
 impl<D: Driver> Session<D> {
     /// Makes a control call on a file handle: reads what the program handed in, asks the device, and writes what is told in its place.
@@ -23,29 +27,24 @@ impl<D: Driver> Session<D> {
     ///   payload of each. `reserved2` of an entry says, on the way in, whether its payload was read into its slot, and on the way back whether the slot is to be copied to it.
     ///
     /// Answered is the errno, 0 for none: ENOTTY (25) where it is no control call, EFAULT (14) where the struct is shorter or longer than that of the call, and else that of the call.
-    pub fn call(&mut self, fh: u32, request: Option<u32>, number: u32, arg: &mut [u8]) -> u32 {
+    /// ENOMEM (12) where there was no room for a list; then nothing was asked.
+    pub fn call(&mut self, fh: FhId, request: Option<RequestId>, number: u32, arg: &mut [u8]) -> u32
+        ensures calls { (name : CtrlInfo → List ℕ) × Calls D.verdict self.old (call_of D.verdict self.old name fh request number arg.old) self.new (result, arg.new) }
+    {
         self.begin_call();
-        let fh = FhId(fh);
         match number {
             VIDIOC_QUERYCTRL => self.query(fh, arg),
             VIDIOC_QUERY_EXT_CTRL => self.query_ext(fh, arg),
             VIDIOC_QUERYMENU => self.query_menu(fh, arg),
-            VIDIOC_G_CTRL => self.get_one(fh, arg),
-            VIDIOC_S_CTRL => self.set_one(fh, arg),
-            VIDIOC_G_EXT_CTRLS => self.list(fh, named(request), Access::Get, arg),
-            VIDIOC_S_EXT_CTRLS => self.list(fh, named(request), Access::Set, arg),
-            VIDIOC_TRY_EXT_CTRLS => self.list(fh, named(request), Access::Try, arg),
+            VIDIOC_G_CTRL => self.one(fh, false, arg),
+            VIDIOC_S_CTRL => self.one(fh, true, arg),
+            VIDIOC_G_EXT_CTRLS => self.list(fh, request, Access::Get, arg),
+            VIDIOC_S_EXT_CTRLS => self.list(fh, request, Access::Set, arg),
+            VIDIOC_TRY_EXT_CTRLS => self.list(fh, request, Access::Try, arg),
             VIDIOC_SUBSCRIBE_EVENT => self.subscribe(fh, arg),
             VIDIOC_UNSUBSCRIBE_EVENT => self.unsubscribe(fh, arg),
             VIDIOC_DQEVENT => self.take(fh, arg),
             _ => NO_CALL,
         }
-    }
-}
-
-fn named(request: Option<u32>) -> Option<RequestId> {
-    match request {
-        Some(number) => Some(RequestId(number)),
-        None => None,
     }
 }

@@ -1,55 +1,35 @@
+ghost use Rattle.std.specs.Prelude.{◌≡◌, ◌≤◌, ◌<◌, IfOk, length};
+ghost use Rattle.history.specs.Past.{past};
+ghost use Rattle.ask_reasons.specs.Reasons.{reason_of as reason_for};
+ghost use Rattle.call_structs.specs.Entries.{list_size as size_for};
+ghost use Rattle.ioctl_bytes.specs.declared.layout.v4l2_ext_controls.TheConstants as head;
+ghost use Rattle.ctl_session.specs.declared.lists.TheConstants.{MOST_ENTRIES};
+ghost use Rattle.ctl_session.specs.Calls.{Calls, index_told as index_for, is_refused_before as is_before, is_write as writes, list_ask as ask_for_list, list_by as list_for, list_call, list_told, plan_in, read_count as count_read, whole_list as whole, with_wanted_size as with_size_wanted, with_wrong_size as with_size_told, wrong_errno as errno_of_wrong, wrong_index as index_of_wrong, wrong_told};
+ghost use Rattle.ctl_session.specs.Lists.{is_below as below, is_up_to as up_to, stands_before as is_earlier, with_values, wrong_payload as payload_wrong};
+
 use crate::calls::{CUT, NO_CALL};
 use crate::ids::form_of;
-use crate::lists::{EntryFault, MOST_ENTRIES, first_with, read_list};
-use crate::session::Session;
+use crate::lists::{MOST_ENTRIES, first_with, read_list};
+use crate::session::{Session, no_memory};
 use ask_reasons::{Reason, reason_of};
-use call_structs::{PayloadFault, entry_id, list_size, put_size, put_value};
+use call_structs::{Form, PayloadFault, entry_id, list_size, put_size, put_value};
 use ctrl_calls::Driver;
 use ctrl_handlers::Plan;
 use ctrl_types::{Errno, Fault, FhId, RequestId};
 use device_state::{Ask, ControlList, Reply};
 use ioctl_bytes::layout::v4l2_ext_controls;
 use ioctl_bytes::{put_u32, u32_at};
+use std::alloc::AllocError;
 
-// How a list is asked.
-#[derive(Clone, Copy, PartialEq, Eq)]
-pub(crate) enum Access {
+/// How a list is asked.
+#[derive(Clone, Copy)]
+pub enum Access {
+    /// Its values are read.
     Get,
+    /// They are set.
     Set,
+    /// They are tried.
     Try,
-}
-
-impl Access {
-    fn ask(self, fh: FhId, which: u32, request: Option<RequestId>, list: ControlList) -> Ask {
-        match self {
-            Access::Get => Ask::GetCtrls {
-                fh,
-                which,
-                request,
-                list,
-            },
-            Access::Set => Ask::SetCtrls {
-                fh,
-                which,
-                request,
-                list,
-            },
-            Access::Try => Ask::TryCtrls {
-                fh,
-                which,
-                request,
-                list,
-            },
-        }
-    }
-
-    // The errno of a payload that can't be taken: a get tells that there is no room for it.
-    fn errno_of(self, fault: PayloadFault) -> u32 {
-        match (self, fault) {
-            (Access::Get, PayloadFault::TooSmall) => Errno::ENOSPC.number(),
-            _ => CUT,
-        }
-    }
 }
 
 impl<D: Driver> Session<D> {
@@ -60,144 +40,330 @@ impl<D: Driver> Session<D> {
         request: Option<RequestId>,
         access: Access,
         arg: &mut [u8],
-    ) -> u32 {
+    ) -> u32
+        ensures { Calls D.verdict self.old (list_call D.verdict self.old fh request access arg.old) self.new (result, arg.new) }
+    {
         if arg.len() < v4l2_ext_controls::SIZE {
             return CUT;
         }
-        let named = u32_at(arg, v4l2_ext_controls::COUNT);
-        let count = named.min(MOST_ENTRIES);
-        if arg.len() < list_size(count as usize) {
+        if arg.len() < list_size(read_count(arg) as usize) {
             return CUT;
         }
-        let handler = self.handler(fh);
-        let Ok(list) = read_list(self.alloc(), self.device().plan(), handler, arg, count) else {
-            return tell_fault(arg, named, count, &no_room());
-        };
-        let which = u32_at(arg, v4l2_ext_controls::WHICH);
-        let ask = access.ask(fh, which, request, list);
-        if let Some(wrong) = self.wrong_payload(handler, access, arg, count) {
-            match self.is_refused_before(&ask, wrong) {
-                Ok(true) => {}
-                Ok(false) => return self.tell_wrong(handler, access, arg, count, wrong),
-                Err(_) => return tell_fault(arg, named, count, &no_room()),
-            }
-        }
-        match self.ask(&ask) {
-            Ok(Reply::Controls(ref list)) => {
-                tell_values(self.device().plan(), handler, arg, count, list);
-                put_u32(arg, v4l2_ext_controls::ERROR_IDX, named);
-                0
-            }
-            Ok(_) => NO_CALL,
-            Err(fault) => tell_fault(arg, named, count, &fault),
-        }
+        self.whole_list(fh, request, access, arg)
     }
 
-    // The first payload that can't be taken: one that has no room, and else, where the list writes, one that can't be read. A kernel finds the first when it looks at
-    // the entries, and the second when it comes to set the cluster (Linux, v4l2-ctrls-api.c, `prepare_ext_ctrls` and `try_set_ext_ctrls_common`).
-    fn wrong_payload(
-        &self,
-        handler: u32,
+    // A list whose head, entries and slots are there.
+    fn whole_list(
+        &mut self,
+        fh: FhId,
+        request: Option<RequestId>,
         access: Access,
-        arg: &[u8],
-        count: u32,
-    ) -> Option<EntryFault> {
-        let plan = self.device().plan();
-        match first_with(plan, handler, arg, count, PayloadFault::TooSmall) {
-            Some(wrong) => Some(wrong),
-            None if access == Access::Get => None,
-            None => first_with(plan, handler, arg, count, PayloadFault::Unreadable),
+        arg: &mut [u8],
+    ) -> u32
+        requires head { head.SIZE ≤ length arg.old }
+        requires whole { size_for (count_read arg.old) ≤ length arg.old }
+        ensures { Calls D.verdict self.old (whole D.verdict self.old fh request access arg.old) self.new (result, arg.new) }
+    {
+        let handler = self.handler(fh);
+        let count = read_count(arg);
+        let Ok(list) = read_list(self.alloc(), self.device().plan(), handler, arg, count) else {
+            return tell_list(self.device().plan(), handler, &Err(no_memory()), arg);
+        };
+        let ask = list_ask(
+            access,
+            fh,
+            u32_at(arg, v4l2_ext_controls::WHICH),
+            request,
+            list,
+        );
+        let wrong = wrong_payload(self.device().plan(), handler, count, is_write(access), arg);
+        match self.is_refused_before(&ask, wrong) {
+            Ok(before) => self.list_by(handler, access, &ask, wrong, before, arg),
+            Err(_) => tell_list(self.device().plan(), handler, &Err(no_memory()), arg),
         }
     }
 
-    // Whether something else refuses a list before a payload does.
+    // Whether something else refuses a list before its payload does.
     fn is_refused_before(
         &self,
         ask: &Ask,
-        wrong: EntryFault,
-    ) -> Result<bool, std::alloc::AllocError> {
-        Ok(match reason_of(self.alloc(), self.device(), ask)? {
-            Some(reason) => stands_before(reason, wrong),
-            None => false,
-        })
+        wrong: Option<(u32, PayloadFault)>,
+    ) -> Result<bool, AllocError>
+        ensures { IfOk result (λ before. before ≡ is_before D.verdict self.now ask.now wrong) }
+    {
+        match wrong {
+            Some(wrong) => {
+                let reason = reason_of(self.alloc(), self.device(), ask)?;
+                Ok(stands_before(reason, wrong))
+            }
+            None => Ok(false),
+        }
     }
 
-    // What a list is told whose payload can't be taken.
-    fn tell_wrong(
-        &self,
+    // A list is asked of the device, unless its payload refuses it.
+    fn list_by(
+        &mut self,
         handler: u32,
         access: Access,
+        ask: &Ask,
+        wrong: Option<(u32, PayloadFault)>,
+        before: bool,
         arg: &mut [u8],
-        count: u32,
-        wrong: EntryFault,
-    ) -> u32 {
-        let place = wrong.place;
-        if place < count {
-            if let PayloadFault::TooSmall = wrong.fault {
-                let id = entry_id(arg, count as usize, place as usize);
-                if let call_structs::Form::Array(elems) = form_of(self.device().plan(), handler, id) {
-                    put_size(arg, count as usize, place as usize, elems);
-                }
+    ) -> u32
+        requires head { head.SIZE ≤ length arg.old }
+        requires whole { size_for (count_read arg.old) ≤ length arg.old }
+        ensures { Calls D.verdict self.old (list_for (plan_in self.old) handler access arg.old ask.now wrong before) self.new (result, arg.new) }
+    {
+        match wrong {
+            Some(wrong) if !before => {
+                tell_wrong(self.device().plan(), handler, access, wrong, arg)
+            }
+            _ => {
+                let answer = self.ask(ask);
+                tell_list(self.device().plan(), handler, &answer, arg)
             }
         }
-        let index = match access {
-            Access::Try => place,
-            _ => u32_at(arg, v4l2_ext_controls::COUNT),
-        };
-        put_u32(arg, v4l2_ext_controls::ERROR_IDX, index);
-        access.errno_of(wrong.fault)
     }
 }
 
-// Whether a reason refuses a list before a payload does: the entries are named, and have their sizes looked at, one after another (check 6), and the payloads are
-// read behind all checks of entries (7), when the clusters are set in the order of their first entries (8).
-fn stands_before(reason: Reason, wrong: EntryFault) -> bool {
-    let check = reason.check.number();
-    let (earlier, own) = match wrong.fault {
-        PayloadFault::TooSmall => (5, 6),
-        PayloadFault::Unreadable => (7, 8),
-    };
-    if check <= earlier {
-        return true;
+fn list_ask(
+    access: Access,
+    fh: FhId,
+    which: u32,
+    request: Option<RequestId>,
+    list: ControlList,
+) -> Ask
+    ensures { result ≡ ask_for_list access fh which request list }
+{
+    match access {
+        Access::Get => Ask::GetCtrls {
+            fh,
+            which,
+            request,
+            list,
+        },
+        Access::Set => Ask::SetCtrls {
+            fh,
+            which,
+            request,
+            list,
+        },
+        Access::Try => Ask::TryCtrls {
+            fh,
+            which,
+            request,
+            list,
+        },
     }
-    if check > own {
+}
+
+fn is_write(access: Access) -> bool
+    ensures { result ≡ writes access }
+{
+    match access {
+        Access::Get => false,
+        _ => true,
+    }
+}
+
+// How many entries are read of a list.
+fn read_count(arg: &[u8]) -> u32
+    requires { head.SIZE ≤ length arg.now }
+    ensures count { result ≡ count_read arg.now }
+    ensures few { result ≤ MOST_ENTRIES }
+{
+    u32_at(arg, v4l2_ext_controls::COUNT).min(MOST_ENTRIES)
+}
+
+// The first payload that can't be taken: one that has no room, and else, where the list writes, one that can't be read. A kernel finds the first when it looks at the
+// entries, and the second when it comes to set the cluster (Linux, v4l2-ctrls-api.c, `prepare_ext_ctrls` and `try_set_ext_ctrls_common`).
+fn wrong_payload<D: Driver>(
+    plan: &Plan<D>,
+    handler: u32,
+    count: u32,
+    writes: bool,
+    arg: &[u8],
+) -> Option<(u32, PayloadFault)>
+    requires few { count ≤ MOST_ENTRIES }
+    requires whole { size_for count ≤ length arg.now }
+    ensures { result ≡ payload_wrong plan.now handler count writes arg.now }
+{
+    if let Some(place) = first_with(plan, handler, arg, count, PayloadFault::TooSmall) {
+        return Some((place, PayloadFault::TooSmall));
+    }
+    if !writes {
+        return None;
+    }
+    match first_with(plan, handler, arg, count, PayloadFault::Unreadable) {
+        Some(place) => Some((place, PayloadFault::Unreadable)),
+        None => None,
+    }
+}
+
+// Whether a check refuses a list before a payload does: the entries are named, and have their room looked at, one after another (check 6), and payloads are read behind
+// the checks of all entries (7), when the clusters are judged in the order of their first entries (8).
+fn stands_before(reason: Option<Reason>, wrong: (u32, PayloadFault)) -> bool
+    ensures { result ≡ is_earlier reason wrong }
+{
+    let Some(reason) = reason else {
         return false;
+    };
+    let check = reason.check.number();
+    let (place, fault) = wrong;
+    match fault {
+        PayloadFault::TooSmall => check < 6 || check == 6 && is_up_to(reason.entry, place),
+        PayloadFault::Unreadable => check < 8 || check == 8 && is_below(reason.entry, place),
     }
-    match reason.entry {
-        Some(entry) => {
-            entry < wrong.place || (entry == wrong.place && wrong.fault == PayloadFault::TooSmall)
-        }
+}
+
+fn is_up_to(entry: Option<u32>, place: u32) -> bool
+    ensures { result ≡ up_to entry place }
+{
+    match entry {
+        Some(entry) => entry <= place,
         None => true,
     }
 }
 
-fn no_room() -> Fault {
-    Fault {
-        errno: Errno::ENOMEM,
-        index: None,
+fn is_below(entry: Option<u32>, place: u32) -> bool
+    ensures { result ≡ below entry place }
+{
+    match entry {
+        Some(entry) => entry < place,
+        None => true,
     }
 }
 
-// What a refused list is told: the errno, and where it was refused. As many entries as were read are the whole list.
-fn tell_fault(arg: &mut [u8], named: u32, count: u32, fault: &Fault) -> u32 {
-    let index = match fault.index {
-        Some(index) if index < count => index,
-        _ => named,
-    };
-    if arg.len() >= v4l2_ext_controls::SIZE {
-        put_u32(arg, v4l2_ext_controls::ERROR_IDX, index);
-    }
-    fault.errno.number()
-}
-
-// Writes the values of a list into its entries and slots.
-fn tell_values<D: Driver>(
+// What a list is told whose payload can't be taken.
+fn tell_wrong<D: Driver>(
     plan: &Plan<D>,
     handler: u32,
+    access: Access,
+    wrong: (u32, PayloadFault),
     arg: &mut [u8],
+) -> u32
+    requires head { head.SIZE ≤ length arg.old }
+    requires whole { size_for (count_read arg.old) ≤ length arg.old }
+    requires place { wrong.0 < count_read arg.old }
+    ensures { (result, arg.new) ≡ wrong_told plan.now handler access arg.old wrong }
+{
+    let index = wrong_index(access, wrong.0, arg);
+    put_wrong_size(plan, handler, wrong, arg);
+    put_u32(arg, v4l2_ext_controls::ERROR_IDX, index);
+    wrong_errno(access, wrong.1)
+}
+
+// The errno of a payload that can't be taken: a get is told that there is no room for it.
+fn wrong_errno(access: Access, fault: PayloadFault) -> u32
+    ensures { result ≡ errno_of_wrong access fault }
+{
+    match (access, fault) {
+        (Access::Get, PayloadFault::TooSmall) => Errno::ENOSPC.number(),
+        _ => CUT,
+    }
+}
+
+fn wrong_index(access: Access, place: u32, arg: &[u8]) -> u32
+    requires { head.SIZE ≤ length arg.now }
+    ensures { result ≡ index_of_wrong access place arg.now }
+{
+    match access {
+        Access::Try => place,
+        _ => u32_at(arg, v4l2_ext_controls::COUNT),
+    }
+}
+
+// An entry without room is told how many bytes its payload has.
+fn put_wrong_size<D: Driver>(
+    plan: &Plan<D>,
+    handler: u32,
+    wrong: (u32, PayloadFault),
+    arg: &mut [u8],
+)
+    requires head { head.SIZE ≤ length arg.old }
+    requires whole { size_for (count_read arg.old) ≤ length arg.old }
+    requires place { wrong.0 < count_read arg.old }
+    ensures told { arg.new ≡ with_size_told plan.now handler wrong arg.old }
+    ensures length { length arg.new ≡ length arg.old }
+{
+    let (place, fault) = wrong;
+    match fault {
+        PayloadFault::TooSmall => {
+            let count = read_count(arg) as usize;
+            let id = entry_id(arg, count, place as usize);
+            put_wanted_size(form_of(plan, handler, id), place, arg);
+        }
+        PayloadFault::Unreadable => {}
+    }
+}
+
+fn put_wanted_size(form: Form, place: u32, arg: &mut [u8])
+    requires head { head.SIZE ≤ length arg.old }
+    requires whole { size_for (count_read arg.old) ≤ length arg.old }
+    requires place { place < count_read arg.old }
+    ensures told { arg.new ≡ with_size_wanted form place arg.old }
+    ensures length { length arg.new ≡ length arg.old }
+{
+    match form {
+        Form::Array(elems) => {
+            let count = read_count(arg) as usize;
+            put_size(arg, count, place as usize, elems);
+        }
+        _ => {}
+    }
+}
+
+// What a list is told.
+fn tell_list<D: Driver>(
+    plan: &Plan<D>,
+    handler: u32,
+    answer: &Result<Reply, Fault>,
+    arg: &mut [u8],
+) -> u32
+    requires head { head.SIZE ≤ length arg.old }
+    requires whole { size_for (count_read arg.old) ≤ length arg.old }
+    ensures { (result, arg.new) ≡ list_told plan.now handler arg.old answer.now }
+{
+    let named = u32_at(arg, v4l2_ext_controls::COUNT);
+    match answer {
+        Ok(Reply::Controls(list)) => {
+            put_values(plan, handler, read_count(arg), list, arg);
+            put_u32(arg, v4l2_ext_controls::ERROR_IDX, named);
+            0
+        }
+        Ok(_) => NO_CALL,
+        Err(fault) => {
+            let index = index_told(fault.index, arg);
+            put_u32(arg, v4l2_ext_controls::ERROR_IDX, index);
+            fault.errno.number()
+        }
+    }
+}
+
+// The index of a refusal; as many entries as were read are the whole list.
+fn index_told(index: Option<u32>, arg: &[u8]) -> u32
+    requires { head.SIZE ≤ length arg.now }
+    ensures { result ≡ index_for arg.now index }
+{
+    match index {
+        Some(index) if index < read_count(arg) => index,
+        _ => u32_at(arg, v4l2_ext_controls::COUNT),
+    }
+}
+
+// Writes the values of a list into its entries and slots, as far as there are entries.
+fn put_values<D: Driver>(
+    plan: &Plan<D>,
+    handler: u32,
     count: u32,
     list: &ControlList,
-) {
+    arg: &mut [u8],
+)
+    requires few { count ≤ MOST_ENTRIES }
+    requires whole { size_for count ≤ length arg.old }
+    ensures told { arg.new ≡ with_values plan.now handler count 0 list.now arg.old }
+    ensures length { length arg.new ≡ length arg.old }
+{
     let mut place = 0;
     for control in list.as_slice() {
         if place >= count {

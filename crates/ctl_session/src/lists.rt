@@ -1,5 +1,11 @@
 //! The entries of a list, as the device takes them.
 
+ghost use Rattle.std.specs.Prelude.{◌≡◌, ◌≤◌, ◌<◌, IfOk, ℕ, length, vec_len};
+ghost use Rattle.call_structs.specs.Entries.{list_size};
+ghost use Rattle.call_structs.specs.declared.entries.Form.TheVariants.{Array};
+ghost use Rattle.ctl_session.specs.declared.lists.TheConstants.{MOST_ENTRIES};
+ghost use Rattle.ctl_session.specs.Lists.{entries_in, entry_at as entry_for, first_with as first_wrong, has_fault as is_fault, read_at as read_for, stand_in as stands_in};
+
 use crate::ids::form_of;
 use call_structs::{Form, PayloadFault, entry_id, value_at};
 use ctrl_calls::Driver;
@@ -9,22 +15,15 @@ use device_state::ControlList;
 use std::alloc::{AllocError, Global};
 
 /// As many entries of a list are read; a list that has more is refused by the device, whatever they are.
-pub(crate) const MOST_ENTRIES: u32 = 65;
+pub const MOST_ENTRIES: u32 = 65;
 
-// The list of these entries. The error is that a growth was refused.
-pub(crate) fn list_of(alloc: Global, entries: &[ExtControl]) -> Result<ControlList, AllocError> {
+// The list of these entries, at most 65. The error is that a growth was refused.
+pub(crate) fn list_of(alloc: Global, entries: &[ExtControl]) -> Result<ControlList, AllocError>
+    requires { length entries.now ≤ 65 }
+    ensures { IfOk result (λ list. list ≡ entries.now) }
+{
     let items = Vec::from_slice(alloc, entries)?;
-    if items.len() > MOST_ENTRIES as usize {
-        return Err(AllocError);
-    }
     Ok(ControlList::from_vec(items))
-}
-
-// What is wrong with the payload of an entry, and at which place.
-#[derive(Clone, Copy)]
-pub(crate) struct EntryFault {
-    pub(crate) place: u32,
-    pub(crate) fault: PayloadFault,
 }
 
 // The entries of a list as the device takes them, `count` of them; for a payload that can't be taken zeros stand in.
@@ -34,7 +33,11 @@ pub(crate) fn read_list<D: Driver>(
     handler: u32,
     arg: &[u8],
     count: u32,
-) -> Result<ControlList, AllocError> {
+) -> Result<ControlList, AllocError>
+    requires few { count ≤ MOST_ENTRIES }
+    requires whole { list_size count ≤ length arg.now }
+    ensures { IfOk result (λ list. list ≡ entries_in plan.now handler count arg.now) }
+{
     let mut entries = [ExtControl {
         id: CtrlId(0),
         value: CtrlValue::Number(0),
@@ -51,20 +54,49 @@ fn entry_at<D: Driver>(
     arg: &[u8],
     count: u32,
     place: u32,
-) -> ExtControl {
+) -> ExtControl
+    requires few { count ≤ MOST_ENTRIES }
+    requires place { place < count }
+    requires whole { list_size count ≤ length arg.now }
+    ensures { result ≡ entry_for plan.now handler count arg.now place }
+{
     let id = entry_id(arg, count as usize, place as usize);
-    let form = form_of(plan, handler, id);
-    let value = match value_at(arg, count as usize, place as usize, form) {
+    let value = match read_at(plan, handler, arg, count, place) {
         Ok(value) => value,
-        Err(_) => stand_in(form),
+        Err(_) => stand_in(form_of(plan, handler, id)),
     };
     ExtControl { id, value }
 }
 
+// The value of the entry at a place, or what is wrong with its payload.
+fn read_at<D: Driver>(
+    plan: &Plan<D>,
+    handler: u32,
+    arg: &[u8],
+    count: u32,
+    place: u32,
+) -> Result<CtrlValue, PayloadFault>
+    requires few { count ≤ MOST_ENTRIES }
+    requires place { place < count }
+    requires whole { list_size count ≤ length arg.now }
+    ensures { result ≡ read_for plan.now handler count arg.now place }
+{
+    let id = entry_id(arg, count as usize, place as usize);
+    value_at(
+        arg,
+        count as usize,
+        place as usize,
+        form_of(plan, handler, id),
+    )
+}
+
 // What stands in for a payload that can't be taken.
-fn stand_in(form: Form) -> CtrlValue {
+fn stand_in(form: Form) -> CtrlValue
+    requires { (elems : ℕ) → form ≡ Array elems → elems ≤ 32 }
+    ensures { result ≡ stands_in form }
+{
     match form {
-        Form::Array(elems) => CtrlValue::Bytes(ByteRow::repeated(elems.min(32) as usize, 0)),
+        Form::Array(elems) => CtrlValue::Bytes(ByteRow::repeated(elems as usize, 0)),
         _ => CtrlValue::Number(0),
     }
 }
@@ -76,15 +108,25 @@ pub(crate) fn first_with<D: Driver>(
     arg: &[u8],
     count: u32,
     fault: PayloadFault,
-) -> Option<EntryFault> {
+) -> Option<u32>
+    requires few { count ≤ MOST_ENTRIES }
+    requires whole { list_size count ≤ length arg.now }
+    ensures { result ≡ first_wrong plan.now handler count arg.now fault }
+{
     for place in 0..count {
-        let id = entry_id(arg, count as usize, place as usize);
-        let form = form_of(plan, handler, id);
-        if let Err(found) = value_at(arg, count as usize, place as usize, form) {
-            if found == fault {
-                return Some(EntryFault { place, fault });
-            }
+        if has_fault(fault, &read_at(plan, handler, arg, count, place)) {
+            return Some(place);
         }
     }
     None
+}
+
+fn has_fault(fault: PayloadFault, value: &Result<CtrlValue, PayloadFault>) -> bool
+    ensures { result ≡ is_fault fault value.now }
+{
+    match (fault, value) {
+        (PayloadFault::TooSmall, Err(PayloadFault::TooSmall)) => true,
+        (PayloadFault::Unreadable, Err(PayloadFault::Unreadable)) => true,
+        _ => false,
+    }
 }

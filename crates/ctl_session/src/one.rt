@@ -1,69 +1,71 @@
+ghost use Rattle.std.specs.Prelude.{◌≡◌, false, length, true};
+ghost use Rattle.ioctl_bytes.specs.declared.layout.v4l2_control.TheConstants as control_struct;
+ghost use Rattle.ctl_session.specs.Calls.{Calls, one_ask as ask_for_one, one_call, one_told, sized};
+
 use crate::calls::CUT;
-use crate::ids::{form_of, real_id};
+use crate::ids::{form_of, is_narrow, real_id};
 use crate::lists::list_of;
 use crate::session::{Session, errno_of};
-use call_structs::Form;
 use ctrl_calls::Driver;
-use ctrl_types::{CtrlId, CtrlValue, Errno, ExtControl, FhId};
-use device_state::{Ask, Reply};
+use ctrl_types::{CtrlId, CtrlValue, Errno, ExtControl, Fault, FhId};
+use device_state::{Ask, ControlList, Reply};
 use ioctl_bytes::layout::v4l2_control;
 use ioctl_bytes::{i32_at, put_low, u32_at};
-use ctrl_types::Fault;
 
 impl<D: Driver> Session<D> {
-    // VIDIOC_G_CTRL: a list of one entry that reads the present values.
-    pub(crate) fn get_one(&mut self, fh: FhId, arg: &mut [u8]) -> u32 {
-        self.one(fh, false, arg)
-    }
-
-    // VIDIOC_S_CTRL: a list of one entry that sets the present values.
-    pub(crate) fn set_one(&mut self, fh: FhId, arg: &mut [u8]) -> u32 {
-        self.one(fh, true, arg)
-    }
-
-    // Either. A value of 64 bits and an array have no place in the struct.
-    fn one(&mut self, fh: FhId, sets: bool, arg: &mut [u8]) -> u32 {
+    // VIDIOC_G_CTRL and VIDIOC_S_CTRL: a list of one entry about the present values. A value of 64 bits and an array have no place in the struct.
+    pub(crate) fn one(&mut self, fh: FhId, sets: bool, arg: &mut [u8]) -> u32
+        ensures { Calls D.verdict self.old (sized control_struct.SIZE arg.old (one_call sets self.old fh arg.old)) self.new (result, arg.new) }
+    {
         if arg.len() != v4l2_control::SIZE {
             return CUT;
         }
         let handler = self.handler(fh);
-        let plan = self.device().plan();
-        let id = real_id(plan, handler, CtrlId(u32_at(arg, v4l2_control::ID)));
-        if form_of(plan, handler, id) != Form::Narrow {
+        let id = real_id(
+            self.device().plan(),
+            handler,
+            CtrlId(u32_at(arg, v4l2_control::ID)),
+        );
+        if !is_narrow(form_of(self.device().plan(), handler, id)) {
             return Errno::EINVAL.number();
         }
         let value = CtrlValue::Number(i64::from(i32_at(arg, v4l2_control::VALUE)));
         let Ok(list) = list_of(self.alloc(), &[ExtControl { id, value }]) else {
             return Errno::ENOMEM.number();
         };
-        let ask = if sets {
-            Ask::SetCtrls {
-                fh,
-                which: 0,
-                request: None,
-                list,
-            }
-        } else {
-            Ask::GetCtrls {
-                fh,
-                which: 0,
-                request: None,
-                list,
-            }
+        let answer = self.ask(&one_ask(fh, sets, list));
+        tell_one(&answer, arg)
+    }
+}
+
+fn one_ask(fh: FhId, sets: bool, list: ControlList) -> Ask
+    ensures { result ≡ ask_for_one sets fh list }
+{
+    if sets {
+        return Ask::SetCtrls {
+            fh,
+            which: 0,
+            request: None,
+            list,
         };
-        let answer = self.ask(&ask);
-        put_first(arg, &answer);
-        errno_of(&answer)
+    }
+    Ask::GetCtrls {
+        fh,
+        which: 0,
+        request: None,
+        list,
     }
 }
 
 // Writes the number that an answer has first.
-fn put_first(arg: &mut [u8], answer: &Result<Reply, Fault>) {
+fn tell_one(answer: &Result<Reply, Fault>, arg: &mut [u8]) -> u32
+    requires { length arg.old ≡ control_struct.SIZE }
+    ensures { (result, arg.new) ≡ one_told arg.old answer.now }
+{
     if let Ok(Reply::Controls(list)) = answer {
         if let Some(control) = list.as_slice().first() {
-            if arg.len() >= v4l2_control::SIZE {
-                put_low(arg, v4l2_control::VALUE, control.value.number());
-            }
+            put_low(arg, v4l2_control::VALUE, control.value.number());
         }
     }
+    errno_of(answer)
 }

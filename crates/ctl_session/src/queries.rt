@@ -1,83 +1,119 @@
+ghost use Rattle.std.specs.Prelude.{◌≡◌, ◌≤◌, ℕ, List, length};
+ghost use Rattle.device_history.specs.declared.info.CtrlInfo.{CtrlInfo};
+ghost use Rattle.call_structs.specs.Told.{query_ext_ctrl, queryctrl};
+ghost use Rattle.ioctl_bytes.specs.declared.layout.v4l2_query_ext_ctrl.TheConstants as ext;
+ghost use Rattle.ioctl_bytes.specs.declared.layout.v4l2_queryctrl.TheConstants as query_struct;
+ghost use Rattle.ioctl_bytes.specs.declared.layout.v4l2_querymenu.TheConstants as menu;
+ghost use Rattle.ctl_session.specs.Calls.{Calls, item_told, menu_call, query_call, query_told, sized, with_old_id};
+
 use crate::calls::{CUT, NO_CALL};
-use crate::ids::{queried, real_id};
+use crate::ids::{is_old, queried, real_id};
 use crate::session::Session;
 use call_structs::{put_item, put_query, put_query_ext};
 use ctrl_calls::Driver;
-use ctrl_types::{CtrlId, Errno, FhId};
-use device_state::{Ask, CtrlInfo, Reply};
-use ioctl_bytes::calls::{V4L2_CID_PRIVATE_BASE, V4L2_CTRL_FLAG_NEXT_COMPOUND};
+use ctrl_types::{CtrlId, Errno, Fault, FhId};
+use device_state::{Ask, Reply};
 use ioctl_bytes::layout::{v4l2_query_ext_ctrl, v4l2_queryctrl, v4l2_querymenu};
 use ioctl_bytes::{put_u32, u32_at};
 
 impl<D: Driver> Session<D> {
     // VIDIOC_QUERYCTRL.
-    pub(crate) fn query(&mut self, fh: FhId, arg: &mut [u8]) -> u32 {
+    pub(crate) fn query(&mut self, fh: FhId, arg: &mut [u8]) -> u32
+        ensures { (name : CtrlInfo → List ℕ) × Calls D.verdict self.old (sized query_struct.SIZE arg.old (query_call self.old (λ info. queryctrl info (name info)) fh arg.old)) self.new (result, arg.new) }
+    {
         if arg.len() != v4l2_queryctrl::SIZE {
             return CUT;
         }
         let asked = u32_at(arg, v4l2_queryctrl::ID);
-        match self.info(fh, asked) {
-            Ok(info) => {
-                put_query(arg, &info, self.name(fh, &info));
-                put_old_id(arg, asked);
-                0
-            }
-            Err(errno) => errno,
-        }
-    }
-
-    // VIDIOC_QUERY_EXT_CTRL.
-    pub(crate) fn query_ext(&mut self, fh: FhId, arg: &mut [u8]) -> u32 {
-        if arg.len() != v4l2_query_ext_ctrl::SIZE {
-            return CUT;
-        }
-        let asked = u32_at(arg, v4l2_query_ext_ctrl::ID);
-        match self.info(fh, asked) {
-            Ok(info) => {
-                put_query_ext(arg, &info, self.name(fh, &info));
-                put_old_id(arg, asked);
-                0
-            }
-            Err(errno) => errno,
-        }
-    }
-
-    // What the control is like that a query speaks of.
-    fn info(&mut self, fh: FhId, asked: u32) -> Result<CtrlInfo, u32> {
-        let handler = self.handler(fh);
-        let Some(id) = queried(self.device().plan(), handler, asked) else {
-            return Err(Errno::EINVAL.number());
+        let Some(id) = queried(self.device().plan(), self.handler(fh), asked) else {
+            return Errno::EINVAL.number();
         };
-        match self.ask(&Ask::Query { fh, id }) {
-            Ok(Reply::Info(info, ..)) => Ok(info),
-            Ok(_) => Err(NO_CALL),
-            Err(fault) => Err(fault.errno.number()),
-        }
+        let answer = self.ask(&Ask::Query { fh, id });
+        self.tell_query(fh, &answer, arg)
     }
 
-    // VIDIOC_QUERYMENU.
-    pub(crate) fn query_menu(&mut self, fh: FhId, arg: &mut [u8]) -> u32 {
-        if arg.len() != v4l2_querymenu::SIZE {
-            return CUT;
-        }
-        let handler = self.handler(fh);
-        let asked = CtrlId(u32_at(arg, v4l2_querymenu::ID));
-        let id = real_id(self.device().plan(), handler, asked);
-        let index = u32_at(arg, v4l2_querymenu::INDEX);
-        match self.ask(&Ask::MenuItem { fh, id, index }) {
-            Ok(Reply::Item(ref item)) => {
-                put_item(arg, item);
+    fn tell_query(&self, fh: FhId, answer: &Result<Reply, Fault>, arg: &mut [u8]) -> u32
+        requires { length arg.old ≡ query_struct.SIZE }
+        ensures { (name : CtrlInfo → List ℕ) × ((result, arg.new) ≡ query_told (λ info. queryctrl info (name info)) arg.old answer.now) }
+    {
+        match answer {
+            Ok(Reply::Info(info)) => {
+                let asked = u32_at(arg, v4l2_queryctrl::ID);
+                put_query(arg, info, self.name(fh, info));
+                put_old_id(arg, asked);
                 0
             }
             Ok(_) => NO_CALL,
             Err(fault) => fault.errno.number(),
         }
     }
+
+    // VIDIOC_QUERY_EXT_CTRL.
+    pub(crate) fn query_ext(&mut self, fh: FhId, arg: &mut [u8]) -> u32
+        ensures { (name : CtrlInfo → List ℕ) × Calls D.verdict self.old (sized ext.SIZE arg.old (query_call self.old (λ info. query_ext_ctrl info (name info)) fh arg.old)) self.new (result, arg.new) }
+    {
+        if arg.len() != v4l2_query_ext_ctrl::SIZE {
+            return CUT;
+        }
+        let asked = u32_at(arg, v4l2_query_ext_ctrl::ID);
+        let Some(id) = queried(self.device().plan(), self.handler(fh), asked) else {
+            return Errno::EINVAL.number();
+        };
+        let answer = self.ask(&Ask::Query { fh, id });
+        self.tell_query_ext(fh, &answer, arg)
+    }
+
+    fn tell_query_ext(&self, fh: FhId, answer: &Result<Reply, Fault>, arg: &mut [u8]) -> u32
+        requires { length arg.old ≡ ext.SIZE }
+        ensures { (name : CtrlInfo → List ℕ) × ((result, arg.new) ≡ query_told (λ info. query_ext_ctrl info (name info)) arg.old answer.now) }
+    {
+        match answer {
+            Ok(Reply::Info(info)) => {
+                let asked = u32_at(arg, v4l2_query_ext_ctrl::ID);
+                put_query_ext(arg, info, self.name(fh, info));
+                put_old_id(arg, asked);
+                0
+            }
+            Ok(_) => NO_CALL,
+            Err(fault) => fault.errno.number(),
+        }
+    }
+
+    // VIDIOC_QUERYMENU.
+    pub(crate) fn query_menu(&mut self, fh: FhId, arg: &mut [u8]) -> u32
+        ensures { Calls D.verdict self.old (sized menu.SIZE arg.old (menu_call self.old fh arg.old)) self.new (result, arg.new) }
+    {
+        if arg.len() != v4l2_querymenu::SIZE {
+            return CUT;
+        }
+        let asked = CtrlId(u32_at(arg, v4l2_querymenu::ID));
+        let id = real_id(self.device().plan(), self.handler(fh), asked);
+        let index = u32_at(arg, v4l2_querymenu::INDEX);
+        let answer = self.ask(&Ask::MenuItem { fh, id, index });
+        tell_item(&answer, arg)
+    }
+}
+
+fn tell_item(answer: &Result<Reply, Fault>, arg: &mut [u8]) -> u32
+    requires { length arg.old ≡ menu.SIZE }
+    ensures { (result, arg.new) ≡ item_told arg.old answer.now }
+{
+    match answer {
+        Ok(Reply::Item(item)) => {
+            put_item(arg, item);
+            0
+        }
+        Ok(_) => NO_CALL,
+        Err(fault) => fault.errno.number(),
+    }
 }
 
 // A control that was asked for by its old id is told by it.
-fn put_old_id(arg: &mut [u8], asked: u32) {
-    if arg.len() >= 4 && asked >= V4L2_CID_PRIVATE_BASE && asked < V4L2_CTRL_FLAG_NEXT_COMPOUND {
-        put_u32(arg, 0, asked);
+fn put_old_id(arg: &mut [u8], asked: u32)
+    requires { 4 ≤ length arg.old }
+    ensures { arg.new ≡ with_old_id asked arg.old }
+{
+    if is_old(asked) {
+        put_u32(arg, v4l2_queryctrl::ID, asked);
     }
 }

@@ -1,4 +1,6 @@
-ghost use Rattle.std.specs.Prelude.{◌≡◌};
+ghost use Rattle.std.specs.Prelude.{◌≡◌, None, false};
+ghost use Rattle.ctrl_types.specs.declared.errno.Errno.TheVariants.{ENOMEM};
+ghost use Rattle.ctl_session.specs.Calls.{handler_in};
 ghost use Rattle.ctl_session.specs.Session.{Asked, errno_in};
 
 use crate::names::{heading_name, kernel_name};
@@ -156,7 +158,9 @@ impl<D: Driver> Session<D> {
     }
 
     // The handler of a file handle; where it isn't open, a number that no handler has.
-    pub(crate) fn handler(&self, fh: FhId) -> u32 {
+    pub(crate) fn handler(&self, fh: FhId) -> u32
+        ensures { result ≡ handler_in self.now fh }
+    {
         match self.device.handler_of(fh) {
             Some(handler) => handler,
             None => u32::MAX,
@@ -194,7 +198,9 @@ impl<D: Driver> Session<D> {
 }
 
 // No room was made, and nothing was asked.
-pub(crate) fn no_memory() -> Fault {
+pub(crate) fn no_memory() -> Fault
+    ensures { result ≡ record { errno = ENOMEM; index = None } }
+{
     Fault {
         errno: Errno::ENOMEM,
         index: None,

@@ -1,0 +1,101 @@
+-- The entries of a list, as the device takes them, and what refuses their payloads (Linux userspace API, "ioctl VIDIOC_G_EXT_CTRLS, VIDIOC_S_EXT_CTRLS,
+-- VIDIOC_TRY_EXT_CTRLS"; Linux, v4l2-ctrls-api.c, for the order in which payloads are looked at).
+use Rattle.std.specs.Prelude.{◌==◌, ◌&&◌, ◌||◌, ◌+◌, ℕ, pos, Bool, true, false, not, if◌then◌else◌, min, nat_lt, nat_le, List, [], ◌∷◌, replicate, map, Option, None, Some, Result, Ok, Err}
+use Rattle.std.specs.List.{find as first_that, range_with_len}
+use Rattle.std.specs.Option.{option_map}
+use Rattle.ctrl_types.specs.Checks.{check_number}
+use Rattle.ctrl_types.specs.declared.ids.CtrlId.{CtrlId}
+use Rattle.ctrl_types.specs.declared.ids.ExtControl.{ExtControl}
+use Rattle.ctrl_types.specs.declared.value.CtrlValue.{CtrlValue}
+use Rattle.ctrl_types.specs.declared.value.CtrlValue.TheVariants.{Bytes, Number}
+use Rattle.ctrl_handlers.specs.Plan.{PlanData}
+use Rattle.ask_reasons.specs.declared.reason.Reason.{Reason}
+use Rattle.call_structs.specs.Entries.{id_at, value_at, with_size, with_told}
+use Rattle.call_structs.specs.declared.entries.Form.{Form}
+use Rattle.call_structs.specs.declared.entries.Form.TheVariants.{Narrow, Wide, Array}
+use Rattle.call_structs.specs.declared.entries.PayloadFault.{PayloadFault}
+use Rattle.call_structs.specs.declared.entries.PayloadFault.TheVariants.{TooSmall, Unreadable}
+use Rattle.ctl_session.specs.Ids.{form_of}
+
+-- what stands in for a payload that can't be taken
+abbrev pub stand_in : Form → CtrlValue
+stand_in (Array elems) = Bytes (replicate elems 0)
+stand_in _ = Number (pos 0)
+
+-- a value, or what stands in for it
+abbrev pub value_or : Form → Result CtrlValue PayloadFault → CtrlValue
+value_or form (Ok value) = value
+value_or form (Err fault) = stand_in form
+
+-- the value of the entry at a place
+abbrev pub read_at : PlanData → ℕ → ℕ → List ℕ → ℕ → Result CtrlValue PayloadFault
+read_at plan h count bytes place = value_at (form_of plan h (id_at place bytes)) count place bytes
+
+-- that entry as the device takes it
+abbrev pub entry_at : PlanData → ℕ → ℕ → List ℕ → ℕ → ExtControl
+entry_at plan h count bytes place = record {
+  id = id_at place bytes;
+  value = value_or (form_of plan h (id_at place bytes)) (read_at plan h count bytes place);
+}
+
+-- the entries of a list
+abbrev pub entries_in : PlanData → ℕ → ℕ → List ℕ → List ExtControl
+entries_in plan h count bytes = map (entry_at plan h count bytes) (range_with_len 0 count)
+
+-- whether the payload of an entry has a fault
+abbrev pub is_too_small : Result CtrlValue PayloadFault → Bool
+is_too_small (Err TooSmall) = true
+is_too_small _ = false
+
+abbrev pub is_unreadable : Result CtrlValue PayloadFault → Bool
+is_unreadable (Err Unreadable) = true
+is_unreadable _ = false
+
+abbrev pub has_fault : PayloadFault → Result CtrlValue PayloadFault → Bool
+has_fault TooSmall value = is_too_small value
+has_fault Unreadable value = is_unreadable value
+
+-- the first entry whose payload has a fault
+abbrev pub first_with : PlanData → ℕ → ℕ → List ℕ → PayloadFault → Option ℕ
+first_with plan h count bytes fault = first_that (λ place. has_fault fault (read_at plan h count bytes place)) (range_with_len 0 count)
+
+-- a place with the fault of its payload
+abbrev pub Wrong : Type 0
+Wrong = ℕ × PayloadFault
+
+-- the first of two
+abbrev pub or_else : Option Wrong → Option Wrong → Option Wrong
+or_else (Some wrong) later = Some wrong
+or_else None later = later
+
+-- The first payload that can't be taken: one that has no room, and else, where the list writes, one that can't be read.
+abbrev pub wrong_payload : PlanData → ℕ → ℕ → Bool → List ℕ → Option Wrong
+wrong_payload plan h count writes bytes =
+    or_else (option_map (λ place. (place, TooSmall)) (first_with plan h count bytes TooSmall))
+    (if writes then option_map (λ place. (place, Unreadable)) (first_with plan h count bytes Unreadable) else None)
+
+-- whether an entry is refused at a place, or before it; a list that is refused as a whole is refused before all entries
+abbrev pub is_up_to : Option ℕ → ℕ → Bool
+is_up_to None place = true
+is_up_to (Some entry) place = nat_le entry place
+
+abbrev pub is_below : Option ℕ → ℕ → Bool
+is_below None place = true
+is_below (Some entry) place = nat_lt entry place
+
+-- Whether a check refuses a list before a payload does. Entries are named one after another, and each then has its room looked at; payloads are read behind the checks of all
+-- entries, when the clusters are judged in the order of their first entries.
+abbrev pub stands_before : Option Reason → Wrong → Bool
+stands_before None wrong = false
+stands_before (Some reason) (place, TooSmall) =
+    nat_lt (check_number reason.check) 6 || (check_number reason.check == 6 && is_up_to reason.entry place)
+stands_before (Some reason) (place, Unreadable) =
+    nat_lt (check_number reason.check) 8 || (check_number reason.check == 8 && is_below reason.entry place)
+
+-- the bytes of a list with values in its entries and slots, from a place on, as far as there are entries
+abbrev pub with_values : PlanData → ℕ → ℕ → ℕ → List ExtControl → List ℕ → List ℕ
+with_values plan h count place [] bytes = bytes
+with_values plan h count place (entry ∷ rest) bytes =
+    if nat_lt place count
+    then with_values plan h count (place + 1) rest (with_told (form_of plan h entry.id) count place entry.value bytes)
+    else bytes
