@@ -54,9 +54,9 @@ fn put_asked(page: &mut Page, message: &Message<'_>) {
             arg,
         } => {
             put_call(page, *number);
-            let _ = write!(page, " fh={fh}");
+            let _ = write!(page, " fh={}", fh.0);
             if let Some(request) = request {
-                let _ = write!(page, " request={request}");
+                let _ = write!(page, " request={}", request.0);
             }
             return put_arg(page, *number, false, arg);
         }
@@ -68,7 +68,7 @@ fn put_asked(page: &mut Page, message: &Message<'_>) {
             handler: Some(handler),
         } => write!(page, "open handler={handler}"),
         Message::Open { handler: None } => write!(page, "open the last handler"),
-        Message::Close { fh } => write!(page, "close fh={fh}"),
+        Message::Close { fh } => write!(page, "close fh={}", fh.0),
         Message::Alloc => write!(page, "alloc"),
         Message::Free { request } => write!(page, "free request={}", request.0),
         Message::AddBuffer { request, buffer } => {
@@ -83,7 +83,7 @@ fn put_asked(page: &mut Page, message: &Message<'_>) {
         Message::Forecast { place } => write!(page, "forecast place={place}"),
         Message::Controls => write!(page, "controls"),
         Message::Values => write!(page, "values"),
-        Message::Waits { fh } => write!(page, "waits fh={fh}"),
+        Message::Waits { fh } => write!(page, "waits fh={}", fh.0),
         Message::Why => write!(page, "why"),
         Message::Renew => write!(page, "renew"),
         Message::Counts => write!(page, "counts"),

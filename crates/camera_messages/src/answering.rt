@@ -1,9 +1,13 @@
+ghost use Rattle.std.specs.Prelude.{◌≡◌};
+ghost use Rattle.ctl_session.specs.Session.{Asked};
+ghost use Rattle.data_driver.specs.Data.{data_verdict};
+ghost use Rattle.device_history.specs.Refusals.{Answer};
+
 use crate::camera::Camera;
 use crate::device_parts::{put_controls, put_values};
 use crate::message::Message;
-use crate::reply_buffer::ReplyBuffer;
+use crate::reply_buffer::{ReplyBuffer, count};
 use ask_reasons::{Reason, text_of};
-use ctrl_types::FhId;
 use device_state::{Ask, Reply, RequestState};
 use std::alloc::Global;
 use std::io::Write;
@@ -49,7 +53,7 @@ impl Camera {
             Message::Open { handler } => Ask::OpenFh {
                 handler: handler.unwrap_or(self.last_handler()),
             },
-            Message::Close { fh } => Ask::CloseFh { fh: FhId(fh) },
+            Message::Close { fh } => Ask::CloseFh { fh },
             Message::Alloc => Ask::Alloc,
             Message::Free { request } => Ask::Free { request },
             Message::AddBuffer { request, buffer } => Ask::AddBuffer { request, buffer },
@@ -66,7 +70,9 @@ impl Camera {
     }
 
     // Answers a message that is an ask.
-    fn answer_ask(&mut self, ask: &Ask, reply: &mut ReplyBuffer) {
+    fn answer_ask(&mut self, ask: &Ask, reply: &mut ReplyBuffer)
+        ensures { (answer : Answer) × Asked data_verdict self.old.session self.new.session ask.now answer }
+    {
         let answer = self.session.ask(ask);
         self.count_requests(ask, answer.is_ok());
         match &answer {
@@ -80,11 +86,11 @@ impl Camera {
                     refused,
                 },
             ) => {
-                let refused = refused.as_slice().len() as u32;
+                let refused = count(refused.as_slice().len());
                 reply.put_numbers(request.0, *buffer, refused);
             }
             Ok(Reply::Forecast(frame)) => {
-                let refused = frame.refused.as_slice().len() as u32;
+                let refused = count(frame.refused.as_slice().len());
                 reply.put_numbers(frame.request.0, frame.buffer, refused);
                 put_values(reply, frame.values.as_slice());
             }
@@ -94,7 +100,9 @@ impl Camera {
     }
 
     // Counts the requests that are there.
-    fn count_requests(&mut self, ask: &Ask, is_accepted: bool) {
+    fn count_requests(&mut self, ask: &Ask, is_accepted: bool)
+        ensures { self.new.session ≡ self.old.session }
+    {
         match ask {
             Ask::Alloc if is_accepted => self.requests = self.requests.saturating_add(1),
             Ask::Free { .. } if is_accepted => self.requests = self.requests.saturating_sub(1),
@@ -112,7 +120,7 @@ impl Camera {
             }
             Message::Values => put_values(reply, device.values()),
             Message::Waits { fh } => {
-                let waits = device.waiting(FhId(*fh), 0).is_some();
+                let waits = device.waiting(*fh, 0).is_some();
                 reply.put_numbers(u32::from(waits), 0, 0);
             }
             Message::Why => {
@@ -121,7 +129,7 @@ impl Camera {
                 }
             }
             Message::Counts => {
-                let (steps, handles) = (device.steps().len() as u32, device.open_count() as u32);
+                let (steps, handles) = (count(device.steps().len()), count(device.open_count()));
                 reply.put_numbers(steps, handles, self.requests);
             }
             _ => {}

@@ -1,6 +1,6 @@
 //! What replies say of controls and values.
 
-use crate::reply_buffer::ReplyBuffer;
+use crate::reply_buffer::{ReplyBuffer, count};
 use call_structs::is_heading;
 use ctl_session::Session;
 use ctrl_calls::Driver;
@@ -13,18 +13,18 @@ const NAME: usize = 32;
 
 /// Puts the controls of a session behind a payload: as `Message::Controls` has them.
 pub(crate) fn put_controls<D: Driver>(reply: &mut ReplyBuffer, session: &Session<D>) {
-    let mut number = 0;
-    for control in session.device().plan().controls() {
+    let plan = session.device().plan();
+    for number in 0..plan.control_count() {
+        let control = plan.control(number);
         let word = session.words().word_of(number).unwrap_or(&[]);
         reply.put_u32(control.id().0);
-        reply.put_u32(type_number(control));
+        reply.put_u32(type_number(&control));
         reply.put_u32(if control.is_array() {
             control.elems()
         } else {
             0
         });
         reply.put_wide(word.get(..NAME - 1).unwrap_or(word), NAME);
-        number += 1;
     }
 }
 
@@ -46,7 +46,7 @@ pub(crate) fn put_values(reply: &mut ReplyBuffer, values: &[CtrlValue]) {
                 reply.put_wide(&number.to_le_bytes(), MAX_ELEMENTS);
             }
             CtrlValue::Bytes(row) => {
-                reply.put_u32(row.len() as u32);
+                reply.put_u32(count(row.len()));
                 reply.put_wide(row.bytes(), MAX_ELEMENTS);
             }
         }

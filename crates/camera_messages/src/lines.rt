@@ -1,5 +1,9 @@
 //! Lines of scripts on a running camera.
 
+ghost use Rattle.std.specs.Prelude.{◌≡◌, true, OnOk};
+ghost use Rattle.ctl_script.specs.Bindings.{is_entered};
+
+use crate::message::MAX_PAYLOAD;
 use ask_reasons::reason_of;
 use ctl_script::{Binding, Bindings, ask_of};
 use ctl_session::Session;
@@ -80,6 +84,9 @@ impl Lines {
         line: &[u8],
     ) -> bool {
         self.page = Page::new(alloc);
+        if line.len() > MAX_PAYLOAD {
+            return self.refuse("not a command: it is too long\n");
+        }
         match read_line(alloc, session.words(), line) {
             Ok(None) => true,
             Ok(Some(command)) => self.answer_command(alloc, session, line, command),
@@ -130,7 +137,9 @@ impl Lines {
     }
 
     // Makes room for what a command binds.
-    fn enter(&mut self, binding: Binding) -> Result<(), AllocError> {
+    fn enter(&mut self, binding: Binding) -> Result<(), AllocError>
+        ensures { OnOk result (is_entered self.new.names binding ≡ true) }
+    {
         if let Binding::FileHandle(name) = binding {
             if !self.handles.as_slice().contains(&name) {
                 self.handles.push(name)?;

@@ -1,5 +1,5 @@
 use byteorder::{ByteOrder, LittleEndian};
-use ctrl_types::RequestId;
+use ctrl_types::{FhId, RequestId};
 
 /// How many bytes of a message stand between its length and its payload.
 pub const HEAD: usize = 16;
@@ -22,14 +22,14 @@ pub enum Message<'a> {
     /// 2: closes a file handle.
     Close {
         /// a.
-        fh: u32,
+        fh: FhId,
     },
     /// 3: makes a control call. The payload comes back, written anew, also where the call is refused.
     Call {
         /// a: the file handle.
-        fh: u32,
+        fh: FhId,
         /// b: the request that the call names; 0xffffffff for none.
-        request: Option<u32>,
+        request: Option<RequestId>,
         /// c: the number of the call.
         number: u32,
         /// The payload: the call's struct, and of a list what `Session::call` wants behind it.
@@ -83,7 +83,7 @@ pub enum Message<'a> {
     /// 16: reads whether an event waits for a file handle: then x is 1.
     Waits {
         /// a.
-        fh: u32,
+        fh: FhId,
     },
     /// 17: answers a line of a script. x is 1 where it is accepted, and the payload is what is said of it, with its line feed.
     Line {
@@ -126,8 +126,8 @@ pub fn message_of(bytes: &[u8]) -> Option<Message<'_>> {
 fn with_payload<'a>(numbers: Numbers, payload: &'a [u8]) -> Option<Message<'a>> {
     match numbers.what {
         3 => Some(Message::Call {
-            fh: numbers.a,
-            request: named(numbers.b),
+            fh: FhId(numbers.a),
+            request: request_named(numbers.b),
             number: numbers.c,
             arg: payload,
         }),
@@ -161,14 +161,18 @@ fn without_payload<'a>(numbers: Numbers) -> Option<Message<'a>> {
         1 => Some(Message::Open {
             handler: named(numbers.a),
         }),
-        2 => Some(Message::Close { fh: numbers.a }),
+        2 => Some(Message::Close {
+            fh: FhId(numbers.a),
+        }),
         12 => Some(Message::State {
             request: RequestId(numbers.a),
         }),
         13 => Some(Message::Forecast { place: numbers.a }),
         14 => Some(Message::Controls),
         15 => Some(Message::Values),
-        16 => Some(Message::Waits { fh: numbers.a }),
+        16 => Some(Message::Waits {
+            fh: FhId(numbers.a),
+        }),
         18 => Some(Message::Why),
         19 => Some(Message::Renew),
         20 => Some(Message::Counts),
@@ -179,4 +183,11 @@ fn without_payload<'a>(numbers: Numbers) -> Option<Message<'a>> {
 // What a number names, where it names something.
 fn named(number: u32) -> Option<u32> {
     if number == NONE { None } else { Some(number) }
+}
+
+fn request_named(number: u32) -> Option<RequestId> {
+    match named(number) {
+        Some(request) => Some(RequestId(request)),
+        None => None,
+    }
 }

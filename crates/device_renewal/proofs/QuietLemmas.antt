@@ -37,7 +37,7 @@ pub one_gone : (verdicts : Verdicts) (plan : PlanData) (all : Past) (steps : His
 unfolding AllGone
 one_gone verdicts plan all steps number e within is gone own =
     let grown : past (take (number + 1) steps) ≡ e ∷ past (take number steps) =
-        ap (λ (xs : History). past xs) (take_more steps number e within) ∙ past_add (take number steps) (get_or steps number e) ∙ ap (λ (x : Entry Step). x ∷ past (take number steps)) is in
+    ap (λ (xs : History). past xs) (take_more steps number e within) ∙ past_add (take number steps) (get_or steps number e) ∙ ap (λ (x : Entry Step). x ∷ past (take number steps)) is in
     let count : length (past (take number steps)) ≡ number = length_past (take number steps) ∙ length-take-le number steps (omega (arith, within)) in
     subst (λ (p : Past). AllGone verdicts plan all p) (sym grown) (subst (λ (n : ℕ). IsGone verdicts plan all n e.step) (sym count) own, gone)
 
@@ -60,7 +60,7 @@ not_subscribing verdicts plan all n fh c step gone = inl refl
 
 -- where all are gone no flags are found, or there is no subscription
 no_flags : (verdicts : Verdicts) (plan : PlanData) (all p : Past) (fh : FhId) (c : ℕ) → AllGone verdicts plan all p → (first_flags fh c (since_ended fh c p) ≡ None) ⊎ (subscribed all fh c ≡ None)
-unfolding AllGone, first_flags, since_ended
+unfolding AllGone first_flags since_ended
 no_flags verdicts plan all [] fh c gone = inl refl
 no_flags verdicts plan all (e ∷ older) fh c gone = by (is_ended_by fh c e.step) (no_flags verdicts plan all older fh c gone.1)
   where
@@ -78,12 +78,12 @@ no_flags verdicts plan all (e ∷ older) fh c gone = by (is_ended_by fh c e.step
 pub unheard : (verdicts : Verdicts) (plan : PlanData) (all : Past) (fh : FhId) (c : ℕ) → AllGone verdicts plan all all → subscribed all fh c ≡ None
 unheard verdicts plan all fh c gone = by (no_flags verdicts plan all all fh c gone)
   where
-    where_open : (b : Bool) → cond b None None ≡ None {SubFlags}
-    where_open true = refl
-    where_open false = refl
+    where_open : (b : Bool) (flags : Option SubFlags) → flags ≡ None → cond b flags None ≡ None
+    where_open true flags none = none
+    where_open false flags none = refl
 
     by : (first_flags fh c (since_ended fh c all) ≡ None) ⊎ (subscribed all fh c ≡ None) → subscribed all fh c ≡ None
-    by (inl none) = rw none (where_open _)
+    by (inl none) = where_open _ _ none
     by (inr none) = none
 
 -- a step that is gone made no request that is there
@@ -93,7 +93,7 @@ not_making verdicts plan all n step gone = refl
 
 -- no request is there
 pub no_requests : (verdicts : Verdicts) (plan : PlanData) (all p : Past) → AllGone verdicts plan all p → filter_map (request verdicts plan all) (ever_made p) ≡ []
-unfolding AllGone, ever_made
+unfolding AllGone ever_made
 no_requests verdicts plan all [] gone = refl
 no_requests verdicts plan all (e ∷ older) gone =
     filter_map-append (request verdicts plan all) (ever_made older) (made (length older) e.step)
