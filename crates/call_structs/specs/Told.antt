@@ -1,6 +1,7 @@
 -- What is told of a control, of a menu's item and of an event in the structs of their calls (Linux userspace API, "ioctls VIDIOC_QUERYCTRL, VIDIOC_QUERY_EXT_CTRL and
 -- VIDIOC_QUERYMENU", "ioctl VIDIOC_DQEVENT"). All that isn't named is 0.
-use Rattle.std.specs.Prelude.{ℕ, ℤ, Bool, true, false, ◌&&◌, ◌==◌, not, if◌then◌else◌, ◌+◌, ◌%◌, min, bit_or, List, pos}
+use Rattle.std.specs.Prelude.{ℕ, ℤ, Bool, true, false, ◌&&◌, ◌==◌, not, if◌then◌else◌, ◌+◌, ◌%◌, bit_or, List}
+use Rattle.std.specs.Int.{cast_signed, w64}
 use Rattle.ctrl_types.specs.Flags.{bits, contains}
 use Rattle.ctrl_types.specs.Numbers.{kind_number}
 use Rattle.ctrl_types.specs.declared.flags.Flags.{Flags}
@@ -39,15 +40,15 @@ size_of Integer64 = 8
 size_of U8 = 1
 size_of _ = 4
 
--- whether bounds of 32 bits are told
-abbrev pub is_narrow : Kind → Bool
-is_narrow Integer64 = false
-is_narrow U8 = false
-is_narrow _ = true
+-- whether `struct v4l2_queryctrl` has bounds of such a control
+abbrev pub has_bounds : Kind → Bool
+has_bounds Integer64 = false
+has_bounds U8 = false
+has_bounds _ = true
 
--- a distance of values in 32 bits with a sign: the greatest number that fits there, where it doesn't
+-- a distance of values, of which 32 bits are told as of every bound
 abbrev pub step_told : ℕ → ℤ
-step_told step = pos (min step 2147483647)
+step_told step = cast_signed w64 step
 
 -- the bounds in `struct v4l2_queryctrl`
 abbrev pub with_bounds : CtrlInfo → List ℕ → List ℕ
@@ -59,7 +60,7 @@ with_bounds info bytes =
 
 -- the same where they are told: a heading, a 64-bit number and an array have no bounds there
 abbrev pub with_bounds_told : CtrlInfo → List ℕ → List ℕ
-with_bounds_told info bytes = if is_narrow info.kind && not (is_heading info.id info.flags) then with_bounds info bytes else bytes
+with_bounds_told info bytes = if has_bounds info.kind && not (is_heading info.id info.flags) then with_bounds info bytes else bytes
 
 -- `struct v4l2_queryctrl` of a control with a name, without bounds
 abbrev pub queryctrl_named : CtrlInfo → List ℕ → List ℕ
@@ -118,17 +119,26 @@ abbrev pub with_value : Kind → ℤ → List ℕ → List ℕ
 with_value Integer64 value bytes = with_i64 (event.U + change.VALUE64) value bytes
 with_value _ value bytes = with_low (event.U + change.VALUE) value bytes
 
--- what an event says of its control
-abbrev pub with_change : Event → List ℕ → List ℕ
-with_change e bytes =
+-- the bounds in an event
+abbrev pub with_event_bounds : Event → List ℕ → List ℕ
+with_event_bounds e bytes =
     with_low (event.U + change.DEFAULT_VALUE) e.default_value
     (with_low (event.U + change.STEP) (step_told e.step)
     (with_low (event.U + change.MAXIMUM) e.maximum
-    (with_low (event.U + change.MINIMUM) e.minimum
+    (with_low (event.U + change.MINIMUM) e.minimum bytes)))
+
+-- the same where they are told: a heading has no bounds
+abbrev pub with_event_bounds_told : Event → List ℕ → List ℕ
+with_event_bounds_told e bytes = if is_heading e.id e.flags then bytes else with_event_bounds e bytes
+
+-- what an event says of its control
+abbrev pub with_change : Event → List ℕ → List ℕ
+with_change e bytes =
+    with_event_bounds_told e
     (with_u32 (event.U + change.FLAGS) (flags_told e.kind e.flags)
     (with_value e.kind e.value
     (with_u32 (event.U + change.TYPE) (type_told e.id e.flags e.kind)
-    (with_u32 (event.U + change.CHANGES) e.changes.0 bytes)))))))
+    (with_u32 (event.U + change.CHANGES) e.changes.0 bytes))))
 
 -- `struct v4l2_event` of an event, but for its time
 abbrev pub event_told : Event → List ℕ

@@ -1,5 +1,5 @@
 ghost use Rattle.std.specs.Prelude.{◌≡◌, length};
-ghost use Rattle.call_structs.specs.Told.{event_told, flags_told, is_heading, is_narrow, query_ext_ctrl, query_ext_ctrl_named, queryctrl, queryctrl_named, querymenu, size_of, step_told, type_told, with_bounds, with_bounds_told, with_change, with_dimension, with_value, with_wide_bounds, with_wide_bounds_told};
+ghost use Rattle.call_structs.specs.Told.{event_told, flags_told, has_bounds, is_heading, query_ext_ctrl, query_ext_ctrl_named, queryctrl, queryctrl_named, querymenu, size_of, step_told, type_told, with_bounds, with_bounds_told, with_change, with_dimension, with_event_bounds, with_event_bounds_told, with_value, with_wide_bounds, with_wide_bounds_told};
 ghost use Rattle.ioctl_bytes.specs.declared.layout.v4l2_queryctrl.TheConstants as query;
 ghost use Rattle.ioctl_bytes.specs.declared.layout.v4l2_query_ext_ctrl.TheConstants as ext;
 ghost use Rattle.ioctl_bytes.specs.declared.layout.v4l2_querymenu.TheConstants as menu;
@@ -52,8 +52,8 @@ fn size_of(kind: Kind) -> u32
     }
 }
 
-fn is_narrow(kind: Kind) -> bool
-    ensures { result ≡ is_narrow kind }
+fn has_bounds(kind: Kind) -> bool
+    ensures { result ≡ has_bounds kind }
 {
     match kind {
         Kind::Integer64 | Kind::U8 => false,
@@ -64,7 +64,7 @@ fn is_narrow(kind: Kind) -> bool
 fn step_told(step: u64) -> i64
     ensures { result ≡ step_told step }
 {
-    step.min(2_147_483_647) as i64
+    step.cast_signed()
 }
 
 /// Writes what is told of a control over a `struct v4l2_queryctrl`.
@@ -106,7 +106,7 @@ fn put_bounds_told(bytes: &mut [u8], info: &CtrlInfo)
     ensures told { bytes.new ≡ with_bounds_told info.now bytes.old }
     ensures length { length bytes.new ≡ query.SIZE }
 {
-    if is_narrow(info.kind) && !is_heading(info.id, info.flags) {
+    if has_bounds(info.kind) && !is_heading(info.id, info.flags) {
         put_bounds(bytes, info);
     }
 }
@@ -226,11 +226,7 @@ fn put_change(bytes: &mut [u8], event: &Event)
     ensures told { bytes.new ≡ with_change event.now bytes.old }
     ensures length { length bytes.new ≡ event_struct.SIZE }
 {
-    put_u32(
-        bytes,
-        v4l2_event::U + v4l2_event_ctrl::CHANGES,
-        event.changes.bits(),
-    );
+    put_u32(bytes, v4l2_event::U + v4l2_event_ctrl::CHANGES, event.changes.bits());
     put_u32(
         bytes,
         v4l2_event::U + v4l2_event_ctrl::TYPE,
@@ -242,26 +238,28 @@ fn put_change(bytes: &mut [u8], event: &Event)
         v4l2_event::U + v4l2_event_ctrl::FLAGS,
         flags_told(event.kind, event.flags),
     );
-    put_low(
-        bytes,
-        v4l2_event::U + v4l2_event_ctrl::MINIMUM,
-        event.minimum,
-    );
-    put_low(
-        bytes,
-        v4l2_event::U + v4l2_event_ctrl::MAXIMUM,
-        event.maximum,
-    );
-    put_low(
-        bytes,
-        v4l2_event::U + v4l2_event_ctrl::STEP,
-        step_told(event.step),
-    );
-    put_low(
-        bytes,
-        v4l2_event::U + v4l2_event_ctrl::DEFAULT_VALUE,
-        event.default_value,
-    );
+    put_event_bounds_told(bytes, event);
+}
+
+fn put_event_bounds_told(bytes: &mut [u8], event: &Event)
+    requires { length bytes.old ≡ event_struct.SIZE }
+    ensures told { bytes.new ≡ with_event_bounds_told event.now bytes.old }
+    ensures length { length bytes.new ≡ event_struct.SIZE }
+{
+    if !is_heading(event.id, event.flags) {
+        put_event_bounds(bytes, event);
+    }
+}
+
+fn put_event_bounds(bytes: &mut [u8], event: &Event)
+    requires { length bytes.old ≡ event_struct.SIZE }
+    ensures told { bytes.new ≡ with_event_bounds event.now bytes.old }
+    ensures length { length bytes.new ≡ event_struct.SIZE }
+{
+    put_low(bytes, v4l2_event::U + v4l2_event_ctrl::MINIMUM, event.minimum);
+    put_low(bytes, v4l2_event::U + v4l2_event_ctrl::MAXIMUM, event.maximum);
+    put_low(bytes, v4l2_event::U + v4l2_event_ctrl::STEP, step_told(event.step));
+    put_low(bytes, v4l2_event::U + v4l2_event_ctrl::DEFAULT_VALUE, event.default_value);
 }
 
 fn put_event_value(bytes: &mut [u8], kind: Kind, value: i64)

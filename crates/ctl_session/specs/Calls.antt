@@ -1,12 +1,12 @@
 -- What a control call means: what is asked of the device, one ask after another until one is refused, and what is told then: an errno, 0 for none, and the struct of
 -- the call (Linux userspace API, "Function Reference").
-use Rattle.std.specs.Prelude.{◌≡◌, ◌⊎◌, ◌==◌, ◌&&◌, ℕ, pos, Bool, true, false, not, ⊥, if◌then◌else◌, min, nat_lt, bit_and, List, [], ◌∷◌, length, map, Option, None, Some, is_some, unwrap_or, Ok, Err}
+use Rattle.std.specs.Prelude.{◌≡◌, ◌⊎◌, ◌==◌, ◌&&◌, ℕ, pos, Bool, true, false, not, if◌then◌else◌, min, nat_lt, bit_and, List, [], ◌∷◌, length, map, Option, None, Some, is_some, unwrap_or, Ok, Err}
 use Rattle.std.specs.List.{filter, range_with_len}
 use Rattle.history.specs.Past.{past}
 use Rattle.ctrl_calls.specs.Meanings.{Verdicts}
 use Rattle.ctrl_types.specs.Numbers.{errno_number}
 use Rattle.ctrl_types.specs.Values.{number_of}
-use Rattle.ctrl_types.specs.declared.errno.Errno.TheVariants.{EINVAL, ENOSPC}
+use Rattle.ctrl_types.specs.declared.errno.Errno.TheVariants.{EBADF, EINVAL, ENOSPC}
 use Rattle.ctrl_types.specs.declared.errno.Fault.{Fault}
 use Rattle.ctrl_types.specs.declared.ids.CtrlId.{CtrlId}
 use Rattle.ctrl_types.specs.declared.ids.ExtControl.{ExtControl}
@@ -46,7 +46,7 @@ use Rattle.ctl_session.specs.declared.list_calls.Access.{Access}
 use Rattle.ctl_session.specs.declared.list_calls.Access.TheVariants.{Get, Set, Try}
 use Rattle.ctl_session.specs.declared.lists.TheConstants.{MOST_ENTRIES}
 use Rattle.ctl_session.specs.Ids.{form_of, is_narrow, is_old, queried, real_id, shown}
-use Rattle.ctl_session.specs.Lists.{Wrong, entries_in, stands_before, with_values, wrong_payload}
+use Rattle.ctl_session.specs.Lists.{Wrong, entries_in, first_of_control, stands_before, with_values, wrong_payload}
 use Rattle.ctl_session.specs.Session.{Asked, SessionData, errno_in, without_room}
 
 -- an errno, 0 for none, and the struct of the call as it is then
@@ -80,12 +80,9 @@ asking_list ask tell = record { asks = ask ∷ []; told = by_first tell; short =
 abbrev pub sized : ℕ → List ℕ → Meaning → Meaning
 sized size bytes meaning = if length bytes == size then meaning else refused CUT bytes
 
--- the plan of a session's device, and the handler of a file handle; where that isn't open, a number that no handler has
+-- the plan of a session's device
 abbrev pub plan_in : SessionData → PlanData
 plan_in session = session.device.plan
-
-abbrev pub handler_in : SessionData → FhId → ℕ
-handler_in session fh = unwrap_or (handler_of (past session.device.steps) fh) 4294967295
 
 -- Queries of a control.
 
@@ -104,8 +101,8 @@ abbrev pub query_of : (CtrlInfo → List ℕ) → FhId → List ℕ → Option C
 query_of put fh bytes None = refused (errno_number EINVAL) bytes
 query_of put fh bytes (Some id) = asking (asks.Query fh id) (query_told put bytes)
 
-abbrev pub query_call : SessionData → (CtrlInfo → List ℕ) → FhId → List ℕ → Meaning
-query_call session put fh bytes = query_of put fh bytes (queried (plan_in session) (handler_in session fh) (u32_in query.ID bytes))
+abbrev pub query_call : PlanData → ℕ → (CtrlInfo → List ℕ) → FhId → List ℕ → Meaning
+query_call plan h put fh bytes = query_of put fh bytes (queried plan h (u32_in query.ID bytes))
 
 -- what a query of an item is told
 abbrev pub item_told : List ℕ → Answer → Told
@@ -113,16 +110,16 @@ item_told bytes (Ok (Item item)) = (0, querymenu item bytes)
 item_told bytes (Ok reply) = (NO_CALL, bytes)
 item_told bytes (Err fault) = (errno_number fault.errno, bytes)
 
-abbrev pub menu_call : SessionData → FhId → List ℕ → Meaning
-menu_call session fh bytes =
-    asking (asks.MenuItem fh (real_id (plan_in session) (handler_in session fh) (record { 0 = u32_in menu.ID bytes })) (u32_in menu.INDEX bytes)) (item_told bytes)
+abbrev pub menu_call : PlanData → ℕ → FhId → List ℕ → Meaning
+menu_call plan h fh bytes =
+    asking (asks.MenuItem fh (real_id plan h (record { 0 = u32_in menu.ID bytes })) (u32_in menu.INDEX bytes)) (item_told bytes)
 
 -- One control.
 
 -- what one control is told: the value of the one entry
 abbrev pub one_told : List ℕ → Answer → Told
 one_told bytes (Ok (Controls (entry ∷ rest))) = (0, with_low one.VALUE (number_of entry.value) bytes)
-one_told bytes (Ok reply) = (0, bytes)
+one_told bytes (Ok reply) = (NO_CALL, bytes)
 one_told bytes (Err fault) = (errno_number fault.errno, bytes)
 
 -- the list of one entry that a call on one control is
@@ -134,10 +131,10 @@ one_ask true fh list = asks.SetCtrls fh 0 None list
 one_ask false fh list = asks.GetCtrls fh 0 None list
 
 -- a list of one entry about the present values; a 64-bit number and an array have no place in the struct
-abbrev pub one_call : Bool → SessionData → FhId → List ℕ → Meaning
-one_call sets session fh bytes =
-    let id = real_id (plan_in session) (handler_in session fh) (record { 0 = u32_in one.ID bytes }) in
-    if is_narrow (form_of (plan_in session) (handler_in session fh) id)
+abbrev pub one_call : Bool → PlanData → ℕ → FhId → List ℕ → Meaning
+one_call sets plan h fh bytes =
+    let id = real_id plan h (record { 0 = u32_in one.ID bytes }) in
+    if is_narrow (form_of plan h id)
     then asking_list (one_ask sets fh (one_entry id bytes)) (one_told bytes)
     else refused (errno_number EINVAL) bytes
 
@@ -177,19 +174,19 @@ abbrev pub wrong_index : Access → ℕ → List ℕ → ℕ
 wrong_index Try place bytes = place
 wrong_index _ place bytes = u32_in head.COUNT bytes
 
--- an entry without room is told how many bytes its payload has
+-- a get is told how many bytes the payload of an entry without room has
 abbrev pub with_wanted_size : Form → ℕ → List ℕ → List ℕ
 with_wanted_size (Array elems) place bytes = with_size place elems bytes
 with_wanted_size _ place bytes = bytes
 
-abbrev pub with_wrong_size : PlanData → ℕ → Wrong → List ℕ → List ℕ
-with_wrong_size plan h (place, TooSmall) bytes = with_wanted_size (form_of plan h (id_at place bytes)) place bytes
-with_wrong_size plan h (place, Unreadable) bytes = bytes
+abbrev pub with_wrong_size : PlanData → ℕ → Access → ℕ → List ℕ → List ℕ
+with_wrong_size plan h Get place bytes = with_wanted_size (form_of plan h (id_at place bytes)) place bytes
+with_wrong_size plan h _ place bytes = bytes
 
 -- what a list is told whose payload can't be taken
 abbrev pub wrong_told : PlanData → ℕ → Access → List ℕ → Wrong → Told
 wrong_told plan h access bytes wrong =
-    (wrong_errno access wrong.1, with_u32 head.ERROR_IDX (wrong_index access wrong.0 bytes) (with_wrong_size plan h wrong bytes))
+    (wrong_errno access wrong.1, with_u32 head.ERROR_IDX (wrong_index access wrong.0 bytes) (with_wrong_size plan h access wrong.0 bytes))
 
 -- A list whose payloads can be taken is asked of the device, and so is one that something else refuses before its payload does; else the payload refuses it.
 abbrev pub list_by : PlanData → ℕ → Access → List ℕ → Ask → Option Wrong → Bool → Meaning
@@ -201,24 +198,23 @@ list_by plan h access bytes ask (Some wrong) false = record {
 list_by plan h access bytes ask wrong before = asking_list ask (list_told plan h bytes)
 
 -- whether something else refuses a list before a payload does
-abbrev pub is_refused_before : Verdicts → SessionData → Ask → Option Wrong → Bool
-is_refused_before verdicts session ask None = false
-is_refused_before verdicts session ask (Some wrong) = stands_before (reason_of verdicts (plan_in session) (past session.device.steps) ask) wrong
+abbrev pub is_refused_before : Verdicts → SessionData → List ℕ → Ask → Option Wrong → Bool
+is_refused_before verdicts session bytes ask None = false
+is_refused_before verdicts session bytes ask (Some wrong) =
+    stands_before (reason_of verdicts (plan_in session) (past session.device.steps) ask) wrong (first_of_control (read_count bytes) bytes wrong.0)
 
 -- a list whose head, entries and slots are there
-abbrev pub whole_list : Verdicts → SessionData → FhId → Option RequestId → Access → List ℕ → Meaning
-whole_list verdicts session fh request access bytes =
+abbrev pub whole_list : Verdicts → SessionData → ℕ → FhId → Option RequestId → Access → List ℕ → Meaning
+whole_list verdicts session h fh request access bytes =
     let plan = plan_in session in
-    let h = handler_in session fh in
     let ask = list_ask access fh (u32_in head.WHICH bytes) request (entries_in plan h (read_count bytes) bytes) in
     let wrong = wrong_payload plan h (read_count bytes) (is_write access) bytes in
-    list_by plan h access bytes ask wrong (is_refused_before verdicts session ask wrong)
+    list_by plan h access bytes ask wrong (is_refused_before verdicts session bytes ask wrong)
 
-abbrev pub list_call : Verdicts → SessionData → FhId → Option RequestId → Access → List ℕ → Meaning
-list_call verdicts session fh request access bytes =
+abbrev pub list_call : Verdicts → SessionData → ℕ → FhId → Option RequestId → Access → List ℕ → Meaning
+list_call verdicts session h fh request access bytes =
     if nat_lt (length bytes) head.SIZE then refused CUT bytes
-    else if nat_lt (length bytes) (list_size (read_count bytes)) then refused CUT bytes
-    else whole_list verdicts session fh request access bytes
+    else sized (list_size (read_count bytes)) bytes (whole_list verdicts session h fh request access bytes)
 
 -- Events.
 
@@ -231,10 +227,10 @@ abbrev pub flags_for : CtrlId → Option Control → ℕ → ℕ
 flags_for id None flags = flags
 flags_for id (Some ctrl) flags = if is_heading id ctrl.flags then bit_and flags ALLOW_FEEDBACK.0 else flags
 
-abbrev pub subscribe_call : SessionData → FhId → List ℕ → Meaning
-subscribe_call session fh bytes =
+abbrev pub subscribe_call : PlanData → ℕ → FhId → List ℕ → Meaning
+subscribe_call plan h fh bytes =
     let id = record { 0 = u32_in subscription.ID bytes } in
-    let flags = flags_for id (shown (plan_in session) (handler_in session fh) id) (u32_in subscription.FLAGS bytes) in
+    let flags = flags_for id (shown plan h id) (u32_in subscription.FLAGS bytes) in
     if u32_in subscription.TYPE bytes == calls.V4L2_EVENT_CTRL
     then asking (asks.Subscribe fh id (record { 0 = flags })) (errno_told bytes)
     else refused (errno_number EINVAL) bytes
@@ -274,21 +270,31 @@ taken_told bytes (Err fault) = (errno_number fault.errno, bytes)
 abbrev pub take_call : FhId → List ℕ → Meaning
 take_call fh bytes = asking (asks.Take fh) (taken_told bytes)
 
--- The call with a number.
-abbrev pub call_of : Verdicts → SessionData → (CtrlInfo → List ℕ) → FhId → Option RequestId → ℕ → List ℕ → Meaning
-call_of verdicts session name fh request number bytes =
-    if number == calls.VIDIOC_QUERYCTRL then sized query.SIZE bytes (query_call session (λ info. queryctrl info (name info)) fh bytes)
-    else if number == calls.VIDIOC_QUERY_EXT_CTRL then sized ext.SIZE bytes (query_call session (λ info. query_ext_ctrl info (name info)) fh bytes)
-    else if number == calls.VIDIOC_QUERYMENU then sized menu.SIZE bytes (menu_call session fh bytes)
-    else if number == calls.VIDIOC_G_CTRL then sized one.SIZE bytes (one_call false session fh bytes)
-    else if number == calls.VIDIOC_S_CTRL then sized one.SIZE bytes (one_call true session fh bytes)
-    else if number == calls.VIDIOC_G_EXT_CTRLS then list_call verdicts session fh request Get bytes
-    else if number == calls.VIDIOC_S_EXT_CTRLS then list_call verdicts session fh request Set bytes
-    else if number == calls.VIDIOC_TRY_EXT_CTRLS then list_call verdicts session fh request Try bytes
-    else if number == calls.VIDIOC_SUBSCRIBE_EVENT then sized subscription.SIZE bytes (subscribe_call session fh bytes)
+-- The call with a number on an open file handle, whose handler is h.
+abbrev pub call_on : Verdicts → SessionData → (CtrlInfo → List ℕ) → ℕ → FhId → Option RequestId → ℕ → List ℕ → Meaning
+call_on verdicts session name h fh request number bytes =
+    let plan = plan_in session in
+    if number == calls.VIDIOC_QUERYCTRL then sized query.SIZE bytes (query_call plan h (λ info. queryctrl info (name info)) fh bytes)
+    else if number == calls.VIDIOC_QUERY_EXT_CTRL then sized ext.SIZE bytes (query_call plan h (λ info. query_ext_ctrl info (name info)) fh bytes)
+    else if number == calls.VIDIOC_QUERYMENU then sized menu.SIZE bytes (menu_call plan h fh bytes)
+    else if number == calls.VIDIOC_G_CTRL then sized one.SIZE bytes (one_call false plan h fh bytes)
+    else if number == calls.VIDIOC_S_CTRL then sized one.SIZE bytes (one_call true plan h fh bytes)
+    else if number == calls.VIDIOC_G_EXT_CTRLS then list_call verdicts session h fh request Get bytes
+    else if number == calls.VIDIOC_S_EXT_CTRLS then list_call verdicts session h fh request Set bytes
+    else if number == calls.VIDIOC_TRY_EXT_CTRLS then list_call verdicts session h fh request Try bytes
+    else if number == calls.VIDIOC_SUBSCRIBE_EVENT then sized subscription.SIZE bytes (subscribe_call plan h fh bytes)
     else if number == calls.VIDIOC_UNSUBSCRIBE_EVENT then sized subscription.SIZE bytes (unsubscribe_call session fh bytes)
     else if number == calls.VIDIOC_DQEVENT then sized event.SIZE bytes (take_call fh bytes)
     else refused NO_CALL bytes
+
+-- the same on any: one that isn't open is refused first
+abbrev pub call_by : Verdicts → SessionData → (CtrlInfo → List ℕ) → FhId → Option RequestId → ℕ → List ℕ → Option ℕ → Meaning
+call_by verdicts session name fh request number bytes None = refused (errno_number EBADF) bytes
+call_by verdicts session name fh request number bytes (Some h) = call_on verdicts session name h fh request number bytes
+
+-- The call with a number.
+abbrev pub call_of : Verdicts → SessionData → (CtrlInfo → List ℕ) → FhId → Option RequestId → ℕ → List ℕ → Meaning
+call_of verdicts session name fh request number bytes = call_by verdicts session name fh request number bytes (handler_of (past session.device.steps) fh)
 
 -- Asks are asked one after another, until one is refused; each has its answer.
 abbrev pub AskedInTurn : Verdicts → SessionData → List Ask → List Answer → SessionData → Type 0

@@ -12,7 +12,7 @@ use Rattle.ctrl_handlers.specs.Plan.{PlanData, control, control_in, ids_of}
 use Rattle.ctrl_handlers.specs.Visible.{find, least_above, visible}
 use Rattle.call_structs.specs.declared.entries.Form.{Form}
 use Rattle.call_structs.specs.declared.entries.Form.TheVariants.{Narrow, Wide, Array}
-use Rattle.ioctl_bytes.specs.declared.calls.TheConstants.{V4L2_CID_PRIVATE_BASE, V4L2_CTRL_CLASS_USER, V4L2_CTRL_FLAG_NEXT_COMPOUND, V4L2_CTRL_FLAG_NEXT_CTRL}
+use Rattle.ioctl_bytes.specs.declared.calls.TheConstants.{V4L2_CID_PRIVATE_BASE, V4L2_CTRL_CLASS_USER, V4L2_CTRL_FLAG_NEXT_COMPOUND, V4L2_CTRL_FLAG_NEXT_CTRL, V4L2_CTRL_ID_MASK}
 
 -- the control that a handler shows under an id
 abbrev pub shown : PlanData → ℕ → CtrlId → Option Control
@@ -83,5 +83,5 @@ real_id plan h id =
 abbrev pub queried : PlanData → ℕ → ℕ → Option CtrlId
 queried plan h id =
     if has_flag id V4L2_CTRL_FLAG_NEXT_CTRL || has_flag id V4L2_CTRL_FLAG_NEXT_COMPOUND
-    then next_wanted plan h (bit_and id 0x3fffffff) (has_flag id V4L2_CTRL_FLAG_NEXT_CTRL) (has_flag id V4L2_CTRL_FLAG_NEXT_COMPOUND)
+    then next_wanted plan h (bit_and id V4L2_CTRL_ID_MASK) (has_flag id V4L2_CTRL_FLAG_NEXT_CTRL) (has_flag id V4L2_CTRL_FLAG_NEXT_COMPOUND)
     else Some (real_id plan h (record { 0 = id }))

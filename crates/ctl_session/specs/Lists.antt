@@ -1,6 +1,6 @@
 -- The entries of a list, as the device takes them, and what refuses their payloads (Linux userspace API, "ioctl VIDIOC_G_EXT_CTRLS, VIDIOC_S_EXT_CTRLS,
 -- VIDIOC_TRY_EXT_CTRLS"; Linux, v4l2-ctrls-api.c, for the order in which payloads are looked at).
-use Rattle.std.specs.Prelude.{◌==◌, ◌&&◌, ◌||◌, ◌+◌, ℕ, pos, Bool, true, false, not, if◌then◌else◌, min, nat_lt, nat_le, List, [], ◌∷◌, replicate, map, Option, None, Some, Result, Ok, Err}
+use Rattle.std.specs.Prelude.{◌==◌, ◌&&◌, ◌||◌, ◌+◌, ℕ, pos, Bool, true, false, not, if◌then◌else◌, min, nat_lt, nat_le, List, [], ◌∷◌, replicate, map, Option, None, Some, unwrap_or, Result, Ok, Err}
 use Rattle.std.specs.List.{find as first_that, range_with_len}
 use Rattle.std.specs.Option.{option_map}
 use Rattle.ctrl_types.specs.Checks.{check_number}
@@ -83,14 +83,22 @@ abbrev pub is_below : Option ℕ → ℕ → Bool
 is_below None place = true
 is_below (Some entry) place = nat_lt entry place
 
+-- whether an entry names the control that the one at a place names
+abbrev pub names_same : List ℕ → ℕ → ℕ → Bool
+names_same bytes place other = (id_at place bytes).0 == (id_at other bytes).0
+
+-- the first entry that names it
+abbrev pub first_of_control : ℕ → List ℕ → ℕ → ℕ
+first_of_control count bytes place = unwrap_or (first_that (names_same bytes place) (range_with_len 0 count)) place
+
 -- Whether a check refuses a list before a payload does. Entries are named one after another, and each then has its room looked at; payloads are read behind the checks of all
--- entries, when the clusters are judged in the order of their first entries.
-abbrev pub stands_before : Option Reason → Wrong → Bool
-stands_before None wrong = false
-stands_before (Some reason) (place, TooSmall) =
+-- entries, when the clusters are judged in the order of their first entries, of which `first` is that of the payload's.
+abbrev pub stands_before : Option Reason → Wrong → ℕ → Bool
+stands_before None wrong first = false
+stands_before (Some reason) (place, TooSmall) first =
     nat_lt (check_number reason.check) 6 || (check_number reason.check == 6 && is_up_to reason.entry place)
-stands_before (Some reason) (place, Unreadable) =
-    nat_lt (check_number reason.check) 8 || (check_number reason.check == 8 && is_below reason.entry place)
+stands_before (Some reason) (place, Unreadable) first =
+    nat_lt (check_number reason.check) 8 || (check_number reason.check == 8 && is_below reason.entry first)
 
 -- the bytes of a list with values in its entries and slots, from a place on, as far as there are entries
 abbrev pub with_values : PlanData → ℕ → ℕ → ℕ → List ExtControl → List ℕ → List ℕ

@@ -1,5 +1,5 @@
 -- What a session is seen as, and what an ask of it does (of this project).
-use Rattle.std.specs.Prelude.{◌≡◌, ◌⊎◌, ℕ, Bool, List, Option, None, Some, Ok, Err}
+use Rattle.std.specs.Prelude.{◌≡◌, ◌⊎◌, ℕ, Bool, true, List, Option, None, Some, Ok, Err}
 use Rattle.ctrl_calls.specs.Meanings.{Verdicts}
 use Rattle.ctrl_types.specs.Numbers.{errno_number}
 use Rattle.ctrl_types.specs.declared.errno.Errno.TheVariants.{ENOMEM}
@@ -8,7 +8,7 @@ use Rattle.device_history.specs.Refusals.{Answer}
 use Rattle.device_state.specs.Device.{DeviceData}
 use Rattle.range_followers.specs.declared.follower.Follower.{Follower}
 use Rattle.following_ranges.specs.declared.asking.RangeAsk.{RangeAsk}
-use Rattle.following_ranges.specs.Following.{HandlesAndFollows}
+use Rattle.following_ranges.specs.Following.{HandlesAndFollows, is_change}
 
 -- A session: its device, how ranges of it follow other controls, and whether one that was refused is owed.
 pub record SessionData : Type 0 where
@@ -26,9 +26,9 @@ Follows verdicts old new ask answer =
     (new.followers ≡ old.followers) × (new.device.plan ≡ old.device.plan)
     × ((ranges : List RangeAsk) × HandlesAndFollows verdicts old.followers old.device new.device old.owed new.owed 0 ask answer ranges)
 
--- What an ask of a session does: that; or there was no room for the answers of ranges, and nothing was asked.
+-- What an ask of a session does: that; or, where it can be a change, there was no room for the answers of ranges, and nothing was asked.
 abbrev pub Asked : Verdicts → SessionData → SessionData → Ask → Answer → Type 0
-Asked verdicts old new ask answer = Follows verdicts old new ask answer ⊎ ((new ≡ old) × (answer ≡ without_room))
+Asked verdicts old new ask answer = Follows verdicts old new ask answer ⊎ ((is_change ask ≡ true) × (new ≡ old) × (answer ≡ without_room))
 
 -- the errno of an answer, 0 for none
 abbrev pub errno_in : Answer → ℕ

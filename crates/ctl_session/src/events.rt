@@ -22,8 +22,8 @@ use ioctl_bytes::u32_at;
 
 impl<D: Driver> Session<D> {
     // VIDIOC_SUBSCRIBE_EVENT.
-    pub(crate) fn subscribe(&mut self, fh: FhId, arg: &mut [u8]) -> u32
-        ensures { Calls D.verdict self.old (sized subscription.SIZE arg.old (subscribe_call self.old fh arg.old)) self.new (result, arg.new) }
+    pub(crate) fn subscribe(&mut self, handler: u32, fh: FhId, arg: &mut [u8]) -> u32
+        ensures { Calls D.verdict self.old (sized subscription.SIZE arg.old (subscribe_call (plan_in self.old) handler fh arg.old)) self.new (result, arg.new) }
     {
         if arg.len() != v4l2_event_subscription::SIZE {
             return CUT;
@@ -33,7 +33,7 @@ impl<D: Driver> Session<D> {
         }
         let id = CtrlId(u32_at(arg, v4l2_event_subscription::ID));
         let asked = u32_at(arg, v4l2_event_subscription::FLAGS);
-        let flags = flags_for(id, shown(self.device().plan(), self.handler(fh), id), asked);
+        let flags = flags_for(id, shown(self.device().plan(), handler, id), asked);
         let flags = SubFlags::from_bits_retain(flags);
         errno_of(&self.ask(&Ask::Subscribe { fh, id, flags }))
     }

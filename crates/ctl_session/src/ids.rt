@@ -13,7 +13,7 @@ use ctrl_settle::Ctrl;
 use ctrl_types::{CtrlId, Kind};
 use ioctl_bytes::calls::{
     V4L2_CID_PRIVATE_BASE, V4L2_CTRL_CLASS_USER, V4L2_CTRL_FLAG_NEXT_COMPOUND,
-    V4L2_CTRL_FLAG_NEXT_CTRL,
+    V4L2_CTRL_FLAG_NEXT_CTRL, V4L2_CTRL_ID_MASK,
 };
 
 // The control that a handler shows under an id.
@@ -71,7 +71,7 @@ pub(crate) fn queried<D: Driver>(plan: &Plan<D>, handler: u32, id: u32) -> Optio
     let numbers = id & V4L2_CTRL_FLAG_NEXT_CTRL != 0;
     let arrays = id & V4L2_CTRL_FLAG_NEXT_COMPOUND != 0;
     if numbers || arrays {
-        return next_wanted(plan, handler, id & 0x3fff_ffff, numbers, arrays);
+        return next_wanted(plan, handler, id & V4L2_CTRL_ID_MASK, numbers, arrays);
     }
     Some(real_id(plan, handler, CtrlId(id)))
 }

@@ -1,4 +1,4 @@
-ghost use Rattle.std.specs.Prelude.{◌≡◌, ◌≤◌, ◌<◌, IfOk, length};
+ghost use Rattle.std.specs.Prelude.{◌≡◌, ◌≤◌, ◌<◌, IfOk, IfSome, length};
 ghost use Rattle.history.specs.Past.{past};
 ghost use Rattle.ask_reasons.specs.Reasons.{reason_of as reason_for};
 ghost use Rattle.call_structs.specs.Entries.{list_size as size_for};
@@ -9,13 +9,13 @@ ghost use Rattle.ctl_session.specs.Lists.{is_below as below, is_up_to as up_to, 
 
 use crate::calls::{CUT, NO_CALL};
 use crate::ids::form_of;
-use crate::lists::{MOST_ENTRIES, first_with, read_list};
+use crate::lists::{MOST_ENTRIES, first_of_control, first_with, read_list};
 use crate::session::{Session, no_memory};
 use ask_reasons::{Reason, reason_of};
 use call_structs::{Form, PayloadFault, entry_id, list_size, put_size, put_value};
 use ctrl_calls::Driver;
 use ctrl_handlers::Plan;
-use ctrl_types::{Errno, Fault, FhId, RequestId};
+use ctrl_types::{Errno, ExtControl, Fault, FhId, RequestId};
 use device_state::{Ask, ControlList, Reply};
 use ioctl_bytes::layout::v4l2_ext_controls;
 use ioctl_bytes::{put_u32, u32_at};
@@ -36,35 +36,36 @@ impl<D: Driver> Session<D> {
     // VIDIOC_G_EXT_CTRLS, VIDIOC_S_EXT_CTRLS and VIDIOC_TRY_EXT_CTRLS.
     pub(crate) fn list(
         &mut self,
+        handler: u32,
         fh: FhId,
         request: Option<RequestId>,
         access: Access,
         arg: &mut [u8],
     ) -> u32
-        ensures { Calls D.verdict self.old (list_call D.verdict self.old fh request access arg.old) self.new (result, arg.new) }
+        ensures { Calls D.verdict self.old (list_call D.verdict self.old handler fh request access arg.old) self.new (result, arg.new) }
     {
         if arg.len() < v4l2_ext_controls::SIZE {
             return CUT;
         }
-        if arg.len() < list_size(read_count(arg) as usize) {
+        if arg.len() != list_size(read_count(arg) as usize) {
             return CUT;
         }
-        self.whole_list(fh, request, access, arg)
+        self.whole_list(handler, fh, request, access, arg)
     }
 
     // A list whose head, entries and slots are there.
     fn whole_list(
         &mut self,
+        handler: u32,
         fh: FhId,
         request: Option<RequestId>,
         access: Access,
         arg: &mut [u8],
     ) -> u32
         requires head { head.SIZE ≤ length arg.old }
-        requires whole { size_for (count_read arg.old) ≤ length arg.old }
-        ensures { Calls D.verdict self.old (whole D.verdict self.old fh request access arg.old) self.new (result, arg.new) }
+        requires whole { length arg.old ≡ size_for (count_read arg.old) }
+        ensures { Calls D.verdict self.old (whole D.verdict self.old handler fh request access arg.old) self.new (result, arg.new) }
     {
-        let handler = self.handler(fh);
         let count = read_count(arg);
         let Ok(list) = read_list(self.alloc(), self.device().plan(), handler, arg, count) else {
             return tell_list(self.device().plan(), handler, &Err(no_memory()), arg);
@@ -77,7 +78,7 @@ impl<D: Driver> Session<D> {
             list,
         );
         let wrong = wrong_payload(self.device().plan(), handler, count, is_write(access), arg);
-        match self.is_refused_before(&ask, wrong) {
+        match self.is_refused_before(arg, count, &ask, wrong) {
             Ok(before) => self.list_by(handler, access, &ask, wrong, before, arg),
             Err(_) => tell_list(self.device().plan(), handler, &Err(no_memory()), arg),
         }
@@ -86,15 +87,21 @@ impl<D: Driver> Session<D> {
     // Whether something else refuses a list before its payload does.
     fn is_refused_before(
         &self,
+        arg: &[u8],
+        count: u32,
         ask: &Ask,
         wrong: Option<(u32, PayloadFault)>,
     ) -> Result<bool, AllocError>
-        ensures { IfOk result (λ before. before ≡ is_before D.verdict self.now ask.now wrong) }
+        requires head { head.SIZE ≤ length arg.now }
+        requires count { count ≡ count_read arg.now }
+        requires whole { size_for count ≤ length arg.now }
+        requires place { IfSome wrong (λ w. w.0 < count) }
+        ensures { IfOk result (λ before. before ≡ is_before D.verdict self.now arg.now ask.now wrong) }
     {
         match wrong {
             Some(wrong) => {
                 let reason = reason_of(self.alloc(), self.device(), ask)?;
-                Ok(stands_before(reason, wrong))
+                Ok(stands_before(reason, wrong, first_of_control(arg, count, wrong.0)))
             }
             None => Ok(false),
         }
@@ -112,6 +119,7 @@ impl<D: Driver> Session<D> {
     ) -> u32
         requires head { head.SIZE ≤ length arg.old }
         requires whole { size_for (count_read arg.old) ≤ length arg.old }
+        requires place { IfSome wrong (λ w. w.0 < count_read arg.old) }
         ensures { Calls D.verdict self.old (list_for (plan_in self.old) handler access arg.old ask.now wrong before) self.new (result, arg.new) }
     {
         match wrong {
@@ -186,7 +194,8 @@ fn wrong_payload<D: Driver>(
 ) -> Option<(u32, PayloadFault)>
     requires few { count ≤ MOST_ENTRIES }
     requires whole { size_for count ≤ length arg.now }
-    ensures { result ≡ payload_wrong plan.now handler count writes arg.now }
+    ensures place { IfSome result (λ w. w.0 < count) }
+    ensures wrong { result ≡ payload_wrong plan.now handler count writes arg.now }
 {
     if let Some(place) = first_with(plan, handler, arg, count, PayloadFault::TooSmall) {
         return Some((place, PayloadFault::TooSmall));
@@ -201,9 +210,9 @@ fn wrong_payload<D: Driver>(
 }
 
 // Whether a check refuses a list before a payload does: the entries are named, and have their room looked at, one after another (check 6), and payloads are read behind
-// the checks of all entries (7), when the clusters are judged in the order of their first entries (8).
-fn stands_before(reason: Option<Reason>, wrong: (u32, PayloadFault)) -> bool
-    ensures { result ≡ is_earlier reason wrong }
+// the checks of all entries (7), when the clusters are judged in the order of their first entries (8); `first` is the first entry of the payload's control.
+fn stands_before(reason: Option<Reason>, wrong: (u32, PayloadFault), first: u32) -> bool
+    ensures { result ≡ is_earlier reason wrong first }
 {
     let Some(reason) = reason else {
         return false;
@@ -212,7 +221,7 @@ fn stands_before(reason: Option<Reason>, wrong: (u32, PayloadFault)) -> bool
     let (place, fault) = wrong;
     match fault {
         PayloadFault::TooSmall => check < 6 || check == 6 && is_up_to(reason.entry, place),
-        PayloadFault::Unreadable => check < 8 || check == 8 && is_below(reason.entry, place),
+        PayloadFault::Unreadable => check < 8 || check == 8 && is_below(reason.entry, first),
     }
 }
 
@@ -248,7 +257,7 @@ fn tell_wrong<D: Driver>(
     ensures { (result, arg.new) ≡ wrong_told plan.now handler access arg.old wrong }
 {
     let index = wrong_index(access, wrong.0, arg);
-    put_wrong_size(plan, handler, wrong, arg);
+    put_wrong_size(plan, handler, access, wrong.0, arg);
     put_u32(arg, v4l2_ext_controls::ERROR_IDX, index);
     wrong_errno(access, wrong.1)
 }
@@ -273,27 +282,27 @@ fn wrong_index(access: Access, place: u32, arg: &[u8]) -> u32
     }
 }
 
-// An entry without room is told how many bytes its payload has.
+// A get is told how many bytes the payload of an entry without room has.
 fn put_wrong_size<D: Driver>(
     plan: &Plan<D>,
     handler: u32,
-    wrong: (u32, PayloadFault),
+    access: Access,
+    place: u32,
     arg: &mut [u8],
 )
     requires head { head.SIZE ≤ length arg.old }
     requires whole { size_for (count_read arg.old) ≤ length arg.old }
-    requires place { wrong.0 < count_read arg.old }
-    ensures told { arg.new ≡ with_size_told plan.now handler wrong arg.old }
+    requires place { place < count_read arg.old }
+    ensures told { arg.new ≡ with_size_told plan.now handler access place arg.old }
     ensures length { length arg.new ≡ length arg.old }
 {
-    let (place, fault) = wrong;
-    match fault {
-        PayloadFault::TooSmall => {
+    match access {
+        Access::Get => {
             let count = read_count(arg) as usize;
             let id = entry_id(arg, count, place as usize);
             put_wanted_size(form_of(plan, handler, id), place, arg);
         }
-        PayloadFault::Unreadable => {}
+        _ => {}
     }
 }
 
@@ -327,7 +336,7 @@ fn tell_list<D: Driver>(
     let named = u32_at(arg, v4l2_ext_controls::COUNT);
     match answer {
         Ok(Reply::Controls(list)) => {
-            put_values(plan, handler, read_count(arg), list, arg);
+            put_values(plan, handler, read_count(arg), 0, list.as_slice(), arg);
             put_u32(arg, v4l2_ext_controls::ERROR_IDX, named);
             0
         }
@@ -351,26 +360,26 @@ fn index_told(index: Option<u32>, arg: &[u8]) -> u32
     }
 }
 
-// Writes the values of a list into its entries and slots, as far as there are entries.
+// Writes values into the entries and slots of a list, from a place on, as far as there are entries.
 fn put_values<D: Driver>(
     plan: &Plan<D>,
     handler: u32,
     count: u32,
-    list: &ControlList,
+    place: u32,
+    list: &[ExtControl],
     arg: &mut [u8],
 )
     requires few { count ≤ MOST_ENTRIES }
+    requires place { place ≤ count }
     requires whole { size_for count ≤ length arg.old }
-    ensures told { arg.new ≡ with_values plan.now handler count 0 list.now arg.old }
+    ensures told { arg.new ≡ with_values plan.now handler count place list.now arg.old }
     ensures length { length arg.new ≡ length arg.old }
 {
-    let mut place = 0;
-    for control in list.as_slice() {
-        if place >= count {
-            return;
+    if let [control, rest @ ..] = list {
+        if place < count {
+            let form = form_of(plan, handler, control.id);
+            put_value(arg, count as usize, place as usize, form, &control.value);
+            put_values(plan, handler, count, place + 1, rest, arg);
         }
-        let form = form_of(plan, handler, control.id);
-        put_value(arg, count as usize, place as usize, form, &control.value);
-        place += 1;
     }
 }

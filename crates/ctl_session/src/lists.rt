@@ -1,10 +1,10 @@
 //! The entries of a list, as the device takes them.
 
-ghost use Rattle.std.specs.Prelude.{◌≡◌, ◌≤◌, ◌<◌, IfOk, ℕ, length, vec_len};
+ghost use Rattle.std.specs.Prelude.{◌≡◌, ◌≤◌, ◌<◌, IfOk, IfSome, ℕ, length};
 ghost use Rattle.call_structs.specs.Entries.{list_size};
 ghost use Rattle.call_structs.specs.declared.entries.Form.TheVariants.{Array};
 ghost use Rattle.ctl_session.specs.declared.lists.TheConstants.{MOST_ENTRIES};
-ghost use Rattle.ctl_session.specs.Lists.{entries_in, entry_at as entry_for, first_with as first_wrong, has_fault as is_fault, read_at as read_for, stand_in as stands_in};
+ghost use Rattle.ctl_session.specs.Lists.{entries_in, entry_at as entry_for, first_of_control as first_entry, first_with as first_wrong, has_fault as is_fault, names_same as is_same, read_at as read_for, stand_in as stands_in};
 
 use crate::ids::form_of;
 use call_structs::{Form, PayloadFault, entry_id, value_at};
@@ -111,7 +111,8 @@ pub(crate) fn first_with<D: Driver>(
 ) -> Option<u32>
     requires few { count ≤ MOST_ENTRIES }
     requires whole { list_size count ≤ length arg.now }
-    ensures { result ≡ first_wrong plan.now handler count arg.now fault }
+    ensures place { IfSome result (λ place. place < count) }
+    ensures first { result ≡ first_wrong plan.now handler count arg.now fault }
 {
     for place in 0..count {
         if has_fault(fault, &read_at(plan, handler, arg, count, place)) {
@@ -129,4 +130,31 @@ fn has_fault(fault: PayloadFault, value: &Result<CtrlValue, PayloadFault>) -> bo
         (PayloadFault::Unreadable, Err(PayloadFault::Unreadable)) => true,
         _ => false,
     }
+}
+
+// The first entry of the control that the entry at a place names.
+pub(crate) fn first_of_control(arg: &[u8], count: u32, place: u32) -> u32
+    requires few { count ≤ MOST_ENTRIES }
+    requires place { place < count }
+    requires whole { list_size count ≤ length arg.now }
+    ensures { result ≡ first_entry count arg.now place }
+{
+    for other in 0..count {
+        if names_same(arg, count, place, other) {
+            return other;
+        }
+    }
+    place
+}
+
+// Whether an entry names the control that the one at a place names.
+fn names_same(arg: &[u8], count: u32, place: u32, other: u32) -> bool
+    requires few { count ≤ MOST_ENTRIES }
+    requires place { place < count }
+    requires other { other < count }
+    requires whole { list_size count ≤ length arg.now }
+    ensures { result ≡ is_same arg.now place other }
+{
+    let count = count as usize;
+    entry_id(arg, count, place as usize).0 == entry_id(arg, count, other as usize).0
 }

@@ -1,11 +1,11 @@
 ghost use Rattle.std.specs.Prelude.{◌≡◌, false, length, true};
 ghost use Rattle.ioctl_bytes.specs.declared.layout.v4l2_control.TheConstants as control_struct;
-ghost use Rattle.ctl_session.specs.Calls.{Calls, one_ask as ask_for_one, one_call, one_told, sized};
+ghost use Rattle.ctl_session.specs.Calls.{Calls, one_ask as ask_for_one, one_call, one_told, plan_in, sized};
 
-use crate::calls::CUT;
+use crate::calls::{CUT, NO_CALL};
 use crate::ids::{form_of, is_narrow, real_id};
 use crate::lists::list_of;
-use crate::session::{Session, errno_of};
+use crate::session::Session;
 use ctrl_calls::Driver;
 use ctrl_types::{CtrlId, CtrlValue, Errno, ExtControl, Fault, FhId};
 use device_state::{Ask, ControlList, Reply};
@@ -14,13 +14,12 @@ use ioctl_bytes::{i32_at, put_low, u32_at};
 
 impl<D: Driver> Session<D> {
     // VIDIOC_G_CTRL and VIDIOC_S_CTRL: a list of one entry about the present values. A value of 64 bits and an array have no place in the struct.
-    pub(crate) fn one(&mut self, fh: FhId, sets: bool, arg: &mut [u8]) -> u32
-        ensures { Calls D.verdict self.old (sized control_struct.SIZE arg.old (one_call sets self.old fh arg.old)) self.new (result, arg.new) }
+    pub(crate) fn one(&mut self, handler: u32, fh: FhId, sets: bool, arg: &mut [u8]) -> u32
+        ensures { Calls D.verdict self.old (sized control_struct.SIZE arg.old (one_call sets (plan_in self.old) handler fh arg.old)) self.new (result, arg.new) }
     {
         if arg.len() != v4l2_control::SIZE {
             return CUT;
         }
-        let handler = self.handler(fh);
         let id = real_id(
             self.device().plan(),
             handler,
@@ -62,10 +61,15 @@ fn tell_one(answer: &Result<Reply, Fault>, arg: &mut [u8]) -> u32
     requires { length arg.old ≡ control_struct.SIZE }
     ensures { (result, arg.new) ≡ one_told arg.old answer.now }
 {
-    if let Ok(Reply::Controls(list)) = answer {
-        if let Some(control) = list.as_slice().first() {
-            put_low(arg, v4l2_control::VALUE, control.value.number());
-        }
+    match answer {
+        Ok(Reply::Controls(list)) => match list.as_slice().first() {
+            Some(control) => {
+                put_low(arg, v4l2_control::VALUE, control.value.number());
+                0
+            }
+            None => NO_CALL,
+        },
+        Ok(_) => NO_CALL,
+        Err(fault) => fault.errno.number(),
     }
-    errno_of(answer)
 }

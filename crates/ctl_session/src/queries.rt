@@ -4,7 +4,7 @@ ghost use Rattle.call_structs.specs.Told.{query_ext_ctrl, queryctrl};
 ghost use Rattle.ioctl_bytes.specs.declared.layout.v4l2_query_ext_ctrl.TheConstants as ext;
 ghost use Rattle.ioctl_bytes.specs.declared.layout.v4l2_queryctrl.TheConstants as query_struct;
 ghost use Rattle.ioctl_bytes.specs.declared.layout.v4l2_querymenu.TheConstants as menu;
-ghost use Rattle.ctl_session.specs.Calls.{Calls, item_told, menu_call, query_call, query_told, sized, with_old_id};
+ghost use Rattle.ctl_session.specs.Calls.{Calls, item_told, menu_call, plan_in, query_call, query_told, sized, with_old_id};
 
 use crate::calls::{CUT, NO_CALL};
 use crate::ids::{is_old, queried, real_id};
@@ -18,28 +18,28 @@ use ioctl_bytes::{put_u32, u32_at};
 
 impl<D: Driver> Session<D> {
     // VIDIOC_QUERYCTRL.
-    pub(crate) fn query(&mut self, fh: FhId, arg: &mut [u8]) -> u32
-        ensures { (name : CtrlInfo → List ℕ) × Calls D.verdict self.old (sized query_struct.SIZE arg.old (query_call self.old (λ info. queryctrl info (name info)) fh arg.old)) self.new (result, arg.new) }
+    pub(crate) fn query(&mut self, handler: u32, fh: FhId, arg: &mut [u8]) -> u32
+        ensures { (name : CtrlInfo → List ℕ) × Calls D.verdict self.old (sized query_struct.SIZE arg.old (query_call (plan_in self.old) handler (λ info. queryctrl info (name info)) fh arg.old)) self.new (result, arg.new) }
     {
         if arg.len() != v4l2_queryctrl::SIZE {
             return CUT;
         }
         let asked = u32_at(arg, v4l2_queryctrl::ID);
-        let Some(id) = queried(self.device().plan(), self.handler(fh), asked) else {
+        let Some(id) = queried(self.device().plan(), handler, asked) else {
             return Errno::EINVAL.number();
         };
         let answer = self.ask(&Ask::Query { fh, id });
-        self.tell_query(fh, &answer, arg)
+        self.tell_query(handler, &answer, arg)
     }
 
-    fn tell_query(&self, fh: FhId, answer: &Result<Reply, Fault>, arg: &mut [u8]) -> u32
+    fn tell_query(&self, handler: u32, answer: &Result<Reply, Fault>, arg: &mut [u8]) -> u32
         requires { length arg.old ≡ query_struct.SIZE }
         ensures { (name : CtrlInfo → List ℕ) × ((result, arg.new) ≡ query_told (λ info. queryctrl info (name info)) arg.old answer.now) }
     {
         match answer {
             Ok(Reply::Info(info)) => {
                 let asked = u32_at(arg, v4l2_queryctrl::ID);
-                put_query(arg, info, self.name(fh, info));
+                put_query(arg, info, self.name(handler, info));
                 put_old_id(arg, asked);
                 0
             }
@@ -49,28 +49,28 @@ impl<D: Driver> Session<D> {
     }
 
     // VIDIOC_QUERY_EXT_CTRL.
-    pub(crate) fn query_ext(&mut self, fh: FhId, arg: &mut [u8]) -> u32
-        ensures { (name : CtrlInfo → List ℕ) × Calls D.verdict self.old (sized ext.SIZE arg.old (query_call self.old (λ info. query_ext_ctrl info (name info)) fh arg.old)) self.new (result, arg.new) }
+    pub(crate) fn query_ext(&mut self, handler: u32, fh: FhId, arg: &mut [u8]) -> u32
+        ensures { (name : CtrlInfo → List ℕ) × Calls D.verdict self.old (sized ext.SIZE arg.old (query_call (plan_in self.old) handler (λ info. query_ext_ctrl info (name info)) fh arg.old)) self.new (result, arg.new) }
     {
         if arg.len() != v4l2_query_ext_ctrl::SIZE {
             return CUT;
         }
         let asked = u32_at(arg, v4l2_query_ext_ctrl::ID);
-        let Some(id) = queried(self.device().plan(), self.handler(fh), asked) else {
+        let Some(id) = queried(self.device().plan(), handler, asked) else {
             return Errno::EINVAL.number();
         };
         let answer = self.ask(&Ask::Query { fh, id });
-        self.tell_query_ext(fh, &answer, arg)
+        self.tell_query_ext(handler, &answer, arg)
     }
 
-    fn tell_query_ext(&self, fh: FhId, answer: &Result<Reply, Fault>, arg: &mut [u8]) -> u32
+    fn tell_query_ext(&self, handler: u32, answer: &Result<Reply, Fault>, arg: &mut [u8]) -> u32
         requires { length arg.old ≡ ext.SIZE }
         ensures { (name : CtrlInfo → List ℕ) × ((result, arg.new) ≡ query_told (λ info. query_ext_ctrl info (name info)) arg.old answer.now) }
     {
         match answer {
             Ok(Reply::Info(info)) => {
                 let asked = u32_at(arg, v4l2_query_ext_ctrl::ID);
-                put_query_ext(arg, info, self.name(fh, info));
+                put_query_ext(arg, info, self.name(handler, info));
                 put_old_id(arg, asked);
                 0
             }
@@ -80,14 +80,14 @@ impl<D: Driver> Session<D> {
     }
 
     // VIDIOC_QUERYMENU.
-    pub(crate) fn query_menu(&mut self, fh: FhId, arg: &mut [u8]) -> u32
-        ensures { Calls D.verdict self.old (sized menu.SIZE arg.old (menu_call self.old fh arg.old)) self.new (result, arg.new) }
+    pub(crate) fn query_menu(&mut self, handler: u32, fh: FhId, arg: &mut [u8]) -> u32
+        ensures { Calls D.verdict self.old (sized menu.SIZE arg.old (menu_call (plan_in self.old) handler fh arg.old)) self.new (result, arg.new) }
     {
         if arg.len() != v4l2_querymenu::SIZE {
             return CUT;
         }
         let asked = CtrlId(u32_at(arg, v4l2_querymenu::ID));
-        let id = real_id(self.device().plan(), self.handler(fh), asked);
+        let id = real_id(self.device().plan(), handler, asked);
         let index = u32_at(arg, v4l2_querymenu::INDEX);
         let answer = self.ask(&Ask::MenuItem { fh, id, index });
         tell_item(&answer, arg)

@@ -1,13 +1,12 @@
 ghost use Rattle.std.specs.Prelude.{◌≡◌, None, false};
 ghost use Rattle.ctrl_types.specs.declared.errno.Errno.TheVariants.{ENOMEM};
-ghost use Rattle.ctl_session.specs.Calls.{handler_in};
 ghost use Rattle.ctl_session.specs.Session.{Asked, errno_in};
 
 use crate::names::{heading_name, kernel_name};
 use ask_reasons::{Reason, reason_of};
 use call_structs::is_heading;
 use ctrl_calls::Driver;
-use ctrl_types::{CtrlId, Errno, Fault, FhId, Flags};
+use ctrl_types::{CtrlId, Errno, Fault};
 use device_file::ClassNames;
 use device_state::{Ask, CtrlInfo, Device, Reply};
 use following_ranges::{Follower, handle_and_follow};
@@ -157,22 +156,12 @@ impl<D: Driver> Session<D> {
         self.alloc
     }
 
-    // The handler of a file handle; where it isn't open, a number that no handler has.
-    pub(crate) fn handler(&self, fh: FhId) -> u32
-        ensures { result ≡ handler_in self.now fh }
-    {
-        match self.device.handler_of(fh) {
-            Some(handler) => handler,
-            None => u32::MAX,
-        }
-    }
-
-    // The name of a control that is shown to a file handle.
-    pub(crate) fn name(&self, fh: FhId, info: &CtrlInfo) -> &[u8] {
+    // The name of a control that a handler shows.
+    pub(crate) fn name(&self, handler: u32, info: &CtrlInfo) -> &[u8] {
         if is_heading(info.id, info.flags) {
             return self.class_name(info.id);
         }
-        let word = match self.device.plan().find(self.handler(fh), info.id) {
+        let word = match self.device.plan().find(handler, info.id) {
             Ok(control) => self.names.words.word_of(control),
             Err(_) => None,
         };

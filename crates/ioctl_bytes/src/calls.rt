@@ -33,6 +33,8 @@ pub const MEDIA_REQUEST_IOC_REINIT: u32 = 0x0000_7c81;
 pub const V4L2_CTRL_FLAG_NEXT_CTRL: u32 = 0x8000_0000;
 /// The next control that is an array.
 pub const V4L2_CTRL_FLAG_NEXT_COMPOUND: u32 = 0x4000_0000;
+/// The bits of an id, which flags stand above.
+pub const V4L2_CTRL_ID_MASK: u32 = 0x0fff_ffff;
 /// A control whose value lies behind a pointer.
 pub const V4L2_CTRL_FLAG_HAS_PAYLOAD: u32 = 0x100;
 /// The first of the old ids of controls of a driver's own.
