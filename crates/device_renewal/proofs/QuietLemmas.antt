@@ -42,8 +42,8 @@ one_gone verdicts plan all steps number e within is gone own =
     subst (λ (p : Past). AllGone verdicts plan all p) (sym grown) (subst (λ (n : ℕ). IsGone verdicts plan all n e.step) (sym count) own, gone)
 
 -- all steps are taken at the end
-pub all_gone : (verdicts : Verdicts) (plan : PlanData) (steps : History) (number : ℕ) → number ≡ length steps → AllGone verdicts plan (past steps) (past (take number steps)) → AllGone verdicts plan (past steps) (past steps)
-all_gone verdicts plan steps number end gone = subst (λ (xs : History). AllGone verdicts plan (past steps) (past xs)) (ap (λ (n : ℕ). take n steps) end ∙ take-length steps) gone
+pub all_gone : (verdicts : Verdicts) (plan : PlanData) (all : Past) (steps : History) (number : ℕ) → number ≡ length steps → AllGone verdicts plan all (past (take number steps)) → AllGone verdicts plan all (past steps)
+all_gone verdicts plan all steps number end gone = subst (λ (xs : History). AllGone verdicts plan all (past xs)) (ap (λ (n : ℕ). take n steps) end ∙ take-length steps) gone
 
 -- a step that is gone subscribes a file handle to a control only where it isn't subscribed
 not_subscribing : (verdicts : Verdicts) (plan : PlanData) (all : Past) (n : ℕ) (fh : FhId) (c : ℕ) (step : Step) → IsGone verdicts plan all n step → (subscribed_by fh c step ≡ None) ⊎ (subscribed all fh c ≡ None)

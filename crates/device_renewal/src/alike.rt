@@ -52,7 +52,7 @@ fn are_values(one: &[CtrlValue], other: &[CtrlValue]) -> bool
 fn are_ranges(one: &Ctrl, other: &Ctrl) -> bool
     ensures { IsTrue result ↔ (one.now ≡ other.now) }
 {
-    one == other
+    *one == *other
 }
 
 // Whether these are the same flags.

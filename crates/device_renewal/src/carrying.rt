@@ -1,3 +1,5 @@
+ghost use Rattle.std.specs.Prelude.{◌<◌, length};
+
 use bitflags::Flags as FlagSet;
 use ctrl_calls::Driver;
 use ctrl_types::{ExtControl, Flags};
@@ -61,7 +63,9 @@ fn carry_row<D: Driver>(
     from: &Device<D>,
     to: &mut Device<D>,
     cluster: u32,
-) -> Result<(), AllocError> {
+) -> Result<(), AllocError>
+    requires { cluster < length from.now.plan.clusters }
+{
     let mut list = Vec::new(alloc);
     for member in from.plan().members(cluster) {
         if let Some(entry) = entry_for(from, to, *member) {
