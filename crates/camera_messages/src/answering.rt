@@ -1,9 +1,13 @@
+ghost use Rattle.std.specs.Prelude.{◌≡◌};
+ghost use Rattle.ctl_session.specs.Session.{Asked};
+ghost use Rattle.data_driver.specs.Data.{data_verdict};
+ghost use Rattle.device_history.specs.Refusals.{Answer};
+
 use crate::camera::Camera;
 use crate::device_parts::{put_controls, put_values};
 use crate::message::Message;
-use crate::reply_buffer::ReplyBuffer;
+use crate::reply_buffer::{ReplyBuffer, count};
 use ask_reasons::{Reason, text_of};
-use ctrl_types::{FhId, RequestId};
 use device_state::{Ask, Reply, RequestState};
 use std::alloc::Global;
 use std::io::Write;
@@ -15,6 +19,10 @@ impl Camera {
     /// - `reply`: becomes the reply, whatever it was.
     pub fn answer(&mut self, message: &Message<'_>, reply: &mut ReplyBuffer) {
         reply.begin();
+        if let Some(ask) = self.ask_of(message) {
+            self.answer_ask(&ask, reply);
+            return;
+        }
         match message {
             Message::Call {
                 fh,
@@ -26,121 +34,106 @@ impl Camera {
                 let errno = self.session.call(*fh, *request, *number, reply.payload());
                 reply.put_errno(errno);
             }
-            Message::Open { .. }
-            | Message::Close { .. }
-            | Message::Waits { .. } => self.answer_handle(message, reply),
             Message::Line { line } => {
-                let accepted = self.lines.answer(self.alloc, &mut self.session, line);
-                reply.put_numbers(u32::from(accepted), 0, 0);
+                let is_accepted = self.lines.answer(self.alloc, &mut self.session, line);
+                reply.put_numbers(u32::from(is_accepted), 0, 0);
                 reply.put(self.lines.said());
-            }
-            Message::Controls | Message::Values | Message::Why | Message::Renew | Message::Counts => {
-                self.answer_whole(message, reply)
-            }
-            _ => self.answer_frames(message, reply),
-        }
-    }
-
-    // Answers what is about a file handle, and no call.
-    fn answer_handle(&mut self, message: &Message<'_>, reply: &mut ReplyBuffer) {
-        match message {
-            Message::Open { handler } => {
-                let handler = handler.unwrap_or(self.last_handler());
-                match self.ask(&Ask::OpenFh { handler }) {
-                    Ok(Reply::Fh(fh, ..)) => reply.put_numbers(fh.0, 0, 0),
-                    answer => put_done(reply, answer),
-                }
-            }
-            Message::Close { fh } => {
-                let answer = self.ask(&Ask::CloseFh { fh: FhId(*fh) });
-                put_done(reply, answer);
-            }
-            Message::Waits { fh } => {
-                let waits = self.session.device().waiting(FhId(*fh), 0).is_some();
-                reply.put_numbers(u32::from(waits), 0, 0);
-            }
-            _ => {}
-        }
-    }
-
-    // Answers what is about the camera as a whole.
-    fn answer_whole(&mut self, message: &Message<'_>, reply: &mut ReplyBuffer) {
-        match message {
-            Message::Controls => {
-                let count = self.session.device().plan().control_count();
-                put_controls(reply, &self.session);
-                reply.put_numbers(count, 0, 0);
-            }
-            Message::Values => put_values(reply, self.session.device().values()),
-            Message::Why => {
-                if let Some(reason) = self.session.reason() {
-                    put_reason(self.alloc, reply, reason);
-                }
             }
             Message::Renew => match self.renew() {
                 Ok((before, after)) => reply.put_numbers(before, after, 0),
                 Err(errno) => reply.refuse(errno),
             },
-            Message::Counts => {
-                let device = self.session.device();
-                let steps = device.steps().len() as u32;
-                let handles = device.open_count() as u32;
-                reply.put_numbers(steps, handles, self.requests);
-            }
-            _ => {}
+            _ => self.tell(message, reply),
         }
     }
 
-    // Answers what is about frames and requests.
-    fn answer_frames(&mut self, message: &Message<'_>, reply: &mut ReplyBuffer) {
-        let Some(ask) = ask_of_frames(message) else {
-            return;
+    // The ask that a message is, where it is one.
+    fn ask_of(&self, message: &Message<'_>) -> Option<Ask> {
+        let ask = match *message {
+            Message::Open { handler } => Ask::OpenFh {
+                handler: handler.unwrap_or(self.last_handler()),
+            },
+            Message::Close { fh } => Ask::CloseFh { fh },
+            Message::Alloc => Ask::Alloc,
+            Message::Free { request } => Ask::Free { request },
+            Message::AddBuffer { request, buffer } => Ask::AddBuffer { request, buffer },
+            Message::Queue { request } => Ask::Queue { request },
+            Message::Reinit { request } => Ask::Reinit { request },
+            Message::Begin => Ask::Begin,
+            Message::Complete => Ask::Complete,
+            Message::StreamOff => Ask::StreamOff,
+            Message::State { request } => Ask::StateOf { request },
+            Message::Forecast { place } => Ask::Forecast { place },
+            _ => return None,
         };
-        match self.ask(&ask) {
-            Ok(Reply::Request(RequestId(request), ..)) => {
-                self.requests = self.requests.saturating_add(1);
-                reply.put_numbers(request, 0, 0);
-            }
-            Ok(Reply::State(state, ..)) => reply.put_numbers(state_number(state), 0, 0),
+        Some(ask)
+    }
+
+    // Answers a message that is an ask.
+    fn answer_ask(&mut self, ask: &Ask, reply: &mut ReplyBuffer)
+        ensures { (answer : Answer) × Asked data_verdict self.old.session self.new.session ask.now answer }
+    {
+        let answer = self.session.ask(ask);
+        self.count_requests(ask, answer.is_ok());
+        match &answer {
+            Ok(Reply::Fh(fh)) => reply.put_numbers(fh.0, 0, 0),
+            Ok(Reply::Request(request)) => reply.put_numbers(request.0, 0, 0),
+            Ok(Reply::State(state)) => reply.put_numbers(state_number(*state), 0, 0),
             Ok(
                 Reply::Frame {
                     request,
                     buffer,
-                    ref refused,
-                    ..
+                    refused,
                 },
             ) => {
-                reply.put_numbers(request.0, buffer, refused.as_slice().len() as u32);
+                let refused = count(refused.as_slice().len());
+                reply.put_numbers(request.0, *buffer, refused);
             }
-            Ok(Reply::Forecast(ref frame, ..)) => {
-                put_values(reply, frame.values.as_slice());
-                let refused = frame.refused.as_slice().len() as u32;
+            Ok(Reply::Forecast(frame)) => {
+                let refused = count(frame.refused.as_slice().len());
                 reply.put_numbers(frame.request.0, frame.buffer, refused);
+                put_values(reply, frame.values.as_slice());
             }
-            Ok(_) => {
-                if let Message::Free { .. } = message {
-                    self.requests = self.requests.saturating_sub(1);
-                }
-            }
-            Err(errno) => reply.refuse(errno),
+            Ok(_) => {}
+            Err(fault) => reply.refuse(fault.errno.number()),
         }
     }
-}
 
-// The ask that a message about frames and requests is.
-fn ask_of_frames(message: &Message<'_>) -> Option<Ask> {
-    match *message {
-        Message::Alloc => Some(Ask::Alloc),
-        Message::Free { request } => Some(Ask::Free { request }),
-        Message::AddBuffer { request, buffer } => Some(Ask::AddBuffer { request, buffer }),
-        Message::Queue { request } => Some(Ask::Queue { request }),
-        Message::Reinit { request } => Some(Ask::Reinit { request }),
-        Message::Begin => Some(Ask::Begin),
-        Message::Complete => Some(Ask::Complete),
-        Message::StreamOff => Some(Ask::StreamOff),
-        Message::State { request } => Some(Ask::StateOf { request }),
-        Message::Forecast { place } => Some(Ask::Forecast { place }),
-        _ => None,
+    // Counts the requests that are there.
+    fn count_requests(&mut self, ask: &Ask, is_accepted: bool)
+        ensures { self.new.session ≡ self.old.session }
+    {
+        match ask {
+            Ask::Alloc if is_accepted => self.requests = self.requests.saturating_add(1),
+            Ask::Free { .. } if is_accepted => self.requests = self.requests.saturating_sub(1),
+            _ => {}
+        }
+    }
+
+    // Answers a message that only reads, and is no ask.
+    fn tell(&self, message: &Message<'_>, reply: &mut ReplyBuffer) {
+        let device = self.session.device();
+        match message {
+            Message::Controls => {
+                reply.put_numbers(device.plan().control_count(), 0, 0);
+                put_controls(reply, &self.session);
+            }
+            Message::Values => put_values(reply, device.values()),
+            Message::Waits { fh } => {
+                let waits = device.waiting(*fh, 0).is_some();
+                reply.put_numbers(u32::from(waits), 0, 0);
+            }
+            Message::Why => {
+                if let Some(reason) = self.session.reason() {
+                    put_reason(self.alloc, reply, reason);
+                }
+            }
+            Message::Counts => {
+                let (steps, handles) = (count(device.steps().len()), count(device.open_count()));
+                reply.put_numbers(steps, handles, self.requests);
+            }
+            _ => {}
+        }
     }
 }
 
@@ -154,14 +147,7 @@ fn state_number(state: RequestState) -> u32 {
     }
 }
 
-// Puts an answer that has nothing to tell.
-fn put_done(reply: &mut ReplyBuffer, answer: Result<Reply, u32>) {
-    if let Err(errno) = answer {
-        reply.refuse(errno);
-    }
-}
-
-// Puts why a call was refused behind a payload: the check, what it says, and the entry of a list that it is about.
+// Puts why a call was refused behind a payload: the check, what didn't hold, and the entry of a list that it is about.
 fn put_reason(alloc: Global, reply: &mut ReplyBuffer, reason: Reason) {
     let mut page = Page::new(alloc);
     let (number, text) = (reason.check.number(), text_of(reason.check));

@@ -1,17 +1,22 @@
+ghost use Rattle.std.specs.Prelude.{◌≡◌, OnErr, OnOk};
+ghost use Rattle.data_driver.specs.Data.{data_verdict};
+ghost use Rattle.device_renewal.specs.Alike.{StandAlike};
+ghost use Rattle.device_renewal.specs.Quiet.{IsQuiet};
+
 use crate::lines::Lines;
+use crate::reply_buffer::count;
 use ctl_session::{Names, Session};
-use ctrl_types::Fault;
 use data_driver::Data;
 use device_file::{DeviceFile, FileFault, read_camera};
 use device_renewal::{carry, is_alike, is_quiet};
-use device_state::{Ask, Device, Reply};
+use device_state::Device;
 use std::alloc::{AllocError, Global};
 
-/// The errno of want of memory.
-pub(crate) const ENOMEM: u32 = 12;
-/// The errno of a camera that isn't at rest.
+// The errno of want of memory.
+const ENOMEM: u32 = 12;
+// The errno of a camera that isn't quiet.
 const EBUSY: u32 = 16;
-/// The errno of a device that can't be begun anew.
+// The errno of a fresh device that doesn't come to stand alike.
 const EIO: u32 = 5;
 
 /// A camera that a device file describes: its device behind control calls, and what its control lines have named.
@@ -53,47 +58,41 @@ impl Camera {
         plan.handler_count().saturating_sub(1)
     }
 
-    /// Asks the device; the error is an errno.
-    pub(crate) fn ask(&mut self, ask: &Ask) -> Result<Reply, u32> {
-        match self.session.ask(ask) {
-            Ok(reply) => Ok(reply),
-            Err(Fault { errno, .. }) => Err(errno.number()),
-        }
-    }
-
     /// Begins the history anew, where no file handle is subscribed and no request is there: a fresh device of the same file takes the place of this one, where it stands alike. The file handles
     /// that control lines named are opened anew then, and all others are closed.
     ///
     /// Answered is how many steps there were, and how many there are now. The error is an errno: EBUSY (16) where a file handle is subscribed or a request is there, EIO (5) where the fresh device
     /// doesn't come to stand alike, and ENOMEM (12); nothing is changed then.
-    pub(crate) fn renew(&mut self) -> Result<(u32, u32), u32> {
+    pub(crate) fn renew(&mut self) -> Result<(u32, u32), u32>
+        ensures alike { OnOk result (StandAlike data_verdict self.old.session.device self.new.session.device) }
+        ensures quiet { OnOk result (IsQuiet data_verdict self.old.session.device) }
+        ensures followers { self.new.session.followers ≡ self.old.session.followers }
+        ensures err { OnErr result (self.new.session ≡ self.old.session) }
+    {
         if !is_quiet(self.session.device()) {
             return Err(EBUSY);
         }
-        let Ok(file) = read_camera(self.alloc, self.text.as_slice()) else {
+        let Ok(DeviceFile { plan, .. }) = read_camera(self.alloc, self.text.as_slice()) else {
             return Err(ENOMEM);
         };
-        let DeviceFile {
-            plan,
-            words,
-            followers,
-            classes,
-        } = file;
         let Ok(mut fresh) = Device::new(self.alloc, plan) else {
             return Err(ENOMEM);
         };
         if carry(self.alloc, self.session.device(), &mut fresh).is_err() {
             return Err(ENOMEM);
         }
-        let Ok(lines) = self.lines.carried(self.alloc, self.session.device(), &mut fresh) else {
+        let Ok(lines) = self
+            .lines
+            .carried(self.alloc, self.session.device(), &mut fresh)
+        else {
             return Err(ENOMEM);
         };
         if !is_alike(self.session.device(), &fresh) {
             return Err(EIO);
         }
-        let before = self.session.device().steps().len() as u32;
-        let after = fresh.steps().len() as u32;
-        self.session = Session::new(self.alloc, fresh, Names { words, classes }, followers);
+        let before = count(self.session.device().steps().len());
+        let after = count(fresh.steps().len());
+        self.session.replace(fresh);
         self.lines = lines;
         Ok((before, after))
     }
@@ -107,7 +106,10 @@ fn session_of(alloc: Global, file: DeviceFile) -> Result<Session<Data>, AllocErr
         classes,
     } = file;
     match Device::new(alloc, plan) {
-        Ok(device) => Ok(Session::new(alloc, device, Names { words, classes }, followers)),
+        Ok(device) => {
+            let names = Names { words, classes };
+            Ok(Session::new(alloc, device, names, followers))
+        }
         Err(_) => Err(AllocError),
     }
 }

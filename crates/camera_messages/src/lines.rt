@@ -1,5 +1,9 @@
 //! Lines of scripts on a running camera.
 
+ghost use Rattle.std.specs.Prelude.{◌≡◌, true, OnOk};
+ghost use Rattle.ctl_script.specs.Bindings.{is_entered};
+
+use crate::message::MAX_PAYLOAD;
 use ask_reasons::reason_of;
 use ctl_script::{Binding, Bindings, ask_of};
 use ctl_session::Session;
@@ -80,6 +84,9 @@ impl Lines {
         line: &[u8],
     ) -> bool {
         self.page = Page::new(alloc);
+        if line.len() > MAX_PAYLOAD {
+            return self.refuse("not a command: it is too long\n");
+        }
         match read_line(alloc, session.words(), line) {
             Ok(None) => true,
             Ok(Some(command)) => self.answer_command(alloc, session, line, command),
@@ -111,7 +118,9 @@ impl Lines {
             return self.refuse("refused: a running camera makes no audit\n");
         };
         if is_of_frames(&ask) {
-            return self.refuse("refused: frames and requests are those of the programs that use the camera\n");
+            return self.refuse(
+                "refused: frames and requests are those of the programs that use the camera\n",
+            );
         }
         let answer = session.ask(&ask);
         binding.bind(&mut self.names, &answer);
@@ -128,7 +137,9 @@ impl Lines {
     }
 
     // Makes room for what a command binds.
-    fn enter(&mut self, binding: Binding) -> Result<(), AllocError> {
+    fn enter(&mut self, binding: Binding) -> Result<(), AllocError>
+        ensures { OnOk result (is_entered self.new.names binding ≡ true) }
+    {
         if let Binding::FileHandle(name) = binding {
             if !self.handles.as_slice().contains(&name) {
                 self.handles.push(name)?;
@@ -182,9 +193,9 @@ impl Lines {
 // Whether an ask is about frames, buffers and requests.
 fn is_of_frames(ask: &Ask) -> bool {
     match ask {
-        Ask::GetCtrls { request, .. } | Ask::SetCtrls { request, .. } | Ask::TryCtrls { request, .. } => {
-            request.is_some()
-        }
+        Ask::GetCtrls { request, .. }
+        | Ask::SetCtrls { request, .. }
+        | Ask::TryCtrls { request, .. } => { request.is_some() }
         Ask::Alloc
         | Ask::AddBuffer { .. }
         | Ask::Queue { .. }

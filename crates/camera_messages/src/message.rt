@@ -1,5 +1,5 @@
 use byteorder::{ByteOrder, LittleEndian};
-use ctrl_types::RequestId;
+use ctrl_types::{FhId, RequestId};
 
 /// How many bytes of a message stand between its length and its payload.
 pub const HEAD: usize = 16;
@@ -10,89 +10,91 @@ pub const MAX_PAYLOAD: usize = 16_368;
 // The number of no request, and of no handler.
 const NONE: u32 = 0xffff_ffff;
 
-/// What a camera is asked.
+/// What a camera is asked. A message is its number and three more, a, b and c, and a payload; its reply is an errno, 0 for none, three numbers x, y and z, and a payload. A number that isn't named here
+/// isn't looked at, and is 0 in a reply; a payload that isn't named is empty. Where nothing else is said, the errno is the one with which the device refuses.
 #[derive(Clone, Copy)]
 pub enum Message<'a> {
-    /// Opens a file handle on a handler; where none is named, on the last one.
+    /// 1: opens a file handle. x is the file handle.
     Open {
-        /// The handler's number.
+        /// a: the handler's number; 0xffffffff, none, for the last one.
         handler: Option<u32>,
     },
-    /// Closes a file handle.
+    /// 2: closes a file handle.
     Close {
-        /// The file handle.
-        fh: u32,
+        /// a.
+        fh: FhId,
     },
-    /// Makes a control call.
+    /// 3: makes a control call. The payload comes back, written anew, also where the call is refused.
     Call {
-        /// The file handle.
-        fh: u32,
-        /// The request that the call names.
-        request: Option<u32>,
-        /// The number of the call.
+        /// a: the file handle.
+        fh: FhId,
+        /// b: the request that the call names; 0xffffffff for none.
+        request: Option<RequestId>,
+        /// c: the number of the call.
         number: u32,
-        /// Its struct, and of a list what lies behind it.
+        /// The payload: the call's struct, and of a list what `Session::call` wants behind it.
         arg: &'a [u8],
     },
-    /// Makes a request.
+    /// 4: makes a request. x is the request.
     Alloc,
-    /// Lets a request go.
+    /// 5: lets a request go.
     Free {
-        /// The request.
+        /// a.
         request: RequestId,
     },
-    /// Gives a request a buffer.
+    /// 6: gives a request a buffer.
     AddBuffer {
-        /// The request.
+        /// a.
         request: RequestId,
-        /// The buffer's number.
+        /// b: the buffer's number.
         buffer: u32,
     },
-    /// Queues a request.
+    /// 7: queues a request.
     Queue {
-        /// The request.
+        /// a.
         request: RequestId,
     },
-    /// Makes a request as new.
+    /// 8: makes a request as new.
     Reinit {
-        /// The request.
+        /// a.
         request: RequestId,
     },
-    /// Begins the frame of the first request that waits.
+    /// 9: begins the frame of the first request that waits. x is the request, y its buffer, and z how many clusters were refused.
     Begin,
-    /// Ends the frame that is being made.
+    /// 10: ends the frame that is being made.
     Complete,
-    /// Stops the stream.
+    /// 11: stops the stream.
     StreamOff,
-    /// Reads the state of a request.
+    /// 12: reads the state of a request. x is 0 where it is idle, 1 where it is queued, 2 where its frame is being made, and 3 where it is complete.
     State {
-        /// The request.
+        /// a.
         request: RequestId,
     },
-    /// Reads what a queued frame will have.
+    /// 13: reads what a queued frame will have. x is the request, y its buffer, z how many clusters will be refused, and the payload the value of each control, as that of `Values`.
     Forecast {
-        /// The frame's place in the queue, from 0.
+        /// a: the frame's place in the queue, from 0.
         place: u32,
     },
-    /// Reads which controls there are.
+    /// 14: reads which controls there are. x is how many; the payload has 44 bytes for each, in the order of their numbers: its id, its `enum v4l2_ctrl_type`, how many elements it has where it is an
+    /// array, and else 0, and in 32 bytes the word by which scripts name it, cut to 31 bytes and ended by a zero.
     Controls,
-    /// Reads the present values.
+    /// 15: reads the present values. The payload has 36 bytes for each control, in the order of their numbers: how many bytes its value has, and these, with zeros up to 32. A number has 8.
     Values,
-    /// Reads whether an event waits for a file handle.
+    /// 16: reads whether an event waits for a file handle: then x is 1.
     Waits {
-        /// The file handle.
-        fh: u32,
+        /// a.
+        fh: FhId,
     },
-    /// Answers a line of a script.
+    /// 17: answers a line of a script. x is 1 where it is accepted, and the payload is what is said of it, with its line feed.
     Line {
-        /// The line without its line feed.
+        /// The payload: the line without its line feed.
         line: &'a [u8],
     },
-    /// Reads why the last control call was refused.
+    /// 18: reads why the last control call was refused. The payload says it, and is empty where it was accepted, where the device wasn't asked, or where it isn't known.
     Why,
-    /// Begins the history anew, where nobody would notice.
+    /// 19: begins the history anew, where nobody would notice. x is how many steps there were, and y how many there are.
     Renew,
-    /// Reads how many steps, file handles and requests there are.
+    /// 20: x is how many steps there are, y how many file handles are open, and z how many requests are there.
     Counts,
 }
 
@@ -105,7 +107,9 @@ struct Numbers {
     c: u32,
 }
 
-/// The message that bytes are, without the length in front of them; none where there is no message of this number, or it takes no payload and has one.
+/// The message that bytes are; none where there is no message of this number, or where it takes no payload and has one.
+///
+/// - `bytes`: the four numbers, of 32 bits each, the lowest bits first, and the payload.
 pub fn message_of(bytes: &[u8]) -> Option<Message<'_>> {
     if bytes.len() < HEAD {
         return None;
@@ -122,8 +126,8 @@ pub fn message_of(bytes: &[u8]) -> Option<Message<'_>> {
 fn with_payload<'a>(numbers: Numbers, payload: &'a [u8]) -> Option<Message<'a>> {
     match numbers.what {
         3 => Some(Message::Call {
-            fh: numbers.a,
-            request: named(numbers.b),
+            fh: FhId(numbers.a),
+            request: request_named(numbers.b),
             number: numbers.c,
             arg: payload,
         }),
@@ -157,14 +161,18 @@ fn without_payload<'a>(numbers: Numbers) -> Option<Message<'a>> {
         1 => Some(Message::Open {
             handler: named(numbers.a),
         }),
-        2 => Some(Message::Close { fh: numbers.a }),
+        2 => Some(Message::Close {
+            fh: FhId(numbers.a),
+        }),
         12 => Some(Message::State {
             request: RequestId(numbers.a),
         }),
         13 => Some(Message::Forecast { place: numbers.a }),
         14 => Some(Message::Controls),
         15 => Some(Message::Values),
-        16 => Some(Message::Waits { fh: numbers.a }),
+        16 => Some(Message::Waits {
+            fh: FhId(numbers.a),
+        }),
         18 => Some(Message::Why),
         19 => Some(Message::Renew),
         20 => Some(Message::Counts),
@@ -175,4 +183,11 @@ fn without_payload<'a>(numbers: Numbers) -> Option<Message<'a>> {
 // What a number names, where it names something.
 fn named(number: u32) -> Option<u32> {
     if number == NONE { None } else { Some(number) }
+}
+
+fn request_named(number: u32) -> Option<RequestId> {
+    match named(number) {
+        Some(request) => Some(RequestId(request)),
+        None => None,
+    }
 }

@@ -1,3 +1,5 @@
+ghost use Rattle.std.specs.Prelude.{◌<◌};
+
 use std::alloc::{AllocError, Global};
 
 // How many bytes of a reply stand before its payload, the length included.
@@ -55,7 +57,9 @@ impl ReplyBuffer {
         self.put_at(16, z);
     }
 
-    fn put_at(&mut self, at: usize, number: u32) {
+    fn put_at(&mut self, at: usize, number: u32)
+        requires { at < 20 }
+    {
         if at + 4 <= self.bytes.len() {
             self.bytes[at..at + 4].copy_from_slice(&number.to_le_bytes());
         }
@@ -93,8 +97,13 @@ impl ReplyBuffer {
         if !self.is_whole {
             self.refuse(12);
         }
-        let length = self.bytes.len().saturating_sub(4) as u32;
+        let length = count(self.bytes.len().saturating_sub(4));
         self.put_at(0, length);
         self.bytes.as_slice()
     }
+}
+
+/// A count as 32 bits; where it doesn't fit, the greatest number.
+pub(crate) fn count(number: usize) -> u32 {
+    u32::try_from(number).unwrap_or(u32::MAX)
 }

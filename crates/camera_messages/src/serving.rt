@@ -25,11 +25,13 @@ pub enum ServeFault {
     Write,
 }
 
-/// Answers messages, each by one reply, until they end between two of them.
+/// Answers messages, each by one reply, until they end between two of them. Bytes that are no message are answered with EPROTO (71).
 ///
-/// - `reader`: gives the messages, each a length and as many bytes: 16 of head, and up to 16,368 of payload.
-/// - `writer`: is given each reply whole.
+/// - `reader`: gives the messages: of each how many bytes there are behind this number, which has 32 bits, the lowest first; then the four numbers of `Message`, and the payload, 16,368 bytes at most.
+/// - `writer`: is given each reply whole: how many bytes there are behind this number, the errno, x, y and z, and the payload.
 /// - `reply`: where replies are put together.
+///
+/// The error is that a message has a length that none has, that the messages end within one, or that one can't be read, or a reply written. What came before it was answered.
 pub fn serve<R: BufRead, W: Write>(
     camera: &mut Camera,
     reader: &mut R,

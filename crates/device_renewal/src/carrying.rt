@@ -1,7 +1,9 @@
+ghost use Rattle.std.specs.Prelude.{◌<◌, length};
+
 use bitflags::Flags as FlagSet;
 use ctrl_calls::Driver;
 use ctrl_types::{ExtControl, Flags};
-use device_state::{Ask, ControlList, Device, MAX_ENTRIES, Reply};
+use device_state::{Ask, ControlList, Device, MAX_ENTRIES, Plan, Reply};
 use std::alloc::{AllocError, Global};
 
 // At which seat a fresh device is asked.
@@ -61,7 +63,9 @@ fn carry_row<D: Driver>(
     from: &Device<D>,
     to: &mut Device<D>,
     cluster: u32,
-) -> Result<(), AllocError> {
+) -> Result<(), AllocError>
+    requires { cluster < length from.now.plan.clusters }
+{
     let mut list = Vec::new(alloc);
     for member in from.plan().members(cluster) {
         if let Some(entry) = entry_for(from, to, *member) {
@@ -93,9 +97,22 @@ fn entry_for<D: Driver>(from: &Device<D>, to: &Device<D>, control: u32) -> Optio
 
 // The first handler that shows all controls of a list.
 fn handler_for<D: Driver>(from: &Device<D>, list: &[ExtControl]) -> Option<u32> {
-    let plan = from.plan();
-    (0..plan.handler_count())
-        .find(|handler| list.iter().all(|entry| plan.find(*handler, entry.id).is_ok()))
+    for handler in 0..from.plan().handler_count() {
+        if shows(from.plan(), handler, list) {
+            return Some(handler);
+        }
+    }
+    None
+}
+
+// Whether a handler shows all controls of a list.
+fn shows<D: Driver>(plan: &Plan<D>, handler: u32, list: &[ExtControl]) -> bool {
+    for entry in list {
+        if plan.find(handler, entry.id).is_err() {
+            return false;
+        }
+    }
+    true
 }
 
 // Sets controls through a file handle of their own.

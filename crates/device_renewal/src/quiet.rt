@@ -1,21 +1,28 @@
+ghost use Rattle.std.specs.Prelude.{◌≡◌, true, false};
+ghost use Rattle.history.specs.Past.{past};
+ghost use Rattle.device_renewal.specs.Quiet.{IsGone, IsQuiet};
+
 use ctrl_calls::Driver;
 use ctrl_types::RequestId;
 use device_state::{Device, Step};
 
-/// Whether no file handle of a device is subscribed to a control, and no request is there (of this project). It goes through all steps.
-pub fn is_quiet<D: Driver>(device: &Device<D>) -> bool {
-    let mut number = 0;
-    for entry in device.steps() {
-        if is_heard(device, number, &entry.step) {
+/// Whether no file handle of a device is subscribed to a control, and no request is there (of this project). It goes through all steps, and takes no memory.
+pub fn is_quiet<D: Driver>(device: &Device<D>) -> bool
+    ensures { result ≡ true → IsQuiet D.verdict device.now }
+{
+    let steps = device.steps();
+    for number in 0..steps.len() {
+        if is_there(device, number as u32, &steps[number].step) {
             return false;
         }
-        number += 1;
     }
     true
 }
 
-// Whether a step made a subscription or a request that is there still.
-fn is_heard<D: Driver>(device: &Device<D>, number: u32, step: &Step) -> bool {
+// Whether the step with a number made a subscription or a request that is there still.
+fn is_there<D: Driver>(device: &Device<D>, number: u32, step: &Step) -> bool
+    ensures { result ≡ false → IsGone D.verdict device.now.plan (past device.now.steps) number step.now }
+{
     match step {
         Step::Subscribe { fh, control, .. } => device.subscribed(*fh, *control).is_some(),
         Step::Alloc => device.state_of(RequestId(number)).is_ok(),
