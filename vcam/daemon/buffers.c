@@ -202,7 +202,7 @@ static void tell_buffer(struct v4l2_buffer *it, uint32_t number) {
     it->flags = V4L2_BUF_FLAG_TIMESTAMP_MONOTONIC | V4L2_BUF_FLAG_TSTAMP_SRC_EOF | flags[buffer->state];
     if (buffer->is_mapped)
         it->flags |= V4L2_BUF_FLAG_MAPPED;
-    if (buffer->is_prepared)
+    if (buffer->is_prepared && (buffer->state == FREE || buffer->state == IN_REQUEST))
         it->flags |= V4L2_BUF_FLAG_PREPARED;
     if (buffer->request != NONE) {
         it->flags |= V4L2_BUF_FLAG_REQUEST_FD;
@@ -273,7 +273,7 @@ static uint32_t queue_or_prepare(struct asked *asked) {
     if (error)
         return error;
     if (asked->number == VIDIOC_QBUF)
-        buffer->is_prepared = buffer->has_frame = 0;
+        buffer->has_frame = 0;
     tell_buffer(it, it->index);
     return 0;
 }

@@ -63,7 +63,7 @@ static const struct ioctl_call {
 /* A packet as it comes. Its payload is also where the call's struct is answered. */
 static struct {
     struct call call;
-    unsigned char payload[MOST_PAYLOAD];
+    _Alignas(16) unsigned char payload[MOST_PAYLOAD];
 } packet;
 
 static const struct ioctl_call *call_of(int kind, uint32_t number) {
@@ -87,7 +87,7 @@ static int is_early(uint32_t number, uint32_t error) {
 static uint32_t answer_ioctl(struct asked *asked, const struct call *head, uint32_t *back) {
     const struct ioctl_call *call = call_of(asked->handle->kind, head->number);
     uint32_t size = _IOC_SIZE(head->number);
-    static unsigned char before[MOST_PAYLOAD];
+    _Alignas(16) static unsigned char before[MOST_PAYLOAD];
     *back = 0;
     if (!call)
         return ENOTTY;
@@ -152,6 +152,8 @@ static int answer(struct caller *caller, const struct call *call, unsigned char 
         error = EPROTO;
     if (call->may_wait && is_early(call->number, error))
         return 1;
+    if (news & NEW_EVENTS)
+        announce(); /* an event is there before the call that raised it returns */
     asked.answer.error = error;
     send_answer(caller, &asked, back);
     return 0;
