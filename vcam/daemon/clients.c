@@ -108,6 +108,17 @@ void greet(int listener) {
         close(descriptor);
 }
 
+/* An answer gets lost where a connection is closed over a packet that wasn't read. */
+static void refuse_caller(int descriptor) {
+    struct answer refused = {.error = ENFILE};
+    char byte;
+    shutdown(descriptor, SHUT_RD);
+    while (recv(descriptor, &byte, 1, MSG_DONTWAIT) > 0)
+        ;
+    send(descriptor, &refused, sizeof refused, MSG_NOSIGNAL | MSG_DONTWAIT);
+    close(descriptor);
+}
+
 void greet_caller(int listener) {
     int descriptor = accept4(listener, 0, 0, SOCK_CLOEXEC | SOCK_NONBLOCK);
     if (descriptor < 0)
@@ -117,9 +128,7 @@ void greet_caller(int listener) {
             callers[i] = (struct caller){.descriptor = descriptor};
             return;
         }
-    struct answer refused = {.error = ENFILE};
-    send(descriptor, &refused, sizeof refused, MSG_NOSIGNAL | MSG_DONTWAIT);
-    close(descriptor);
+    refuse_caller(descriptor);
     log_line("a connection is refused: %d are there", MOST_CALLERS);
 }
 

@@ -51,10 +51,12 @@ static void move_whole(int is_in, void *bytes, size_t size) {
 }
 
 uint32_t ask(uint32_t what, uint32_t a, uint32_t b, uint32_t c, const void *payload, uint32_t length) {
-    static unsigned char message[20 + MOST_PAYLOAD];
+    static unsigned char message[20 + MOST_ASK];
     uint32_t head[5] = {16 + length, what, a, b, c};
-    if (length > MOST_PAYLOAD)
-        return reply.error = EPROTO;
+    if (length > MOST_ASK) {
+        reply = (struct reply){.error = EPROTO};
+        return EPROTO;
+    }
     memcpy(message, head, sizeof head);
     if (length)
         memcpy(message + sizeof head, payload, length);

@@ -28,6 +28,8 @@ enum {
 
 /* The number of no request, and of the last handler. */
 #define NONE 0xffffffffu
+/* The longest payload of a message, and of a reply. */
+#define MOST_ASK 16368
 #define MOST_REPLY 65536
 
 /* The last reply; the next ask writes over it. */

@@ -60,8 +60,10 @@ static int write_entry(struct v4l2_ext_control *to, struct list *list, uint32_t 
     return copy_out(&to->value64, &entry->value64, sizeof to->value64);
 }
 
-static int write_list(struct v4l2_ext_controls *to, struct list *list, struct v4l2_ext_control *entries, int is_refused) {
-    int error = copy_out(&to->error_idx, &list->head.error_idx, sizeof to->error_idx);
+/* The program's pointer may point anywhere, so nothing is reached through it as through a struct. */
+static int write_list(char *to, struct list *list, struct v4l2_ext_control *entries, int is_refused) {
+    const uint32_t *index = &list->head.error_idx;
+    int error = copy_out(to + offsetof(struct v4l2_ext_controls, error_idx), index, sizeof *index);
     for (uint32_t i = 0; !error && i < carried(&list->head); i++)
         error = write_entry(&entries[i], list, i, is_refused);
     return error;

@@ -208,7 +208,7 @@ static void take_bytes(int handle, const struct answer *answer) {
 /* Makes the call over a connection, and what follows from its answer. */
 static int call_over(int connection, int handle, struct exchange *x) {
     int error = send_call(connection, x);
-    if (!error)
+    if (!error || error == EPIPE) /* a daemon that has too many connections answers before it is asked */
         error = receive_answer(connection, x);
     if (x->answer.frames || x->answer.urgent)
         take_bytes(handle, &x->answer);
