@@ -10,6 +10,7 @@
 #include <stdlib.h>
 #include <string.h>
 #include <sys/socket.h>
+#include <sys/syscall.h>
 #include <sys/un.h>
 #include <unistd.h>
 
@@ -159,12 +160,14 @@ static void give_back(int descriptor) {
     close(descriptor);
 }
 
+/* The payload is the program's memory, as its pointer says: that it can be read, the kernel alone may judge, and not a sanitizer's
+ * sendmsg in the program. */
 static int send_call(int connection, struct exchange *x) {
     struct iovec parts[2] = {{&x->call, sizeof x->call}, x->out};
     struct msghdr message = {.msg_iov = parts, .msg_iovlen = 2};
     ssize_t sent;
     do
-        sent = sendmsg(connection, &message, MSG_NOSIGNAL);
+        sent = REAL(syscall)(SYS_sendmsg, connection, &message, MSG_NOSIGNAL);
     while (sent < 0 && errno == EINTR);
     return sent < 0 ? errno : 0;
 }
@@ -176,7 +179,7 @@ static int receive_answer(int connection, struct exchange *x) {
     struct msghdr message = {.msg_iov = parts, .msg_iovlen = 2, .msg_control = room, .msg_controllen = sizeof room};
     struct call stop = {.what = CALL_STOP};
     ssize_t got;
-    while ((got = recvmsg(connection, &message, MSG_CMSG_CLOEXEC)) < 0 && errno == EINTR) {
+    while ((got = REAL(syscall)(SYS_recvmsg, connection, &message, MSG_CMSG_CLOEXEC)) < 0 && errno == EINTR) {
         if (x->call.may_wait && stop.what) {
             send(connection, &stop, sizeof stop, MSG_NOSIGNAL);
             stop.what = 0;
