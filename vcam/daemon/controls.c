@@ -175,14 +175,15 @@ static void begin_anew(uint32_t steps) {
     static uint32_t try_at, say_at; /* after a failure a while goes by */
     const char *hindrance = not_quiet();
     if (!hindrance && steps >= try_at) {
-        ask_number(ASK_CLOSE, common);
-        uint32_t error = ask(ASK_RENEW, 0, 0, 0, 0, 0), now = reply.y;
-        open_common();
-        try_at = error ? steps + 10000 : 0;
-        say_at = error ? say_at : 0;
-        if (!error)
-            log_line("the device is begun anew: %u steps became %u", steps, now);
-        hindrance = error ? strerrorname_np(error) : 0;
+        uint32_t error = ask(ASK_RENEW, 0, 0, 0, 0, 0);
+        if (!error) {
+            log_line("the device is begun anew: %u steps became %u", reply.x, reply.y);
+            try_at = say_at = 0;
+            open_common(); /* the fresh device has none of the old file handles */
+            return;
+        }
+        try_at = steps + 10000;
+        hindrance = strerrorname_np(error);
     }
     if (hindrance && steps >= say_at) {
         log_line("the device has taken %u steps of 1000000, and isn't begun anew: %s", steps, hindrance);

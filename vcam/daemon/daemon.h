@@ -45,8 +45,9 @@ struct asked {
     int is_of_device; /* the device was asked */
 };
 
-#define MOST_HANDLES 512
-#define MOST_CALLERS 512
+/* Both fit into the 1,024 descriptors that a process has at least. */
+#define MOST_HANDLES 400
+#define MOST_CALLERS 400
 extern struct handle handles[MOST_HANDLES];
 extern struct caller callers[MOST_CALLERS];
 #define EACH(it, slots) for (__typeof__(&slots[0]) it = slots; it < slots + sizeof slots / sizeof slots[0]; it++) if (it->descriptor >= 0)

@@ -38,16 +38,32 @@ void device_start(const char *program, const char *device_file) {
     device = pair[0];
 }
 
-/* Moves all of the bytes in or out. */
-static void move_whole(int is_in, void *bytes, size_t size) {
+static void send_whole(const unsigned char *bytes, size_t size) {
     for (size_t done = 0; done < size;) {
-        char *at = (char *)bytes + done;
-        ssize_t moved = is_in ? read(device, at, size - done) : send(device, at, size - done, MSG_NOSIGNAL);
-        if (moved > 0)
-            done += moved;
-        else if (moved == 0 || errno != EINTR)
+        ssize_t sent = send(device, bytes + done, size - done, MSG_NOSIGNAL);
+        if (sent < 0 && errno != EINTR)
             fail("the device is gone");
+        done += sent < 0 ? 0 : sent;
     }
+}
+
+/* Reads a reply until it is whole; mostly one read brings it. */
+static void receive_reply(void) {
+    const size_t head = offsetof(struct reply, payload);
+    size_t done = 0, size = head;
+    while (done < size) {
+        ssize_t got = read(device, (char *)&reply + done, sizeof reply - done);
+        if (got == 0 || (got < 0 && errno != EINTR))
+            fail("the device is gone");
+        done += got < 0 ? 0 : got;
+        if (done >= head)
+            size = sizeof reply.length + reply.length;
+        if (size < head || size > sizeof reply)
+            fail("the device answers what is no reply");
+    }
+    if (done > size)
+        fail("the device answers more than a reply");
+    reply.length -= head - sizeof reply.length;
 }
 
 uint32_t ask(uint32_t what, uint32_t a, uint32_t b, uint32_t c, const void *payload, uint32_t length) {
@@ -60,13 +76,7 @@ uint32_t ask(uint32_t what, uint32_t a, uint32_t b, uint32_t c, const void *payl
     memcpy(message, head, sizeof head);
     if (length)
         memcpy(message + sizeof head, payload, length);
-    move_whole(0, message, sizeof head + length);
-    uint32_t size;
-    move_whole(1, &size, sizeof size);
-    if (size < 16 || size - 16 > MOST_REPLY)
-        fail("the device answers no reply");
-    move_whole(1, &reply, 16);
-    reply.length = size - 16;
-    move_whole(1, reply.payload, reply.length);
+    send_whole(message, sizeof head + length);
+    receive_reply();
     return reply.error;
 }

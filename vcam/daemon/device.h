@@ -32,10 +32,9 @@ enum {
 #define MOST_ASK 16368
 #define MOST_REPLY 65536
 
-/* The last reply; the next ask writes over it. */
+/* The last reply, as it came but for its length, which is the payload's; the next ask writes over it. */
 extern struct reply {
-    uint32_t error, x, y, z;
-    uint32_t length; /* of the payload */
+    uint32_t length, error, x, y, z;
     unsigned char payload[MOST_REPLY];
 } reply;
 
