@@ -193,7 +193,8 @@ static uint32_t create_buffers(struct asked *asked) {
 
 /* What a program is told of a buffer. */
 static void tell_buffer(struct v4l2_buffer *it, uint32_t number) {
-    static const uint32_t flags[] = {[IN_REQUEST] = V4L2_BUF_FLAG_IN_REQUEST, [QUEUED] = V4L2_BUF_FLAG_QUEUED, [DONE] = V4L2_BUF_FLAG_DONE};
+    static const uint32_t flags[] = {
+        [IN_REQUEST] = V4L2_BUF_FLAG_IN_REQUEST, [QUEUED] = V4L2_BUF_FLAG_QUEUED, [DONE] = V4L2_BUF_FLAG_DONE};
     const struct buffer *buffer = &buffers[number];
     *it = (struct v4l2_buffer){.index = number, .type = V4L2_BUF_TYPE_VIDEO_CAPTURE, .memory = V4L2_MEMORY_MMAP};
     it->length = buffer->size;

@@ -50,7 +50,8 @@ static void clean_up(void) {
 }
 
 void fail(const char *why) {
-    fprintf(stderr, "vcamd: %s\n", why);
+    if (why)
+        fprintf(stderr, "vcamd: %s\n", why);
     clean_up();
     exit(1);
 }
@@ -64,7 +65,11 @@ static void fail_at(const char *path) {
 static void read_words(int count, char **given) {
     static const struct {
         const char *word, **to;
-    } table[] = {{"--serve", &words.serve}, {"--device", &words.device}, {"--dir", &words.dir}, {"--log", &words.log}, {"--until", &words.until}};
+    } table[] = {{"--serve", &words.serve},
+                 {"--device", &words.device},
+                 {"--dir", &words.dir},
+                 {"--log", &words.log},
+                 {"--until", &words.until}};
     size_t i = 0, known = sizeof table / sizeof *table;
     for (int at = 1; at < count; at += 2) {
         for (i = 0; i < known && strcmp(table[i].word, given[at]); i++)

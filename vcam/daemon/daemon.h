@@ -50,10 +50,13 @@ struct asked {
 #define MOST_CALLERS 400
 extern struct handle handles[MOST_HANDLES];
 extern struct caller callers[MOST_CALLERS];
-#define EACH(it, slots) for (__typeof__(&slots[0]) it = slots; it < slots + sizeof slots / sizeof slots[0]; it++) if (it->descriptor >= 0)
+#define EACH(it, slots)                                                                                                          \
+    for (__typeof__(&slots[0]) it = slots; it < slots + sizeof slots / sizeof slots[0]; it++)                                    \
+        if (it->descriptor >= 0)
 
 /* daemon.c */
-void fail(const char *why) __attribute__((noreturn)); /* ends the daemon */
+/* Ends the daemon, and says why where it is known. */
+void fail(const char *why) __attribute__((noreturn));
 
 /* What changed since the calls that wait were looked at. */
 enum { NEW_FRAMES = 1, NEW_EVENTS = 2 };

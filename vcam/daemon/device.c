@@ -38,11 +38,17 @@ void device_start(const char *program, const char *device_file) {
     device = pair[0];
 }
 
+/* A device that ends before its first reply has said itself what is wrong with its file. */
+static int has_replied;
+static void fail_gone(void) {
+    fail(has_replied ? "the device is gone" : 0);
+}
+
 static void send_whole(const unsigned char *bytes, size_t size) {
     for (size_t done = 0; done < size;) {
         ssize_t sent = send(device, bytes + done, size - done, MSG_NOSIGNAL);
         if (sent < 0 && errno != EINTR)
-            fail("the device is gone");
+            fail_gone();
         done += sent < 0 ? 0 : sent;
     }
 }
@@ -54,7 +60,7 @@ static void receive_reply(void) {
     while (done < size) {
         ssize_t got = read(device, (char *)&reply + done, sizeof reply - done);
         if (got == 0 || (got < 0 && errno != EINTR))
-            fail("the device is gone");
+            fail_gone();
         done += got < 0 ? 0 : got;
         if (done >= head)
             size = sizeof reply.length + reply.length;
@@ -64,6 +70,7 @@ static void receive_reply(void) {
     if (done > size)
         fail("the device answers more than a reply");
     reply.length -= head - sizeof reply.length;
+    has_replied = 1;
 }
 
 uint32_t ask(uint32_t what, uint32_t a, uint32_t b, uint32_t c, const void *payload, uint32_t length) {

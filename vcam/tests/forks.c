@@ -19,9 +19,19 @@ static int behind_exec(int descriptor, unsigned id, int value) {
     return failed;
 }
 
+/* Calls in a child and in its parent at the same time. */
+static void call_in_both(int descriptor) {
+    struct v4l2_capability capability;
+    pid_t child = fork();
+    for (int i = 0; i < 200; i++)
+        CHECK(!ioctl(descriptor, VIDIOC_QUERYCAP, &capability));
+    if (child == 0)
+        _exit(failed != 0);
+    CHECK(ended(child) == 0);
+}
+
 int main(int count, char **given) {
     char words[3][16];
-    struct v4l2_capability capability;
     struct v4l2_event event;
     if (count == 4)
         return behind_exec(atoi(given[1]), strtoul(given[2], 0, 0), atoi(given[3]));
@@ -45,18 +55,10 @@ int main(int count, char **given) {
     }
     CHECK(ended(child) == 0);
     CHECK(!polled(copy, POLLPRI, 0)); /* the child took it */
-    child = fork();
-    if (child == 0) { /* a call in the child, and one of the parent at the same time */
-        for (int i = 0; i < 200; i++)
-            if (ioctl(copy, VIDIOC_QUERYCAP, &capability))
-                _exit(1);
-        _exit(0);
-    }
-    for (int i = 0; i < 200; i++)
-        CHECK(!ioctl(copy, VIDIOC_QUERYCAP, &capability));
-    CHECK(ended(child) == 0);
+    call_in_both(copy);
     CHECK(!set_control(other, control->id, control->minimum));
     CHECK(!ioctl(copy, VIDIOC_DQEVENT, &event) && event.u.ctrl.value == control->minimum);
+    struct v4l2_capability capability;
     REFUSED(ioctl(video, VIDIOC_QUERYCAP, &capability), EBADF);
     return report();
 }

@@ -166,9 +166,10 @@ static void call_other(void) {
         break;
     }
     default: {
-        static const unsigned long numbers[] = {VIDIOC_QUERYCAP, VIDIOC_ENUM_FMT,        VIDIOC_G_FMT,         VIDIOC_S_FMT,    VIDIOC_TRY_FMT,
-                                                VIDIOC_G_PARM,   VIDIOC_ENUM_FRAMESIZES, VIDIOC_VCAM_FORECAST, VIDIOC_REQBUFS,  VIDIOC_QBUF,
-                                                VIDIOC_S_CTRL,   VIDIOC_QUERY_EXT_CTRL,  VIDIOC_S_INPUT,       VIDIOC_S_EXT_CTRLS};
+        static const unsigned long numbers[] = {
+            VIDIOC_QUERYCAP,        VIDIOC_ENUM_FMT,      VIDIOC_G_FMT,   VIDIOC_S_FMT, VIDIOC_TRY_FMT, VIDIOC_G_PARM,
+            VIDIOC_ENUM_FRAMESIZES, VIDIOC_VCAM_FORECAST, VIDIOC_REQBUFS, VIDIOC_QBUF,  VIDIOC_S_CTRL,  VIDIOC_QUERY_EXT_CTRL,
+            VIDIOC_S_INPUT,         VIDIOC_S_EXT_CTRLS};
         for (unsigned i = 0; i < 300; i++)
             room[i] = dice(3) ? 0 : dice(256);
         ioctl(*video, numbers[dice(sizeof numbers / sizeof *numbers)], dice(10) ? room : some_pointer());

@@ -41,14 +41,16 @@ static int call_connection(void) {
 /* Another handle, with a name by the rules or against them. */
 static int some_handle(char name[NAME]) {
     static unsigned number;
-    static const char *const forms[] = {"vcam/v/%x.%x", "vcam/r/%x.%x", "vcam/m/%x.%x", "vcam/q/%x.%x", "vcam/v/%x %x", "other/%x.%x", "vcam/v/\n%x.%x"};
+    static const char *const forms[] = {"vcam/v/%x.%x", "vcam/r/%x.%x", "vcam/m/%x.%x",   "vcam/q/%x.%x",
+                                        "vcam/v/%x %x", "other/%x.%x",  "vcam/v/\n%x.%x"};
     snprintf(name, NAME, forms[dice(4) ? 0 : dice(7)], getpid(), 0x100000 + number++);
     return connection("files", SOCK_STREAM, name);
 }
 
 static void fill_packet(const char *name) {
-    static const uint32_t numbers[] = {VIDIOC_QUERYCAP, VIDIOC_S_CTRL,  VIDIOC_G_EXT_CTRLS,     VIDIOC_S_EXT_CTRLS, VIDIOC_QBUF,     VIDIOC_DQBUF,
-                                       VIDIOC_REQBUFS,  VIDIOC_DQEVENT, VIDIOC_SUBSCRIBE_EVENT, VIDIOC_STREAMON,    VIDIOC_STREAMOFF, VIDIOC_VCAM_FORECAST};
+    static const uint32_t numbers[] = {
+        VIDIOC_QUERYCAP, VIDIOC_S_CTRL,  VIDIOC_G_EXT_CTRLS,     VIDIOC_S_EXT_CTRLS, VIDIOC_QBUF,      VIDIOC_DQBUF,
+        VIDIOC_REQBUFS,  VIDIOC_DQEVENT, VIDIOC_SUBSCRIBE_EVENT, VIDIOC_STREAMON,    VIDIOC_STREAMOFF, VIDIOC_VCAM_FORECAST};
     packet.call = (struct call){.what = dice(5) ? CALL_IOCTL : dice(8), .number = numbers[dice(12)], .may_wait = dice(2)};
     if (!dice(6))
         packet.call.number = dice(~0u);
@@ -200,6 +202,6 @@ int main(int count, char **given) {
     struct v4l2_capability capability;
     int video = open(VIDEO_PATH, O_RDWR);
     CHECK(video >= 0 && !ioctl(video, VIDIOC_QUERYCAP, &capability));
-    printf("%d messages\n", messages);
-    return report();
+    printf("%d messages, %d failed\n", messages, failed);
+    return failed != 0;
 }
