@@ -1,0 +1,207 @@
+/* Messages of every wrong kind at the camera's sockets: bytes by chance, halves of packets, answers that nobody reads, connections
+ * that do nothing, processes killed in mid call. Meanwhile a program goes on with its calls, and each of them has to return soon.
+ * usage: hostile SEED MESSAGES */
+#include "client.h"
+#include "../wire.h"
+#include <signal.h>
+#include <stddef.h>
+#include <sys/socket.h>
+#include <sys/un.h>
+#include <sys/wait.h>
+#include <time.h>
+
+static struct {
+    struct call call;
+    unsigned char payload[MOST_PAYLOAD + 4096];
+} packet;
+
+static int connection(const char *file, int type, const char *name) {
+    struct sockaddr_un address = {.sun_family = AF_UNIX};
+    int descriptor = socket(AF_UNIX, type | SOCK_CLOEXEC, 0);
+    if (name) {
+        memcpy(address.sun_path + 1, name, strlen(name));
+        bind(descriptor, (struct sockaddr *)&address, offsetof(struct sockaddr_un, sun_path) + 1 + strlen(name));
+        memset(&address.sun_path, 0, sizeof address.sun_path);
+    }
+    snprintf(address.sun_path, sizeof address.sun_path, "%s/%s", getenv("VCAM_DIR"), file);
+    if (connect(descriptor, (struct sockaddr *)&address, sizeof address)) {
+        close(descriptor);
+        return -1;
+    }
+    struct timeval soon = {5, 0}; /* the daemon answers within this, or the test fails */
+    setsockopt(descriptor, SOL_SOCKET, SO_RCVTIMEO, &soon, sizeof soon);
+    setsockopt(descriptor, SOL_SOCKET, SO_SNDTIMEO, &soon, sizeof soon);
+    return descriptor;
+}
+
+static int call_connection(void) {
+    return connection("calls", SOCK_SEQPACKET, 0);
+}
+
+/* Another handle, with a name by the rules or against them. */
+static int some_handle(char name[NAME]) {
+    static unsigned number;
+    static const char *const forms[] = {"vcam/v/%x.%x", "vcam/r/%x.%x", "vcam/m/%x.%x",   "vcam/q/%x.%x",
+                                        "vcam/v/%x %x", "other/%x.%x",  "vcam/v/\n%x.%x"};
+    snprintf(name, NAME, forms[dice(4) ? 0 : dice(7)], getpid(), 0x100000 + number++);
+    return connection("files", SOCK_STREAM, name);
+}
+
+static void fill_packet(const char *name) {
+    static const uint32_t numbers[] = {
+        VIDIOC_QUERYCAP, VIDIOC_S_CTRL,  VIDIOC_G_EXT_CTRLS,     VIDIOC_S_EXT_CTRLS, VIDIOC_QBUF,      VIDIOC_DQBUF,
+        VIDIOC_REQBUFS,  VIDIOC_DQEVENT, VIDIOC_SUBSCRIBE_EVENT, VIDIOC_STREAMON,    VIDIOC_STREAMOFF, VIDIOC_VCAM_FORECAST};
+    packet.call = (struct call){.what = dice(5) ? CALL_IOCTL : dice(8), .number = numbers[dice(12)], .may_wait = dice(2)};
+    if (!dice(6))
+        packet.call.number = dice(~0u);
+    if (dice(8))
+        snprintf(packet.call.handle, NAME, "%s", name);
+    else
+        memset(packet.call.handle, 'x', NAME); /* without an end */
+    for (int i = 0; i < 400; i++)
+        packet.payload[i] = dice(4) ? 0 : dice(256);
+}
+
+static unsigned some_size(void) {
+    switch (dice(5)) {
+    case 0:
+        return dice(sizeof packet.call); /* half a head */
+    case 1:
+        return dice(sizeof packet);
+    default:
+        return sizeof packet.call + dice(300);
+    }
+}
+
+/* Packets over one connection, some of whose answers are read; how many were sent. */
+static int send_packets(int calls, const char *name) {
+    static unsigned char answer[MOST_PAYLOAD + 64];
+    int sent = 0, count = 1 + dice(8), reads = dice(3);
+    for (int i = 0; i < count; i++, sent++) {
+        fill_packet(name);
+        if (send(calls, &packet, some_size(), MSG_NOSIGNAL) < 0)
+            break; /* the daemon has closed it */
+        int is_answered = packet.call.what != CALL_STOP && !(packet.call.may_wait && packet.call.what == CALL_IOCTL);
+        if (reads && is_answered)
+            CHECK(recv(calls, answer, sizeof answer, 0) >= 0 || errno == ECONNRESET);
+    }
+    return sent;
+}
+
+/* A packet with a descriptor, which nobody has asked for. */
+static void send_descriptor(int calls) {
+    char space[CMSG_SPACE(sizeof(int))] = {0};
+    struct iovec part = {&packet, sizeof packet.call};
+    struct msghdr message = {.msg_iov = &part, .msg_iovlen = 1, .msg_control = space, .msg_controllen = sizeof space};
+    struct cmsghdr *head = CMSG_FIRSTHDR(&message);
+    *head = (struct cmsghdr){.cmsg_len = CMSG_LEN(sizeof(int)), .cmsg_level = SOL_SOCKET, .cmsg_type = SCM_RIGHTS};
+    memcpy(CMSG_DATA(head), &calls, sizeof(int));
+    sendmsg(calls, &message, MSG_NOSIGNAL);
+}
+
+/* A round of wrong doings; how many messages it was. */
+static int attack(void) {
+    char name[NAME] = "";
+    int handle = some_handle(name), calls = call_connection(), sent = 0;
+    if (dice(3) == 0)
+        sent += send(handle, packet.payload, dice(5000), MSG_NOSIGNAL | MSG_DONTWAIT) >= 0;
+    if (dice(6) == 0)
+        shutdown(dice(2) ? handle : calls, dice(3));
+    sent += send_packets(calls, name);
+    if (dice(10) == 0)
+        send_descriptor(calls);
+    if (dice(2)) { /* the handle goes first, or the connection */
+        close(handle);
+        handle = -1;
+    }
+    close(calls);
+    if (handle >= 0)
+        close(handle);
+    return sent + 1;
+}
+
+/* More connections than the daemon takes: those above its limit are told so, and the others stand. */
+static void check_limits(void) {
+    static int many[1100];
+    char name[NAME];
+    unsigned char error = 0;
+    struct answer refused = {0};
+    int handles = 0, calls = 0;
+    for (int i = 0; i < 550; i++) {
+        snprintf(name, sizeof name, "vcam/v/%x.f%x", getpid(), i);
+        many[i] = connection("files", SOCK_STREAM, name);
+        if (recv(many[i], &error, 1, 0) == 1 && error == ENFILE)
+            handles++;
+    }
+    for (int i = 550; i < 1100; i++) {
+        many[i] = call_connection();
+        packet.call = (struct call){.what = CALL_IOCTL, .number = VIDIOC_QUERYCAP};
+        send(many[i], &packet, sizeof packet.call, MSG_NOSIGNAL);
+        if (recv(many[i], &refused, sizeof refused, 0) == sizeof refused && refused.error == ENFILE)
+            calls++;
+    }
+    CHECK(handles > 0 && calls > 0);
+    for (int i = 0; i < 1100; i++)
+        close(many[i]);
+}
+
+/* A process that is killed while it waits. */
+static void kill_in_call(void) {
+    pid_t child = fork();
+    if (child == 0) {
+        struct v4l2_event event;
+        struct v4l2_capability capability;
+        int video = open(VIDEO_PATH, O_RDWR);
+        for (int i = dice(20); i; i--)
+            ioctl(video, VIDIOC_QUERYCAP, &capability);
+        ioctl(video, VIDIOC_DQEVENT, &event);
+        _exit(0);
+    }
+    usleep(dice(3000));
+    kill(child, SIGKILL);
+    waitpid(child, 0, 0);
+}
+
+/* The program that nobody may hinder: it goes on until the pipe ends; how much failed. */
+static int go_on(int end) {
+    int video = open(VIDEO_PATH, O_RDWR | O_NONBLOCK), calls = 0;
+    find_controls(video);
+    const struct v4l2_query_ext_ctrl *control = plain_control();
+    while (!polled(end, POLLIN, 0)) {
+        struct timespec before, after;
+        struct v4l2_control it = {control->id, (int)control->minimum + calls++ % 2};
+        clock_gettime(CLOCK_MONOTONIC, &before);
+        CHECK(!ioctl(video, VIDIOC_S_CTRL, &it) || errno == EBUSY); /* another one's priority may be higher */
+        CHECK(!ioctl(video, VIDIOC_G_CTRL, &it));
+        clock_gettime(CLOCK_MONOTONIC, &after);
+        CHECK(after.tv_sec - before.tv_sec < 3);
+        usleep(500);
+    }
+    CHECK(calls > 0);
+    return failed;
+}
+
+int main(int count, char **given) {
+    int pair[2], status, messages = count > 2 ? atoi(given[2]) : 20000;
+    dice_state = count > 1 ? strtoull(given[1], 0, 0) : 1;
+    CHECK(!pipe2(pair, O_CLOEXEC));
+    pid_t child = fork();
+    if (child == 0) {
+        close(pair[1]);
+        _exit(go_on(pair[0]) != 0);
+    }
+    usleep(100000);
+    for (int sent = 0, round = 0; sent < messages; round++) {
+        sent += attack();
+        if (round % 100 == 0)
+            kill_in_call();
+    }
+    check_limits();
+    close(pair[1]);
+    CHECK(waitpid(child, &status, 0) == child && WIFEXITED(status) && WEXITSTATUS(status) == 0);
+    struct v4l2_capability capability;
+    int video = open(VIDEO_PATH, O_RDWR);
+    CHECK(video >= 0 && !ioctl(video, VIDIOC_QUERYCAP, &capability));
+    printf("%d messages, %d failed\n", messages, failed);
+    return failed != 0;
+}
