@@ -1,17 +1,31 @@
 -- What a call does, put together of what its ask does and what is told.
-use Rattle.std.proofs.Common.{◌≡◌, ◌∙◌, ◌×◌, ℕ, List, [], ◌∷◌, Ok, Err, refl, ap, inl, inr, Some}
+use Rattle.std.proofs.Common.{◌≡◌, ◌==◌, ◌∙◌, if◌then◌else◌, length, subst, ℕ, List, [], ◌∷◌, map, true, Ok, Err, refl, sym, ap, inl, inr, Some}
 use Rattle.ctrl_calls.specs.Meanings.{Verdicts}
 use Rattle.device_history.specs.declared.ask.Ask.{Ask}
 use Rattle.device_history.specs.Refusals.{Answer}
-use Rattle.ctl_session.specs.Session.{Asked, SessionData}
-use Rattle.ctl_session.specs.Calls.{AskedInTurn, Calls, Told, asking, asking_list, refused}
+use Rattle.device_state.proofs.RunLemmas.{run_plan}
+use Rattle.following_ranges.specs.declared.asking.RangeAsk.{RangeAsk}
+use Rattle.following_ranges.specs.Following.{HandlesAndFollows, is_change, range_call}
+use Rattle.ctl_session.specs.Session.{Asked, SessionData, without_room}
+use Rattle.ctl_session.specs.Calls.{AskedInTurn, Calls, Meaning, Told, asking, asking_list, refused, sized}
+use Rattle.ctl_session.specs.declared.calls.TheConstants.{CUT}
+
+-- an ask that the device handled
+pub handled : (verdicts : Verdicts) (old new : SessionData) (ask : Ask) (answer : Answer) (ranges : List RangeAsk) → new.followers ≡ old.followers
+    → HandlesAndFollows verdicts old.followers old.device new.device old.owed new.owed 0 ask answer ranges → Asked verdicts old new ask answer
+handled verdicts old new ask answer ranges followers does =
+    inl (followers, run_plan verdicts (map (range_call 0) ranges) does.behind new.device does.one_by_one ∙ does.answered.plan, (ranges, does))
+
+-- an ask for which there was no room
+pub without : (verdicts : Verdicts) (old new : SessionData) (ask : Ask) (answer : Answer) → is_change ask ≡ true → new ≡ old → answer ≡ without_room → Asked verdicts old new ask answer
+without verdicts old new ask answer change same is = inr (change, same, is)
 
 -- nothing is asked
 pub refuses : (verdicts : Verdicts) (session : SessionData) (errno : ℕ) (bytes : List ℕ) → Calls verdicts session (refused errno bytes) session (errno, bytes)
 refuses verdicts session errno bytes = inl ([], refl, refl)
 
 -- one ask with its answer
-once : (verdicts : Verdicts) (old new : SessionData) (ask : Ask) (answer : Answer) → Asked verdicts old new ask answer → AskedInTurn verdicts old (ask ∷ []) (answer ∷ []) new
+pub once : (verdicts : Verdicts) (old new : SessionData) (ask : Ask) (answer : Answer) → Asked verdicts old new ask answer → AskedInTurn verdicts old (ask ∷ []) (answer ∷ []) new
 once verdicts old new ask (Ok reply) asked = (new, asked, refl)
 once verdicts old new ask (Err fault) asked = asked
 
@@ -22,3 +36,18 @@ asks verdicts old new ask answer tell told asked is = inl (answer ∷ [], once v
 pub asks_list : (verdicts : Verdicts) (old new : SessionData) (ask : Ask) (answer : Answer) (tell : Answer → Told) (told : Told)
     → Asked verdicts old new ask answer → told ≡ tell answer → Calls verdicts old (asking_list ask tell) new told
 asks_list verdicts old new ask answer tell told asked is = inl (answer ∷ [], once verdicts old new ask answer asked, is)
+
+-- no room for a list
+pub short : (verdicts : Verdicts) (session : SessionData) (ask : Ask) (tell : Answer → Told) (told : Told) → told ≡ tell without_room → Calls verdicts session (asking_list ask tell) session told
+short verdicts session ask tell told is = inr (refl, ap Some (sym is))
+
+-- an ask leaves the plan as it is
+pub plan_kept : (verdicts : Verdicts) (old new : SessionData) (ask : Ask) (answer : Answer) → Asked verdicts old new ask answer → new.device.plan ≡ old.device.plan
+plan_kept verdicts old new ask answer (inl follows) = follows.1
+plan_kept verdicts old new ask answer (inr short) = ap (λ (s : SessionData). s.device.plan) short.1
+
+-- a struct of its size is read
+pub sized_by : (verdicts : Verdicts) (old new : SessionData) (size : ℕ) (bytes : List ℕ) (meaning : Meaning) (told : Told)
+    → (length bytes == size) ≡ true → Calls verdicts old meaning new told → Calls verdicts old (sized size bytes meaning) new told
+sized_by verdicts old new size bytes meaning told same calls =
+    subst (λ b. Calls verdicts old (if b then meaning else refused CUT bytes) new told) (sym same) calls

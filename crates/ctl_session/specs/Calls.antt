@@ -1,6 +1,6 @@
 -- What a control call means: what is asked of the device, one ask after another until one is refused, and what is told then: an errno, 0 for none, and the struct of
 -- the call (Linux userspace API, "Function Reference").
-use Rattle.std.specs.Prelude.{◌≡◌, ◌⊎◌, ◌==◌, ◌&&◌, ℕ, pos, Bool, true, false, not, if◌then◌else◌, min, nat_lt, bit_and, List, [], ◌∷◌, length, map, Option, None, Some, is_some, unwrap_or, Ok, Err}
+use Rattle.std.specs.Prelude.{◌≡◌, ◌⊎◌, ◌==◌, ◌&&◌, ℕ, pos, Bool, true, false, not, if◌then◌else◌, min, nat_lt, bit_and, List, [], ◌∷◌, length, map, Option, None, Some, is_some, Result, Ok, Err}
 use Rattle.std.specs.List.{filter, range_with_len}
 use Rattle.history.specs.Past.{past}
 use Rattle.ctrl_calls.specs.Meanings.{Verdicts}
@@ -90,11 +90,20 @@ plan_in session = session.device.plan
 abbrev pub with_old_id : ℕ → List ℕ → List ℕ
 with_old_id id bytes = if is_old id then with_u32 query.ID id bytes else bytes
 
+-- the control that an answer tells of; the error is an errno
+abbrev pub info_told : Answer → Result CtrlInfo ℕ
+info_told (Ok (Info info)) = Ok info
+info_told (Ok reply) = Err NO_CALL
+info_told (Err fault) = Err (errno_number fault.errno)
+
+-- that control in the struct of a query
+abbrev pub info_put : (CtrlInfo → List ℕ) → List ℕ → Result CtrlInfo ℕ → Told
+info_put put bytes (Ok info) = (0, with_old_id (u32_in query.ID bytes) (put info))
+info_put put bytes (Err errno) = (errno, bytes)
+
 -- what a query is told
 abbrev pub query_told : (CtrlInfo → List ℕ) → List ℕ → Answer → Told
-query_told put bytes (Ok (Info info)) = (0, with_old_id (u32_in query.ID bytes) (put info))
-query_told put bytes (Ok reply) = (NO_CALL, bytes)
-query_told put bytes (Err fault) = (errno_number fault.errno, bytes)
+query_told put bytes answer = info_put put bytes (info_told answer)
 
 -- a query of the control that its id speaks of
 abbrev pub query_of : (CtrlInfo → List ℕ) → FhId → List ℕ → Option CtrlId → Meaning
@@ -229,7 +238,7 @@ flags_for id (Some ctrl) flags = if is_heading id ctrl.flags then bit_and flags 
 
 abbrev pub subscribe_call : PlanData → ℕ → FhId → List ℕ → Meaning
 subscribe_call plan h fh bytes =
-    let id = record { 0 = u32_in subscription.ID bytes } in
+    let id : CtrlId = record { 0 = u32_in subscription.ID bytes } in
     let flags = flags_for id (shown plan h id) (u32_in subscription.FLAGS bytes) in
     if u32_in subscription.TYPE bytes == calls.V4L2_EVENT_CTRL
     then asking (asks.Subscribe fh id (record { 0 = flags })) (errno_told bytes)

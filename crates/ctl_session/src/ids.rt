@@ -124,7 +124,7 @@ fn is_wanted_at(controls: &[Ctrl], numbers: bool, arrays: bool, number: u32) -> 
     }
 }
 
-fn id_at(controls: &[Ctrl], number: u32) -> u32
+pub(crate) fn id_at(controls: &[Ctrl], number: u32) -> u32
     ensures { result ≡ (control_in controls.now number).id.0 }
 {
     match controls.get(number as usize) {

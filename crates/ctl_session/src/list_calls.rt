@@ -42,7 +42,6 @@ impl<D: Driver> Session<D> {
         access: Access,
         arg: &mut [u8],
     ) -> u32
-        ensures { Calls D.verdict self.old (list_call D.verdict self.old handler fh request access arg.old) self.new (result, arg.new) }
     {
         if arg.len() < v4l2_ext_controls::SIZE {
             return CUT;
@@ -64,7 +63,6 @@ impl<D: Driver> Session<D> {
     ) -> u32
         requires head { head.SIZE ≤ length arg.old }
         requires whole { length arg.old ≡ size_for (count_read arg.old) }
-        ensures { Calls D.verdict self.old (whole D.verdict self.old handler fh request access arg.old) self.new (result, arg.new) }
     {
         let count = read_count(arg);
         let Ok(list) = read_list(self.alloc(), self.device().plan(), handler, arg, count) else {
@@ -120,7 +118,6 @@ impl<D: Driver> Session<D> {
         requires head { head.SIZE ≤ length arg.old }
         requires whole { size_for (count_read arg.old) ≤ length arg.old }
         requires place { IfSome wrong (λ w. w.0 < count_read arg.old) }
-        ensures { Calls D.verdict self.old (list_for (plan_in self.old) handler access arg.old ask.now wrong before) self.new (result, arg.new) }
     {
         match wrong {
             Some(wrong) if !before => {

@@ -15,7 +15,6 @@ use ioctl_bytes::{i32_at, put_low, u32_at};
 impl<D: Driver> Session<D> {
     // VIDIOC_G_CTRL and VIDIOC_S_CTRL: a list of one entry about the present values. A value of 64 bits and an array have no place in the struct.
     pub(crate) fn one(&mut self, handler: u32, fh: FhId, sets: bool, arg: &mut [u8]) -> u32
-        ensures { Calls D.verdict self.old (sized control_struct.SIZE arg.old (one_call sets (plan_in self.old) handler fh arg.old)) self.new (result, arg.new) }
     {
         if arg.len() != v4l2_control::SIZE {
             return CUT;

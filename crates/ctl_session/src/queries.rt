@@ -4,7 +4,7 @@ ghost use Rattle.call_structs.specs.Told.{query_ext_ctrl, queryctrl};
 ghost use Rattle.ioctl_bytes.specs.declared.layout.v4l2_query_ext_ctrl.TheConstants as ext;
 ghost use Rattle.ioctl_bytes.specs.declared.layout.v4l2_queryctrl.TheConstants as query_struct;
 ghost use Rattle.ioctl_bytes.specs.declared.layout.v4l2_querymenu.TheConstants as menu;
-ghost use Rattle.ctl_session.specs.Calls.{Calls, item_told, menu_call, plan_in, query_call, query_told, sized, with_old_id};
+ghost use Rattle.ctl_session.specs.Calls.{Calls, info_put, info_told as info_in, item_told, menu_call, plan_in, query_call, sized, with_old_id};
 
 use crate::calls::{CUT, NO_CALL};
 use crate::ids::{is_old, queried, real_id};
@@ -12,14 +12,13 @@ use crate::session::Session;
 use call_structs::{put_item, put_query, put_query_ext};
 use ctrl_calls::Driver;
 use ctrl_types::{CtrlId, Errno, Fault, FhId};
-use device_state::{Ask, Reply};
+use device_state::{Ask, CtrlInfo, Reply};
 use ioctl_bytes::layout::{v4l2_query_ext_ctrl, v4l2_queryctrl, v4l2_querymenu};
 use ioctl_bytes::{put_u32, u32_at};
 
 impl<D: Driver> Session<D> {
     // VIDIOC_QUERYCTRL.
     pub(crate) fn query(&mut self, handler: u32, fh: FhId, arg: &mut [u8]) -> u32
-        ensures { (name : CtrlInfo → List ℕ) × Calls D.verdict self.old (sized query_struct.SIZE arg.old (query_call (plan_in self.old) handler (λ info. queryctrl info (name info)) fh arg.old)) self.new (result, arg.new) }
     {
         if arg.len() != v4l2_queryctrl::SIZE {
             return CUT;
@@ -29,28 +28,25 @@ impl<D: Driver> Session<D> {
             return Errno::EINVAL.number();
         };
         let answer = self.ask(&Ask::Query { fh, id });
-        self.tell_query(handler, &answer, arg)
+        self.tell_query(handler, info_told(&answer), arg)
     }
 
-    fn tell_query(&self, handler: u32, answer: &Result<Reply, Fault>, arg: &mut [u8]) -> u32
+    fn tell_query(&self, handler: u32, told: Result<CtrlInfo, u32>, arg: &mut [u8]) -> u32
         requires { length arg.old ≡ query_struct.SIZE }
-        ensures { (name : CtrlInfo → List ℕ) × ((result, arg.new) ≡ query_told (λ info. queryctrl info (name info)) arg.old answer.now) }
     {
-        match answer {
-            Ok(Reply::Info(info)) => {
+        match told {
+            Ok(info) => {
                 let asked = u32_at(arg, v4l2_queryctrl::ID);
-                put_query(arg, info, self.name(handler, info));
+                put_query(arg, &info, self.name(handler, &info));
                 put_old_id(arg, asked);
                 0
             }
-            Ok(_) => NO_CALL,
-            Err(fault) => fault.errno.number(),
+            Err(errno) => errno,
         }
     }
 
     // VIDIOC_QUERY_EXT_CTRL.
     pub(crate) fn query_ext(&mut self, handler: u32, fh: FhId, arg: &mut [u8]) -> u32
-        ensures { (name : CtrlInfo → List ℕ) × Calls D.verdict self.old (sized ext.SIZE arg.old (query_call (plan_in self.old) handler (λ info. query_ext_ctrl info (name info)) fh arg.old)) self.new (result, arg.new) }
     {
         if arg.len() != v4l2_query_ext_ctrl::SIZE {
             return CUT;
@@ -60,28 +56,25 @@ impl<D: Driver> Session<D> {
             return Errno::EINVAL.number();
         };
         let answer = self.ask(&Ask::Query { fh, id });
-        self.tell_query_ext(handler, &answer, arg)
+        self.tell_query_ext(handler, info_told(&answer), arg)
     }
 
-    fn tell_query_ext(&self, handler: u32, answer: &Result<Reply, Fault>, arg: &mut [u8]) -> u32
+    fn tell_query_ext(&self, handler: u32, told: Result<CtrlInfo, u32>, arg: &mut [u8]) -> u32
         requires { length arg.old ≡ ext.SIZE }
-        ensures { (name : CtrlInfo → List ℕ) × ((result, arg.new) ≡ query_told (λ info. query_ext_ctrl info (name info)) arg.old answer.now) }
     {
-        match answer {
-            Ok(Reply::Info(info)) => {
+        match told {
+            Ok(info) => {
                 let asked = u32_at(arg, v4l2_query_ext_ctrl::ID);
-                put_query_ext(arg, info, self.name(handler, info));
+                put_query_ext(arg, &info, self.name(handler, &info));
                 put_old_id(arg, asked);
                 0
             }
-            Ok(_) => NO_CALL,
-            Err(fault) => fault.errno.number(),
+            Err(errno) => errno,
         }
     }
 
     // VIDIOC_QUERYMENU.
     pub(crate) fn query_menu(&mut self, handler: u32, fh: FhId, arg: &mut [u8]) -> u32
-        ensures { Calls D.verdict self.old (sized menu.SIZE arg.old (menu_call (plan_in self.old) handler fh arg.old)) self.new (result, arg.new) }
     {
         if arg.len() != v4l2_querymenu::SIZE {
             return CUT;
@@ -91,6 +84,17 @@ impl<D: Driver> Session<D> {
         let index = u32_at(arg, v4l2_querymenu::INDEX);
         let answer = self.ask(&Ask::MenuItem { fh, id, index });
         tell_item(&answer, arg)
+    }
+}
+
+// The control that an answer tells of; the error is an errno.
+fn info_told(answer: &Result<Reply, Fault>) -> Result<CtrlInfo, u32>
+    ensures { result ≡ info_in answer.now }
+{
+    match answer {
+        Ok(Reply::Info(info)) => Ok(*info),
+        Ok(_) => Err(NO_CALL),
+        Err(fault) => Err(fault.errno.number()),
     }
 }
 

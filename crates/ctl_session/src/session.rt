@@ -118,6 +118,7 @@ impl<D: Driver> Session<D> {
     }
 
     // The same, but for why.
+    #[tactic(auto, using(crate::proofs::CallLemmas::handled, crate::proofs::CallLemmas::without))]
     fn answer(&mut self, ask: &Ask) -> Result<Reply, Fault>
         ensures { Asked D.verdict self.old self.new ask.now result }
     {
