@@ -1,1 +1,2 @@
 pub mod QuietLemmas
+pub mod WordLemmas

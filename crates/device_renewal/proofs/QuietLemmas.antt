@@ -1,7 +1,6 @@
 -- Where what each step made is there no longer, nobody is subscribed, and no request is there.
-use Rattle.std.proofs.Common.{◌≡◌, ◌∙◌, ◌++◌, ℕ, Bool, true, false, ◌&&◌, cond, inl, inr, ◌⊎◌, List, [], ◌∷◌, length, take, filter_map, Option, None, Some, nat_eq, refl, sym, ap, subst, arith, ◌<◌, ◌+◌, get_or}
+use Rattle.std.proofs.Common.{◌≡◌, ◌∙◌, ℕ, Bool, true, false, ◌&&◌, cond, inl, inr, ◌⊎◌, [], ◌∷◌, length, take, filter_map, Option, None, Some, nat_eq, refl, sym, ap, subst, arith, ◌<◌, ◌+◌, get_or}
 use Rattle.std.specs.Option.{option_or}
-use Rattle.std.proofs.lemmas.Bool.Decides.{nat_tests}
 use Rattle.std.proofs.lemmas.List.{length-take-le, take_more}
 use Rattle.std.proofs.Math.Seq.{take-length}
 use Rattle.std.proofs.lemmas.List.Elements.{filter_map-append}
@@ -15,7 +14,7 @@ use Rattle.ctrl_handlers.specs.Plan.{PlanData}
 use Rattle.device_history.specs.declared.ask.Step.{Step}
 use Rattle.device_history.specs.declared.ask.Step.TheVariants as steps
 use Rattle.device_history.specs.Requests.{ever_made, made}
-use Rattle.device_history.specs.Snapshots.{request, requests}
+use Rattle.device_history.specs.Snapshots.{request}
 use Rattle.device_history.specs.Steps.{History, Past}
 use Rattle.device_history.specs.Subscriptions.{first_flags, is_ended_by, since_ended, subscribed, subscribed_by}
 use Rattle.device_history.proofs.SubscriptionLemmas.{equal}

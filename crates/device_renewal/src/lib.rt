@@ -3,6 +3,7 @@
 
 mod alike;
 mod carrying;
+pub mod laws;
 mod quiet;
 
 pub use alike::is_alike;

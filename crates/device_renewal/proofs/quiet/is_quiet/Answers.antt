@@ -1,7 +1,10 @@
 use Rattle.std.proofs.Common.{sym, subst, arith}
+use Rattle.history.specs.declared.entry.Entry.{Entry}
 use Rattle.history.specs.Past.{past}
+use Rattle.device_history.specs.declared.ask.Step.{Step}
 use Rattle.device_history.specs.Steps.{History}
 use Rattle.device_renewal.proofs.QuietLemmas.{AllGone, all_gone, no_requests, none_gone, one_gone, unheard}
+use Rattle.device_renewal.specs.Quiet.{IsGone}
 use Rattle.device_renewal.proofs.quiet.is_quiet.Goals as goal
 
 pub loop-number-init : goal.loop-number-init
@@ -10,8 +13,10 @@ loop-number-init g c = none_gone g.D.Validates.verdict c.args.device.now.plan (p
 -- one more step is gone
 pub loop-number-preserved : goal.loop-number-preserved
 loop-number-preserved g c =
-    one_gone g.D.Validates.verdict c.args.device.now.plan (past c.args.device.now.steps) c.steps-steps.result.now c.loop-number.number c.index-steps-number.result (omega (arith, c.loop-number-test.true)) (sym c.index-steps-number.is)
-    c.loop-number.invariant (c.is_there.ensures c.if-is_there.false)
+    let all = past c.args.device.now.steps in
+    let own : IsGone g.D.Validates.verdict c.args.device.now.plan all c.loop-number.number c.index-steps-number.result.step =
+    subst (λ (e : Entry Step). IsGone g.D.Validates.verdict c.args.device.now.plan all c.loop-number.number e.step) (sym c.index-steps-number.is) (c.is_there.ensures c.if-is_there.false) in
+    one_gone g.D.Validates.verdict c.args.device.now.plan all c.steps-steps.result.now c.loop-number.number c.index-steps-number.result (omega (arith, c.loop-number-test.true)) (sym c.index-steps-number.is) c.loop-number.invariant own
 
 -- all are
 pub returns : goal.returns
