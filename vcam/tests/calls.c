@@ -159,7 +159,7 @@ static void check_frames(void) {
     CHECK(ask_buffers(video, 2) == 2 && !queue_buffer(video, 0, -1) && !queue_buffer(video, 1, -1));
     CHECK(!stream(video, 1));
     for (int i = 0; i < 10; i++) {
-        CHECK(polled(video, POLLIN, 1000) & POLLIN);
+        CHECK(polled(video, POLLIN, 10000) & POLLIN);
         change_control();
         CHECK(!take_buffer(video, &buffer) && !queue_buffer(video, buffer.index, -1));
         CHECK(polled(video, POLLPRI, 0) == POLLPRI);
@@ -172,15 +172,15 @@ static void check_frames(void) {
     /* no buffer is queued: only a signal or the stream's end ends the wait */
     struct sigaction action = {.sa_handler = on_alarm}, before;
     CHECK(!sigaction(SIGALRM, &action, &before));
-    struct itimerval soon = {.it_value = {0, 50000}};
-    CHECK(!setitimer(ITIMER_REAL, &soon, 0));
+    struct itimerval often = {{0, 50000}, {0, 50000}}, never = {{0, 0}, {0, 0}};
+    CHECK(!setitimer(ITIMER_REAL, &often, 0));
     REFUSED(take_buffer(video, &buffer), EINTR);
+    CHECK(!setitimer(ITIMER_REAL, &never, 0));
     CHECK(!pthread_create(&thread, 0, end_stream_soon, 0));
     REFUSED(take_buffer(video, &buffer), EINVAL);
     CHECK(!pthread_join(thread, 0));
     CHECK(!queue_buffer(video, 0, -1) && !queue_buffer(video, 1, -1) && !stream(video, 1));
-    usleep(150000);
-    CHECK(polled(video, POLLIN, 0) & POLLIN);
+    CHECK(polled(video, POLLIN, 10000) & POLLIN);
     CHECK(!stream(video, 0));
     CHECK(!polled(video, POLLIN, 0));
     CHECK(ask_buffers(video, 0) == 0);

@@ -60,7 +60,7 @@ static int same_in_request(int frame, const struct vcam_value *values, unsigned 
 
 static void take_frame(int frame) {
     struct v4l2_buffer buffer;
-    CHECK(polled(requests[frame], POLLPRI, 5000) & POLLPRI);
+    CHECK(polled(requests[frame], POLLPRI, 10000) & POLLPRI);
     CHECK(!take_buffer(video, &buffer) && buffer.index == (unsigned)frame && buffer.sequence == (unsigned)frame);
     struct vcam_picture *picture = (struct vcam_picture *)pictures[frame];
     const struct vcam_value *values = (struct vcam_value *)(picture + 1);
@@ -104,7 +104,7 @@ int main(void) {
     CHECK(!ioctl(requests[0], MEDIA_REQUEST_IOC_REINIT));
     CHECK(!polled(requests[0], POLLPRI, 0));
     CHECK(!queue_buffer(video, 0, requests[0]) && !ioctl(requests[0], MEDIA_REQUEST_IOC_QUEUE));
-    CHECK(polled(requests[0], POLLPRI, 5000) & POLLPRI);
+    CHECK(polled(requests[0], POLLPRI, 10000) & POLLPRI);
     CHECK(!stream(video, 0));
     CHECK(!queue_buffer(video, 0, -1)); /* the end of the stream freed all */
     return report();
