@@ -1,5 +1,5 @@
 -- What a call does, put together of what its ask does and what is told.
-use Rattle.std.proofs.Common.{◌≡◌, ◌==◌, ◌∙◌, if◌then◌else◌, length, subst, ℕ, List, [], ◌∷◌, map, true, Ok, Err, refl, sym, ap, inl, inr, Some}
+use Rattle.std.proofs.Common.{◌≡◌, ◌==◌, ◌∙◌, if◌then◌else◌, length, subst, ℕ, Bool, List, [], ◌∷◌, map, true, false, Ok, Err, refl, sym, ap, inl, inr, Some}
 use Rattle.ctrl_calls.specs.Meanings.{Verdicts}
 use Rattle.device_history.specs.declared.ask.Ask.{Ask}
 use Rattle.device_history.specs.Refusals.{Answer}
@@ -51,3 +51,24 @@ pub sized_by : (verdicts : Verdicts) (old new : SessionData) (size : ℕ) (bytes
     → (length bytes == size) ≡ true → Calls verdicts old meaning new told → Calls verdicts old (sized size bytes meaning) new told
 sized_by verdicts old new size bytes meaning told same calls =
     subst (λ b. Calls verdicts old (if b then meaning else refused CUT bytes) new told) (sym same) calls
+
+-- one ask that was made so
+pub asks_made : (verdicts : Verdicts) (old new : SessionData) (made ask : Ask) (answer : Answer) (tell : Answer → Told) (told : Told) → made ≡ ask
+    → Asked verdicts old new made answer → told ≡ tell answer → Calls verdicts old (asking ask tell) new told
+asks_made verdicts old new made ask answer tell told is asked tells =
+    asks verdicts old new ask answer tell told (subst (λ a. Asked verdicts old new a answer) is asked) tells
+
+-- a list that was made so
+pub asks_list_made : (verdicts : Verdicts) (old new : SessionData) (made ask : Ask) (answer : Answer) (tell : Answer → Told) (told : Told) → made ≡ ask
+    → Asked verdicts old new made answer → told ≡ tell answer → Calls verdicts old (asking_list ask tell) new told
+asks_list_made verdicts old new made ask answer tell told is asked tells =
+    asks_list verdicts old new ask answer tell told (subst (λ a. Asked verdicts old new a answer) is asked) tells
+
+-- one of two calls, by a test
+pub if_so : (verdicts : Verdicts) (old new : SessionData) (test : Bool) (taken other : Meaning) (told : Told) → test ≡ true → Calls verdicts old taken new told
+    → Calls verdicts old (if test then taken else other) new told
+if_so verdicts old new test taken other told so calls = subst (λ b. Calls verdicts old (if b then taken else other) new told) (sym so) calls
+
+pub if_not : (verdicts : Verdicts) (old new : SessionData) (test : Bool) (taken other : Meaning) (told : Told) → test ≡ false → Calls verdicts old other new told
+    → Calls verdicts old (if test then taken else other) new told
+if_not verdicts old new test taken other told so calls = subst (λ b. Calls verdicts old (if b then taken else other) new told) (sym so) calls

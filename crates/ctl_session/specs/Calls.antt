@@ -119,9 +119,12 @@ item_told bytes (Ok (Item item)) = (0, querymenu item bytes)
 item_told bytes (Ok reply) = (NO_CALL, bytes)
 item_told bytes (Err fault) = (errno_number fault.errno, bytes)
 
+-- the ask for the item of the menu that the id stands for
+abbrev pub menu_ask : PlanData → ℕ → FhId → List ℕ → Ask
+menu_ask plan h fh bytes = asks.MenuItem fh (real_id plan h (record { 0 = u32_in menu.ID bytes })) (u32_in menu.INDEX bytes)
+
 abbrev pub menu_call : PlanData → ℕ → FhId → List ℕ → Meaning
-menu_call plan h fh bytes =
-    asking (asks.MenuItem fh (real_id plan h (record { 0 = u32_in menu.ID bytes })) (u32_in menu.INDEX bytes)) (item_told bytes)
+menu_call plan h fh bytes = asking (menu_ask plan h fh bytes) (item_told bytes)
 
 -- One control.
 
@@ -139,13 +142,18 @@ abbrev pub one_ask : Bool → FhId → List ExtControl → Ask
 one_ask true fh list = asks.SetCtrls fh 0 None list
 one_ask false fh list = asks.GetCtrls fh 0 None list
 
--- a list of one entry about the present values; a 64-bit number and an array have no place in the struct
+-- the control that the call is about
+abbrev pub one_id : PlanData → ℕ → List ℕ → CtrlId
+one_id plan h bytes = real_id plan h (record { 0 = u32_in one.ID bytes })
+
+-- a call on a control with a number of 32 bits; a 64-bit number and an array have no place in the struct
+abbrev pub one_by : Bool → FhId → List ℕ → CtrlId → Bool → Meaning
+one_by sets fh bytes id true = asking_list (one_ask sets fh (one_entry id bytes)) (one_told bytes)
+one_by sets fh bytes id false = refused (errno_number EINVAL) bytes
+
+-- a list of one entry about the present values
 abbrev pub one_call : Bool → PlanData → ℕ → FhId → List ℕ → Meaning
-one_call sets plan h fh bytes =
-    let id = real_id plan h (record { 0 = u32_in one.ID bytes }) in
-    if is_narrow (form_of plan h id)
-    then asking_list (one_ask sets fh (one_entry id bytes)) (one_told bytes)
-    else refused (errno_number EINVAL) bytes
+one_call sets plan h fh bytes = one_by sets fh bytes (one_id plan h bytes) (is_narrow (form_of plan h (one_id plan h bytes)))
 
 -- Lists.
 
@@ -236,13 +244,16 @@ abbrev pub flags_for : CtrlId → Option Control → ℕ → ℕ
 flags_for id None flags = flags
 flags_for id (Some ctrl) flags = if is_heading id ctrl.flags then bit_and flags ALLOW_FEEDBACK.0 else flags
 
+-- the ask for a subscription
+abbrev pub subscribe_ask : PlanData → ℕ → FhId → List ℕ → Ask
+subscribe_ask plan h fh bytes =
+    let id : CtrlId = record { 0 = u32_in subscription.ID bytes } in
+    asks.Subscribe fh id (record { 0 = flags_for id (shown plan h id) (u32_in subscription.FLAGS bytes) })
+
+-- only the events of controls can be subscribed to
 abbrev pub subscribe_call : PlanData → ℕ → FhId → List ℕ → Meaning
 subscribe_call plan h fh bytes =
-    let id : CtrlId = record { 0 = u32_in subscription.ID bytes } in
-    let flags = flags_for id (shown plan h id) (u32_in subscription.FLAGS bytes) in
-    if u32_in subscription.TYPE bytes == calls.V4L2_EVENT_CTRL
-    then asking (asks.Subscribe fh id (record { 0 = flags })) (errno_told bytes)
-    else refused (errno_number EINVAL) bytes
+    if u32_in subscription.TYPE bytes == calls.V4L2_EVENT_CTRL then asking (subscribe_ask plan h fh bytes) (errno_told bytes) else refused (errno_number EINVAL) bytes
 
 -- the controls that a file handle is subscribed to, in the order of their numbers
 abbrev pub subscriptions : DeviceData → FhId → List ℕ

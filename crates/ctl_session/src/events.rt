@@ -3,7 +3,7 @@ ghost use Rattle.device_history.specs.Refusals.{Answer};
 ghost use Rattle.ctrl_handlers.specs.declared.limits.TheConstants.{MAX_CONTROLS};
 ghost use Rattle.ioctl_bytes.specs.declared.layout.v4l2_event.TheConstants as event_struct;
 ghost use Rattle.ioctl_bytes.specs.declared.layout.v4l2_event_subscription.TheConstants as subscription;
-ghost use Rattle.ctl_session.specs.Calls.{AskedInTurn, Calls, flags_for as flags_meant, last_errno, plan_in, sized, subscribe_call, subscriptions as subscribed_to, take_call, taken_told, unsubscribe_ask, unsubscribe_call};
+ghost use Rattle.ctl_session.specs.Calls.{AskedInTurn, Calls, flags_for as flags_meant, last_errno, plan_in, sized, subscribe_ask as ask_to_subscribe, subscribe_call, subscriptions as subscribed_to, take_call, taken_told, unsubscribe_ask, unsubscribe_call};
 
 use crate::calls::{CUT, NO_CALL};
 use crate::ids::{id_at, shown};
@@ -11,6 +11,7 @@ use crate::session::{Session, errno_of};
 use bitflags::Flags as FlagSet;
 use call_structs::{is_heading, put_event};
 use ctrl_calls::Driver;
+use ctrl_handlers::Plan;
 use ctrl_settle::Ctrl;
 use ctrl_types::{CtrlId, Errno, Fault, FhId, SubFlags};
 use device_state::{Ask, Reply};
@@ -21,6 +22,7 @@ use ioctl_bytes::u32_at;
 impl<D: Driver> Session<D> {
     // VIDIOC_SUBSCRIBE_EVENT.
     pub(crate) fn subscribe(&mut self, handler: u32, fh: FhId, arg: &mut [u8]) -> u32
+        ensures { Calls D.verdict self.old (sized subscription.SIZE arg.old (subscribe_call (plan_in self.old) handler fh arg.old)) self.new (result, arg.new) }
     {
         if arg.len() != v4l2_event_subscription::SIZE {
             return CUT;
@@ -28,17 +30,13 @@ impl<D: Driver> Session<D> {
         if u32_at(arg, v4l2_event_subscription::TYPE) != V4L2_EVENT_CTRL {
             return Errno::EINVAL.number();
         }
-        let id = CtrlId(u32_at(arg, v4l2_event_subscription::ID));
-        let asked = u32_at(arg, v4l2_event_subscription::FLAGS);
-        let flags = flags_for(id, shown(self.device().plan(), handler, id), asked);
-        let flags = SubFlags::from_bits_retain(flags);
-        let answer = self.ask(&Ask::Subscribe { fh, id, flags });
+        let ask = subscribe_ask(self.plan(), handler, fh, arg);
+        let answer = self.ask(&ask);
         errno_of(&answer)
     }
 
     // VIDIOC_UNSUBSCRIBE_EVENT. Nobody is subscribed to events of other types, so that there is nothing to end.
-    pub(crate) fn unsubscribe(&mut self, fh: FhId, arg: &mut [u8]) -> u32
-    {
+    pub(crate) fn unsubscribe(&mut self, fh: FhId, arg: &mut [u8]) -> u32 {
         if arg.len() != v4l2_event_subscription::SIZE {
             return CUT;
         }
@@ -55,9 +53,9 @@ impl<D: Driver> Session<D> {
 
     // Ends each subscription, in the order of controls; the errno of the first that isn't ended.
     fn unsubscribe_all(&mut self, fh: FhId) -> u32 {
-        for control in 0..self.device().plan().control_count() {
+        for control in 0..self.plan().control_count() {
             if self.device().subscribed(fh, control).is_some() {
-                let id = CtrlId(id_at(self.device().plan().controls(), control));
+                let id = CtrlId(id_at(self.plan().controls(), control));
                 if let Err(fault) = self.ask(&Ask::Unsubscribe { fh, id }) {
                     return fault.errno.number();
                 }
@@ -67,7 +65,6 @@ impl<D: Driver> Session<D> {
     }
 
     // VIDIOC_DQEVENT.
-    #[tactic(auto, using(crate::proofs::CallLemmas::refuses, crate::proofs::CallLemmas::asks))]
     pub(crate) fn take(&mut self, fh: FhId, arg: &mut [u8]) -> u32
         ensures { Calls D.verdict self.old (sized event_struct.SIZE arg.old (take_call fh arg.old)) self.new (result, arg.new) }
     {
@@ -76,6 +73,20 @@ impl<D: Driver> Session<D> {
         }
         let answer = self.ask(&Ask::Take { fh });
         tell_event(&answer, arg)
+    }
+}
+
+fn subscribe_ask<D: Driver>(plan: &Plan<D>, handler: u32, fh: FhId, arg: &[u8]) -> Ask
+    requires { length arg.now ≡ subscription.SIZE }
+    ensures { result ≡ ask_to_subscribe plan.now handler fh arg.now }
+{
+    let id = CtrlId(u32_at(arg, v4l2_event_subscription::ID));
+    let asked = u32_at(arg, v4l2_event_subscription::FLAGS);
+    let flags = flags_for(id, shown(plan, handler, id), asked);
+    Ask::Subscribe {
+        fh,
+        id,
+        flags: SubFlags::from_bits_retain(flags),
     }
 }
 

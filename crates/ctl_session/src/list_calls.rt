@@ -41,8 +41,7 @@ impl<D: Driver> Session<D> {
         request: Option<RequestId>,
         access: Access,
         arg: &mut [u8],
-    ) -> u32
-    {
+    ) -> u32 {
         if arg.len() < v4l2_ext_controls::SIZE {
             return CUT;
         }
@@ -65,8 +64,8 @@ impl<D: Driver> Session<D> {
         requires whole { length arg.old ≡ size_for (count_read arg.old) }
     {
         let count = read_count(arg);
-        let Ok(list) = read_list(self.alloc(), self.device().plan(), handler, arg, count) else {
-            return tell_list(self.device().plan(), handler, &Err(no_memory()), arg);
+        let Ok(list) = read_list(self.alloc(), self.plan(), handler, arg, count) else {
+            return tell_list(self.plan(), handler, &Err(no_memory()), arg);
         };
         let ask = list_ask(
             access,
@@ -75,10 +74,10 @@ impl<D: Driver> Session<D> {
             request,
             list,
         );
-        let wrong = wrong_payload(self.device().plan(), handler, count, is_write(access), arg);
+        let wrong = wrong_payload(self.plan(), handler, count, is_write(access), arg);
         match self.is_refused_before(arg, count, &ask, wrong) {
             Ok(before) => self.list_by(handler, access, &ask, wrong, before, arg),
-            Err(_) => tell_list(self.device().plan(), handler, &Err(no_memory()), arg),
+            Err(_) => tell_list(self.plan(), handler, &Err(no_memory()), arg),
         }
     }
 
@@ -120,12 +119,10 @@ impl<D: Driver> Session<D> {
         requires place { IfSome wrong (λ w. w.0 < count_read arg.old) }
     {
         match wrong {
-            Some(wrong) if !before => {
-                tell_wrong(self.device().plan(), handler, access, wrong, arg)
-            }
+            Some(wrong) if !before => { tell_wrong(self.plan(), handler, access, wrong, arg) }
             _ => {
                 let answer = self.ask(ask);
-                tell_list(self.device().plan(), handler, &answer, arg)
+                tell_list(self.plan(), handler, &answer, arg)
             }
         }
     }

@@ -4,13 +4,14 @@ ghost use Rattle.call_structs.specs.Told.{query_ext_ctrl, queryctrl};
 ghost use Rattle.ioctl_bytes.specs.declared.layout.v4l2_query_ext_ctrl.TheConstants as ext;
 ghost use Rattle.ioctl_bytes.specs.declared.layout.v4l2_queryctrl.TheConstants as query_struct;
 ghost use Rattle.ioctl_bytes.specs.declared.layout.v4l2_querymenu.TheConstants as menu;
-ghost use Rattle.ctl_session.specs.Calls.{Calls, info_put, info_told as info_in, item_told, menu_call, plan_in, query_call, sized, with_old_id};
+ghost use Rattle.ctl_session.specs.Calls.{Calls, info_put, info_told as info_in, item_told, menu_ask as ask_for_item, menu_call, plan_in, query_call, sized, with_old_id};
 
 use crate::calls::{CUT, NO_CALL};
 use crate::ids::{is_old, queried, real_id};
 use crate::session::Session;
 use call_structs::{put_item, put_query, put_query_ext};
 use ctrl_calls::Driver;
+use ctrl_handlers::Plan;
 use ctrl_types::{CtrlId, Errno, Fault, FhId};
 use device_state::{Ask, CtrlInfo, Reply};
 use ioctl_bytes::layout::{v4l2_query_ext_ctrl, v4l2_queryctrl, v4l2_querymenu};
@@ -18,13 +19,12 @@ use ioctl_bytes::{put_u32, u32_at};
 
 impl<D: Driver> Session<D> {
     // VIDIOC_QUERYCTRL.
-    pub(crate) fn query(&mut self, handler: u32, fh: FhId, arg: &mut [u8]) -> u32
-    {
+    pub(crate) fn query(&mut self, handler: u32, fh: FhId, arg: &mut [u8]) -> u32 {
         if arg.len() != v4l2_queryctrl::SIZE {
             return CUT;
         }
         let asked = u32_at(arg, v4l2_queryctrl::ID);
-        let Some(id) = queried(self.device().plan(), handler, asked) else {
+        let Some(id) = queried(self.plan(), handler, asked) else {
             return Errno::EINVAL.number();
         };
         let answer = self.ask(&Ask::Query { fh, id });
@@ -33,6 +33,7 @@ impl<D: Driver> Session<D> {
 
     fn tell_query(&self, handler: u32, told: Result<CtrlInfo, u32>, arg: &mut [u8]) -> u32
         requires { length arg.old ≡ query_struct.SIZE }
+        ensures { (name : CtrlInfo → List ℕ) × ((result, arg.new) ≡ info_put (λ info. queryctrl info (name info)) arg.old told) }
     {
         match told {
             Ok(info) => {
@@ -46,13 +47,12 @@ impl<D: Driver> Session<D> {
     }
 
     // VIDIOC_QUERY_EXT_CTRL.
-    pub(crate) fn query_ext(&mut self, handler: u32, fh: FhId, arg: &mut [u8]) -> u32
-    {
+    pub(crate) fn query_ext(&mut self, handler: u32, fh: FhId, arg: &mut [u8]) -> u32 {
         if arg.len() != v4l2_query_ext_ctrl::SIZE {
             return CUT;
         }
         let asked = u32_at(arg, v4l2_query_ext_ctrl::ID);
-        let Some(id) = queried(self.device().plan(), handler, asked) else {
+        let Some(id) = queried(self.plan(), handler, asked) else {
             return Errno::EINVAL.number();
         };
         let answer = self.ask(&Ask::Query { fh, id });
@@ -61,6 +61,7 @@ impl<D: Driver> Session<D> {
 
     fn tell_query_ext(&self, handler: u32, told: Result<CtrlInfo, u32>, arg: &mut [u8]) -> u32
         requires { length arg.old ≡ ext.SIZE }
+        ensures { (name : CtrlInfo → List ℕ) × ((result, arg.new) ≡ info_put (λ info. query_ext_ctrl info (name info)) arg.old told) }
     {
         match told {
             Ok(info) => {
@@ -75,14 +76,13 @@ impl<D: Driver> Session<D> {
 
     // VIDIOC_QUERYMENU.
     pub(crate) fn query_menu(&mut self, handler: u32, fh: FhId, arg: &mut [u8]) -> u32
+        ensures { Calls D.verdict self.old (sized menu.SIZE arg.old (menu_call (plan_in self.old) handler fh arg.old)) self.new (result, arg.new) }
     {
         if arg.len() != v4l2_querymenu::SIZE {
             return CUT;
         }
-        let asked = CtrlId(u32_at(arg, v4l2_querymenu::ID));
-        let id = real_id(self.device().plan(), handler, asked);
-        let index = u32_at(arg, v4l2_querymenu::INDEX);
-        let answer = self.ask(&Ask::MenuItem { fh, id, index });
+        let ask = menu_ask(self.plan(), handler, fh, arg);
+        let answer = self.ask(&ask);
         tell_item(&answer, arg)
     }
 }
@@ -95,6 +95,18 @@ fn info_told(answer: &Result<Reply, Fault>) -> Result<CtrlInfo, u32>
         Ok(Reply::Info(info)) => Ok(*info),
         Ok(_) => Err(NO_CALL),
         Err(fault) => Err(fault.errno.number()),
+    }
+}
+
+fn menu_ask<D: Driver>(plan: &Plan<D>, handler: u32, fh: FhId, arg: &[u8]) -> Ask
+    requires { length arg.now ≡ menu.SIZE }
+    ensures { result ≡ ask_for_item plan.now handler fh arg.now }
+{
+    let asked = CtrlId(u32_at(arg, v4l2_querymenu::ID));
+    Ask::MenuItem {
+        fh,
+        id: real_id(plan, handler, asked),
+        index: u32_at(arg, v4l2_querymenu::INDEX),
     }
 }
 

@@ -1,11 +1,13 @@
 ghost use Rattle.std.specs.Prelude.{◌≡◌, None, false};
 ghost use Rattle.ctrl_types.specs.declared.errno.Errno.TheVariants.{ENOMEM};
+ghost use Rattle.ctl_session.specs.Calls.{plan_in};
 ghost use Rattle.ctl_session.specs.Session.{Asked, errno_in};
 
 use crate::names::{heading_name, kernel_name};
 use ask_reasons::{Reason, reason_of};
 use call_structs::is_heading;
 use ctrl_calls::Driver;
+use ctrl_handlers::Plan;
 use ctrl_types::{CtrlId, Errno, Fault};
 use device_file::ClassNames;
 use device_state::{Ask, CtrlInfo, Device, Reply};
@@ -75,6 +77,13 @@ impl<D: Driver> Session<D> {
         &self.device
     }
 
+    // The plan of the device.
+    pub(crate) fn plan(&self) -> &Plan<D>
+        ensures { result.now ≡ plan_in self.now }
+    {
+        self.device.plan()
+    }
+
     /// What its controls are called.
     pub fn names(&self) -> &Names {
         &self.names
@@ -118,7 +127,6 @@ impl<D: Driver> Session<D> {
     }
 
     // The same, but for why.
-    #[tactic(auto, using(crate::proofs::CallLemmas::handled, crate::proofs::CallLemmas::without))]
     fn answer(&mut self, ask: &Ask) -> Result<Reply, Fault>
         ensures { Asked D.verdict self.old self.new ask.now result }
     {

@@ -7,7 +7,7 @@ use Rattle.ctl_session.proofs.lists.first_of_control.Goals as goal
 pub returns-then-names_same : goal.returns-then-names_same
 returns-then-names_same c =
     sym (ap (λ found. unwrap_or found c.args.place) (found_at (names_same c.args.arg.now c.args.place) c.loop-other.other c.args.count c.loop-other-test.true
-      c.loop-other.invariant (sym c.names_same.ensures ∙ c.if-names_same.true)))
+    c.loop-other.invariant (sym c.names_same.ensures ∙ c.if-names_same.true)))
 
 -- src/lists.rt
 pub loop-other-preserved : goal.loop-other-preserved

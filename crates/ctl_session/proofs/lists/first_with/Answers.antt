@@ -8,11 +8,11 @@ pub returns-then-has_fault : goal.returns-then-has_fault
 returns-then-has_fault g c = record {
   place = c.loop-place-test.true;
   first = sym (found_at (λ place. has_fault c.args.fault (read_at c.args.plan.now c.args.handler c.args.count c.args.arg.now place)) c.loop-place.place c.args.count c.loop-place-test.true
-    c.loop-place.invariant (search (rules, c.has_fault.ensures, c.read_at.ensures, c.if-has_fault.true)));
+      c.loop-place.invariant (search (rules, c.has_fault.ensures, c.read_at.ensures, c.if-has_fault.true)));
 }
 
 -- src/lists.rt
 pub loop-place-preserved : goal.loop-place-preserved
 loop-place-preserved g c =
     none_more (λ place. has_fault c.args.fault (read_at c.args.plan.now c.args.handler c.args.count c.args.arg.now place)) c.loop-place.place
-      c.loop-place.invariant (search (rules, c.has_fault.ensures, c.read_at.ensures, c.if-has_fault.false))
+    c.loop-place.invariant (search (rules, c.has_fault.ensures, c.read_at.ensures, c.if-has_fault.false))

@@ -12,10 +12,10 @@ loop-place-preserved g c =
     let next : c.loop-place.place + 1 ≡ suc c.loop-place.place = omega arith in
     record {
       read = ap (λ n. take n (slice_set c.loop-place.entries c.loop-place.place c.entry_at.result)) next
-        ∙ take-suc-set c.loop-place.entries c.loop-place.place c.entry_at.result (search rules)
-        ∙ ap (λ front. front ++ c.entry_at.result ∷ []) c.loop-place.invariant.read
-        ∙ ap (λ last. map entry (range_with_len 0 c.loop-place.place) ++ last ∷ []) c.entry_at.ensures
-        ∙ sym (map-range_with_len_more entry 0 c.loop-place.place c.loop-place.place (omega arith));
+          ∙ take-suc-set c.loop-place.entries c.loop-place.place c.entry_at.result (search rules)
+          ∙ ap (λ front. front ++ c.entry_at.result ∷ []) c.loop-place.invariant.read
+          ∙ ap (λ last. map entry (range_with_len 0 c.loop-place.place) ++ last ∷ []) c.entry_at.ensures
+          ∙ sym (map-range_with_len_more entry 0 c.loop-place.place c.loop-place.place (omega arith));
       long = search rules;
     }
 

@@ -8,5 +8,5 @@ pub returns-in-Ok : goal.returns-in-Ok
 returns-in-Ok g c =
     let then : SessionData = record { device = c.handle_and_follow.new.device; followers = c.self.inside.followers.items; owed = c.handle_and_follow.new.owed } in
     subst (λ (before : SessionData). Asked g.D.Validates.verdict before then c.args.ask.now c.in-Ok.answer) c.self.view_is
-      (handled g.D.Validates.verdict (record { device = c.self.inside.device; followers = c.self.inside.followers.items; owed = c.self.inside.owed }) then c.args.ask.now c.in-Ok.answer c.in-Ok.field-0-1.items refl
-        (search (rules, c.in-Ok.ensures.ok, c.as_slice.ensures.value)))
+    (handled g.D.Validates.verdict (record { device = c.self.inside.device; followers = c.self.inside.followers.items; owed = c.self.inside.owed }) then c.args.ask.now c.in-Ok.answer c.in-Ok.field-0-1.items refl
+    (search (rules, c.in-Ok.ensures.ok, c.as_slice.ensures.value)))

@@ -9,5 +9,5 @@ use Rattle.ctl_session.proofs.session.Session.take.Goals as goal
 pub returns : goal.returns
 returns g c =
     sized_by g.D.Validates.verdict c.args.self.now c.ask-answer.new.self SIZE c.args.arg.now (take_call c.args.fh c.args.arg.now) (c.tell_event.result, c.tell_event.new.arg) (search rules)
-      (asks g.D.Validates.verdict c.args.self.now c.ask-answer.new.self (Take c.args.fh) c.ask-answer.result (taken_told c.args.arg.now) (c.tell_event.result, c.tell_event.new.arg)
-        c.ask-answer.ensures c.tell_event.ensures)
+    (asks g.D.Validates.verdict c.args.self.now c.ask-answer.new.self (Take c.args.fh) c.ask-answer.result (taken_told c.args.arg.now) (c.tell_event.result, c.tell_event.new.arg)
+    c.ask-answer.ensures c.tell_event.ensures)
