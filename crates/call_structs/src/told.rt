@@ -226,7 +226,11 @@ fn put_change(bytes: &mut [u8], event: &Event)
     ensures told { bytes.new ≡ with_change event.now bytes.old }
     ensures length { length bytes.new ≡ event_struct.SIZE }
 {
-    put_u32(bytes, v4l2_event::U + v4l2_event_ctrl::CHANGES, event.changes.bits());
+    put_u32(
+        bytes,
+        v4l2_event::U + v4l2_event_ctrl::CHANGES,
+        event.changes.bits(),
+    );
     put_u32(
         bytes,
         v4l2_event::U + v4l2_event_ctrl::TYPE,
@@ -256,10 +260,26 @@ fn put_event_bounds(bytes: &mut [u8], event: &Event)
     ensures told { bytes.new ≡ with_event_bounds event.now bytes.old }
     ensures length { length bytes.new ≡ event_struct.SIZE }
 {
-    put_low(bytes, v4l2_event::U + v4l2_event_ctrl::MINIMUM, event.minimum);
-    put_low(bytes, v4l2_event::U + v4l2_event_ctrl::MAXIMUM, event.maximum);
-    put_low(bytes, v4l2_event::U + v4l2_event_ctrl::STEP, step_told(event.step));
-    put_low(bytes, v4l2_event::U + v4l2_event_ctrl::DEFAULT_VALUE, event.default_value);
+    put_low(
+        bytes,
+        v4l2_event::U + v4l2_event_ctrl::MINIMUM,
+        event.minimum,
+    );
+    put_low(
+        bytes,
+        v4l2_event::U + v4l2_event_ctrl::MAXIMUM,
+        event.maximum,
+    );
+    put_low(
+        bytes,
+        v4l2_event::U + v4l2_event_ctrl::STEP,
+        step_told(event.step),
+    );
+    put_low(
+        bytes,
+        v4l2_event::U + v4l2_event_ctrl::DEFAULT_VALUE,
+        event.default_value,
+    );
 }
 
 fn put_event_value(bytes: &mut [u8], kind: Kind, value: i64)
