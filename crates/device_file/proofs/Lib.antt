@@ -3,3 +3,4 @@ mod Finishing
 mod HeadingLemmas
 mod Indexes
 mod Refused
+mod Sources

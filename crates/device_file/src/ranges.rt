@@ -3,7 +3,8 @@
 ghost use Rattle.std.specs.Prelude.{◌≡◌, option_map, IfErr, OnOk};
 ghost use Rattle.toml.specs.View.{table_view};
 ghost use Rattle.ctrl_handlers.specs.Plan.{control_in};
-ghost use Rattle.device_file.specs.Ranges.{default_by, default_first as first_number_of_default, followed_in as followed_by, follows_any as any_follows, is_follower, number_first as first_number, read_in as read_as, source_in as source_at, source_of as source_with, started as started_as, wanted_first, with_follower};
+ghost use Rattle.file_tables.specs.Bounds.{plus_at};
+ghost use Rattle.device_file.specs.Ranges.{default_by, default_first as first_number_of_default, followed_in as followed_by, follows_any as any_follows, is_follower, number_first as first_number, read_in as read_as, source_in as source_at, source_named as source_by_name, source_of as source_with, started as started_as, wanted_first, with_follower};
 ghost use Rattle.device_file.specs.declared.stop.ReadError.TheVariants.{Memory};
 
 use crate::stop::ReadError;
@@ -97,11 +98,27 @@ fn source_in(
     let Some(name) = followed(table, key) else {
         return Ok(None);
     };
-    let Some(number) = words.number_of(name.as_bytes()) else {
-        return Err(KeyFault::new(key, Problem::UnknownFollowed));
-    };
-    let source = source_of(controls, followers, key, number, plus(table, key))?;
-    Ok(Some(source))
+    match source_named(controls, words, followers, table, key, name) {
+        Ok(source) => Ok(Some(source)),
+        Err(fault) => Err(fault),
+    }
+}
+
+// The control with this name as what a key of the table follows.
+fn source_named(
+    controls: &[Ctrl],
+    words: &ControlWords,
+    followers: &[Follower],
+    table: &Table,
+    key: Key,
+    name: &str,
+) -> Result<Source, KeyFault>
+    ensures { result ≡ source_by_name controls.now words.now followers.now key name.now (plus_at key (table_view table.now)) }
+{
+    match words.number_of(name.as_bytes()) {
+        Some(number) => source_of(controls, followers, key, number, plus(table, key)),
+        None => Err(KeyFault::new(key, Problem::UnknownFollowed)),
+    }
 }
 
 // The control of a number as what a key follows: an integer or an integer64 that follows nothing itself.
