@@ -1,5 +1,5 @@
 -- A finished plan with headings, once it is finished again, is the plan that is finished once, with them: those of its controls that were in no cluster have one already.
-use Rattle.std.proofs.Common.{◌≡◌, ℕ, zero, suc, ◌+◌, ◌*◌, ◌<◌, ◌≤◌, Bool, true, false, cond, List, [], ◌∷◌, ◌++◌, length, is_some, refl, sym, ap, subst, ◌∙◌, arith, absurd, inl, inr, ◌⊎◌}
+use Rattle.std.proofs.Common.{◌≡◌, ℕ, zero, suc, ◌+◌, ◌*◌, ◌<◌, ◌≤◌, Bool, true, false, cond, List, [], ◌∷◌, ◌++◌, length, is_some, refl, sym, ap, subst, ◌∙◌, arith, inl, inr, ◌⊎◌}
 use Rattle.std.specs.List.{list_any}
 use Rattle.std.proofs.lemmas.Bool.{cases_lt}
 use Rattle.std.proofs.lemmas.Bool.Decides.{nat_tests}
@@ -40,11 +40,11 @@ own_one clusters n = by (list_any (has_member n) clusters) refl
 -- so each below a number is in a cluster
 each_has : (clusters : List ClusterData) (n c : ℕ) → c < n → list_any (has_member c) (with_each clusters n) ≡ true
 each_has clusters zero c h = absurd (omega (arith, h))
-each_has clusters (suc n) c h = ap (list_any (has_member c)) (each_suc clusters n) ∙ by (cases_lt c n)
+each_has clusters (suc n) c h = ap (list_any (has_member c)) (each_suc clusters n) ∙ by (λ below. each_has clusters n c below) (cases_lt c n)
   where
-    by : (c < n) ⊎ (n ≤ c) → list_any (has_member c) (with_alone (with_each clusters n) n) ≡ true
-    by (inl below) = kept (with_each clusters n) n c (each_has clusters n c below)
-    by (inr past) =
+    by : (c < n → list_any (has_member c) (with_each clusters n) ≡ true) → (c < n) ⊎ (n ≤ c) → list_any (has_member c) (with_alone (with_each clusters n) n) ≡ true
+    by has (inl below) = kept (with_each clusters n) n c (has below)
+    by has (inr past) =
         let same : n ≡ c = omega (arith, h, past) in
         subst (λ (k : ℕ). list_any (has_member k) (with_alone (with_each clusters n) n) ≡ true) same (own_one (with_each clusters n) n)
 
@@ -62,14 +62,14 @@ each_again clusters n zero h = subst (λ (k : ℕ). with_each (with_each cluster
   where
     none : n ≡ 0
     none = omega (arith, h)
-each_again clusters n (suc m) h = by (cases_lt m n)
+each_again clusters n (suc m) h = by (λ before. each_again clusters n m before) (cases_lt m n)
   where
-    by : (m < n) ⊎ (n ≤ m) → with_each (with_each clusters n) (suc m) ≡ with_each clusters (suc m)
-    by (inl last) =
+    by : (n ≤ m → with_each (with_each clusters n) m ≡ with_each clusters m) → (m < n) ⊎ (n ≤ m) → with_each (with_each clusters n) (suc m) ≡ with_each clusters (suc m)
+    by so_far (inl last) =
         let same : n ≡ suc m = omega (arith, h, last) in
         subst (λ (k : ℕ). with_each (with_each clusters k) (suc m) ≡ with_each clusters (suc m)) (sym same) (each_stays clusters (suc m) (suc m) (omega arith))
-    by (inr before) =
-        each_suc (with_each clusters n) m ∙ ap (λ (ks : List ClusterData). with_alone ks m) (each_again clusters n m before) ∙ sym (each_suc clusters m)
+    by so_far (inr before) =
+        each_suc (with_each clusters n) m ∙ ap (λ (ks : List ClusterData). with_alone ks m) (so_far before) ∙ sym (each_suc clusters m)
 
 -- the plan with other clusters
 abbrev on : List ClusterData → PlanData → PlanData

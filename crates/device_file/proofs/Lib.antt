@@ -1,3 +1,4 @@
+mod Cameras
 mod Files
 mod Finishing
 mod HeadingLemmas

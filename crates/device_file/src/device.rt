@@ -109,7 +109,6 @@ pub fn device_in(alloc: Global, file: &Table) -> Result<DeviceFile, FileFault>
 }
 
 // The same with the headings of classes, as `read_camera` reads it.
-#[tactic(auto, using(crate::proofs::Finishing::headed_first))]
 fn camera_in(alloc: Global, file: &Table) -> Result<DeviceFile, FileFault>
     ensures ok { IfOk result (λ it. camera_of (table_view file.now) ≡ Ok (data_of it)) }
     ensures err { IfErr result (FileStops (device_of (table_view file.now))) }
