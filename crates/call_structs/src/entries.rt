@@ -1,4 +1,4 @@
-ghost use Rattle.std.specs.Prelude.{◌≡◌, ◌≤◌, ◌<◌, ℕ, length};
+ghost use Rattle.std.specs.Prelude.{◌≡◌, ◌≤◌, ◌<◌, ◌+◌, ℕ, length};
 ghost use Rattle.call_structs.specs.Entries.{array_at, entry_start, id_at, list_size, slot_start, value_at, with_number, with_size, with_told};
 ghost use Rattle.call_structs.specs.declared.entries.Form.TheVariants.{Array};
 
@@ -46,19 +46,22 @@ fn slot_start(count: usize, place: usize) -> usize
 
 /// The control of an entry.
 ///
-/// - `bytes`: the list's head, `count` entries and `count` slots.
-/// - `count`: how many entries stand there, at most 65.
-/// - `place`: the entry, from 0.
-pub fn entry_id(bytes: &[u8], count: usize, place: usize) -> CtrlId
-    requires count { count ≤ 65 }
-    requires place { place < count }
-    requires whole { list_size count ≤ length bytes.now }
+/// - `bytes`: the list's head, and the entries behind it as far as this one at least.
+/// - `place`: the entry, from 0, at most 64.
+pub fn entry_id(bytes: &[u8], place: usize) -> CtrlId
+    requires place { place < 65 }
+    requires whole { entry_start (place + 1) ≤ length bytes.now }
     ensures { result ≡ id_at place bytes.now }
 {
     CtrlId(u32_at(bytes, entry_start(place) + v4l2_ext_control::ID))
 }
 
-/// The value that an entry has; the error is what is wrong with its payload. The arguments are those of `entry_id`, and `form` is that of the entry's control, an array's of 32 bytes at most.
+/// The value that an entry has; the error is what is wrong with its payload.
+///
+/// - `bytes`: the list's head, `count` entries and `count` slots.
+/// - `count`: how many entries stand there, at most 65.
+/// - `place`: the entry, from 0.
+/// - `form`: that of the entry's control, an array's of 32 bytes at most.
 pub fn value_at(
     bytes: &[u8],
     count: usize,
@@ -112,10 +115,9 @@ pub fn list_size(count: usize) -> usize
 }
 
 /// Writes how many bytes the payload of an entry has. The arguments are those of `entry_id`.
-pub fn put_size(bytes: &mut [u8], count: usize, place: usize, size: u32)
-    requires count { count ≤ 65 }
-    requires place { place < count }
-    requires whole { list_size count ≤ length bytes.old }
+pub fn put_size(bytes: &mut [u8], place: usize, size: u32)
+    requires place { place < 65 }
+    requires whole { entry_start (place + 1) ≤ length bytes.old }
     ensures told { bytes.new ≡ with_size place size bytes.old }
     ensures length { length bytes.new ≡ length bytes.old }
 {
@@ -137,18 +139,17 @@ pub fn put_value(bytes: &mut [u8], count: usize, place: usize, form: Form, value
 {
     match value {
         CtrlValue::Bytes(row) => {
-            put_size(bytes, count, place, row.len() as u32);
+            put_size(bytes, place, row.len() as u32);
             put_u32(bytes, entry_start(place) + v4l2_ext_control::RESERVED2, 1);
             put(bytes, slot_start(count, place), row.bytes());
         }
-        CtrlValue::Number(number) => put_number(bytes, count, place, form, *number),
+        CtrlValue::Number(number) => put_number(bytes, place, form, *number),
     }
 }
 
-fn put_number(bytes: &mut [u8], count: usize, place: usize, form: Form, number: i64)
-    requires count { count ≤ 65 }
-    requires place { place < count }
-    requires whole { list_size count ≤ length bytes.old }
+fn put_number(bytes: &mut [u8], place: usize, form: Form, number: i64)
+    requires place { place < 65 }
+    requires whole { entry_start (place + 1) ≤ length bytes.old }
     ensures told { bytes.new ≡ with_number form place number bytes.old }
     ensures length { length bytes.new ≡ length bytes.old }
 {

@@ -1,14 +1,21 @@
 -- What a call does, put together of what its ask does and what is told.
-use Rattle.std.proofs.Common.{◌≡◌, ◌==◌, ◌∙◌, if◌then◌else◌, length, subst, ℕ, Bool, List, [], ◌∷◌, map, true, false, Ok, Err, refl, sym, ap, inl, inr, Some}
+use Rattle.std.proofs.Common.{arith, ◌≡◌, ◌≤◌, ◌-◌, ◌==◌, ◌∙◌, suc, take, drop, get_or, if◌then◌else◌, length, subst, ℕ, Bool, List, [], ◌∷◌, map, true, false, Ok, Err, refl, sym, ap, inl, inr, Option, None, Some}
+use Rattle.std.proofs.lemmas.List.{take_all}
 use Rattle.ctrl_calls.specs.Meanings.{Verdicts}
+use Rattle.ctrl_types.specs.Numbers.{errno_number}
+use Rattle.ctrl_types.specs.declared.errno.Fault.{Fault}
+use Rattle.ctrl_types.specs.declared.ids.FhId.{FhId}
 use Rattle.device_history.specs.declared.ask.Ask.{Ask}
+use Rattle.device_history.specs.declared.ask.Reply.{Reply}
 use Rattle.device_history.specs.Refusals.{Answer}
 use Rattle.device_state.proofs.RunLemmas.{run_plan}
 use Rattle.following_ranges.specs.declared.asking.RangeAsk.{RangeAsk}
 use Rattle.following_ranges.specs.Following.{HandlesAndFollows, is_change, range_call}
 use Rattle.ctl_session.specs.Session.{Asked, SessionData, without_room}
-use Rattle.ctl_session.specs.Calls.{AskedInTurn, Calls, Meaning, Told, asking, asking_list, refused, sized}
+use Rattle.ctl_session.specs.Calls.{AskedInTurn, Calls, EndedInTurn, Meaning, Told, asking, asking_list, ending_all, last_errno, list_by, list_told, plan_in, refused, sized, unsubscribe_ask, wrong_told}
 use Rattle.ctl_session.specs.declared.calls.TheConstants.{CUT}
+use Rattle.ctl_session.specs.declared.list_calls.Access.{Access}
+use Rattle.ctl_session.specs.Lists.{Wrong}
 
 -- an ask that the device handled
 pub handled : (verdicts : Verdicts) (old new : SessionData) (ask : Ask) (answer : Answer) (ranges : List RangeAsk) → new.followers ≡ old.followers
@@ -21,8 +28,8 @@ pub without : (verdicts : Verdicts) (old new : SessionData) (ask : Ask) (answer 
 without verdicts old new ask answer change same is = inr (change, same, is)
 
 -- nothing is asked
-pub refuses : (verdicts : Verdicts) (session : SessionData) (errno : ℕ) (bytes : List ℕ) → Calls verdicts session (refused errno bytes) session (errno, bytes)
-refuses verdicts session errno bytes = inl ([], refl, refl)
+pub refuses : (verdicts : Verdicts) (session : SessionData) (errno : ℕ) (bytes : List ℕ) (told : Told) → told ≡ (errno, bytes) → Calls verdicts session (refused errno bytes) session told
+refuses verdicts session errno bytes told is = inl ([], refl, is)
 
 -- one ask with its answer
 pub once : (verdicts : Verdicts) (old new : SessionData) (ask : Ask) (answer : Answer) → Asked verdicts old new ask answer → AskedInTurn verdicts old (ask ∷ []) (answer ∷ []) new
@@ -38,8 +45,15 @@ pub asks_list : (verdicts : Verdicts) (old new : SessionData) (ask : Ask) (answe
 asks_list verdicts old new ask answer tell told asked is = inl (answer ∷ [], once verdicts old new ask answer asked, is)
 
 -- no room for a list
-pub short : (verdicts : Verdicts) (session : SessionData) (ask : Ask) (tell : Answer → Told) (told : Told) → told ≡ tell without_room → Calls verdicts session (asking_list ask tell) session told
-short verdicts session ask tell told is = inr (refl, ap Some (sym is))
+pub short : (verdicts : Verdicts) (session : SessionData) (h : ℕ) (access : Access) (bytes : List ℕ) (ask : Ask) (wrong : Option Wrong) (told : Told)
+    → told ≡ list_told (plan_in session) h bytes without_room → Calls verdicts session (list_by (plan_in session) h access bytes ask wrong) session told
+short verdicts session h access bytes ask None told is = inr (refl, ap Some (sym is))
+short verdicts session h access bytes ask (Some wrong) told is = inr (refl, ap Some (sym is))
+
+-- a payload refuses a list
+pub refused_by : (verdicts : Verdicts) (session : SessionData) (h : ℕ) (access : Access) (bytes : List ℕ) (ask : Ask) (wrong : Wrong) (told : Told)
+    → told ≡ wrong_told (plan_in session) h access bytes wrong → Calls verdicts session (list_by (plan_in session) h access bytes ask (Some wrong)) session told
+refused_by verdicts session h access bytes ask wrong told is = inl ([], refl, is)
 
 -- an ask leaves the plan as it is
 pub plan_kept : (verdicts : Verdicts) (old new : SessionData) (ask : Ask) (answer : Answer) → Asked verdicts old new ask answer → new.device.plan ≡ old.device.plan
@@ -51,6 +65,12 @@ pub sized_by : (verdicts : Verdicts) (old new : SessionData) (size : ℕ) (bytes
     → (length bytes == size) ≡ true → Calls verdicts old meaning new told → Calls verdicts old (sized size bytes meaning) new told
 sized_by verdicts old new size bytes meaning told same calls =
     subst (λ b. Calls verdicts old (if b then meaning else refused CUT bytes) new told) (sym same) calls
+
+-- one of another size isn't
+pub cut : (verdicts : Verdicts) (session : SessionData) (size : ℕ) (bytes : List ℕ) (meaning : Meaning) → (length bytes == size) ≡ false
+    → Calls verdicts session (sized size bytes meaning) session (CUT, bytes)
+cut verdicts session size bytes meaning other =
+    subst (λ b. Calls verdicts session (if b then meaning else refused CUT bytes) session (CUT, bytes)) (sym other) (refuses verdicts session CUT bytes (CUT, bytes) refl)
 
 -- one ask that was made so
 pub asks_made : (verdicts : Verdicts) (old new : SessionData) (made ask : Ask) (answer : Answer) (tell : Answer → Told) (told : Told) → made ≡ ask
@@ -72,3 +92,46 @@ if_so verdicts old new test taken other told so calls = subst (λ b. Calls verdi
 pub if_not : (verdicts : Verdicts) (old new : SessionData) (test : Bool) (taken other : Meaning) (told : Told) → test ≡ false → Calls verdicts old other new told
     → Calls verdicts old (if test then taken else other) new told
 if_not verdicts old new test taken other told so calls = subst (λ b. Calls verdicts old (if b then taken else other) new told) (sym so) calls
+
+-- Ends of subscriptions.
+
+-- an accepted one is none that ends the row of them
+last_errno_behind : (reply : Reply) (answers : List Answer) → last_errno (Ok reply ∷ answers) ≡ last_errno answers
+last_errno_behind reply [] = refl
+last_errno_behind reply (answer ∷ rest) = refl
+
+-- there is none to end
+pub ends_none : (verdicts : Verdicts) (session : SessionData) (fh : FhId) → EndedInTurn verdicts session fh [] session 0
+ends_none verdicts session fh = ([], refl, refl)
+
+-- one is ended, and those behind it
+pub ends_more : (verdicts : Verdicts) (old between new : SessionData) (fh : FhId) (c : ℕ) (rest : List ℕ) (made : Ask) (reply : Reply) (errno : ℕ)
+    → made ≡ unsubscribe_ask (plan_in old) fh c → Asked verdicts old between made (Ok reply) → EndedInTurn verdicts between fh rest new errno → EndedInTurn verdicts old fh (c ∷ rest) new errno
+ends_more verdicts old between new fh c rest made reply errno is asked (answers, turn, told) =
+    let kept = plan_kept verdicts old between made (Ok reply) asked in
+    let here = subst (λ a. Asked verdicts old between a (Ok reply)) is asked in
+    let behind = subst (λ plan. AskedInTurn verdicts between (map (unsubscribe_ask plan fh) rest) answers new) kept turn in
+    (Ok reply ∷ answers, (between, here, behind), told ∙ sym (last_errno_behind reply answers))
+
+-- one isn't ended, and those behind it stay
+pub ends_no_more : (verdicts : Verdicts) (old new : SessionData) (fh : FhId) (c : ℕ) (rest : List ℕ) (made : Ask) (fault : Fault)
+    → made ≡ unsubscribe_ask (plan_in old) fh c → Asked verdicts old new made (Err fault) → EndedInTurn verdicts old fh (c ∷ rest) new (errno_number fault.errno)
+ends_no_more verdicts old new fh c rest made fault is asked = (Err fault ∷ [], subst (λ a. Asked verdicts old new a (Err fault)) is asked, refl)
+
+-- the first of some controls, and those behind it
+pub ends_behind : (verdicts : Verdicts) (old between new : SessionData) (fh : FhId) (controls : List ℕ) (made : Ask) (reply : Reply) (errno : ℕ) → 1 ≤ length controls
+    → made ≡ unsubscribe_ask (plan_in old) fh (get_or controls 0 0) → Asked verdicts old between made (Ok reply)
+    → EndedInTurn verdicts between fh (take (length controls - 1) (drop 1 controls)) new errno → EndedInTurn verdicts old fh controls new errno
+ends_behind verdicts old between new fh [] made reply errno long is asked ended = absurd (omega (arith, long))
+ends_behind verdicts old between new fh (c ∷ rest) made reply errno long is asked ended =
+    ends_more verdicts old between new fh c rest made reply errno is asked (subst (λ controls. EndedInTurn verdicts between fh controls new errno) (take_all (suc (length rest) - 1) rest (omega arith)) ended)
+
+pub ends_at : (verdicts : Verdicts) (old new : SessionData) (fh : FhId) (controls : List ℕ) (made : Ask) (fault : Fault) → 1 ≤ length controls
+    → made ≡ unsubscribe_ask (plan_in old) fh (get_or controls 0 0) → Asked verdicts old new made (Err fault) → EndedInTurn verdicts old fh controls new (errno_number fault.errno)
+ends_at verdicts old new fh [] made fault long is asked = absurd (omega (arith, long))
+ends_at verdicts old new fh (c ∷ rest) made fault long is asked = ends_no_more verdicts old new fh c rest made fault is asked
+
+-- that is what the call does
+pub ends_all : (verdicts : Verdicts) (old new : SessionData) (fh : FhId) (controls bytes : List ℕ) (errno : ℕ)
+    → EndedInTurn verdicts old fh controls new errno → Calls verdicts old (ending_all (plan_in old) fh controls bytes) new (errno, bytes)
+ends_all verdicts old new fh controls bytes errno (answers, turn, told) = inl (answers, turn, ap (λ e. (e, bytes)) told)

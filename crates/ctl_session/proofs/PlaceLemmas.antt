@@ -1,6 +1,9 @@
 -- The first place that passes a test, of those below a number.
-use Rattle.std.proofs.Common.{rules, arith, ◌≡◌, ◌<◌, ◌+◌, ◌∙◌, ℕ, zero, suc, Bool, true, false, Option, None, Some, cond, ap, subst, refl}
-use Rattle.std.specs.List.{find, range_with_len}
+use Rattle.std.proofs.Common.{rules, arith, ◌≡◌, ◌<◌, ◌+◌, ◌++◌, ◌∷◌, [], List, length, take, slice_set, ◌∙◌, ℕ, zero, suc, Bool, true, false, Option, None, Some, cond, ap, subst, sym, refl}
+use Rattle.std.specs.List.{filter, find, range_with_len}
+use Rattle.std.proofs.Math.Seq.{take-suc-set}
+use Rattle.std.proofs.lemmas.List.{append-nil, map-id}
+use Rattle.std.proofs.lemmas.List.FromFn.{filter_of_map_range_with_len_more}
 
 -- where neither of two is found, it isn't the first
 not_first : (b : Bool) (later : Option ℕ) (a : ℕ) → cond b (Some a) later ≡ None → (b ≡ false) × (later ≡ None)
@@ -33,3 +36,21 @@ pub none_more : (p : ℕ → Bool) (k : ℕ) → find p (range_with_len 0 k) ≡
 none_more p k none here =
     let next : k + 1 ≡ suc k = omega arith in
     ap (λ n. find p (range_with_len 0 n)) next ∙ none_from p 0 k none (subst (λ m. p m ≡ false) (omega arith) here)
+
+-- what passes a test, of one number more
+pub filter_more : (p : ℕ → Bool) (n : ℕ) → filter p (range_with_len 0 (n + 1)) ≡ filter p (range_with_len 0 n) ++ cond (p n) (n ∷ []) []
+filter_more p n =
+    let from_start : 0 + n ≡ n = omega arith in
+    ap (filter p) (sym (map-id (range_with_len 0 (n + 1)))) ∙ filter_of_map_range_with_len_more p (λ i. i) 0 n n from_start
+    ∙ ap (λ numbers. filter p numbers ++ cond (p n) (n ∷ []) []) (map-id (range_with_len 0 n))
+
+pub filter_one_more : (p : ℕ → Bool) (n : ℕ) (numbers : List ℕ) (count : ℕ) → count < length numbers → p n ≡ true → take count numbers ≡ filter p (range_with_len 0 n)
+    → take (count + 1) (slice_set numbers count n) ≡ filter p (range_with_len 0 (n + 1))
+filter_one_more p n numbers count room passes so_far =
+    let next : count + 1 ≡ suc count = omega arith in
+    ap (λ k. take k (slice_set numbers count n)) next ∙ take-suc-set numbers count n room ∙ ap (λ front. front ++ n ∷ []) so_far
+    ∙ sym (filter_more p n ∙ ap (λ b. filter p (range_with_len 0 n) ++ cond b (n ∷ []) []) passes)
+
+pub filter_no_more : (p : ℕ → Bool) (n : ℕ) (numbers : List ℕ) (count : ℕ) → p n ≡ false → take count numbers ≡ filter p (range_with_len 0 n) → take count numbers ≡ filter p (range_with_len 0 (n + 1))
+filter_no_more p n numbers count fails so_far =
+    so_far ∙ sym (filter_more p n ∙ ap (λ b. filter p (range_with_len 0 n) ++ cond b (n ∷ []) []) fails ∙ append-nil (filter p (range_with_len 0 n)))

@@ -1,18 +1,16 @@
 -- What a control call means: what is asked of the device, one ask after another until one is refused, and what is told then: an errno, 0 for none, and the struct of
 -- the call (Linux userspace API, "Function Reference").
-use Rattle.std.specs.Prelude.{◌≡◌, ◌⊎◌, ◌==◌, ◌&&◌, ℕ, pos, Bool, true, false, not, if◌then◌else◌, min, nat_lt, bit_and, List, [], ◌∷◌, length, map, Option, None, Some, is_some, Result, Ok, Err}
+use Rattle.std.specs.Prelude.{◌≡◌, ◌⊎◌, ◌==◌, ℕ, Bool, true, false, if◌then◌else◌, min, nat_lt, bit_and, List, [], ◌∷◌, length, map, Option, None, Some, is_some, Result, Ok, Err}
 use Rattle.std.specs.List.{filter, range_with_len}
 use Rattle.history.specs.Past.{past}
 use Rattle.ctrl_calls.specs.Meanings.{Verdicts}
 use Rattle.ctrl_types.specs.Numbers.{errno_number}
 use Rattle.ctrl_types.specs.Values.{number_of}
 use Rattle.ctrl_types.specs.declared.errno.Errno.TheVariants.{EBADF, EINVAL, ENOSPC}
-use Rattle.ctrl_types.specs.declared.errno.Fault.{Fault}
 use Rattle.ctrl_types.specs.declared.ids.CtrlId.{CtrlId}
 use Rattle.ctrl_types.specs.declared.ids.ExtControl.{ExtControl}
 use Rattle.ctrl_types.specs.declared.ids.FhId.{FhId}
 use Rattle.ctrl_types.specs.declared.ids.RequestId.{RequestId}
-use Rattle.ctrl_types.specs.declared.sub_flags.SubFlags.{SubFlags}
 use Rattle.ctrl_types.specs.declared.sub_flags.TheConstants.SubFlags.{ALLOW_FEEDBACK}
 use Rattle.ctrl_types.specs.declared.value.CtrlValue.TheVariants.{Number}
 use Rattle.ctrl_settle.specs.Control.{Control}
@@ -40,7 +38,7 @@ use Rattle.call_structs.specs.Told.{event_told, is_heading, query_ext_ctrl, quer
 use Rattle.call_structs.specs.declared.entries.Form.{Form}
 use Rattle.call_structs.specs.declared.entries.Form.TheVariants.{Array}
 use Rattle.call_structs.specs.declared.entries.PayloadFault.{PayloadFault}
-use Rattle.call_structs.specs.declared.entries.PayloadFault.TheVariants.{TooSmall, Unreadable}
+use Rattle.call_structs.specs.declared.entries.PayloadFault.TheVariants.{TooSmall}
 use Rattle.ctl_session.specs.declared.calls.TheConstants.{CUT, NO_CALL}
 use Rattle.ctl_session.specs.declared.list_calls.Access.{Access}
 use Rattle.ctl_session.specs.declared.list_calls.Access.TheVariants.{Get, Set, Try}
@@ -205,28 +203,31 @@ abbrev pub wrong_told : PlanData → ℕ → Access → List ℕ → Wrong → T
 wrong_told plan h access bytes wrong =
     (wrong_errno access wrong.1, with_u32 head.ERROR_IDX (wrong_index access wrong.0 bytes) (with_wrong_size plan h access wrong.0 bytes))
 
--- A list whose payloads can be taken is asked of the device, and so is one that something else refuses before its payload does; else the payload refuses it.
-abbrev pub list_by : PlanData → ℕ → Access → List ℕ → Ask → Option Wrong → Bool → Meaning
-list_by plan h access bytes ask (Some wrong) false = record {
+-- The payload that refuses a list: none where nothing is wrong with them, or where something else refuses it before.
+abbrev pub refusing : Verdicts → SessionData → List ℕ → Ask → Option Wrong → Option Wrong
+refusing verdicts session bytes ask None = None
+refusing verdicts session bytes ask (Some wrong) =
+    if stands_before (reason_of verdicts (plan_in session) (past session.device.steps) ask) wrong (first_of_control (read_count bytes) bytes wrong.0) then None else Some wrong
+
+-- A list is asked of the device, unless a payload refuses it.
+abbrev pub list_by : PlanData → ℕ → Access → List ℕ → Ask → Option Wrong → Meaning
+list_by plan h access bytes ask None = asking_list ask (list_told plan h bytes)
+list_by plan h access bytes ask (Some wrong) = record {
   asks = [];
   told = λ answers. wrong_told plan h access bytes wrong;
   short = Some (list_told plan h bytes without_room);
 }
-list_by plan h access bytes ask wrong before = asking_list ask (list_told plan h bytes)
 
--- whether something else refuses a list before a payload does
-abbrev pub is_refused_before : Verdicts → SessionData → List ℕ → Ask → Option Wrong → Bool
-is_refused_before verdicts session bytes ask None = false
-is_refused_before verdicts session bytes ask (Some wrong) =
-    stands_before (reason_of verdicts (plan_in session) (past session.device.steps) ask) wrong (first_of_control (read_count bytes) bytes wrong.0)
+-- the ask of a list
+abbrev pub whole_ask : PlanData → ℕ → FhId → Option RequestId → Access → List ℕ → Ask
+whole_ask plan h fh request access bytes = list_ask access fh (u32_in head.WHICH bytes) request (entries_in plan h (read_count bytes) bytes)
 
 -- a list whose head, entries and slots are there
 abbrev pub whole_list : Verdicts → SessionData → ℕ → FhId → Option RequestId → Access → List ℕ → Meaning
 whole_list verdicts session h fh request access bytes =
     let plan = plan_in session in
-    let ask = list_ask access fh (u32_in head.WHICH bytes) request (entries_in plan h (read_count bytes) bytes) in
-    let wrong = wrong_payload plan h (read_count bytes) (is_write access) bytes in
-    list_by plan h access bytes ask wrong (is_refused_before verdicts session bytes ask wrong)
+    let ask = whole_ask plan h fh request access bytes in
+    list_by plan h access bytes ask (refusing verdicts session bytes ask (wrong_payload plan h (read_count bytes) (is_write access) bytes))
 
 abbrev pub list_call : Verdicts → SessionData → ℕ → FhId → Option RequestId → Access → List ℕ → Meaning
 list_call verdicts session h fh request access bytes =
@@ -323,6 +324,11 @@ AskedInTurn verdicts old (ask ∷ rest) (Ok reply ∷ answers) new =
     (between : SessionData) × Asked verdicts old between ask (Ok reply) × AskedInTurn verdicts between rest answers new
 AskedInTurn verdicts old (ask ∷ rest) (Err fault ∷ []) new = Asked verdicts old new ask (Err fault)
 AskedInTurn verdicts old _ _ new = ⊥
+
+-- Subscriptions to controls are ended one after another, until that isn't done; the errno of the last answer.
+abbrev pub EndedInTurn : Verdicts → SessionData → FhId → List ℕ → SessionData → ℕ → Type 0
+EndedInTurn verdicts old fh controls new errno =
+    (answers : List Answer) × AskedInTurn verdicts old (map (unsubscribe_ask (plan_in old) fh) controls) answers new × (errno ≡ last_errno answers)
 
 -- What a call does: its asks are asked in turn, and it is told what their answers say; or there was no room for them, and nothing was asked.
 abbrev pub Calls : Verdicts → SessionData → Meaning → SessionData → Told → Type 0

@@ -4,7 +4,6 @@ use Rattle.std.specs.List.{filter, find as first_that}
 use Rattle.std.specs.Option.{option_map}
 use Rattle.ctrl_types.specs.Classes.{class_of}
 use Rattle.ctrl_types.specs.declared.ids.CtrlId.{CtrlId}
-use Rattle.ctrl_types.specs.declared.ids.FhId.{FhId}
 use Rattle.ctrl_types.specs.declared.kind.Kind.{Kind}
 use Rattle.ctrl_types.specs.declared.kind.Kind.TheVariants.{Integer64, U8}
 use Rattle.ctrl_settle.specs.Control.{Control, elems_of}

@@ -1,18 +1,17 @@
 -- The entries of a list, as the device takes them, and what refuses their payloads (Linux userspace API, "ioctl VIDIOC_G_EXT_CTRLS, VIDIOC_S_EXT_CTRLS,
 -- VIDIOC_TRY_EXT_CTRLS"; Linux, v4l2-ctrls-api.c, for the order in which payloads are looked at).
-use Rattle.std.specs.Prelude.{◌==◌, ◌&&◌, ◌||◌, ◌+◌, ℕ, pos, Bool, true, false, not, if◌then◌else◌, min, nat_lt, nat_le, List, [], ◌∷◌, replicate, map, Option, None, Some, unwrap_or, Result, Ok, Err}
+use Rattle.std.specs.Prelude.{◌==◌, ◌&&◌, ◌||◌, ◌+◌, ℕ, pos, Bool, true, false, if◌then◌else◌, nat_lt, nat_le, List, [], ◌∷◌, replicate, map, Option, None, Some, unwrap_or, Result, Ok, Err}
 use Rattle.std.specs.List.{find as first_that, range_with_len}
 use Rattle.std.specs.Option.{option_map}
 use Rattle.ctrl_types.specs.Checks.{check_number}
-use Rattle.ctrl_types.specs.declared.ids.CtrlId.{CtrlId}
 use Rattle.ctrl_types.specs.declared.ids.ExtControl.{ExtControl}
 use Rattle.ctrl_types.specs.declared.value.CtrlValue.{CtrlValue}
 use Rattle.ctrl_types.specs.declared.value.CtrlValue.TheVariants.{Bytes, Number}
 use Rattle.ctrl_handlers.specs.Plan.{PlanData}
 use Rattle.ask_reasons.specs.declared.reason.Reason.{Reason}
-use Rattle.call_structs.specs.Entries.{id_at, value_at, with_size, with_told}
+use Rattle.call_structs.specs.Entries.{id_at, value_at, with_told}
 use Rattle.call_structs.specs.declared.entries.Form.{Form}
-use Rattle.call_structs.specs.declared.entries.Form.TheVariants.{Narrow, Wide, Array}
+use Rattle.call_structs.specs.declared.entries.Form.TheVariants.{Array}
 use Rattle.call_structs.specs.declared.entries.PayloadFault.{PayloadFault}
 use Rattle.call_structs.specs.declared.entries.PayloadFault.TheVariants.{TooSmall, Unreadable}
 use Rattle.ctl_session.specs.Ids.{form_of}

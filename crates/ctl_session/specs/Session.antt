@@ -1,5 +1,5 @@
 -- What a session is seen as, and what an ask of it does (of this project).
-use Rattle.std.specs.Prelude.{◌≡◌, ◌⊎◌, ℕ, Bool, true, List, Option, None, Some, Ok, Err}
+use Rattle.std.specs.Prelude.{◌≡◌, ◌⊎◌, ℕ, Bool, true, List, None, Ok, Err}
 use Rattle.ctrl_calls.specs.Meanings.{Verdicts}
 use Rattle.ctrl_types.specs.Numbers.{errno_number}
 use Rattle.ctrl_types.specs.declared.errno.Errno.TheVariants.{ENOMEM}

@@ -1,6 +1,6 @@
-ghost use Rattle.std.specs.Prelude.{ℕ, List, length, ◌≡◌};
+ghost use Rattle.std.specs.Prelude.{ℕ, List};
 ghost use Rattle.device_history.specs.declared.info.CtrlInfo.{CtrlInfo};
-ghost use Rattle.ctl_session.specs.Calls.{Calls, call_of, call_on};
+ghost use Rattle.ctl_session.specs.Calls.{Calls, call_of, call_on as meant_on};
 
 use crate::list_calls::Access;
 use crate::session::Session;
@@ -28,13 +28,9 @@ impl<D: Driver> Session<D> {
     ///
     /// Answered is the errno, 0 for none: EBADF (9) where the file handle isn't open, ENOTTY (25) where it is no control call, EFAULT (14) where the struct is shorter or longer than that
     /// of the call, and else that of the call. ENOMEM (12) stands before what else may refuse a list, where there was no room for it in the session; then nothing was asked.
-    pub fn call(
-        &mut self,
-        fh: FhId,
-        request: Option<RequestId>,
-        number: u32,
-        arg: &mut [u8],
-    ) -> u32 {
+    pub fn call(&mut self, fh: FhId, request: Option<RequestId>, number: u32, arg: &mut [u8]) -> u32
+        ensures { (name : CtrlInfo → List ℕ) × Calls D.verdict self.old (call_of D.verdict self.old name fh request number arg.old) self.new (result, arg.new) }
+    {
         self.begin_call();
         match self.device().handler_of(fh) {
             Some(handler) => self.call_on(handler, fh, request, number, arg),
@@ -50,7 +46,9 @@ impl<D: Driver> Session<D> {
         request: Option<RequestId>,
         number: u32,
         arg: &mut [u8],
-    ) -> u32 {
+    ) -> u32
+        ensures { (name : CtrlInfo → List ℕ) × Calls D.verdict self.old (meant_on D.verdict self.old name handler fh request number arg.old) self.new (result, arg.new) }
+    {
         match number {
             VIDIOC_QUERYCTRL => self.query(handler, fh, arg),
             VIDIOC_QUERY_EXT_CTRL => self.query_ext(handler, fh, arg),

@@ -1,9 +1,7 @@
-ghost use Rattle.std.specs.Prelude.{◌≡◌, ◌≤◌, ◌<◌, List, length, map, take};
-ghost use Rattle.device_history.specs.Refusals.{Answer};
-ghost use Rattle.ctrl_handlers.specs.declared.limits.TheConstants.{MAX_CONTROLS};
+ghost use Rattle.std.specs.Prelude.{◌≡◌, ◌≤◌, length, take};
 ghost use Rattle.ioctl_bytes.specs.declared.layout.v4l2_event.TheConstants as event_struct;
 ghost use Rattle.ioctl_bytes.specs.declared.layout.v4l2_event_subscription.TheConstants as subscription;
-ghost use Rattle.ctl_session.specs.Calls.{AskedInTurn, Calls, flags_for as flags_meant, last_errno, plan_in, sized, subscribe_ask as ask_to_subscribe, subscribe_call, subscriptions as subscribed_to, take_call, taken_told, unsubscribe_ask, unsubscribe_call};
+ghost use Rattle.ctl_session.specs.Calls.{Calls, EndedInTurn, flags_for as flags_meant, plan_in, sized, subscribe_ask as ask_to_subscribe, subscribe_call, subscriptions as subscribed_to, take_call, taken_told, unsubscribe_call};
 
 use crate::calls::{CUT, NO_CALL};
 use crate::ids::{id_at, shown};
@@ -11,10 +9,10 @@ use crate::session::{Session, errno_of};
 use bitflags::Flags as FlagSet;
 use call_structs::{is_heading, put_event};
 use ctrl_calls::Driver;
-use ctrl_handlers::Plan;
+use ctrl_handlers::{MAX_CONTROLS, Plan};
 use ctrl_settle::Ctrl;
 use ctrl_types::{CtrlId, Errno, Fault, FhId, SubFlags};
-use device_state::{Ask, Reply};
+use device_state::{Ask, Device, Reply};
 use ioctl_bytes::calls::{V4L2_EVENT_ALL, V4L2_EVENT_CTRL};
 use ioctl_bytes::layout::{v4l2_event, v4l2_event_subscription};
 use ioctl_bytes::u32_at;
@@ -36,7 +34,9 @@ impl<D: Driver> Session<D> {
     }
 
     // VIDIOC_UNSUBSCRIBE_EVENT. Nobody is subscribed to events of other types, so that there is nothing to end.
-    pub(crate) fn unsubscribe(&mut self, fh: FhId, arg: &mut [u8]) -> u32 {
+    pub(crate) fn unsubscribe(&mut self, fh: FhId, arg: &mut [u8]) -> u32
+        ensures { Calls D.verdict self.old (sized subscription.SIZE arg.old (unsubscribe_call self.old fh arg.old)) self.new (result, arg.new) }
+    {
         if arg.len() != v4l2_event_subscription::SIZE {
             return CUT;
         }
@@ -52,16 +52,25 @@ impl<D: Driver> Session<D> {
     }
 
     // Ends each subscription, in the order of controls; the errno of the first that isn't ended.
-    fn unsubscribe_all(&mut self, fh: FhId) -> u32 {
-        for control in 0..self.plan().control_count() {
-            if self.device().subscribed(fh, control).is_some() {
-                let id = CtrlId(id_at(self.plan().controls(), control));
-                if let Err(fault) = self.ask(&Ask::Unsubscribe { fh, id }) {
-                    return fault.errno.number();
-                }
-            }
+    fn unsubscribe_all(&mut self, fh: FhId) -> u32
+        ensures { EndedInTurn D.verdict self.old fh (subscribed_to self.old.device fh) self.new result }
+    {
+        let (controls, count) = subscriptions(self.device(), fh);
+        self.end_each(fh, &controls[..count])
+    }
+
+    // Ends the subscriptions to controls, one after another.
+    fn end_each(&mut self, fh: FhId, controls: &[u32]) -> u32
+        ensures { EndedInTurn D.verdict self.old fh controls.now self.new result }
+    {
+        let [control, rest @ ..] = controls else {
+            return 0;
+        };
+        let id = CtrlId(id_at(self.plan().controls(), *control));
+        match self.ask(&Ask::Unsubscribe { fh, id }) {
+            Ok(_) => self.end_each(fh, rest),
+            Err(fault) => fault.errno.number(),
         }
-        0
     }
 
     // VIDIOC_DQEVENT.
@@ -98,6 +107,22 @@ fn flags_for(id: CtrlId, ctrl: Option<Ctrl>, flags: u32) -> u32
         Some(ctrl) if is_heading(id, ctrl.flags()) => flags & SubFlags::ALLOW_FEEDBACK.bits(),
         _ => flags,
     }
+}
+
+// The controls that a file handle is subscribed to, in the order of their numbers, and how many they are; what stands behind these is nothing.
+fn subscriptions<D: Driver>(device: &Device<D>, fh: FhId) -> ([u32; MAX_CONTROLS as usize], usize)
+    ensures found { take result.1 result.0 ≡ subscribed_to device.now fh }
+    ensures few { result.1 ≤ length result.0 }
+{
+    let mut controls = [0; MAX_CONTROLS as usize];
+    let mut count = 0;
+    for control in 0..device.plan().control_count() {
+        if device.subscribed(fh, control).is_some() {
+            controls[count] = control;
+            count += 1;
+        }
+    }
+    (controls, count)
 }
 
 fn tell_event(answer: &Result<Reply, Fault>, arg: &mut [u8]) -> u32

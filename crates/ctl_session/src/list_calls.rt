@@ -4,7 +4,7 @@ ghost use Rattle.ask_reasons.specs.Reasons.{reason_of as reason_for};
 ghost use Rattle.call_structs.specs.Entries.{list_size as size_for};
 ghost use Rattle.ioctl_bytes.specs.declared.layout.v4l2_ext_controls.TheConstants as head;
 ghost use Rattle.ctl_session.specs.declared.lists.TheConstants.{MOST_ENTRIES};
-ghost use Rattle.ctl_session.specs.Calls.{Calls, index_told as index_for, is_refused_before as is_before, is_write as writes, list_ask as ask_for_list, list_by as list_for, list_call, list_told, plan_in, read_count as count_read, whole_list as whole, with_wanted_size as with_size_wanted, with_wrong_size as with_size_told, wrong_errno as errno_of_wrong, wrong_index as index_of_wrong, wrong_told};
+ghost use Rattle.ctl_session.specs.Calls.{Calls, index_told as index_for, is_write as writes, list_ask as ask_for_list, list_by as list_for, list_call, list_told, plan_in, read_count as count_read, refusing as refusing_list, whole_ask as ask_for_whole, whole_list as whole, with_wanted_size as with_size_wanted, with_wrong_size as with_size_told, wrong_errno as errno_of_wrong, wrong_index as index_of_wrong, wrong_told};
 ghost use Rattle.ctl_session.specs.Lists.{is_below as below, is_up_to as up_to, stands_before as is_earlier, with_values, wrong_payload as payload_wrong};
 
 use crate::calls::{CUT, NO_CALL};
@@ -41,7 +41,9 @@ impl<D: Driver> Session<D> {
         request: Option<RequestId>,
         access: Access,
         arg: &mut [u8],
-    ) -> u32 {
+    ) -> u32
+        ensures { Calls D.verdict self.old (list_call D.verdict self.old handler fh request access arg.old) self.new (result, arg.new) }
+    {
         if arg.len() < v4l2_ext_controls::SIZE {
             return CUT;
         }
@@ -62,65 +64,78 @@ impl<D: Driver> Session<D> {
     ) -> u32
         requires head { head.SIZE ≤ length arg.old }
         requires whole { length arg.old ≡ size_for (count_read arg.old) }
+        ensures { Calls D.verdict self.old (whole D.verdict self.old handler fh request access arg.old) self.new (result, arg.new) }
     {
-        let count = read_count(arg);
-        let Ok(list) = read_list(self.alloc(), self.plan(), handler, arg, count) else {
+        let Ok(ask) = self.whole_ask(handler, fh, request, access, arg) else {
             return tell_list(self.plan(), handler, &Err(no_memory()), arg);
         };
-        let ask = list_ask(
-            access,
-            fh,
-            u32_at(arg, v4l2_ext_controls::WHICH),
-            request,
-            list,
-        );
-        let wrong = wrong_payload(self.plan(), handler, count, is_write(access), arg);
-        match self.is_refused_before(arg, count, &ask, wrong) {
-            Ok(before) => self.list_by(handler, access, &ask, wrong, before, arg),
+        let wrong = wrong_payload(self.plan(), handler, read_count(arg), is_write(access), arg);
+        match self.refusing(arg, &ask, wrong) {
+            Ok(wrong) => self.list_by(handler, access, &ask, wrong, arg),
             Err(_) => tell_list(self.plan(), handler, &Err(no_memory()), arg),
         }
     }
 
-    // Whether something else refuses a list before its payload does.
-    fn is_refused_before(
+    // The ask of a list. The error is that a growth was refused.
+    fn whole_ask(
         &self,
+        handler: u32,
+        fh: FhId,
+        request: Option<RequestId>,
+        access: Access,
         arg: &[u8],
-        count: u32,
-        ask: &Ask,
-        wrong: Option<(u32, PayloadFault)>,
-    ) -> Result<bool, AllocError>
+    ) -> Result<Ask, AllocError>
         requires head { head.SIZE ≤ length arg.now }
-        requires count { count ≡ count_read arg.now }
-        requires whole { size_for count ≤ length arg.now }
-        requires place { IfSome wrong (λ w. w.0 < count) }
-        ensures { IfOk result (λ before. before ≡ is_before D.verdict self.now arg.now ask.now wrong) }
+        requires whole { size_for (count_read arg.now) ≤ length arg.now }
+        ensures { IfOk result (λ ask. ask ≡ ask_for_whole (plan_in self.now) handler fh request access arg.now) }
     {
-        match wrong {
-            Some(wrong) => {
-                let reason = reason_of(self.alloc(), self.device(), ask)?;
-                Ok(stands_before(reason, wrong, first_of_control(arg, count, wrong.0)))
-            }
-            None => Ok(false),
-        }
+        let list = read_list(self.alloc(), self.plan(), handler, arg, read_count(arg))?;
+        let which = u32_at(arg, v4l2_ext_controls::WHICH);
+        Ok(list_ask(access, fh, which, request, list))
     }
 
-    // A list is asked of the device, unless its payload refuses it.
+    // The payload that refuses a list: none where something else refuses it before. The error is that a growth was refused.
+    fn refusing(
+        &self,
+        arg: &[u8],
+        ask: &Ask,
+        wrong: Option<(u32, PayloadFault)>,
+    ) -> Result<Option<(u32, PayloadFault)>, AllocError>
+        requires head { head.SIZE ≤ length arg.now }
+        requires whole { size_for (count_read arg.now) ≤ length arg.now }
+        requires place { IfSome wrong (λ w. w.0 < count_read arg.now) }
+        ensures refusing { IfOk result (λ found. found ≡ refusing_list D.verdict self.now arg.now ask.now wrong) }
+        ensures place { IfOk result (λ found. IfSome found (λ w. w.0 < count_read arg.now)) }
+    {
+        let Some(wrong) = wrong else {
+            return Ok(None);
+        };
+        let reason = reason_of(self.alloc(), self.device(), ask)?;
+        let first = first_of_control(arg, read_count(arg), wrong.0);
+        Ok(if stands_before(reason, wrong, first) {
+            None
+        } else {
+            Some(wrong)
+        })
+    }
+
+    // A list is asked of the device, unless a payload refuses it.
     fn list_by(
         &mut self,
         handler: u32,
         access: Access,
         ask: &Ask,
         wrong: Option<(u32, PayloadFault)>,
-        before: bool,
         arg: &mut [u8],
     ) -> u32
         requires head { head.SIZE ≤ length arg.old }
         requires whole { size_for (count_read arg.old) ≤ length arg.old }
         requires place { IfSome wrong (λ w. w.0 < count_read arg.old) }
+        ensures { Calls D.verdict self.old (list_for (plan_in self.old) handler access arg.old ask.now wrong) self.new (result, arg.new) }
     {
         match wrong {
-            Some(wrong) if !before => { tell_wrong(self.plan(), handler, access, wrong, arg) }
-            _ => {
+            Some(wrong) => tell_wrong(self.plan(), handler, access, wrong, arg),
+            None => {
                 let answer = self.ask(ask);
                 tell_list(self.plan(), handler, &answer, arg)
             }
@@ -292,8 +307,7 @@ fn put_wrong_size<D: Driver>(
 {
     match access {
         Access::Get => {
-            let count = read_count(arg) as usize;
-            let id = entry_id(arg, count, place as usize);
+            let id = entry_id(arg, place as usize);
             put_wanted_size(form_of(plan, handler, id), place, arg);
         }
         _ => {}
@@ -308,10 +322,7 @@ fn put_wanted_size(form: Form, place: u32, arg: &mut [u8])
     ensures length { length arg.new ≡ length arg.old }
 {
     match form {
-        Form::Array(elems) => {
-            let count = read_count(arg) as usize;
-            put_size(arg, count, place as usize, elems);
-        }
+        Form::Array(elems) => put_size(arg, place as usize, elems),
         _ => {}
     }
 }

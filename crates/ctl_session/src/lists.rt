@@ -1,7 +1,7 @@
 //! The entries of a list, as the device takes them.
 
-ghost use Rattle.std.specs.Prelude.{◌≡◌, ◌≤◌, ◌<◌, IfOk, IfSome, ℕ, length};
-ghost use Rattle.call_structs.specs.Entries.{list_size};
+ghost use Rattle.std.specs.Prelude.{◌≡◌, ◌≤◌, ◌<◌, ◌+◌, IfOk, IfSome, ℕ, length};
+ghost use Rattle.call_structs.specs.Entries.{entry_start, list_size};
 ghost use Rattle.call_structs.specs.declared.entries.Form.TheVariants.{Array};
 ghost use Rattle.ctl_session.specs.declared.lists.TheConstants.{MOST_ENTRIES};
 ghost use Rattle.ctl_session.specs.Lists.{entries_in, entry_at as entry_for, first_of_control as first_entry, first_with as first_wrong, has_fault as is_fault, names_same as is_same, read_at as read_for, stand_in as stands_in};
@@ -60,7 +60,7 @@ fn entry_at<D: Driver>(
     requires whole { list_size count ≤ length arg.now }
     ensures { result ≡ entry_for plan.now handler count arg.now place }
 {
-    let id = entry_id(arg, count as usize, place as usize);
+    let id = entry_id(arg, place as usize);
     let value = match read_at(plan, handler, arg, count, place) {
         Ok(value) => value,
         Err(_) => stand_in(form_of(plan, handler, id)),
@@ -81,7 +81,7 @@ fn read_at<D: Driver>(
     requires whole { list_size count ≤ length arg.now }
     ensures { result ≡ read_for plan.now handler count arg.now place }
 {
-    let id = entry_id(arg, count as usize, place as usize);
+    let id = entry_id(arg, place as usize);
     value_at(
         arg,
         count as usize,
@@ -140,7 +140,7 @@ pub(crate) fn first_of_control(arg: &[u8], count: u32, place: u32) -> u32
     ensures { result ≡ first_entry count arg.now place }
 {
     for other in 0..count {
-        if names_same(arg, count, place, other) {
+        if names_same(arg, place, other) {
             return other;
         }
     }
@@ -148,13 +148,12 @@ pub(crate) fn first_of_control(arg: &[u8], count: u32, place: u32) -> u32
 }
 
 // Whether an entry names the control that the one at a place names.
-fn names_same(arg: &[u8], count: u32, place: u32, other: u32) -> bool
-    requires few { count ≤ MOST_ENTRIES }
-    requires place { place < count }
-    requires other { other < count }
-    requires whole { list_size count ≤ length arg.now }
+fn names_same(arg: &[u8], place: u32, other: u32) -> bool
+    requires place { place < MOST_ENTRIES }
+    requires other { other < MOST_ENTRIES }
+    requires whole { entry_start (place + 1) ≤ length arg.now }
+    requires whole_other { entry_start (other + 1) ≤ length arg.now }
     ensures { result ≡ is_same arg.now place other }
 {
-    let count = count as usize;
-    entry_id(arg, count, place as usize).0 == entry_id(arg, count, other as usize).0
+    entry_id(arg, place as usize).0 == entry_id(arg, other as usize).0
 }

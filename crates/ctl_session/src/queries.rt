@@ -4,7 +4,7 @@ ghost use Rattle.call_structs.specs.Told.{query_ext_ctrl, queryctrl};
 ghost use Rattle.ioctl_bytes.specs.declared.layout.v4l2_query_ext_ctrl.TheConstants as ext;
 ghost use Rattle.ioctl_bytes.specs.declared.layout.v4l2_queryctrl.TheConstants as query_struct;
 ghost use Rattle.ioctl_bytes.specs.declared.layout.v4l2_querymenu.TheConstants as menu;
-ghost use Rattle.ctl_session.specs.Calls.{Calls, info_put, info_told as info_in, item_told, menu_ask as ask_for_item, menu_call, plan_in, query_call, sized, with_old_id};
+ghost use Rattle.ctl_session.specs.Calls.{Calls, info_put, info_told as info_in, item_told, menu_ask as ask_for_item, menu_call, plan_in, query_call, query_of as query_for, sized, with_old_id};
 
 use crate::calls::{CUT, NO_CALL};
 use crate::ids::{is_old, queried, real_id};
@@ -19,16 +19,28 @@ use ioctl_bytes::{put_u32, u32_at};
 
 impl<D: Driver> Session<D> {
     // VIDIOC_QUERYCTRL.
-    pub(crate) fn query(&mut self, handler: u32, fh: FhId, arg: &mut [u8]) -> u32 {
+    pub(crate) fn query(&mut self, handler: u32, fh: FhId, arg: &mut [u8]) -> u32
+        ensures { (name : CtrlInfo → List ℕ) × Calls D.verdict self.old (sized query_struct.SIZE arg.old (query_call (plan_in self.old) handler (λ info. queryctrl info (name info)) fh arg.old)) self.new (result, arg.new) }
+    {
         if arg.len() != v4l2_queryctrl::SIZE {
             return CUT;
         }
-        let asked = u32_at(arg, v4l2_queryctrl::ID);
-        let Some(id) = queried(self.plan(), handler, asked) else {
-            return Errno::EINVAL.number();
-        };
-        let answer = self.ask(&Ask::Query { fh, id });
-        self.tell_query(handler, info_told(&answer), arg)
+        let asked = queried(self.plan(), handler, u32_at(arg, v4l2_queryctrl::ID));
+        self.query_of(handler, fh, asked, arg)
+    }
+
+    // The same of the control that its id speaks of.
+    fn query_of(&mut self, handler: u32, fh: FhId, asked: Option<CtrlId>, arg: &mut [u8]) -> u32
+        requires { length arg.old ≡ query_struct.SIZE }
+        ensures { (name : CtrlInfo → List ℕ) × Calls D.verdict self.old (query_for (λ info. queryctrl info (name info)) fh arg.old asked) self.new (result, arg.new) }
+    {
+        match asked {
+            Some(id) => {
+                let answer = self.ask(&Ask::Query { fh, id });
+                self.tell_query(handler, info_told(&answer), arg)
+            }
+            None => Errno::EINVAL.number(),
+        }
     }
 
     fn tell_query(&self, handler: u32, told: Result<CtrlInfo, u32>, arg: &mut [u8]) -> u32
@@ -47,16 +59,28 @@ impl<D: Driver> Session<D> {
     }
 
     // VIDIOC_QUERY_EXT_CTRL.
-    pub(crate) fn query_ext(&mut self, handler: u32, fh: FhId, arg: &mut [u8]) -> u32 {
+    pub(crate) fn query_ext(&mut self, handler: u32, fh: FhId, arg: &mut [u8]) -> u32
+        ensures { (name : CtrlInfo → List ℕ) × Calls D.verdict self.old (sized ext.SIZE arg.old (query_call (plan_in self.old) handler (λ info. query_ext_ctrl info (name info)) fh arg.old)) self.new (result, arg.new) }
+    {
         if arg.len() != v4l2_query_ext_ctrl::SIZE {
             return CUT;
         }
-        let asked = u32_at(arg, v4l2_query_ext_ctrl::ID);
-        let Some(id) = queried(self.plan(), handler, asked) else {
-            return Errno::EINVAL.number();
-        };
-        let answer = self.ask(&Ask::Query { fh, id });
-        self.tell_query_ext(handler, info_told(&answer), arg)
+        let asked = queried(self.plan(), handler, u32_at(arg, v4l2_query_ext_ctrl::ID));
+        self.query_ext_of(handler, fh, asked, arg)
+    }
+
+    // The same of the control that its id speaks of.
+    fn query_ext_of(&mut self, handler: u32, fh: FhId, asked: Option<CtrlId>, arg: &mut [u8]) -> u32
+        requires { length arg.old ≡ ext.SIZE }
+        ensures { (name : CtrlInfo → List ℕ) × Calls D.verdict self.old (query_for (λ info. query_ext_ctrl info (name info)) fh arg.old asked) self.new (result, arg.new) }
+    {
+        match asked {
+            Some(id) => {
+                let answer = self.ask(&Ask::Query { fh, id });
+                self.tell_query_ext(handler, info_told(&answer), arg)
+            }
+            None => Errno::EINVAL.number(),
+        }
     }
 
     fn tell_query_ext(&self, handler: u32, told: Result<CtrlInfo, u32>, arg: &mut [u8]) -> u32

@@ -1,4 +1,4 @@
-use Rattle.std.proofs.Common.{◌≡◌, ap, refl, rules, subst, sym}
+use Rattle.std.proofs.Common.{refl, rules, subst}
 use Rattle.ctl_session.specs.Session.{Asked, SessionData}
 use Rattle.ctl_session.proofs.CallLemmas.{handled}
 use Rattle.ctl_session.proofs.session.Session.answer.Goals as goal

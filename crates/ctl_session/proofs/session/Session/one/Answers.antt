@@ -1,4 +1,4 @@
-use Rattle.std.proofs.Common.{rules, ◌≡◌, ◌∙◌, ap, subst}
+use Rattle.std.proofs.Common.{rules, ◌∙◌, ap, subst}
 use Rattle.ioctl_bytes.specs.declared.layout.v4l2_control.TheConstants.{SIZE}
 use Rattle.ctl_session.specs.Calls.{Calls, Told, one_by, one_call, one_id, plan_in}
 use Rattle.ctl_session.specs.Ids.{form_of, is_narrow}

@@ -1,4 +1,4 @@
-use Rattle.std.proofs.Common.{rules, ◌≡◌, ◌∙◌, true, ap, subst, sym}
+use Rattle.std.proofs.Common.{rules, ◌≡◌, ◌∙◌, true, ap, subst}
 use Rattle.ctl_session.specs.Calls.{Calls, Told, one_ask, one_by, one_entry, one_told}
 use Rattle.ctl_session.proofs.CallLemmas.{asks_list_made}
 use Rattle.ctl_session.proofs.session.Session.one_by.Goals as goal
