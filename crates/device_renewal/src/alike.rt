@@ -56,8 +56,8 @@ fn are_ranges(one: &Ctrl, other: &Ctrl) -> bool
 }
 
 // Whether these are the same flags.
-fn are_flags(one: Flags, other: Flags) -> bool
-    ensures { IsTrue result ↔ (one ≡ other) }
+fn are_flags(these: Flags, those: Flags) -> bool
+    ensures { IsTrue result ↔ (these ≡ those) }
 {
-    one == other
+    these == those
 }
