@@ -106,12 +106,13 @@ impl<D: Driver> Session<D> {
         self.reason
     }
 
-    /// Takes another device in place of this one, of which no range is owed.
+    /// Takes another device in place of this one. Where a range was owed, one is owed still.
+    ///
+    /// - `device`: any; it is meant to have the same controls.
     pub fn replace(&mut self, device: Device<D>)
-        ensures { self.new ≡ record self.old { device = device; owed = false } }
+        ensures { self.new ≡ record self.old { device = device } }
     {
         self.device = device;
-        self.owed = false;
         self.reason = None;
     }
 
