@@ -8,7 +8,7 @@ use Rattle.ctrl_types.specs.declared.flags.Flags.{Flags}
 use Rattle.ctrl_types.specs.declared.flags.TheConstants.Flags.{READ_ONLY, WRITE_ONLY}
 use Rattle.ctrl_types.specs.declared.ids.CtrlId.{CtrlId}
 use Rattle.ctrl_types.specs.declared.kind.Kind.{Kind}
-use Rattle.ctrl_types.specs.declared.kind.Kind.TheVariants.{Integer, Boolean, Menu, Button, Integer64, Bitmask, IntegerMenu, U8}
+use Rattle.ctrl_types.specs.declared.kind.Kind.TheVariants.{Integer64, U8}
 use Rattle.ctrl_events.specs.declared.event.Event.{Event}
 use Rattle.device_history.specs.declared.info.CtrlInfo.{CtrlInfo}
 use Rattle.menu_items.specs.declared.item.MenuItem.{MenuItem}

@@ -8,7 +8,7 @@ pub returns-in-Ok : goal.returns-in-Ok
 returns-in-Ok g c =
     let v = g.D.Validates.verdict in
     let told : Told = (c.tell_one.result, c.tell_one.new.arg) in
-    let read : c.in-Ok.list ≡ one_entry c.args.id c.args.arg.now = search (rules, c.in-Ok.ensures, c.one_entry.ensures) in
+    let read : c.in-Ok.list ≡ one_entry c.args.id c.args.arg.now = search (rules, c.in-Ok.ensures) in
     let narrow : true ≡ c.args.narrow = search rules in
     subst (λ b. Calls v c.args.self.now (one_by c.args.sets c.args.fh c.args.arg.now c.args.id b) c.ask-answer.new.self told) narrow
     (asks_list_made v c.args.self.now c.ask-answer.new.self c.one_ask-ask.result (one_ask c.args.sets c.args.fh (one_entry c.args.id c.args.arg.now)) c.ask-answer.result (one_told c.args.arg.now) told
