@@ -38,7 +38,7 @@ impl<D: Driver> Session<D> {
         }
     }
 
-    // The same on an open file handle, whose handler this is.
+    // Makes it on an open file handle, whose handler this is.
     fn call_on(
         &mut self,
         handler: u32,

@@ -27,7 +27,7 @@ impl<D: Driver> Session<D> {
         self.one_by(fh, sets, id, narrow, arg)
     }
 
-    // The same on that control.
+    // Makes it on that control.
     fn one_by(&mut self, fh: FhId, sets: bool, id: CtrlId, narrow: bool, arg: &mut [u8]) -> u32
         requires { length arg.old ≡ control_struct.SIZE }
         ensures { Calls D.verdict self.old (one_for sets fh arg.old id narrow) self.new (result, arg.new) }

@@ -29,7 +29,7 @@ impl<D: Driver> Session<D> {
         self.query_of(handler, fh, asked, arg)
     }
 
-    // The same of the control that its id speaks of.
+    // Asks about the control that its id speaks of.
     fn query_of(&mut self, handler: u32, fh: FhId, asked: Option<CtrlId>, arg: &mut [u8]) -> u32
         requires { length arg.old ≡ query_struct.SIZE }
         ensures { (name : CtrlInfo → List ℕ) × Calls D.verdict self.old (query_for (λ info. queryctrl info (name info)) fh arg.old asked) self.new (result, arg.new) }
@@ -69,7 +69,7 @@ impl<D: Driver> Session<D> {
         self.query_ext_of(handler, fh, asked, arg)
     }
 
-    // The same of the control that its id speaks of.
+    // Asks about the control that its id speaks of.
     fn query_ext_of(&mut self, handler: u32, fh: FhId, asked: Option<CtrlId>, arg: &mut [u8]) -> u32
         requires { length arg.old ≡ ext.SIZE }
         ensures { (name : CtrlInfo → List ℕ) × Calls D.verdict self.old (query_for (λ info. query_ext_ctrl info (name info)) fh arg.old asked) self.new (result, arg.new) }
