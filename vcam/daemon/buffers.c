@@ -235,6 +235,7 @@ static uint32_t queue_in_request(struct asked *asked, struct v4l2_buffer *it, st
         return EBUSY;
     if (!asked->request)
         return EINVAL;
+    asked->is_of_device = 1;
     uint32_t error = ask(ASK_ADD_BUFFER, asked->request->number, it->index, 0, 0, 0);
     if (error)
         return error;

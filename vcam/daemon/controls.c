@@ -109,6 +109,7 @@ uint32_t event_call(struct asked *asked) {
 
 uint32_t forecast_call(struct asked *asked) {
     struct vcam_forecast *forecast = asked->argument;
+    asked->is_of_device = 1;
     uint32_t error = ask_number(ASK_FORECAST, forecast->place);
     if (error)
         return error;
@@ -135,6 +136,7 @@ static uint32_t queue_request(struct handle *request) {
 
 uint32_t request_call(struct asked *asked) {
     struct handle *request = asked->handle;
+    asked->is_of_device = 1;
     if (asked->number == MEDIA_REQUEST_IOC_QUEUE)
         return queue_request(request);
     uint32_t error = ask_number(ASK_REINIT, request->number);

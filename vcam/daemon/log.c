@@ -136,7 +136,7 @@ static char *add_answer(char *at, char *end, const struct asked *asked) {
 
 /* Of the calls of buffers those are of interest that name a request. */
 static int is_of_interest(const struct asked *asked) {
-    if (asked->handle->kind == REQUEST || asked->is_of_device || asked->number == VIDIOC_VCAM_FORECAST)
+    if (asked->is_of_device)
         return 1;
     if (asked->number == VIDIOC_QBUF)
         return ((const struct v4l2_buffer *)asked->argument)->flags & V4L2_BUF_FLAG_REQUEST_FD;

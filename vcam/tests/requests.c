@@ -32,6 +32,7 @@ static void queue_frame(int frame) {
     REFUSED(list_call(video, VIDIOC_G_EXT_CTRLS, requests[frame], &entry), EACCES); /* it isn't complete */
     CHECK(!queue_buffer(video, frame, requests[frame]));
     REFUSED(queue_buffer(video, frame, requests[frame]), EINVAL);
+    REFUSED(queue_buffer(video, FRAMES, requests[frame]), EBUSY); /* it has one */
     CHECK(!ioctl(requests[frame], MEDIA_REQUEST_IOC_QUEUE));
     REFUSED(list_call(video, VIDIOC_S_EXT_CTRLS, requests[frame], &entry), EBUSY);
     REFUSED(ioctl(requests[frame], MEDIA_REQUEST_IOC_QUEUE), EBUSY);
@@ -81,7 +82,7 @@ int main(void) {
     video = open(VIDEO_PATH, O_RDWR);
     media = open(MEDIA_PATH, O_RDWR);
     find_controls(video);
-    CHECK(ask_buffers(video, FRAMES) == FRAMES);
+    CHECK(ask_buffers(video, FRAMES + 1) == FRAMES + 1);
     for (int i = 0; i < FRAMES; i++) {
         pictures[i] = map_buffer(video, i);
         CHECK(pictures[i] != MAP_FAILED);
