@@ -1,7 +1,7 @@
-ghost use Rattle.std.specs.Prelude.{◌≡◌, ◌≤◌, ◌<◌, IfOk, IfSome, length};
+ghost use Rattle.std.specs.Prelude.{◌≡◌, ◌≤◌, ◌<◌, ◌+◌, IfOk, IfSome, length};
 ghost use Rattle.history.specs.Past.{past};
 ghost use Rattle.ask_reasons.specs.Reasons.{reason_of as reason_for};
-ghost use Rattle.call_structs.specs.Entries.{list_size as size_for};
+ghost use Rattle.call_structs.specs.Entries.{entry_start, list_size as size_for};
 ghost use Rattle.ioctl_bytes.specs.declared.layout.v4l2_ext_controls.TheConstants as head;
 ghost use Rattle.ctl_session.specs.declared.lists.TheConstants.{MOST_ENTRIES};
 ghost use Rattle.ctl_session.specs.Calls.{Calls, index_told as index_for, is_write as writes, list_ask as ask_for_list, list_by as list_for, list_call, list_told, plan_in, read_count as count_read, refusing as refusing_list, whole_ask as ask_for_whole, whole_list as whole, with_wanted_size as with_size_wanted, with_wrong_size as with_size_told, wrong_errno as errno_of_wrong, wrong_index as index_of_wrong, wrong_told};
@@ -299,9 +299,8 @@ fn put_wrong_size<D: Driver>(
     place: u32,
     arg: &mut [u8],
 )
-    requires head { head.SIZE ≤ length arg.old }
-    requires whole { size_for (count_read arg.old) ≤ length arg.old }
-    requires place { place < count_read arg.old }
+    requires place { place < MOST_ENTRIES }
+    requires whole { entry_start (place + 1) ≤ length arg.old }
     ensures told { arg.new ≡ with_size_told plan.now handler access place arg.old }
     ensures length { length arg.new ≡ length arg.old }
 {
@@ -315,9 +314,8 @@ fn put_wrong_size<D: Driver>(
 }
 
 fn put_wanted_size(form: Form, place: u32, arg: &mut [u8])
-    requires head { head.SIZE ≤ length arg.old }
-    requires whole { size_for (count_read arg.old) ≤ length arg.old }
-    requires place { place < count_read arg.old }
+    requires place { place < MOST_ENTRIES }
+    requires whole { entry_start (place + 1) ≤ length arg.old }
     ensures told { arg.new ≡ with_size_wanted form place arg.old }
     ensures length { length arg.new ≡ length arg.old }
 {
