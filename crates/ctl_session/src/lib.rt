@@ -7,7 +7,6 @@ mod events;
 mod ids;
 mod list_calls;
 mod lists;
-mod names;
 mod one;
 mod queries;
 mod session;

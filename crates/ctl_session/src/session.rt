@@ -3,7 +3,6 @@ ghost use Rattle.ctrl_types.specs.declared.errno.Errno.TheVariants.{ENOMEM};
 ghost use Rattle.ctl_session.specs.Calls.{plan_in};
 ghost use Rattle.ctl_session.specs.Session.{Asked, errno_in};
 
-use crate::names::{heading_name, kernel_name};
 use ask_reasons::{Reason, reason_of};
 use call_structs::is_heading;
 use ctrl_calls::Driver;
@@ -12,6 +11,7 @@ use ctrl_types::{CtrlId, Errno, Fault};
 use device_file::ClassNames;
 use device_state::{Ask, CtrlInfo, Device, Reply};
 use following_ranges::{Follower, handle_and_follow};
+use kernel_names::{control_name, heading_name};
 use script_lines::ControlWords;
 use std::alloc::Global;
 use std::marker::Model;
@@ -169,29 +169,19 @@ impl<D: Driver> Session<D> {
     // The name of a control that a handler shows.
     pub(crate) fn name(&self, handler: u32, info: &CtrlInfo) -> &[u8] {
         if is_heading(info.id, info.flags) {
-            return self.class_name(info.id);
+            let class = info.id.class();
+            return heading_name(class, self.names.classes.name_of(class)).as_bytes();
         }
         let word = match self.device.plan().find(handler, info.id) {
             Ok(control) => self.names.words.word_of(control),
             Err(_) => None,
         };
         match word {
-            Some(word) => match kernel_name(info.id, word) {
+            Some(word) => match control_name(info.id, word) {
                 Some(name) => name.as_bytes(),
                 None => word,
             },
             None => b"Control",
-        }
-    }
-
-    // The name of a class, by its heading: the one that the device gives it, or else the kernel's.
-    fn class_name(&self, heading: CtrlId) -> &[u8] {
-        match self.names.classes.name_of(heading.class()) {
-            Some(name) => name.as_bytes(),
-            None => match heading_name(heading) {
-                Some(name) => name.as_bytes(),
-                None => b"Driver Controls",
-            },
         }
     }
 }

@@ -29,7 +29,7 @@ pub fn run_file<R: AllocGlobal + Input + Files + Print + Eprint + Threads + Wait
         plan,
         words,
         followers,
-        classes: _,
+        classes,
     } = match file {
         Ok(file) => file,
         Err(code) => return code,
@@ -37,7 +37,16 @@ pub fn run_file<R: AllocGlobal + Input + Files + Print + Eprint + Threads + Wait
     if wanted.task == Task::Pair && !followers.is_empty() {
         return unpaired(rt, path);
     }
-    run_on(rt, plan, words, followers, "this device", wanted, ink)
+    run_on(
+        rt,
+        plan,
+        words,
+        Some(classes),
+        followers,
+        "this device",
+        wanted,
+        ink,
+    )
 }
 
 // Says that two scripts have no range follow.

@@ -159,7 +159,16 @@ where
     match sample_words(rt.alloc()) {
         Ok(known) => {
             let none = Vec::new(rt.alloc());
-            run_on(rt, plan, known, none, "the sample device", wanted, ink)
+            run_on(
+                rt,
+                plan,
+                known,
+                None,
+                none,
+                "the sample device",
+                wanted,
+                ink,
+            )
         }
         Err(_) => no_memory(rt),
     }

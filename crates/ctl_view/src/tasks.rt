@@ -12,6 +12,7 @@ use crate::wanted::{Task, Wanted};
 use ctl_pair::{Gate, run_pair};
 use ctl_script::{InputFault, run_board, with_line};
 use ctrl_calls::Driver;
+use device_file::ClassNames;
 use device_state::{Device, Plan};
 use range_followers::Follower;
 use script_lines::ControlWords;
@@ -35,6 +36,7 @@ impl Gate for OpenGate {
 /// Does what is wanted on a fresh device of a plan.
 ///
 /// - `known`: the words of its controls.
+/// - `classes`: the names that it gives to classes; none where it is the sample device.
 /// - `followers`: how its ranges follow other controls; none where two scripts are run.
 /// - `name`: the device, as it stands behind `a word of`.
 pub fn run_on<
@@ -44,6 +46,7 @@ pub fn run_on<
     rt: &R,
     plan: Plan<D>,
     known: ControlWords,
+    classes: Option<ClassNames>,
     followers: Vec<Follower>,
     name: &'static str,
     wanted: Wanted<'_>,
@@ -59,7 +62,15 @@ where
     let Ok(device) = Device::new(rt.alloc(), plan) else {
         return no_memory(rt);
     };
-    let Ok(mut view) = View::new(rt.alloc(), known, followers, name, wanted.task, ink) else {
+    let Ok(mut view) = View::new(
+        rt.alloc(),
+        known,
+        classes,
+        followers,
+        name,
+        wanted.task,
+        ink,
+    ) else {
         return no_memory(rt);
     };
     if wanted.task == Task::List && wanted.script.is_none() {
@@ -184,7 +195,7 @@ fn list<D: Driver + Explained, R: AllocGlobal + Print>(
 ) -> ExitCode {
     let known = &view.known;
     let mut page = Page::new(rt.alloc());
-    if put_listing(&mut page, rt.alloc(), known, device).is_err() {
+    if put_listing(&mut page, rt.alloc(), known, view.classes.as_ref(), device).is_err() {
         return no_memory(rt);
     }
     if !view.followers.is_empty() {

@@ -3,6 +3,7 @@
 use crate::wanted::Task;
 use ctl_script::{Bindings, ControlWords};
 use ctrl_calls::Driver;
+use device_file::ClassNames;
 use device_state::{Ask, Device};
 use range_followers::Follower;
 use script_replies::ReplyLine;
@@ -20,6 +21,8 @@ pub struct View {
     pub ink: Ink,
     /// The words by which the script names the device's controls, and by which they are shown.
     pub known: ControlWords,
+    /// The names that the device gives to classes; none where it is the sample device.
+    pub classes: Option<ClassNames>,
     /// How the device's ranges follow other controls.
     pub followers: Vec<Follower>,
     /// Whether a range that was refused is still to be asked for.
@@ -41,6 +44,7 @@ impl View {
     pub fn new(
         alloc: Global,
         known: ControlWords,
+        classes: Option<ClassNames>,
         followers: Vec<Follower>,
         device: &'static str,
         task: Task,
@@ -52,6 +56,7 @@ impl View {
             task,
             ink,
             known,
+            classes,
             followers,
             is_owed: false,
             device,

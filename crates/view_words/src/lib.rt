@@ -6,6 +6,7 @@ mod asked;
 mod classes;
 mod items;
 mod limits;
+mod listed;
 mod listing;
 mod refused;
 mod reply;

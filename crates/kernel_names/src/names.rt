@@ -1,9 +1,7 @@
-//! The names of the controls: of the kernel's list where the device's own word for the control is what `v4l2-ctl` makes of such a name, else the word.
-
 use ctrl_types::CtrlId;
 
-// The names of the kernel's list (Linux, drivers/media/v4l2-core/v4l2-ctrls-defs.c).
-const NAMES: &[(u32, &str)] = &[
+// The controls by their ids (Linux, drivers/media/v4l2-core/v4l2-ctrls-defs.c).
+const CONTROLS: &[(u32, &str)] = &[
     (0x0098_0900, "Brightness"),
     (0x0098_0901, "Contrast"),
     (0x0098_0902, "Saturation"),
@@ -77,38 +75,49 @@ const NAMES: &[(u32, &str)] = &[
     (0x009f_0905, "Digital Gain"),
 ];
 
+// The classes by their numbers.
 const CLASSES: &[(u32, &str)] = &[
-    (0x0098_0001, "User Controls"),
-    (0x0099_0001, "Codec Controls"),
-    (0x009a_0001, "Camera Controls"),
-    (0x009b_0001, "FM Radio Modulator Controls"),
-    (0x009c_0001, "Flash Controls"),
-    (0x009d_0001, "JPEG Compression Controls"),
-    (0x009e_0001, "Image Source Controls"),
-    (0x009f_0001, "Image Processing Controls"),
-    (0x00a0_0001, "Digital Video Controls"),
-    (0x00a1_0001, "FM Radio Receiver Controls"),
-    (0x00a2_0001, "RF Tuner Controls"),
-    (0x00a3_0001, "Detection Controls"),
-    (0x00a4_0001, "Stateless Codec Controls"),
-    (0x00a5_0001, "Colorimetry Controls"),
+    (0x0098_0000, "User Controls"),
+    (0x0099_0000, "Codec Controls"),
+    (0x009a_0000, "Camera Controls"),
+    (0x009b_0000, "FM Radio Modulator Controls"),
+    (0x009c_0000, "Flash Controls"),
+    (0x009d_0000, "JPEG Compression Controls"),
+    (0x009e_0000, "Image Source Controls"),
+    (0x009f_0000, "Image Processing Controls"),
+    (0x00a0_0000, "Digital Video Controls"),
+    (0x00a1_0000, "FM Radio Receiver Controls"),
+    (0x00a2_0000, "RF Tuner Controls"),
+    (0x00a3_0000, "Detection Controls"),
+    (0x00a4_0000, "Stateless Codec Controls"),
+    (0x00a5_0000, "Colorimetry Controls"),
 ];
 
-fn in_table(table: &'static [(u32, &'static str)], id: CtrlId) -> Option<&'static str> {
-    match table.iter().find(|row| row.0 == id.0) {
+fn in_table(table: &'static [(u32, &'static str)], number: u32) -> Option<&'static str> {
+    match table.iter().find(|row| row.0 == number) {
         Some(&(_, name)) => Some(name),
         None => None,
     }
 }
 
-/// The name of a class heading; none where it isn't one that the kernel has.
-pub fn heading_name(id: CtrlId) -> Option<&'static str> {
-    in_table(CLASSES, id)
+/// The kernel's name of a class; none where it has none.
+pub fn class_name(class: u32) -> Option<&'static str> {
+    in_table(CLASSES, class)
 }
 
-/// The name of the kernel's list for a control, where `v4l2-ctl` makes this word of it.
-pub fn kernel_name(id: CtrlId, word: &[u8]) -> Option<&'static str> {
-    match in_table(NAMES, id) {
+/// What the heading of a class says: the name that its device gives it, or else the kernel's, or else that of a driver's own controls.
+///
+/// - `own`: the name that the device gives it.
+pub fn heading_name<'a>(class: u32, own: Option<&'a str>) -> &'a str {
+    match own {
+        Some(name) => name,
+        None => class_name(class).unwrap_or("Driver Controls"),
+    }
+}
+
+/// The kernel's name of a control, where `v4l2-ctl` makes this word of it.
+pub fn control_name(id: CtrlId, word: &[u8]) -> Option<&'static str> {
+    match in_table(CONTROLS, id.0) {
         Some(name) if is_word_of(word, name.as_bytes()) => Some(name),
         _ => None,
     }
