@@ -90,7 +90,7 @@ pub enum Message<'a> {
         /// The payload: the line without its line feed.
         line: &'a [u8],
     },
-    /// 18: reads why the last control call was refused. The payload says it, and is empty where it was accepted, where the device wasn't asked, or where it isn't known.
+    /// 18: reads why the last ask or control call was refused. The payload says it, and is empty where it was accepted, where the device wasn't asked, or where it isn't known.
     Why,
     /// 19: begins the history anew, where nobody would notice. x is how many steps there were, and y how many there are.
     Renew,
