@@ -7,7 +7,7 @@ use ask_reasons::{Reason, reason_of};
 use call_structs::is_heading;
 use ctrl_calls::Driver;
 use ctrl_handlers::Plan;
-use ctrl_types::{CtrlId, Errno, Fault};
+use ctrl_types::{Errno, Fault};
 use device_file::ClassNames;
 use device_state::{Ask, CtrlInfo, Device, Reply};
 use following_ranges::{Follower, handle_and_follow};
