@@ -221,6 +221,7 @@ impl<T: Served, A: Allocator> Desk<T, A> {
             taking = WANTED;
             if shared.compare_exchange::<Mark>(token, TURN, HELD, WANTED) != FREE {
                 shared.park(rt, TURN, WANTED as u32);
+                spins = 1;
             }
         }
         unreachable!()
