@@ -1,5 +1,5 @@
 -- The entry of a step that the object has taken.
-use Rattle.std.proofs.Common.{◌≡◌, ◌≢◌, ℕ, ◌+◌, ◌%◌, ◌<◌, ◌^◌, List, ◌∷◌, length, sym, ap, ◌∙◌, subst}
+use Rattle.std.proofs.Common.{◌≢◌, ℕ, ◌+◌, ◌%◌, ◌<◌, ◌^◌, List, ◌∷◌, length, ap}
 use mathlib.Core.Option.{none}
 use Rattle.history.specs.declared.entry.Entry.{Entry}
 use Rattle.atomic_table.specs.Table.{Me, step, Allows, rest}
