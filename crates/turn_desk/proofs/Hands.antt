@@ -6,20 +6,19 @@ use mathlib.Core.Logic.{dite}
 use Rattle.history.specs.declared.entry.Entry.{Entry}
 use Rattle.history.specs.Past.{own, entered}
 use Rattle.history.specs.Prefix.{IsPrefix}
-use Rattle.atomic_table.specs.Table.{rest}
+use Rattle.atomic_table.specs.Table.{Me, rest}
 use Rattle.atomic_table.specs.declared.shared.Seat.{Seat}
 use Rattle.turn_desk.specs.declared.rule.Account.{Account}
 use Rattle.turn_desk.specs.declared.rule.Place.{Place}
-use Rattle.turn_desk.specs.declared.rule.Place.TheVariants.{Home}
 use Rattle.turn_desk.specs.declared.rule.View.{View}
 use Rattle.turn_desk.specs.Views.{times}
-use Rattle.turn_desk.specs.Rule.{Each, IsAccount, numbers}
+use Rattle.turn_desk.specs.Rule.{Each, IsAccount, numbers, place_of}
 use Rattle.turn_desk.specs.Plays.{account, first_of, rest_of, with_holding, with_accounts, kept_part, cut_part, gathered, Takes, Looks, Numbers}
 use Rattle.turn_desk.specs.Seated.{IsSeated, seat_view}
 use Rattle.turn_desk.specs.Working.{IsAtWork, GoesOn, HasWorked}
 use Rattle.turn_desk.specs.Calls.{IsCall}
 use Rattle.turn_desk.proofs.Histories.{own-append, own-entered}
-use Rattle.turn_desk.proofs.Turns.{times_self}
+use Rattle.turn_desk.proofs.Turns.{times_self, carried_same}
 
 module _ {T P S : Type 0} (is_legal : P → List (Entry S) → Type 0) (plan_of : T → P) (steps_of : T → List (Entry S)) where
   -- a seat between two calls looks at the history
@@ -45,13 +44,46 @@ module _ {T P S : Type 0} (is_legal : P → List (Entry S) → Type 0) (plan_of 
   pub at_work : (number : ℕ) (plan : P) (t u : Seat (Place T) (View P S)) → IsSeated number t → t.me.0.plan ≡ Some plan → Takes is_legal plan_of steps_of t.me u.me → IsAtWork plan_of steps_of number plan u.me
   at_work number plan t u s planned taken = record {
     object = taken.object;
-    carried = taken.carried ∙ ap (λ c. (0, Home taken.object) ∷ c) s.empty;
+    carried = taken.carried ∙ ap (λ c. (0, place_of taken.object) ∷ c) s.empty;
     planned = ap (λ v. v.plan) taken.view ∙ planned;
     planned_object = taken.planned plan planned;
     held = ap (λ v. v.holding) taken.view;
     account = ap (λ v. v.accounts) taken.view ∙ s.account ∙ ap (λ k. account number k ∷ []) (sym (ap (λ v. v.seen) taken.view));
     unclosed = ap (λ v. v.closing) taken.view ∙ s.closing;
   }
+
+  -- the object in its slot is this one
+  unfoldable pub in_hand : (number : ℕ) (plan : P) (m : Me (Place T) (View P S)) (object : T) → IsAtWork plan_of steps_of number plan m → m.1 ≡ (0, place_of object) ∷ rest m.1 → IsAtWork plan_of steps_of number plan m
+  in_hand number plan m object w lies =
+      let same : w.object ≡ object = carried_same (sym w.carried ∙ lies) in
+      record {
+        object = object;
+        carried = w.carried ∙ ap (λ d. (0, place_of d) ∷ []) same;
+        planned = w.planned;
+        planned_object = ap plan_of (sym same) ∙ w.planned_object;
+        held = w.held ∙ ap (λ d. Some (steps_of d)) same;
+        account = w.account;
+        unclosed = w.unclosed;
+      }
+
+  -- where the object has taken no step, the seat looks at the history and goes on
+  pub looked_on : (number r : ℕ) (plan : P) (m n : Me (Place T) (View P S)) (object : T) (w : IsAtWork plan_of steps_of number plan m) → plan_of object ≡ plan → steps_of object ≡ steps_of w.object
+      → Looks is_legal (m.0, (0, place_of object) ∷ rest m.1) r n → IsAtWork plan_of steps_of number plan n × (n.0.seen ≡ steps_of object)
+  looked_on number r plan m n object w planned kept l =
+      let e = l.after in
+      let h = l.history in
+      let seen : n.0.seen ≡ h = ap (λ x. x.0.seen) e in (
+        record {
+          object = object;
+          carried = ap (λ x. x.1) e ∙ ap (λ c. (0, place_of object) ∷ rest c) w.carried;
+          planned = ap (λ x. x.0.plan) e ∙ w.planned;
+          planned_object = planned;
+          held = ap (λ x. x.0.holding) e ∙ w.held ∙ ap Some (sym kept);
+          account = ap (λ x. x.0.accounts) e ∙ ap (map (λ (a : Account S). account a.number h)) w.account ∙ ap (λ k. account number k ∷ []) (sym seen);
+          unclosed = ap (λ x. x.0.closing) e ∙ w.unclosed;
+        },
+        seen ∙ sym (l.shows.held (steps_of w.object) w.held) ∙ sym kept,
+      )
 
   -- without the turn it is between two calls again
   pub seated_again : (number : ℕ) (plan : P) (t u : Seat (Place T) (View P S)) → IsAtWork plan_of steps_of number plan t.me → u.me ≡ (with_holding None t.me.0, []) → IsSeated number u

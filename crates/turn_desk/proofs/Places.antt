@@ -14,12 +14,11 @@ use Rattle.atomic_table.specs.Table.{State, Me, step, stepped, Act, keeps, Valid
 use Rattle.atomic_table.proofs.Lists.{exchanged, at_snoc, set_again, set_else}
 use Rattle.turn_desk.specs.declared.rule.Account.{Account}
 use Rattle.turn_desk.specs.declared.rule.Place.{Place}
-use Rattle.turn_desk.specs.declared.rule.Place.TheVariants.{Home}
 use Rattle.turn_desk.specs.declared.rule.View.{View}
 use Rattle.turn_desk.specs.declared.rule.TheConstants.{CLOSED}
 use Rattle.turn_desk.specs.declared.seat.TheConstants.{MOST_SEATS}
 use Rattle.turn_desk.specs.Views.{times, once_below}
-use Rattle.turn_desk.specs.Rule.{Each, total, count_some, is_taken, made_word, numbers, holds_turn, closes, accounts_of, times_in, IsAccount, Fits}
+use Rattle.turn_desk.specs.Rule.{Each, total, count_some, is_taken, made_word, numbers, holds_turn, closes, accounts_of, times_in, IsAccount, Fits, place_of}
 use Rattle.turn_desk.specs.Plays.{account, opener, bare, with_accounts, with_closing, above_first, kept_part, cut_part, whole_part, count_part, gathered, numbering, closing, opening_again}
 use Rattle.turn_desk.specs.Ending.{IsEnded}
 use Rattle.turn_desk.proofs.Sums.{total-set, total-push, one_within, others_below, times-append, Each-append, Each-weaker}
@@ -364,7 +363,7 @@ module _ {T P S : Type 0} (is_legal : P → List (Entry S) → Type 0) (plan_of 
       (with_closing None m.0, keeps, tt, subst (λ k. Rule (stepped s 2 k id m.1 (with_closing None m.0) keeps)) (sym new) (opened_again s id n m.1 m.0 h at closing_is), (omega arith, omega arith)))
 
   -- a new desk
-  pub opens : (d : T) → plan_of d ≡ plan → steps_of d ≡ [] → is_legal plan [] → Rule (opening (0 ∷ 0 ∷ 1 ∷ []) (Home d ∷ []) (opener plan))
+  pub opens : (d : T) → plan_of d ≡ plan → steps_of d ≡ [] → is_legal plan [] → Rule (opening (0 ∷ 0 ∷ 1 ∷ []) (place_of d ∷ []) (opener plan))
   opens d is fresh lawful = record {
     history = [];
     turn = 0;
@@ -395,7 +394,7 @@ module _ {T P S : Type 0} (is_legal : P → List (Entry S) → Type 0) (plan_of 
       }
       first_fits (suc j) u e = absurd (some-ne-none u (sym e))
 
-  pub ends : (id n : ℕ) (v : View P S) (words : List ℕ) (slots : List (Place T)) → (n ≢ MOST_SEATS → v.closing ≡ Some n) → v.holding ≡ None → n ≤ length v.accounts → Final (Seen Rule id v) words slots → (d : T) × (get_elem? slots 0 ≡ some (Home d)) × IsEnded is_legal plan_of steps_of plan v.accounts d
+  pub ends : (id n : ℕ) (v : View P S) (words : List ℕ) (slots : List (Place T)) → (n ≢ MOST_SEATS → v.closing ≡ Some n) → v.holding ≡ None → n ≤ length v.accounts → Final (Seen Rule id v) words slots → (d : T) × (get_elem? slots 0 ≡ some (place_of d)) × IsEnded is_legal plan_of steps_of plan v.accounts d
   ends id n v words slots closer unheld enough f =
       let h = f.1.0 in
       let at = f.1.1 in
@@ -412,7 +411,7 @@ module _ {T P S : Type 0} (is_legal : P → List (Entry S) → Type 0) (plan_of 
       let free = untaken h.turn (omega arith) in
       let home = h.home free in (
         home.0,
-        f.4 0 (Home home.0) home.1,
+        f.4 0 (place_of home.0) home.1,
         record {
           planned = home.2;
           legal = subst (is_legal plan) (sym home.3) h.legal;

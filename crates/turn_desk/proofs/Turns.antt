@@ -2,7 +2,6 @@
 use Rattle.std.proofs.Common.{◌≡◌, ℕ, ◌+◌, ◌%◌, ◌^◌, ◌<◌, List, [], ◌∷◌, ◌++◌, length, set, Option, Some, None, refl, sym, ap, ◌∙◌, subst, arith, eqb, length-append}
 use Rattle.std.specs.Prelude.{slice_index, slice_set}
 use Rattle.std.proofs.lemmas.Bool.Decides.{nat_tests}
-use Rattle.std.specs.declared.snapshot.Snapshot.{Snapshot}
 use mathlib.Core.Option.{some, none}
 use prog.Atomic.{either}
 use lib.ListN.{get_elem?}
@@ -11,10 +10,9 @@ use Rattle.history.specs.Prefix.{IsPrefix}
 use Rattle.atomic_table.specs.Table.{State, Me, step, stepped, Act, keeps, takes, gives, Valid, carried_after, Allows}
 use Rattle.atomic_table.proofs.Lists.{exchanged, set_again, set_here}
 use Rattle.turn_desk.specs.declared.rule.Place.{Place}
-use Rattle.turn_desk.specs.declared.rule.Place.TheVariants.{Home, Entered}
 use Rattle.turn_desk.specs.declared.rule.View.{View}
 use Rattle.turn_desk.specs.Views.{times}
-use Rattle.turn_desk.specs.Rule.{Each, total, count_some, is_taken, numbers, holds_turn, closes, accounts_of, times_in, Fits, IsRunningRule}
+use Rattle.turn_desk.specs.Rule.{Each, total, count_some, is_taken, numbers, holds_turn, closes, accounts_of, times_in, Fits, place_of, IsRunningRule}
 use Rattle.turn_desk.specs.Plays.{account, caught_up, with_holding, Shows, tried, stayed, looked, entering, left}
 use Rattle.turn_desk.proofs.Sums.{total-set, one_within, two_within, Each-append}
 use Rattle.turn_desk.proofs.Histories.{prefix_refl, prefix_push}
@@ -27,12 +25,12 @@ abbrev held_in : {S : Type 0} → Option (List (Entry S)) → List (Entry S)
 held_in None = []
 held_in (Some g) = g
 
-abbrev first_place : {T : Type 0} → List (ℕ × Place T) → Place T → Place T
-first_place [] none_there = none_there
-first_place (x ∷ xs) none_there = x.1
+abbrev first_object : {T : Type 0} → List (ℕ × Place T) → T → T
+first_object [] none_there = none_there
+first_object (x ∷ xs) none_there = x.1.object
 
-carried_same : {T : Type 0} {x y : Snapshot T} → ◌≡◌ {A = List (ℕ × Place T)} ((0, Entered x) ∷ []) ((0, Entered y) ∷ []) → x ≡ y
-carried_same {x} {y} e = let places : Entered x ≡ Entered y = ap (λ c. first_place c (Entered x)) e in cc
+pub carried_same : {T : Type 0} {x y : T} {xs ys : List (ℕ × Place T)} → ◌≡◌ {A = List (ℕ × Place T)} ((0, place_of x) ∷ xs) ((0, place_of y) ∷ ys) → x ≡ y
+carried_same {x} e = ap (λ c. first_object c x) e
 
 pub times_self : (n : ℕ) → times n (n ∷ []) ≡ 1
 times_self n = grind (arith, nat_tests)
@@ -48,7 +46,7 @@ module _ {T P S : Type 0} (is_legal : P → List (Entry S) → Type 0) (plan_of 
 
   -- the turn
   taken_turn : (s : State (Place T) (View P S)) (id new : ℕ) (c : List (ℕ × Place T)) (v : View P S) (d : T) (h : Holds s) → get_elem? s.views id ≡ some v → h.turn ≡ 0 → 0 < new → 0 < length v.accounts → steps_of d ≡ h.history
-      → Holds (stepped s 0 new id c (with_holding (Some (steps_of d)) v) (takes 0 (Home d)))
+      → Holds (stepped s 0 new id c (with_holding (Some (steps_of d)) v) (takes 0 (place_of d)))
   taken_turn s id new c v d h at free pos some_account is =
       let w = with_holding (Some (steps_of d)) v in
       let mine = h.each id v at in
@@ -83,7 +81,7 @@ module _ {T P S : Type 0} (is_legal : P → List (Entry S) → Type 0) (plan_of 
       let home = h.home free in
       let shown : Shows is_legal m.0 h.history = record { legal = λ p e. subst (λ q. is_legal q h.history) (sym (mine.planned p e)) h.legal; later = mine.seen; learned = mine.heard; whole = mine.accounts; held = λ g e. (mine.holding g e).0 } in (
         with_holding (Some (steps_of home.0)) m.0,
-        takes 0 (Home home.0),
+        takes 0 (place_of home.0),
         home.1,
         taken_turn s id new m.1 m.0 home.0 h at free pos some_account home.3,
         ((λ _. record { object = home.0; carried = refl; view = refl; shows = subst (Shows is_legal m.0) (sym home.3) shown; planned = λ p e. home.2 ∙ sym (mine.planned p e) }), (λ apart. absurd (apart zero_found))),
@@ -159,13 +157,13 @@ module _ {T P S : Type 0} (is_legal : P → List (Entry S) → Type 0) (plan_of 
       )
 
   -- an entry of the seat that holds the turn
-  pub enters : (slots id : ℕ) (m : Me (Place T) (View P S)) (x : Snapshot T) (p : P) (g l : List (Entry S)) (n : ℕ) (e : S)
-      → m.1 ≡ (0, Entered x) ∷ [] → m.0.plan ≡ Some p → m.0.holding ≡ Some g → m.0.accounts ≡ account n l ∷ []
-      → steps_of x.value ≡ g ++ record { seat = n; step = e } ∷ [] → is_legal p (steps_of x.value) → length (steps_of x.value) < 2 ^ 64
+  pub enters : (slots id : ℕ) (m : Me (Place T) (View P S)) (d : T) (p : P) (g l : List (Entry S)) (n : ℕ) (e : S)
+      → m.1 ≡ (0, place_of d) ∷ [] → m.0.plan ≡ Some p → m.0.holding ≡ Some g → m.0.accounts ≡ account n l ∷ []
+      → steps_of d ≡ g ++ record { seat = n; step = e } ∷ [] → is_legal p (steps_of d) → length (steps_of d) < 2 ^ 64
       → Allows Holds slots id m 1 (λ k. (k + 1) % 2 ^ 64) (entering steps_of (step slots 1 1 0 none) m)
-  enters slots id m x p g l n e carries planned holding accounts grown lawful short s h many at fits =
+  enters slots id m d p g l n e carries planned holding accounts grown lawful short s h many at fits =
       let v = m.0 in
-      let to = steps_of x.value in
+      let to = steps_of d in
       let w = with_holding (Some to) (caught_up to v) in
       let mine = h.each id v at in
       let entry : Entry S = record { seat = n; step = e } in
@@ -223,12 +221,12 @@ module _ {T P S : Type 0} (is_legal : P → List (Entry S) → Type 0) (plan_of 
                 fewest = mine.fewest;
               });
         },
-        (λ x' carries'. let same : x ≡ x' = carried_same (sym carries ∙ carries') in ap (λ (y : Snapshot T). (with_holding (Some (steps_of y.value)) (caught_up (steps_of y.value) v), m.1)) same),
+        (λ d' carries'. let same : d ≡ d' = carried_same (sym carries ∙ carries') in ap (λ y. (with_holding (Some (steps_of y)) (caught_up (steps_of y) v), m.1)) same),
       )
 
   -- the turn is left, and the slot with the object in it
   pub leaves : (slots id : ℕ) (v : View P S) (d : T) (p : P) → 0 < slots → v.plan ≡ Some p → plan_of d ≡ p → v.holding ≡ Some (steps_of d)
-      → Allows Holds slots id (v, (0, Home d) ∷ []) 0 (λ k. 0) (left (step slots 0 0 0 none) (v, (0, Home d) ∷ []))
+      → Allows Holds slots id (v, (0, place_of d) ∷ []) 0 (λ k. 0) (left (step slots 0 0 0 none) (v, (0, place_of d) ∷ []))
   leaves slots id v d p some_slot planned is holding s h many at fits =
       let w = with_holding None v in
       let mine = h.each id v at in
@@ -247,7 +245,7 @@ module _ {T P S : Type 0} (is_legal : P → List (Entry S) → Type 0) (plan_of 
           closers = h.closers;
           words = ap (λ ws. slice_set ws 0 0) h.words;
           legal = h.legal;
-          home = λ z. (d, set_here s.homes 0 (some (Home d)) (omega arith), is ∙ mine.planned p planned, (mine.holding (steps_of d) holding).0);
+          home = λ z. (d, set_here s.homes 0 (some (place_of d)) (omega arith), is ∙ mine.planned p planned, (mine.holding (steps_of d) holding).0);
           holders = omega arith;
           closed_by = total_same closes s.views id v w at refl ∙ h.closed_by;
           one_closer = h.one_closer;
@@ -261,7 +259,7 @@ module _ {T P S : Type 0} (is_legal : P → List (Entry S) → Type 0) (plan_of 
         refl,
       )
 
-  pub leaves_as : (slots id : ℕ) (m : Me (Place T) (View P S)) (d : T) (p : P) → 0 < slots → m.0.plan ≡ Some p → plan_of d ≡ p → m.0.holding ≡ Some (steps_of d) → m.1 ≡ (0, Home d) ∷ []
+  pub leaves_as : (slots id : ℕ) (m : Me (Place T) (View P S)) (d : T) (p : P) → 0 < slots → m.0.plan ≡ Some p → plan_of d ≡ p → m.0.holding ≡ Some (steps_of d) → m.1 ≡ (0, place_of d) ∷ []
       → Allows Holds slots id m 0 (λ k. 0) (left (step slots 0 0 0 none) m)
   leaves_as slots id m d p some_slot planned is holding carries =
       subst (λ c. Allows Holds slots id (m.0, c) 0 (λ k. 0) (left (step slots 0 0 0 none) (m.0, c))) (sym carries) (leaves slots id m.0 d p some_slot planned is holding)

@@ -1,18 +1,16 @@
 -- What each kind of step tells the seat that makes it.
 use Rattle.std.specs.Prelude.{◌≡◌, ◌≢◌, ◌<◌, ◌≤◌, ℕ, List, [], ◌∷◌, ◌++◌, Option, Some, None, map, length, max, ◌+◌}
-use Rattle.std.specs.declared.snapshot.Snapshot.{Snapshot}
 use Rattle.history.specs.declared.entry.Entry.{Entry}
 use Rattle.history.specs.Past.{own}
 use Rattle.history.specs.Prefix.{IsPrefix}
 use Rattle.atomic_table.specs.Table.{Me, Step}
 use Rattle.turn_desk.specs.declared.rule.Account.{Account}
 use Rattle.turn_desk.specs.declared.rule.Place.{Place}
-use Rattle.turn_desk.specs.declared.rule.Place.TheVariants.{Home, Entered}
 use Rattle.turn_desk.specs.declared.rule.View.{View}
 use Rattle.turn_desk.specs.declared.rule.TheConstants.{CLOSED}
 use Rattle.turn_desk.specs.declared.seat.TheConstants.{MOST_SEATS}
 use Rattle.turn_desk.specs.Views.{times}
-use Rattle.turn_desk.specs.Rule.{Each, IsAccount, numbers}
+use Rattle.turn_desk.specs.Rule.{Each, IsAccount, numbers, place_of}
 
 module _ {S : Type 0} where
   abbrev pub account : ℕ → List (Entry S) → Account S
@@ -83,7 +81,7 @@ module _ {P S : Type 0} (is_legal : P → List (Entry S) → Type 0) where
 module _ {T P S : Type 0} where
   pub record Takes (is_legal : P → List (Entry S) → Type 0) (plan_of : T → P) (steps_of : T → List (Entry S)) (m m' : Me (Place T) (View P S)) : Type 0 where
     pub object : T
-    pub carried : m'.1 ≡ (0, Home object) ∷ m.1
+    pub carried : m'.1 ≡ (0, place_of object) ∷ m.1
     pub view : m'.0 ≡ with_holding (Some (steps_of object)) m.0
     pub shows : Shows is_legal m.0 (steps_of object)
     pub planned : (p : P) → m.0.plan ≡ Some p → plan_of object ≡ p
@@ -107,7 +105,7 @@ module _ {T P S : Type 0} where
 
   -- the entry that the object in the slot has taken was entered
   abbrev pub entering : (T → List (Entry S)) → Step (Place T) → Me (Place T) (View P S) → ℕ → Me (Place T) (View P S) → Type 0
-  entering steps_of st m r m' = (x : Snapshot T) → m.1 ≡ (0, Entered x) ∷ [] → m' ≡ (with_holding (Some (steps_of x.value)) (caught_up (steps_of x.value) m.0), m.1)
+  entering steps_of st m r m' = (d : T) → m.1 ≡ (0, place_of d) ∷ [] → m' ≡ (with_holding (Some (steps_of d)) (caught_up (steps_of d) m.0), m.1)
 
   abbrev pub left : Step (Place T) → Me (Place T) (View P S) → ℕ → Me (Place T) (View P S) → Type 0
   left st m r m' = m' ≡ (with_holding None m.0, [])

@@ -9,7 +9,6 @@ use Rattle.history.specs.Prefix.{IsPrefix}
 use Rattle.atomic_table.specs.Table.{State}
 use Rattle.turn_desk.specs.declared.rule.Account.{Account}
 use Rattle.turn_desk.specs.declared.rule.Place.{Place}
-use Rattle.turn_desk.specs.declared.rule.Place.TheVariants.{Home}
 use Rattle.turn_desk.specs.declared.rule.View.{View}
 use Rattle.turn_desk.specs.declared.rule.TheConstants.{CLOSED}
 use Rattle.turn_desk.specs.declared.seat.TheConstants.{MOST_SEATS}
@@ -69,10 +68,14 @@ module _ {P S : Type 0} where
     pub closing : (n : ℕ) → v.closing ≡ Some n → n ≡ count
     pub fewest : v.fewest ≤ count
 
+-- the slot's value with this object
+abbrev pub place_of : {T : Type 0} → T → Place T
+place_of d = record { object = d }
+
 module _ {T P S : Type 0} where
   -- the slot has the object, with just these steps
   abbrev pub IsHome : (T → P) → (T → List (Entry S)) → P → List (Entry S) → List (Maybe (Place T)) → Type 0
-  IsHome plan_of steps_of plan history homes = (d : T) × (get_elem? homes 0 ≡ some (some (Home d))) × (plan_of d ≡ plan) × (steps_of d ≡ history)
+  IsHome plan_of steps_of plan history homes = (d : T) × (get_elem? homes 0 ≡ some (some (place_of d))) × (plan_of d ≡ plan) × (steps_of d ≡ history)
 
   -- The running rule: there is one legal history that the words, the slot and all views fit.
   pub record IsRunningRule (is_legal : P → List (Entry S) → Type 0) (plan_of : T → P) (steps_of : T → List (Entry S)) (plan : P) (s : State (Place T) (View P S)) : Type 0 where

@@ -5,7 +5,7 @@ ghost use Rattle.history.specs.Prefix.{IsPrefix};
 ghost use Rattle.turn_desk.specs.Views.{IsSeatOf, IsSameSeat, IsWhole, AreSome};
 ghost use Rattle.turn_desk.specs.Calls.{IsCall};
 ghost use Rattle.turn_desk.specs.Plays.{Takes, with_holding};
-ghost use Rattle.turn_desk.specs.Working.{IsAtWork, IsAway, HasGrown, HasWorked};
+ghost use Rattle.turn_desk.specs.Working.{IsAtWork, HasWorked};
 ghost use Rattle.turn_desk.specs.Ending.{HasGathered, HasOpened, HasHeard, HasHeardAll, IsCloser, IsEnded};
 
 use crate::rule::{
@@ -56,18 +56,18 @@ impl<T: Served, A: Allocator> Desk<T, A> {
         };
         let about = Snapshot::of(&object);
         let mut slots = Vec::new(spare);
-        if let Err(AllocFailed { value }) = slots.push(Place::Home(object)) {
+        if let Err(AllocFailed { value }) = slots.push(Place { object }) {
             slots.destroy_empty();
-            return Err((value.into_object(), DeskFault::Memory));
+            return Err((value.object, DeskFault::Memory));
         }
         match Table::new(alloc, &[FREE, 0, 1], slots, &about) {
             Ok((table, token)) => Ok((Desk { table }, DeskSeat { number: 0, token })),
             Err(Refused { mut slots }) => {
-                let Some(place) = slots.pop() else {
+                let Some(Place { object }) = slots.pop() else {
                     unreachable!()
                 };
                 slots.destroy_empty();
-                Err((place.into_object(), DeskFault::Memory))
+                Err((object, DeskFault::Memory))
             }
         }
     }
@@ -221,6 +221,7 @@ impl<T: Served, A: Allocator> Desk<T, A> {
             taking = WANTED;
             if shared.compare_exchange::<Mark>(token, TURN, HELD, WANTED) != FREE {
                 shared.park(rt, TURN, WANTED as u32);
+                spins = 1;
             }
         }
         unreachable!()
@@ -243,7 +244,7 @@ impl<T: Served, A: Allocator> Desk<T, A> {
         shared.compare_exchange::<Try>(token, TURN, FREE, taking) == FREE
     }
 
-    // Answers the ask, and enters the step that it took.
+    // Answers the ask, and enters the step that it took. Where it took none, a look at the front stands for the call.
     fn work(&self, token: &mut Token<T>, number: u32, ask: &T::Ask) -> T::Answer
         requires desk { token.old.table_id ≡ self.now.id }
         requires work { IsAtWork T.plan T.steps number self.now.plan token.old.me }
@@ -252,33 +253,15 @@ impl<T: Served, A: Allocator> Desk<T, A> {
         ensures worked { HasWorked T.is_legal T.answers T.taken self.now.plan number ask.now result token.old.me.0 token.new.me.0 }
     {
         let shared = &self.table.shared;
-        let mut object = shared.exchange(token, SLOT, Place::Out).into_object();
-        let before = object.step_count();
-        let answer = object.handle(number, ask);
-        self.settle(token, number, before, &object);
-        shared.exchange(token, SLOT, Place::Home(object)).discard();
-        answer
-    }
-
-    // Enters the step that the object has taken. Where it took none, a look at the front stands for the call.
-    fn settle(&self, token: &mut Token<T>, number: u32, before: u64, object: &T)
-        requires desk { token.old.table_id ≡ self.now.id }
-        requires grown { HasGrown number self.now.plan before (T.steps object.now) token.old.me }
-        requires legal { T.is_legal self.now.plan (T.steps object.now) }
-        ensures same { token.new.table_id ≡ token.old.table_id }
-        ensures away { IsAway number self.now.plan (T.steps object.now) token.new.me }
-        ensures seen { token.new.me.0.seen ≡ T.steps object.now }
-    {
-        let shared = &self.table.shared;
-        if object.step_count() == before {
+        let place = token.slot_mut(shared, SLOT);
+        let before = place.object.step_count();
+        let answer = place.object.handle(number, ask);
+        if place.object.step_count() == before {
             shared.load::<Look>(token, FRONT);
-            return;
+        } else {
+            shared.fetch_add::<Enter>(token, FRONT, 1);
         }
-        let grown = Snapshot::of(object);
-        shared
-            .exchange(token, SLOT, Place::Entered(grown))
-            .discard();
-        shared.fetch_add::<Enter>(token, FRONT, 1);
+        answer
     }
 
     fn leave_turn(&self, token: &mut Token<T>)
@@ -388,7 +371,7 @@ fn take_object<T: Served, A: Allocator>(
     ensures { IsEnded T.is_legal T.plan T.steps (T.plan table.shared.key.value) closer.me.0.accounts result }
 {
     let mut closed = table.close_with(closer);
-    let place = closed.take(SLOT);
+    let Place { object } = closed.take(SLOT);
     closed.free();
-    place.into_object()
+    object
 }

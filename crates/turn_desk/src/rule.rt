@@ -1,6 +1,4 @@
 //! What the table's words, its slot and its seats mean, and what each kind of step tells.
-ghost use Rattle.std.specs.Prelude.{◌≡◌, ◌≢◌};
-
 use atomic_table::{Join, Play, Split, TableRule};
 use history::{Entry, Served};
 use std::collections::LinkedList;
@@ -27,36 +25,10 @@ pub const WANTED: u64 = 2;
 /// The word of seats while the desk is being closed. No count is as large, since at most 1,024 seats are made.
 pub const CLOSED: u64 = u32::MAX as u64;
 
-/// The slot's value: the object, nothing while the holder of the turn works with it, or, for the proof alone, what it
-/// became while its entry is entered.
+/// The slot's value: the object, which stays there while the holder of the turn works with it.
 #[derive(Drop)]
-pub enum Place<T> {
-    Home(T),
-    Out,
-    Entered(Snapshot<T>),
-}
-
-impl<T> Place<T> {
-    /// The object, which lies there.
-    pub fn into_object(self) -> T
-        requires { (object : T) × (self ≡ Place.Home object) }
-        ensures { self ≡ Place.Home result }
-    {
-        match self {
-            Place::Home(object) => object,
-            Place::Out | Place::Entered(_) => unreachable!(),
-        }
-    }
-
-    /// Lets the place go, where no object lies there.
-    pub fn discard(self)
-        requires { (object : T) → self ≢ Place.Home object }
-    {
-        match self {
-            Place::Home(_object) => unreachable!(),
-            Place::Out | Place::Entered(_) => {}
-        }
-    }
+pub struct Place<T> {
+    pub object: T,
 }
 
 /// A seat's number, with a beginning of the history that has all of its entries.
