@@ -14,7 +14,7 @@ mod types;
 
 use std::fs::File;
 use std::io::{self, ErrorKind, Read, Write};
-use std::os::fd::AsFd;
+use std::os::unix::io::AsFd;
 use std::process::ExitCode;
 use std::sync::{Arc, Mutex};
 
