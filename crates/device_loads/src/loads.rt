@@ -66,7 +66,7 @@ pub fn prepare<A: Asked>(alloc: Global, device: &mut A) -> Result<(), AllocError
     }
     for number in 0..QUEUED {
         if let Some(request) = device.new_request() {
-            queue(alloc, device, request, number)?;
+            queue(alloc, device, request, &filling(number))?;
         }
     }
     Ok(())
@@ -103,27 +103,34 @@ fn subscription(fh: FhId, id: CtrlId) -> Ask {
     Ask::Subscribe { fh, id, flags }
 }
 
-fn entry(id: CtrlId, value: u32) -> ExtControl {
+/// An entry of a list.
+pub fn entry(id: CtrlId, value: u32) -> ExtControl {
     let value = CtrlValue::Number(i64::from(value));
     ExtControl { id, value }
 }
 
-fn list(alloc: Global, entries: &[ExtControl]) -> Result<ControlList, AllocError>
+/// A list of these entries.
+pub fn list(alloc: Global, entries: &[ExtControl]) -> Result<ControlList, AllocError>
     requires { length entries.now < 2 ^ 32 }
 {
     Ok(ControlList::from_vec(Vec::from_slice(alloc, entries)?))
+}
+
+/// A set of present values by the first file handle.
+pub fn set_of(list: ControlList) -> Ask {
+    Ask::SetCtrls {
+        fh: FhId(0),
+        which: 0,
+        request: None,
+        list,
+    }
 }
 
 // Sets controls, and answers how many asks were refused.
 fn set<A: Asked>(alloc: Global, device: &mut A, entries: &[ExtControl]) -> Result<u32, AllocError>
     requires { length entries.now < 2 ^ 32 }
 {
-    Ok(device.ask(&Ask::SetCtrls {
-        fh: FhId(0),
-        which: 0,
-        request: None,
-        list: list(alloc, entries)?,
-    }))
+    Ok(device.ask(&set_of(list(alloc, entries)?)))
 }
 
 fn lists<A: Asked>(alloc: Global, device: &mut A, round: u32) -> Result<u32, AllocError> {
@@ -169,22 +176,29 @@ fn frame<A: Asked>(alloc: Global, device: &mut A, round: u32) -> Result<u32, All
             Ask::Reinit { request },
         ],
     );
-    let unqueued = queue(alloc, device, request, round)?;
+    let unqueued = queue(alloc, device, request, &filling(round))?;
     Ok(unset.saturating_add(unmade).saturating_add(unqueued))
 }
 
-// Fills a request, gives it its buffer and queues it, and answers how many asks were refused.
-fn queue<A: Asked>(
+// What a request asks for.
+fn filling(round: u32) -> [ExtControl; 2] {
+    [entry(RED, round % 200), entry(GAIN, round % 256)]
+}
+
+/// Fills a request, gives it its buffer and queues it, and answers how many asks were refused.
+pub fn queue<A: Asked>(
     alloc: Global,
     device: &mut A,
     request: RequestId,
-    round: u32,
-) -> Result<u32, AllocError> {
+    entries: &[ExtControl],
+) -> Result<u32, AllocError>
+    requires { length entries.now < 2 ^ 32 }
+{
     let unstored = device.ask(&Ask::SetCtrls {
         fh: FhId(0),
         which: 0x0f01_0000,
         request: Some(request),
-        list: list(alloc, &[entry(RED, round % 200), entry(GAIN, round % 256)])?,
+        list: list(alloc, entries)?,
     });
     let buffer = request.0;
     let unqueued = ask_each(
@@ -205,8 +219,8 @@ fn events<A: Asked>(alloc: Global, device: &mut A, round: u32) -> Result<u32, Al
     Ok(unset)
 }
 
-// Makes these asks in order, and answers how many were refused.
-fn ask_each<A: Asked>(device: &mut A, asks: &[Ask]) -> u32 {
+/// Makes these asks in order, and answers how many were refused.
+pub fn ask_each<A: Asked>(device: &mut A, asks: &[Ask]) -> u32 {
     let mut refused = 0u32;
     for ask in asks {
         refused = refused.saturating_add(device.ask(ask));

@@ -1,18 +1,21 @@
 //! Measures the loads that are asked of a device directly: so many rounds of each on a sample device at the start, and again behind so many
 //! steps, since no ask is to take longer for the steps that are kept. How long they took it says on standard error, and on standard
-//! output how many asks were refused, which is none.
+//! output how many asks were refused, which is none. By seven numbers it makes asks of one kind instead, at a device as large as they say.
 #![tactic(auto)]
 
 mod asked;
+mod asks;
 mod loads;
 mod wanted;
 
 ghost use Rattle.ctrl_calls.specs.Meanings.{JudgesBy, TellsBy};
 
 use crate::asked::Asked;
+use crate::asks::Asks;
 use crate::loads::{LOADS, Load, fill, play, prepare};
-use crate::wanted::Wanted;
+use crate::wanted::{Loads, Wanted};
 use ctrl_calls::{Calls, ClusterRow, Driver, Notifier, Validator, Verdict};
+use ctrl_handlers::PlanFault;
 use device_state::Device;
 use sample_device::{
     BALANCE_LIMIT, BRIGHTNESS_WORDS, BUTTON_WORDS, GAIN_LIMIT, PAIR_WORDS, Sample, balance_verdict,
@@ -31,7 +34,7 @@ fn main(rt: HostRuntime) -> io::Result<ExitCode> {
     let words = env::args(&rt)?.collect::<Vec<String>>(rt.alloc())?;
     let Some(wanted) = Wanted::read(words.as_slice()) else {
         eprintln!(rt;
-            "usage: device_loads STEPS ROUNDS [LOAD ..], a LOAD is sets, lists, frames or events"
+            "usage: device_loads STEPS ROUNDS [LOAD ..], a LOAD is sets, lists, frames or events\n       device_loads MODE CONTROLS HANDLERS FILE_HANDLES SUBSCRIPTIONS QUEUED ROUNDS, a MODE is 0 to 12"
         )?;
         return Ok(ExitCode::from(2));
     };
@@ -89,23 +92,59 @@ fn run<D: Driver, R: AllocGlobal + Print + Eprint + Clock>(
         validator: None,
         notifier: Some(Notifier::new(BRIGHTNESS_WORDS, brightness)),
     };
-    let Ok(plan) = sample_plan(rt.alloc(), of_gain, of_balance, of_button, of_brightness) else {
-        return Err(io::Error::from(io::ErrorKind::OutOfMemory));
+    let made = match wanted {
+        Wanted::Asks(asks) if !asks.is_sample() => asks.plan(rt.alloc()),
+        _ => sample_plan(rt.alloc(), of_gain, of_balance, of_button, of_brightness),
+    };
+    let plan = match made {
+        Ok(plan) => plan,
+        Err(PlanFault::Memory) => return Err(io::Error::from(io::ErrorKind::OutOfMemory)),
+        Err(_) => return Err(io::Error::from(io::ErrorKind::InvalidInput)),
     };
     let Ok(mut device) = Device::new(rt.alloc(), plan) else {
         return Err(io::Error::from(io::ErrorKind::OutOfMemory));
     };
-    prepare(rt.alloc(), &mut device)?;
-    measure(rt, &mut device, wanted)?;
-    fill(rt.alloc(), &mut device, wanted.steps)?;
-    measure(rt, &mut device, wanted)
+    match wanted {
+        Wanted::Loads(loads) => measure_loads(rt, &mut device, loads),
+        Wanted::Asks(asks) => measure_asks(rt, &mut device, asks),
+    }
+}
+
+// Makes the rounds of the loads before and behind so many steps.
+fn measure_loads<A: Asked, R: AllocGlobal + Print + Eprint + Clock>(
+    rt: &R,
+    device: &mut A,
+    wanted: &Loads<'_>,
+) -> io::Result<()> {
+    prepare(rt.alloc(), device)?;
+    measure(rt, device, wanted)?;
+    fill(rt.alloc(), device, wanted.steps)?;
+    measure(rt, device, wanted)
+}
+
+// Makes the rounds of asks, and says how long they took.
+fn measure_asks<A: Asked, R: AllocGlobal + Print + Eprint + Clock>(
+    rt: &R,
+    device: &mut A,
+    asks: &Asks,
+) -> io::Result<()> {
+    asks.prepare(rt.alloc(), device)?;
+    let start = Instant::now(rt)?;
+    let refused = asks.play(rt.alloc(), device)?;
+    let took = start.elapsed(rt)?.as_micros();
+    let (mode, rounds) = (asks.number, asks.rounds);
+    println!(rt; "mode {mode}: {rounds} rounds, {refused} asks refused")?;
+    eprintln!(rt;
+        "mode {mode}: {took} us, {} steps then",
+        device.step_count()
+    )
 }
 
 // Makes the rounds of each load that is wanted.
 fn measure<A: Asked, R: AllocGlobal + Print + Eprint + Clock>(
     rt: &R,
     device: &mut A,
-    wanted: &Wanted<'_>,
+    wanted: &Loads<'_>,
 ) -> io::Result<()> {
     for &(load, name) in LOADS {
         if wanted.has(name) {
