@@ -1,13 +1,14 @@
 ghost use Rattle.std.specs.Prelude.{◌≡◌};
-ghost use Rattle.ctl_session.specs.Session.{Asked};
-ghost use Rattle.data_driver.specs.Data.{data_verdict};
-ghost use Rattle.device_history.specs.Refusals.{Answer};
+ghost use Rattle.ctl_session.specs.Calls.{plan_in};
+ghost use Rattle.camera_messages.specs.Messages.{Answers, IsAsked, IsAskedOrTold, IsCalled, IsRenewed, IsTold, ask_of, head_of, head_of_reply, last_handler, payload_of, state_number};
+ghost use Rattle.camera_messages.specs.Replies.{Says, bare};
 
 use crate::camera::Camera;
 use crate::device_parts::{put_controls, put_values};
 use crate::message::Message;
-use crate::reply_buffer::{ReplyBuffer, count};
+use crate::reply_buffer::{Head, ReplyBuffer, count};
 use ask_reasons::{Reason, text_of};
+use ctrl_types::{Fault, FhId, RequestId};
 use device_state::{Ask, Reply, RequestState};
 use std::alloc::Global;
 use std::io::Write;
@@ -17,38 +18,70 @@ impl Camera {
     /// Answers a message.
     ///
     /// - `reply`: becomes the reply, whatever it was.
-    pub fn answer(&mut self, message: &Message<'_>, reply: &mut ReplyBuffer) {
+    pub fn answer(&mut self, message: &Message<'_>, reply: &mut ReplyBuffer)
+        ensures { Answers self.old.session message.now self.new.session reply.new }
+    {
         reply.begin();
-        if let Some(ask) = self.ask_of(message) {
-            self.answer_ask(&ask, reply);
-            return;
-        }
         match message {
             Message::Call {
                 fh,
                 request,
                 number,
                 arg,
-            } => {
-                reply.put(arg);
-                let errno = self.session.call(*fh, *request, *number, reply.payload());
-                reply.put_errno(errno);
-            }
+            } => self.answer_call(*fh, *request, *number, arg, reply),
             Message::Line { line } => {
                 let is_accepted = self.lines.answer(self.alloc, &mut self.session, line);
                 reply.put_numbers(u32::from(is_accepted), 0, 0);
                 reply.put(self.lines.said());
             }
-            Message::Renew => match self.renew() {
-                Ok((before, after)) => reply.put_numbers(before, after, 0),
-                Err(errno) => reply.refuse(errno),
-            },
-            _ => self.tell(message, reply),
+            Message::Renew => self.answer_renewal(reply),
+            _ => self.answer_other(message, reply),
+        }
+    }
+
+    // Answers a control call, whose struct this is.
+    fn answer_call(
+        &mut self,
+        fh: FhId,
+        request: Option<RequestId>,
+        number: u32,
+        arg: &[u8],
+        reply: &mut ReplyBuffer,
+    )
+        requires { reply.old ≡ bare 0 }
+        ensures { IsCalled self.old.session fh request number arg.now self.new.session reply.new }
+    {
+        reply.put(arg);
+        if reply.is_whole() {
+            reply.call(&mut self.session, fh, request, number);
+        }
+    }
+
+    // Begins the history anew.
+    fn answer_renewal(&mut self, reply: &mut ReplyBuffer)
+        ensures { IsRenewed self.old.session self.new.session reply.new }
+    {
+        match self.renew() {
+            Ok((before, after)) => reply.put_numbers(before, after, 0),
+            Err(errno) => reply.refuse(errno),
+        }
+    }
+
+    // Answers a message that is an ask, or that only reads.
+    fn answer_other(&mut self, message: &Message<'_>, reply: &mut ReplyBuffer)
+        requires { reply.old ≡ bare 0 }
+        ensures { IsAskedOrTold self.old.session message.now (ask_of (last_handler (plan_in self.old.session)) message.now) self.new.session reply.new }
+    {
+        match self.ask_of(message) {
+            Some(ask) => self.answer_ask(&ask, reply),
+            None => self.tell(message, reply),
         }
     }
 
     // The ask that a message is, where it is one.
-    fn ask_of(&self, message: &Message<'_>) -> Option<Ask> {
+    fn ask_of(&self, message: &Message<'_>) -> Option<Ask>
+        ensures { result ≡ ask_of (last_handler (plan_in self.now.session)) message.now }
+    {
         let ask = match *message {
             Message::Open { handler } => Ask::OpenFh {
                 handler: handler.unwrap_or(self.last_handler()),
@@ -71,32 +104,12 @@ impl Camera {
 
     // Answers a message that is an ask.
     fn answer_ask(&mut self, ask: &Ask, reply: &mut ReplyBuffer)
-        ensures { (answer : Answer) × Asked data_verdict self.old.session self.new.session ask.now answer }
+        requires { reply.old ≡ bare 0 }
+        ensures { IsAsked self.old.session ask.now self.new.session reply.new }
     {
         let answer = self.session.ask(ask);
         self.count_requests(ask, answer.is_ok());
-        match &answer {
-            Ok(Reply::Fh(fh)) => reply.put_numbers(fh.0, 0, 0),
-            Ok(Reply::Request(request)) => reply.put_numbers(request.0, 0, 0),
-            Ok(Reply::State(state)) => reply.put_numbers(state_number(*state), 0, 0),
-            Ok(
-                Reply::Frame {
-                    request,
-                    buffer,
-                    refused,
-                },
-            ) => {
-                let refused = count(refused.as_slice().len());
-                reply.put_numbers(request.0, *buffer, refused);
-            }
-            Ok(Reply::Forecast(frame)) => {
-                let refused = count(frame.refused.as_slice().len());
-                reply.put_numbers(frame.request.0, frame.buffer, refused);
-                put_values(reply, frame.values.as_slice());
-            }
-            Ok(_) => {}
-            Err(fault) => reply.refuse(fault.errno.number()),
-        }
+        put_answer(&answer, reply);
     }
 
     // Counts the requests that are there.
@@ -111,7 +124,11 @@ impl Camera {
     }
 
     // Answers a message that only reads, and is no ask.
-    fn tell(&self, message: &Message<'_>, reply: &mut ReplyBuffer) {
+    #[tactic(auto, using(crate::proofs::ReplyLemmas::says))]
+    fn tell(&self, message: &Message<'_>, reply: &mut ReplyBuffer)
+        requires { reply.old ≡ bare 0 }
+        ensures { IsTold self.now.session message.now reply.new }
+    {
         let device = self.session.device();
         match message {
             Message::Controls => {
@@ -129,7 +146,8 @@ impl Camera {
                 }
             }
             Message::Counts => {
-                let (steps, handles) = (count(device.steps().len()), count(device.open_count()));
+                let steps = count(device.steps().len());
+                let handles = count(device.open_count());
                 reply.put_numbers(steps, handles, self.requests);
             }
             _ => {}
@@ -137,8 +155,54 @@ impl Camera {
     }
 }
 
+// Says what an ask was answered.
+#[tactic(auto, using(crate::proofs::ReplyLemmas::puts_none, crate::proofs::ReplyLemmas::says))]
+fn put_answer(answer: &Result<Reply, Fault>, reply: &mut ReplyBuffer)
+    requires { reply.old ≡ bare 0 }
+    ensures { Says reply.new (head_of answer.now) (payload_of answer.now) }
+{
+    reply.put_head(head_of(answer));
+    match answer {
+        Ok(Reply::Forecast(frame)) => put_values(reply, frame.values.as_slice()),
+        _ => {}
+    }
+}
+
+// What the reply to an ask says in front of its payload.
+fn head_of(answer: &Result<Reply, Fault>) -> Head
+    ensures { result ≡ head_of answer.now }
+{
+    match answer {
+        Ok(reply) => head_of_reply(reply),
+        Err(fault) => Head::of_errno(fault.errno.number()),
+    }
+}
+
+// The same where the ask was accepted.
+fn head_of_reply(reply: &Reply) -> Head
+    ensures { result ≡ head_of_reply reply.now }
+{
+    match reply {
+        Reply::Fh(fh) => Head::accepted(fh.0, 0, 0),
+        Reply::Request(request) => Head::accepted(request.0, 0, 0),
+        Reply::State(state) => Head::accepted(state_number(*state), 0, 0),
+        Reply::Frame {
+            request,
+            buffer,
+            refused,
+        } => Head::accepted(request.0, *buffer, count(refused.as_slice().len())),
+        Reply::Forecast(frame) => {
+            let refused = count(frame.refused.as_slice().len());
+            Head::accepted(frame.request.0, frame.buffer, refused)
+        }
+        _ => Head::accepted(0, 0, 0),
+    }
+}
+
 // The number of a request's state.
-fn state_number(state: RequestState) -> u32 {
+fn state_number(state: RequestState) -> u32
+    ensures { result ≡ state_number state }
+{
     match state {
         RequestState::Idle => 0,
         RequestState::Queued => 1,

@@ -1,7 +1,9 @@
-ghost use Rattle.std.specs.Prelude.{◌≡◌, OnErr, OnOk};
+ghost use Rattle.std.specs.Prelude.{◌≡◌, ◌<◌, IfErr, OnErr, OnOk};
 ghost use Rattle.data_driver.specs.Data.{data_verdict};
 ghost use Rattle.device_renewal.specs.Alike.{StandAlike};
 ghost use Rattle.device_renewal.specs.Quiet.{IsQuiet};
+ghost use Rattle.ctl_session.specs.Calls.{plan_in};
+ghost use Rattle.camera_messages.specs.Messages.{last_handler};
 
 use crate::lines::Lines;
 use crate::reply_buffer::count;
@@ -53,7 +55,9 @@ impl Camera {
     }
 
     /// The number of the last handler.
-    pub(crate) fn last_handler(&self) -> u32 {
+    pub(crate) fn last_handler(&self) -> u32
+        ensures { result ≡ last_handler (plan_in self.now.session) }
+    {
         let plan = self.session.device().plan();
         plan.handler_count().saturating_sub(1)
     }
@@ -68,6 +72,7 @@ impl Camera {
         ensures quiet { OnOk result (IsQuiet data_verdict self.old.session.device) }
         ensures followers { self.new.session.followers ≡ self.old.session.followers }
         ensures err { OnErr result (self.new.session ≡ self.old.session) }
+        ensures errno { IfErr result (λ errno. 0 < errno) }
     {
         if !is_quiet(self.session.device()) {
             return Err(EBUSY);

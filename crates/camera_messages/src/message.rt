@@ -1,5 +1,9 @@
-use byteorder::{ByteOrder, LittleEndian};
+ghost use Rattle.std.specs.Prelude.{◌≡◌};
+ghost use Rattle.std.specs.Option.{option_map};
+ghost use Rattle.camera_messages.specs.Reading.{IsReadAs, bare_message, message_by, named, request_of};
+
 use ctrl_types::{FhId, RequestId};
+use ioctl_bytes::u32_at;
 
 /// How many bytes of a message stand between its length and its payload.
 pub const HEAD: usize = 16;
@@ -110,20 +114,24 @@ struct Numbers {
 /// The message that bytes are; none where there is no message of this number, or where it takes no payload and has one.
 ///
 /// - `bytes`: the four numbers, of 32 bits each, the lowest bits first, and the payload.
-pub fn message_of(bytes: &[u8]) -> Option<Message<'_>> {
+pub fn message_of(bytes: &[u8]) -> Option<Message<'_>>
+    ensures { IsReadAs bytes.now result }
+{
     if bytes.len() < HEAD {
         return None;
     }
     let numbers = Numbers {
-        what: LittleEndian::read_u32(bytes),
-        a: LittleEndian::read_u32(&bytes[4..]),
-        b: LittleEndian::read_u32(&bytes[8..]),
-        c: LittleEndian::read_u32(&bytes[12..]),
+        what: u32_at(bytes, 0),
+        a: u32_at(bytes, 4),
+        b: u32_at(bytes, 8),
+        c: u32_at(bytes, 12),
     };
     with_payload(numbers, &bytes[HEAD..])
 }
 
-fn with_payload<'a>(numbers: Numbers, payload: &'a [u8]) -> Option<Message<'a>> {
+fn with_payload<'a>(numbers: Numbers, payload: &'a [u8]) -> Option<Message<'a>>
+    ensures { result ≡ message_by numbers payload.entry }
+{
     match numbers.what {
         3 => Some(Message::Call {
             fh: FhId(numbers.a),
@@ -132,15 +140,25 @@ fn with_payload<'a>(numbers: Numbers, payload: &'a [u8]) -> Option<Message<'a>> 
             arg: payload,
         }),
         17 => Some(Message::Line { line: payload }),
-        _ if !payload.is_empty() => None,
-        4..=11 => of_requests(numbers),
-        _ => without_payload(numbers),
+        _ => {
+            if payload.is_empty() {
+                without_payload(numbers)
+            } else {
+                None
+            }
+        }
     }
 }
 
-fn of_requests<'a>(numbers: Numbers) -> Option<Message<'a>> {
-    let request = RequestId(numbers.a);
+fn without_payload<'a>(numbers: Numbers) -> Option<Message<'a>>
+    ensures { result ≡ bare_message numbers }
+{
+    let (fh, request) = (FhId(numbers.a), RequestId(numbers.a));
     match numbers.what {
+        1 => Some(Message::Open {
+            handler: named(numbers.a),
+        }),
+        2 => Some(Message::Close { fh }),
         4 => Some(Message::Alloc),
         5 => Some(Message::Free { request }),
         6 => Some(Message::AddBuffer {
@@ -152,27 +170,11 @@ fn of_requests<'a>(numbers: Numbers) -> Option<Message<'a>> {
         9 => Some(Message::Begin),
         10 => Some(Message::Complete),
         11 => Some(Message::StreamOff),
-        _ => None,
-    }
-}
-
-fn without_payload<'a>(numbers: Numbers) -> Option<Message<'a>> {
-    match numbers.what {
-        1 => Some(Message::Open {
-            handler: named(numbers.a),
-        }),
-        2 => Some(Message::Close {
-            fh: FhId(numbers.a),
-        }),
-        12 => Some(Message::State {
-            request: RequestId(numbers.a),
-        }),
+        12 => Some(Message::State { request }),
         13 => Some(Message::Forecast { place: numbers.a }),
         14 => Some(Message::Controls),
         15 => Some(Message::Values),
-        16 => Some(Message::Waits {
-            fh: FhId(numbers.a),
-        }),
+        16 => Some(Message::Waits { fh }),
         18 => Some(Message::Why),
         19 => Some(Message::Renew),
         20 => Some(Message::Counts),
@@ -181,11 +183,15 @@ fn without_payload<'a>(numbers: Numbers) -> Option<Message<'a>> {
 }
 
 // What a number names, where it names something.
-fn named(number: u32) -> Option<u32> {
+fn named(number: u32) -> Option<u32>
+    ensures { result ≡ named number }
+{
     if number == NONE { None } else { Some(number) }
 }
 
-fn request_named(number: u32) -> Option<RequestId> {
+fn request_named(number: u32) -> Option<RequestId>
+    ensures { result ≡ option_map request_of (named number) }
+{
     match named(number) {
         Some(request) => Some(RequestId(request)),
         None => None,
