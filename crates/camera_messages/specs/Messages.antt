@@ -85,10 +85,10 @@ IsCalled old fh request number bytes new reply =
     × Calls data_verdict old (call_of data_verdict old name fh request number bytes) new (reply.head.errno, reply.payload))
     ⊎ ((reply.is_whole ≡ false) × (new ≡ old))
 
--- The history is begun anew, at a quiet moment, and the camera stands as it stood; or that is refused, and nothing changed.
+-- The history is begun anew, at a quiet moment, and the camera stands as it stood, and owes what it owed; or that is refused, and nothing changed.
 abbrev pub IsRenewed : SessionData → SessionData → ReplyData → Type 0
 IsRenewed old new reply =
-    ((reply.head.errno ≡ 0) × StandAlike data_verdict old.device new.device × IsQuiet data_verdict old.device × (new.followers ≡ old.followers))
+    ((reply.head.errno ≡ 0) × StandAlike data_verdict old.device new.device × IsQuiet data_verdict old.device × (new.followers ≡ old.followers) × (new.owed ≡ old.owed))
     ⊎ ((0 < reply.head.errno) × (new ≡ old))
 
 -- What a message is told that only reads: the present values; whether an event waits for a file handle; how many steps there are, and how many file handles are open. Of the

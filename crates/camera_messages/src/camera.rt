@@ -71,6 +71,7 @@ impl Camera {
         ensures alike { OnOk result (StandAlike data_verdict self.old.session.device self.new.session.device) }
         ensures quiet { OnOk result (IsQuiet data_verdict self.old.session.device) }
         ensures followers { self.new.session.followers ≡ self.old.session.followers }
+        ensures owed { self.new.session.owed ≡ self.old.session.owed }
         ensures err { OnErr result (self.new.session ≡ self.old.session) }
         ensures errno { IfErr result (λ errno. 0 < errno) }
     {
