@@ -5,7 +5,7 @@ ghost use Rattle.ctrl_calls.specs.Meanings.{JudgesBy};
 use crate::driver::Driver;
 use crate::judging::Judging;
 use crate::relation::Relation;
-use crate::row::ClusterRow;
+use crate::row_values::RowValues;
 use crate::verdict::Verdict;
 use crate::work::Work;
 use std::marker::Model;
@@ -58,11 +58,11 @@ impl<D: Driver> Validator<D> {
 
 /// Asks the validator what it makes of the row, the values of its cluster's members in member order (Linux driver API,
 /// "V4L2 Controls": `try_ctrl`). Answers the driver's verdict by the validator's relation. The closure is called once,
-/// and `asked` of `work` grows by one; a full count stays as it is, and so does the other count.
-pub fn ask<D: Driver>(validator: &Validator<D>, row: &ClusterRow, work: &mut Work) -> Verdict
+/// with a `ClusterRow` of the values, and `asked` of `work` grows by one; a full count stays as it is, and so does the other count.
+pub fn ask<D: Driver>(validator: &Validator<D>, row: &RowValues, work: &mut Work) -> Verdict
     ensures verdict { result ≡ D.verdict validator.now row.now }
     ensures counted { work.new ≡ record work.old { asked = one_more work.old.asked } }
 {
     work.asked = work.asked.saturating_add(1);
-    validator.judge.judge(*row)
+    validator.judge.judge(row.to_cluster_row())
 }

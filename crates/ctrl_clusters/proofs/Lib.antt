@@ -1,7 +1,8 @@
 pub mod CallLemmas
 pub mod RowLemmas
+pub mod LoneLemmas
 pub mod RangeLemmas
 pub mod NewRowLemmas
 pub mod OverlayLemmas
 pub mod NotifyLemmas
-mod PlaceLemmas
+pub mod ControlLemmas

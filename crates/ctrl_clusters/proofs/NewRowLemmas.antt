@@ -1,5 +1,5 @@
 -- Rows that some clusters get, and the values once they are written.
-use Rattle.std.proofs.Common.{◌≡◌, ◌≢◌, ℕ, zero, suc, eq-eqb, ◌<◌, ◌+◌, ◌==◌, Bool, true, false, cond, nat_eq, List, [], ◌∷◌, ◌++◌, length, take, drop, get_or, slice_set, Option, None, Some, is_some, unwrap_or, inl, inr, ◌⊎◌, subst, refl, ap, sym, ◌∙◌, arith}
+use Rattle.std.proofs.Common.{◌≡◌, ◌≢◌, ℕ, zero, suc, eq-eqb, ◌<◌, ◌+◌, ◌==◌, Bool, true, false, cond, if◌then◌else◌, nat_eq, List, [], ◌∷◌, ◌++◌, length, take, drop, get_or, slice_set, Option, None, Some, is_some, unwrap_or, inl, inr, ◌⊎◌, subst, refl, ap, sym, ◌∙◌, arith}
 use Rattle.std.specs.List.{All, list_any}
 use Rattle.std.specs.Option.{option_or}
 use Rattle.std.proofs.lemmas.Bool.Decides.{eqb_tells}
@@ -220,3 +220,8 @@ written_next plan values rows i r is many are lt at =
     let new : row_among (take i rows) r.cluster ≡ None = subst (λ (x : NewRow). row_among (take i rows) x.cluster ≡ None) (sym at) (new_next rows i r are.differ lt) in
     written_push plan values (take i rows) r is many within long new
     ∙ ap (written plan values) (ap (λ (x : NewRow). take i rows ++ x ∷ []) at ∙ sym (take_more rows i r lt))
+
+-- the row of the next cluster is the one that is looked for, or another is
+pub among_next : (rows : List NewRow) (k i : ℕ) (d : NewRow) → i < length rows
+    → row_among (drop i rows) k ≡ (if (get_or rows i d).cluster == k then Some (get_or rows i d).row else row_among (drop (i + 1) rows) k)
+among_next rows k i d within = rw (drop_more rows i d within) refl

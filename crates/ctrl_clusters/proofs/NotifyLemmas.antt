@@ -1,9 +1,10 @@
 -- Which clusters are notified, and the words afterwards.
-use Rattle.std.proofs.Common.{◌≡◌, ◌≢◌, ℕ, zero, suc, cond, add-one, add-zero, zero-add, ◌<◌, ◌≤◌, ◌==◌, ◌+◌, ◌-◌, ◌^◌, ◌&&◌, ◌||◌, not, Bool, true, false, List, [], ◌∷◌, length, None, Some, is_some, Option, refl, sym, ap, subst, ◌∙◌, arith, slice_index, ◌++◌, below_more, ◌⊎◌, inl, inr, count_by}
-use Rattle.std.specs.List.{range_with_len, sum_by}
+use Rattle.std.proofs.Common.{◌≡◌, ◌≢◌, ℕ, zero, suc, cond, add-one, add-zero, zero-add, ◌<◌, ◌≤◌, ◌==◌, ◌+◌, ◌-◌, ◌^◌, ◌&&◌, ◌||◌, not, Bool, true, false, List, [], ◌∷◌, length, None, Some, is_some, Option, refl, sym, ap, subst, ◌∙◌, arith, slice_index, ◌++◌, below_more, ◌⊎◌, inl, inr, count_by, nat_eq, eq-eqb}
+use Rattle.std.specs.List.{list_any, range_with_len, sum_by}
 use Rattle.std.proofs.lemmas.List.Sums.{sum_by-cons, count_by-le-length}
 use Rattle.std.proofs.lemmas.List.{length-map}
 use Rattle.std.proofs.lemmas.List.FromFn.{length-range_with_len}
+use Rattle.std.proofs.lemmas.Bool.{false≢true}
 use Rattle.std.proofs.lemmas.Bool.Decides.{eqb_tells}
 use Rattle.std.proofs.lemmas.Grind.{common_steps}
 use Rattle.ctrl_types.proofs.ValueLemmas.{Decides-same}
@@ -19,7 +20,7 @@ use Rattle.ctrl_handlers.specs.Plan.{PlanData, control, calls_of, members}
 use Rattle.ctrl_handlers.proofs.ClusterLemmas.{or_false, or_false_right}
 use Rattle.ctrl_clusters.specs.Rows.{Values, value_at, row_of}
 use Rattle.ctrl_clusters.specs.Overlay.{is_among}
-use Rattle.ctrl_clusters.specs.NewRows.{row_among}
+use Rattle.ctrl_clusters.specs.NewRows.{clusters_of, row_among}
 use Rattle.ctrl_clusters.specs.Changes.{is_changed, row_changes, cluster_changes, members_change}
 use Rattle.ctrl_clusters.specs.Notified.{MaySay, HasWord, HaveWords, AreNotified, IsNotified, notified_count, after_change}
 use Rattle.ctrl_clusters.specs.declared.new_row.NewRow.{NewRow}
@@ -176,3 +177,55 @@ words_between says plan before after pairs words new have is = record {
         let same : row_of before (members plan k) ≡ row_of after (members plan k) =
         same_row plan before pairs (members plan k) (row_of after (members plan k)) (length-map (members plan k) (value_at after)) kept in
         subst (λ (row : List CtrlValue). MaySay says (calls_of plan k).notifier row (slice_index new k)) same (rw (is.others k (λ h. kept)) (have.allowed k lt))
+
+-- Clusters that don't change may be passed by: those below a further number were notified, too.
+notified_still : (says : Words) (plan : PlanData) (changed : ℕ → Bool) (rows : ℕ → List CtrlValue) (a n : ℕ) (old words : List ℕ) → ((k : ℕ) → a ≤ k → k < a + n → changed k ≡ false)
+    → AreNotifiedBelow says plan changed rows a old words → AreNotifiedBelow says plan changed rows (a + n) old words
+notified_still says plan changed rows a zero old words none before = subst (λ (m : ℕ). AreNotifiedBelow says plan changed rows m old words) (sym (add-zero a)) before
+notified_still says plan changed rows a (suc n) old words none before =
+    let rest : AreNotifiedBelow says plan changed rows (a + n) old words = notified_still says plan changed rows a n old words (λ k no_less below. none k no_less (omega (arith, below))) before in
+    let one : a + n + 1 ≡ a + suc n = omega arith in
+    subst (λ (m : ℕ). AreNotifiedBelow says plan changed rows m old words) one
+    (notified_next says plan changed rows (a + n) old words words rest (notified_not says plan (a + n) (changed (a + n)) (rows (a + n)) words (none (a + n) (omega arith) (omega arith))))
+
+pub notified_past : (says : Words) (plan : PlanData) (changed : ℕ → Bool) (rows : ℕ → List CtrlValue) (a b : ℕ) (old words : List ℕ) → a ≤ b → ((k : ℕ) → a ≤ k → k < b → changed k ≡ false)
+    → AreNotifiedBelow says plan changed rows a old words → AreNotifiedBelow says plan changed rows b old words
+notified_past says plan changed rows a b old words order none before =
+    let all : a + (b - a) ≡ b = omega (arith, order) in
+    subst (λ (m : ℕ). AreNotifiedBelow says plan changed rows m old words) all
+    (notified_still says plan changed rows a (b - a) old words (λ k no_less below. none k no_less (omega (arith, below, order))) before)
+
+-- and their notifiers are counted
+work_still : (plan : PlanData) (changed : ℕ → Bool) (a n : ℕ) (old work : Work) → a + n ≤ 2 ^ 32 → ((k : ℕ) → a ≤ k → k < a + n → changed k ≡ false)
+    → work ≡ record old { told = notified_below plan changed a } → work ≡ record old { told = notified_below plan changed (a + n) }
+work_still plan changed a zero old work few none before = before ∙ ap (λ (m : ℕ). record old { told = notified_below plan changed m }) (sym (add-zero a))
+work_still plan changed a (suc n) old work few none before =
+    let rest : work ≡ record old { told = notified_below plan changed (a + n) } = work_still plan changed a n old work (omega (arith, few)) (λ k no_less below. none k no_less (omega (arith, below))) before in
+    let same : work ≡ record work { told = after_change plan (a + n) (changed (a + n)) work.told } =
+    ap (λ (m : ℕ). record work { told = m }) (sym (count_not plan (a + n) (changed (a + n)) work.told (none (a + n) (omega arith) (omega arith)))) in
+    let one : a + n + 1 ≡ a + suc n = omega arith in
+    work_next plan changed (a + n) old work work (omega (arith, few)) rest same ∙ ap (λ (m : ℕ). record old { told = notified_below plan changed m }) one
+
+pub work_past : (plan : PlanData) (changed : ℕ → Bool) (a b : ℕ) (old work : Work) → a ≤ b → b ≤ 2 ^ 32 → ((k : ℕ) → a ≤ k → k < b → changed k ≡ false)
+    → work ≡ record old { told = notified_below plan changed a } → work ≡ record old { told = notified_below plan changed b }
+work_past plan changed a b old work order few none before =
+    let all : a + (b - a) ≡ b = omega (arith, order) in
+    work_still plan changed a (b - a) old work (omega (arith, order, few)) (λ k no_less below. none k no_less (omega (arith, below, order))) before
+    ∙ ap (λ (m : ℕ). record old { told = notified_below plan changed m }) all
+
+-- a cluster that no row is of doesn't change
+pub changes_not_among : (plan : PlanData) (values : Values) (pairs : List Pair) (rows : List NewRow) (k : ℕ) → list_any (nat_eq k) (clusters_of rows) ≡ false → cluster_changes plan values pairs rows k ≡ false
+changes_not_among plan values pairs rows k none = changes_not plan values pairs rows k (no_row rows none)
+  where
+    no_row : (rs : List NewRow) → list_any (nat_eq k) (clusters_of rs) ≡ false → row_among rs k ≡ None
+    no_row [] h = refl
+    no_row (r ∷ rs) h =
+        let apart : (r.cluster == k) ≡ false = eq_turned k r.cluster (or_false (nat_eq k r.cluster) (list_any (nat_eq k) (clusters_of rs)) h) in
+        rw apart (no_row rs (or_false_right (nat_eq k r.cluster) (list_any (nat_eq k) (clusters_of rs)) h))
+      where
+        eq_turned : (a b : ℕ) → nat_eq a b ≡ false → (b == a) ≡ false
+        eq_turned a b h = by (eqb_tells b a)
+          where
+            by : ((b == a) ≡ true × (b ≡ a)) ⊎ ((b == a) ≡ false × (b ≢ a)) → (b == a) ≡ false
+            by (inr t) = t.0
+            by (inl t) = absurd (false≢true (sym h ∙ eq-eqb a b (sym t.1)))

@@ -8,9 +8,11 @@ pub use Rattle.ctrl_settle.specs.Settle
 pub use Rattle.ctrl_handlers.specs.HandlerData
 pub use Rattle.ctrl_handlers.specs.ClusterData
 pub use Rattle.ctrl_handlers.specs.Plan
+pub mod Rising
 pub mod Rows
 pub mod Ranges
 pub mod Judging
+pub mod Lone
 pub mod AutoClusters
 pub mod Overlay
 pub mod NewRows

@@ -1,5 +1,5 @@
 -- Rows that some clusters get, each cluster once (Linux driver API, "V4L2 Controls", "Control Clusters").
-use Rattle.std.specs.Prelude.{◌≡◌, ℕ, false, ◌<◌, ◌==◌, if◌then◌else◌, List, [], ◌∷◌, length, map, Option, None, Some, unwrap_or, get_or, slice_set}
+use Rattle.std.specs.Prelude.{◌≡◌, ℕ, false, ◌<◌, ◌==◌, if◌then◌else◌, List, [], ◌∷◌, length, map, Option, None, Some, unwrap_or, slice_set}
 use Rattle.std.specs.List.{All, range_with_len}
 use Rattle.std.specs.Option.{option_and_then}
 use Rattle.ctrl_types.specs.declared.value.CtrlValue.{CtrlValue}
@@ -54,12 +54,3 @@ pub record NewRowsData : Type 0 where
   pub rows : List NewRow
   pub clusters : ℕ
   pub room : ℕ
-
--- the place of a cluster's row among rows, or none where it gets none
-abbrev pub IsPlace : List NewRow → ℕ → Option ℕ → Type 0
-IsPlace rows k None = row_among rows k ≡ None
-IsPlace rows k (Some p) = (p < length rows) × ((d : NewRow) → row_among rows k ≡ Some (get_or rows p d).row)
-
--- Each cluster has its row's place under its number, and one whose number lies past the table gets none.
-abbrev pub ArePlaces : List (Option ℕ) → List NewRow → Type 0
-ArePlaces places rows = (k : ℕ) → IsPlace rows k (get_or places k None)

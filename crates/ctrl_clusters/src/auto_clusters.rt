@@ -26,7 +26,7 @@ pub fn inactive<D: Driver>(plan: &Plan<D>, values: &[CtrlValue], control: u32) -
 {
     let cluster = plan.cluster_of(control);
     let master = plan.members(cluster)[0];
-    master != control && is_automatic(plan.manual(cluster), values[master as usize])
+    master != control && is_automatic(plan.manual(cluster), &values[master as usize])
 }
 
 /// Whether a control is inactive, where one control has another value: as `inactive` says of the values with that one (Linux driver API, "V4L2
@@ -49,28 +49,33 @@ pub fn inactive_with<D: Driver>(at: &Moment<D>, other: u32, value: CtrlValue, co
     master != control
         && is_automatic(
             at.plan.manual(cluster),
-            value_with(at.values, other, value, master),
+            value_with(at.values, other, &value, master),
         )
 }
 
 // The value of a control, where one control, which may be this one, has another value.
-fn value_with(values: &[CtrlValue], other: u32, value: CtrlValue, control: u32) -> CtrlValue
+fn value_with<'a>(
+    values: &'a [CtrlValue],
+    other: u32,
+    value: &'a CtrlValue,
+    control: u32,
+) -> &'a CtrlValue
     requires known { control < length values.now }
-    ensures { result ≡ value_at (slice_set values.now other value) control }
+    ensures { result.now ≡ value_at (slice_set values.now other value.now) control }
 {
     if control == other {
         value
     } else {
-        values[control as usize]
+        &values[control as usize]
     }
 }
 
 // Whether there is a manual value, and a value is another.
-fn is_automatic(manual: Option<i64>, value: CtrlValue) -> bool
-    ensures { result ≡ is_automatic manual value }
+fn is_automatic(manual: Option<i64>, value: &CtrlValue) -> bool
+    ensures { result ≡ is_automatic manual value.now }
 {
     match manual {
-        Some(manual) => value != CtrlValue::Number(manual),
+        Some(manual) => !value.is_same(&CtrlValue::Number(manual)),
         None => false,
     }
 }

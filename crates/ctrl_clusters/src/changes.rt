@@ -5,16 +5,17 @@ ghost use Rattle.std.specs.List.{All};
 ghost use Rattle.ctrl_types.specs.Values.{is_same};
 ghost use Rattle.ctrl_types.specs.Flags.{contains};
 ghost use Rattle.ctrl_types.specs.declared.flags.TheConstants.Flags.{EXECUTE_ON_WRITE};
-ghost use Rattle.ctrl_handlers.specs.Plan.{control};
-ghost use Rattle.ctrl_clusters.specs.Rows.{value_at};
+ghost use Rattle.ctrl_handlers.specs.Plan.{control, control_in};
+ghost use Rattle.ctrl_clusters.specs.Rows.{row_of, value_at};
 ghost use Rattle.ctrl_clusters.specs.Overlay.{is_among};
 ghost use Rattle.ctrl_clusters.specs.Changes.{is_changed, row_changes};
 
 use crate::change::Change;
 use crate::moment::Moment;
 use bitflags::Flags as FlagSet;
-use ctrl_calls::{ClusterRow, Driver};
+use ctrl_calls::{Driver, RowValues};
 use ctrl_handlers::Plan;
+use ctrl_settle::Ctrl;
 use ctrl_types::{CtrlValue, Flags, Pair};
 
 /// Whether a row that a cluster's members get where pairs are laid over values changes one of them.
@@ -23,7 +24,7 @@ pub(crate) fn row_changes<D: Driver>(
     before: &Moment<D>,
     pairs: &[Pair],
     members: &[u32],
-    row: &ClusterRow,
+    row: &RowValues,
 ) -> bool
     requires known { All (λ c. c < length before.now.plan.now.controls) members.now }
     requires long { length row.now ≡ length members.now }
@@ -55,12 +56,26 @@ pub fn is_changed<D: Driver>(change: &Change<D>, pairs: &[Pair], control: u32) -
         || (acts_on_each_write(before.plan, control) && is_among(pairs, control))
 }
 
+/// Whether one of some controls is changed where pairs are applied, as `is_changed` says of each.
+#[tactic(auto, using(crate::proofs::RowLemmas::moved_next))]
+pub(crate) fn is_any_changed<D: Driver>(change: &Change<D>, pairs: &[Pair], members: &[u32]) -> bool
+    requires { All (λ c. c < length change.now.before.plan.now.controls) members.now }
+    ensures { result ≡ row_changes change.now.before.plan.now change.now.before.values.now pairs.now members.now (row_of change.now.values.now members.now) }
+{
+    for &member in members {
+        if is_changed(change, pairs, member) {
+            return true;
+        }
+    }
+    false
+}
+
 // Whether its value of the row changes a member.
 fn changes_at<D: Driver>(
     before: &Moment<D>,
     pairs: &[Pair],
     member: u32,
-    row: &ClusterRow,
+    row: &RowValues,
     place: usize,
 ) -> bool
     requires known { member < length before.now.plan.now.controls }
@@ -72,12 +87,12 @@ fn changes_at<D: Driver>(
 }
 
 // Whether a member has another value than its one of the row.
-fn has_another(values: &[CtrlValue], member: u32, row: &ClusterRow, place: usize) -> bool
+fn has_another(values: &[CtrlValue], member: u32, row: &RowValues, place: usize) -> bool
     requires known { member < length values.now }
     requires within { place < length row.now }
     ensures { result ≡ not (is_same (value_at values.now member) (value_at row.now place)) }
 {
-    !values[member as usize].is_same(&row.value(place))
+    !row.has(place, &values[member as usize])
 }
 
 // Whether a member acts on each write, also of the value that it has.
@@ -85,9 +100,17 @@ fn acts_on_each_write<D: Driver>(plan: &Plan<D>, member: u32) -> bool
     requires { member < length plan.now.controls }
     ensures { result ≡ contains (control plan.now member).flags EXECUTE_ON_WRITE }
 {
-    plan.control(member)
+    described(plan.controls(), member)
         .flags()
         .contains(Flags::EXECUTE_ON_WRITE)
+}
+
+// The control with a number among these.
+fn described(controls: &[Ctrl], number: u32) -> &Ctrl
+    requires { number < length controls.now }
+    ensures { result.now ≡ control_in controls.now number }
+{
+    &controls[number as usize]
 }
 
 /// Whether a control is among pairs (of this project). It takes no memory and refuses nothing.

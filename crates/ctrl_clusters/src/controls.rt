@@ -1,6 +1,7 @@
-ghost use Rattle.std.specs.Prelude.{◌≡◌, ◌<◌, length, slice_set, IfOk};
+ghost use Rattle.std.specs.Prelude.{◌≡◌, ◌<◌, ℕ, true, false, length, nat_eq, slice_set, option_map, IfOk, IfSome};
+ghost use Rattle.std.specs.List.{All, list_any};
 ghost use Rattle.ctrl_handlers.specs.Plan.{control_in};
-ghost use Rattle.ctrl_clusters.specs.ControlsData.{at_start, given_range};
+ghost use Rattle.ctrl_clusters.specs.ControlsData.{at_start, given_range, DifferIn};
 ghost use Rattle.ctrl_clusters.specs.Moments.{parts, parts_after};
 ghost use Rattle.ctrl_clusters.specs.Ranges.{HasRangeFor, StayControlsOf};
 ghost use Rattle.ctrl_clusters.specs.Rows.{AreControlsOf, value_at};
@@ -24,17 +25,20 @@ pub struct Controls {
     ranges: Ranges,
     values: Vec<CtrlValue>,
     grabs: Vec<bool>,
+    // the values, and the grabs, once more, where they aren't lent
+    spare_values: Option<Vec<CtrlValue>>,
+    spare_grabs: Option<Vec<bool>>,
 }
 
 impl Model for Controls {
-    ghost use Rattle.std.specs.Prelude.{◌≡◌, length};
+    ghost use Rattle.std.specs.Prelude.{◌≡◌, length, IfSome};
     ghost use Rattle.ctrl_clusters.specs.ControlsData.{ControlsData};
 
     ghost Value = { ControlsData };
 
     ghost view = { λ c. record { ranges = c.ranges; values = c.values.items; grabs = c.grabs.items } };
 
-    ghost invariant = { λ c. (length c.values.items ≡ length c.ranges) × (length c.grabs.items ≡ length c.ranges) };
+    ghost invariant = { λ c. (length c.values.items ≡ length c.ranges) × (length c.grabs.items ≡ length c.ranges) × IfSome c.spare_values (λ spare. spare.items ≡ c.values.items) × IfSome c.spare_grabs (λ spare. spare.items ≡ c.grabs.items) };
 }
 
 impl Controls {
@@ -54,6 +58,8 @@ impl Controls {
             ranges,
             values,
             grabs,
+            spare_values: None,
+            spare_grabs: None,
         })
     }
 
@@ -172,7 +178,80 @@ impl Controls {
         ensures new { self.new ≡ record self.old { values = values.items } }
         ensures old { result.items ≡ self.old.values }
     {
+        self.spare_values = None;
         mem::replace(&mut self.values, values)
+    }
+
+    /// The values once more, for what comes next to be written; `replace_within` takes them back (of this project). It takes memory only where they haven't been
+    /// lent before, or weren't given back since.
+    ///
+    /// - `alloc`: where they lie then.
+    ///
+    /// The error is that a growth was refused.
+    pub fn lend_values(&mut self, alloc: Global) -> Result<Vec<CtrlValue>, AllocError>
+        ensures same { self.new ≡ self.old }
+        ensures values { IfOk result (λ values. values.items ≡ self.old.values) }
+    {
+        match self.spare_values.take() {
+            Some(values) => Ok(values),
+            None => Vec::from_slice(alloc, self.values.as_slice()),
+        }
+    }
+
+    /// Has other values in place of these, which are kept to be lent next (of this project). It takes no memory and refuses nothing, and looks at some clusters alone.
+    ///
+    /// - `plan`: what the device is built of; the caller owes that these are its controls.
+    /// - `values`: the values; the caller owes one for each control.
+    /// - `clusters`: the clusters whose members may have another value; the caller owes that each is below `Plan::cluster_count`, and that the controls of
+    ///   other clusters have the values that they had.
+    pub fn replace_within<D: Driver>(
+        &mut self,
+        plan: &Plan<D>,
+        values: Vec<CtrlValue>,
+        clusters: &[u32],
+    )
+        requires plan { AreControlsOf plan.now self.old.ranges }
+        requires values { length values.items ≡ length self.old.ranges }
+        requires known { All (λ k. k < length plan.now.clusters) clusters.now }
+        requires within { DifferIn plan.now clusters.now self.old.values values.items }
+        ensures { self.new ≡ record self.old { values = values.items } }
+    {
+        let mut spare = mem::replace(&mut self.values, values);
+        for &cluster in clusters {
+            copy_members(self.values.as_slice(), plan.members(cluster), &mut spare);
+        }
+        self.spare_values = Some(spare);
+    }
+
+    /// Whether each control is grabbed once more, for what comes next to be written; `replace_grab` takes it back (of this project). It takes memory only where it
+    /// hasn't been lent before, or wasn't given back since.
+    ///
+    /// - `alloc`: where it lies then.
+    ///
+    /// The error is that a growth was refused.
+    pub fn lend_grabs(&mut self, alloc: Global) -> Result<Vec<bool>, AllocError>
+        ensures same { self.new ≡ self.old }
+        ensures grabs { IfOk result (λ grabs. grabs.items ≡ self.old.grabs) }
+    {
+        match self.spare_grabs.take() {
+            Some(grabs) => Ok(grabs),
+            None => Vec::from_slice(alloc, self.grabs.as_slice()),
+        }
+    }
+
+    /// Has other grabs in place of these, which are kept to be lent next (of this project). It takes no memory and refuses nothing.
+    ///
+    /// - `grabs`: whether each control is grabbed from now on; the caller owes that it says of each but one what is so already.
+    /// - `control`: the number of that control; the caller owes one that is there.
+    /// - `grabbed`: what it says of this one.
+    pub fn replace_grab(&mut self, grabs: Vec<bool>, control: u32, grabbed: bool)
+        requires known { control < length self.old.ranges }
+        requires grabs { grabs.items ≡ slice_set self.old.grabs control grabbed }
+        ensures { self.new ≡ record self.old { grabs = slice_set self.old.grabs control grabbed } }
+    {
+        let mut spare = mem::replace(&mut self.grabs, grabs);
+        spare[control as usize] = grabbed;
+        self.spare_grabs = Some(spare);
     }
 
     /// Gives a control another range, and the value that it has under it (Linux driver API, `v4l2_ctrl_modify_range`). It takes no memory and refuses nothing.
@@ -187,6 +266,8 @@ impl Controls {
         ensures stay { StayControlsOf self.old.ranges self.new.ranges }
     {
         self.ranges.modify(control, changed);
+        let spare = self.spare_values.take();
+        self.spare_values = with_value(spare, control, &value);
         self.values[control as usize] = value;
     }
 
@@ -199,5 +280,40 @@ impl Controls {
         ensures { self.new ≡ record self.old { grabs = slice_set self.old.grabs control grabbed } }
     {
         self.grabs[control as usize] = grabbed;
+        if let Some(mut spare) = self.spare_grabs.take() {
+            spare[control as usize] = grabbed;
+            self.spare_grabs = Some(spare);
+        }
+    }
+}
+
+// Values, where there are some, with another one of a control.
+fn with_value(
+    values: Option<Vec<CtrlValue>>,
+    control: u32,
+    value: &CtrlValue,
+) -> Option<Vec<CtrlValue>>
+    requires { IfSome values (λ values. control < length values.items) }
+    ensures { option_map (λ made. made.items) result ≡ option_map (λ values. slice_set values.items control value.now) values }
+{
+    match values {
+        Some(mut values) => {
+            values[control as usize] = *value;
+            Some(values)
+        }
+        None => None,
+    }
+}
+
+// Gives some controls the values that they have elsewhere.
+fn copy_members(values: &[CtrlValue], members: &[u32], copy: &mut Vec<CtrlValue>)
+    requires long { length copy.old.items ≡ length values.now }
+    requires known { All (λ c. c < length values.now) members.now }
+    ensures long { length copy.new.items ≡ length values.now }
+    ensures given { (c : ℕ) → list_any (nat_eq c) members.now ≡ true → value_at copy.new.items c ≡ value_at values.now c }
+    ensures others { (c : ℕ) → list_any (nat_eq c) members.now ≡ false → value_at copy.new.items c ≡ value_at copy.old.items c }
+{
+    for &member in members {
+        copy[member as usize] = values[member as usize];
     }
 }

@@ -1,12 +1,15 @@
-ghost use Rattle.std.specs.Prelude.{◌≡◌, ◌<◌, ◌≤◌, ◌+◌, length, Ok, Err, IfErr, OnOk};
+ghost use Rattle.std.specs.Prelude.{◌≡◌, ◌<◌, ◌≤◌, ◌+◌, ◌↔◌, true, length, Ok, Err, IfErr, OnOk, IsTrue};
 ghost use Rattle.std.specs.List.{All};
+ghost use Rattle.ctrl_calls.specs.declared.row.TheConstants.{MAX_MEMBERS};
+ghost use Rattle.ctrl_calls.specs.declared.verdict.Verdict.TheVariants.{Accept};
 ghost use Rattle.ctrl_handlers.specs.Plan.{members, calls_of};
-ghost use Rattle.ctrl_clusters.specs.Judging.{refusal_of, judged, judge, validated_row, asks_validator, after_judging, with_call};
+ghost use Rattle.ctrl_clusters.specs.Judging.{refusal_of, takes_row, judged, judge, validated_row, asks_validator, after_judging, with_call};
+ghost use Rattle.ctrl_clusters.specs.Lone.{AreLone};
 
 use crate::moment::Moment;
 use crate::ranges::Ranges;
-use crate::rows::{read_overwritten, settle_row, takes_row};
-use ctrl_calls::{ClusterRow, Driver, Verdict, Work, ask};
+use crate::rows::{settle_row, taken_row};
+use ctrl_calls::{Driver, RowValues, Verdict, Work, ask};
 use ctrl_types::{Errno, Pair};
 
 /// What a cluster makes of a row of its members' values, in member order (Linux driver API, "V4L2 Controls", "Control
@@ -23,7 +26,7 @@ use ctrl_types::{Errno, Pair};
 pub fn judge<D: Driver>(
     at: &Moment<D>,
     cluster: u32,
-    row: &mut ClusterRow,
+    row: &mut RowValues,
     work: &mut Work,
 ) -> Result<(), Errno>
     requires cluster { cluster < length at.now.plan.now.clusters }
@@ -39,7 +42,7 @@ pub fn judge<D: Driver>(
     match at.plan.validator(cluster) {
         Some(validator) => {
             let verdict = ask(validator, row, work);
-            judged(at.ranges, at.plan.members(cluster), &verdict, row)
+            judged(at.ranges, members_of(at, cluster), &verdict, row)
         }
         None => Ok(()),
     }
@@ -62,7 +65,7 @@ pub fn validated_row<D: Driver>(
     at: &Moment<D>,
     cluster: u32,
     pairs: &[Pair],
-    row: &mut ClusterRow,
+    row: &mut RowValues,
     work: &mut Work,
 ) -> Result<(), Errno>
     requires cluster { cluster < length at.now.plan.now.clusters }
@@ -75,12 +78,48 @@ pub fn validated_row<D: Driver>(
     ensures told { work.new.told ≡ work.old.told }
     ensures counted { work.new ≡ record work.old { asked = with_call (asks_validator at.now.plan.now at.now.ranges.now at.now.values.now pairs.now cluster) work.old.asked } }
 {
-    let members = at.plan.members(cluster);
-    read_overwritten(at.values, pairs, members, row);
-    match settle_row(at.ranges, members, row) {
-        Ok(()) => judge(at, cluster, row, work),
+    let members = members_of(at, cluster);
+    match settle_row(at.ranges, at.values, pairs, members, row) {
+        Ok(()) => judge_settled(at, cluster, row, work),
         Err(errno) => Err(errno),
     }
+}
+
+// What a cluster makes of a row that its members take as it is.
+#[tactic(auto, unfolding(crate::specs::Judging::judge))]
+fn judge_settled<D: Driver>(
+    at: &Moment<D>,
+    cluster: u32,
+    row: &mut RowValues,
+    work: &mut Work,
+) -> Result<(), Errno>
+    requires cluster { cluster < length at.now.plan.now.clusters }
+    requires row { length row.old ≡ length (members at.now.plan.now cluster) }
+    requires taken { takes_row at.now.ranges.now (members at.now.plan.now cluster) row.old ≡ true }
+    ensures ok { OnOk result (judge D.verdict at.now.plan.now at.now.ranges.now cluster row.old ≡ Ok row.new) }
+    ensures err { IfErr result (λ errno. judge D.verdict at.now.plan.now at.now.ranges.now cluster row.old ≡ Err errno) }
+    ensures long { length row.new ≡ length (members at.now.plan.now cluster) }
+    ensures counted { work.new ≡ record work.old { asked = after_judging (calls_of at.now.plan.now cluster).validator work.old.asked } }
+{
+    match at.plan.validator(cluster) {
+        Some(validator) => {
+            let verdict = ask(validator, row, work);
+            judged_settled(at.ranges, members_of(at, cluster), &verdict, row)
+        }
+        None => Ok(()),
+    }
+}
+
+// The members of a cluster, and what holds of them.
+fn members_of<'a, D: Driver>(at: &Moment<'a, D>, cluster: u32) -> &'a [u32]
+    requires { cluster < length at.now.plan.now.clusters }
+    ensures members { result.now ≡ members at.now.plan.now cluster }
+    ensures ranges { All (λ c. c < length at.now.ranges.now) result.now }
+    ensures values { All (λ c. c < length at.now.values.now) result.now }
+    ensures few { length result.now ≤ MAX_MEMBERS }
+    ensures lone { AreLone at.now.ranges.now result.now }
+{
+    at.plan.members(cluster)
 }
 
 // What a refusal of a validator counts as.
@@ -93,14 +132,48 @@ fn refusal_of(errno: Errno) -> Errno
     }
 }
 
+// What a verdict makes of a row that these members take as it is: the very row settles no second time.
+fn judged_settled(
+    ranges: &Ranges,
+    members: &[u32],
+    verdict: &Verdict,
+    row: &mut RowValues,
+) -> Result<(), Errno>
+    requires known { All (λ c. c < length ranges.now) members.now }
+    requires few { length members.now ≤ MAX_MEMBERS }
+    requires lone { AreLone ranges.now members.now }
+    requires long { length row.old ≡ length members.now }
+    requires taken { takes_row ranges.now members.now row.old ≡ true }
+    ensures ok { OnOk result (judged ranges.now members.now verdict.now ≡ Ok row.new) }
+    ensures err { IfErr result (λ errno. judged ranges.now members.now verdict.now ≡ Err errno) }
+    ensures long { length row.new ≡ length members.now }
+{
+    if accepts(verdict, row) {
+        return Ok(());
+    }
+    judged(ranges, members, verdict, row)
+}
+
+// Whether a verdict accepts this very row.
+fn accepts(verdict: &Verdict, row: &RowValues) -> bool
+    ensures { IsTrue result ↔ (verdict.now ≡ Accept row.now) }
+{
+    match verdict {
+        Verdict::Accept(accepted) => row.is_like(accepted.values()),
+        Verdict::Refuse(_) => false,
+    }
+}
+
 // What a verdict makes of the row of these members.
 fn judged(
     ranges: &Ranges,
     members: &[u32],
     verdict: &Verdict,
-    row: &mut ClusterRow,
+    row: &mut RowValues,
 ) -> Result<(), Errno>
     requires known { All (λ c. c < length ranges.now) members.now }
+    requires few { length members.now ≤ MAX_MEMBERS }
+    requires lone { AreLone ranges.now members.now }
     requires long { length row.old ≡ length members.now }
     ensures ok { OnOk result (judged ranges.now members.now verdict.now ≡ Ok row.new) }
     ensures err { IfErr result (λ errno. judged ranges.now members.now verdict.now ≡ Err errno) }
@@ -109,12 +182,12 @@ fn judged(
 {
     match verdict {
         Verdict::Refuse(errno) => Err(refusal_of(*errno)),
-        Verdict::Accept(accepted) => {
-            if !takes_row(ranges, members, accepted) {
-                return Err(Errno::EINVAL);
+        Verdict::Accept(accepted) => match taken_row(ranges, members, accepted.values()) {
+            Some(taken) => {
+                *row = taken;
+                Ok(())
             }
-            *row = *accepted;
-            Ok(())
-        }
+            None => Err(Errno::EINVAL),
+        },
     }
 }

@@ -1,30 +1,28 @@
-ghost use Rattle.std.specs.Prelude.{◌≡◌, ◌<◌, ◌≤◌, ◌++◌, ◌∷◌, [], None, false, length, is_some, option_map, get_or, IfOk};
-ghost use Rattle.ctrl_clusters.specs.NewRows.{row_among, ArePlaces};
+ghost use Rattle.std.specs.Prelude.{◌≡◌, ◌<◌, ◌≤◌, ◌++◌, ◌∷◌, [], false, length, is_some, option_map, IfOk};
+ghost use Rattle.ctrl_clusters.specs.NewRows.{clusters_of, row_among};
+ghost use Rattle.ctrl_clusters.specs.Rising.{IsNext};
 
 use crate::new_row::NewRow;
-use ctrl_calls::ClusterRow;
+use ctrl_calls::RowValues;
 use std::alloc::{AllocError, Global};
 use std::marker::Model;
 
 /// The rows that some clusters get, each cluster once, in the order in which they were added; the row of a cluster is looked up under its
-/// number (Linux driver API, "V4L2 Controls", "Control Clusters"). Contracts see it as the rows, the number of the clusters that rows may
-/// be of, and for how many rows there is room.
+/// number (Linux driver API, "V4L2 Controls", "Control Clusters"). Nothing here grows with the clusters that get none. Contracts see it as the rows, the number
+/// of the clusters that rows may be of, and for how many rows there is room.
 #[derive(Drop)]
 pub struct NewRows {
     rows: Vec<NewRow>,
-    // under a cluster's number the place of its row
-    places: Vec<Option<usize>>,
+    clusters: u32,
 }
 
 impl Model for NewRows {
-    ghost use Rattle.std.specs.Prelude.{length, vec_capacity};
-    ghost use Rattle.ctrl_clusters.specs.NewRows.{NewRowsData, ArePlaces};
+    ghost use Rattle.std.specs.Prelude.{vec_capacity};
+    ghost use Rattle.ctrl_clusters.specs.NewRows.{NewRowsData};
 
     ghost Value = { NewRowsData };
 
-    ghost view = { λ r. record { rows = r.rows.items; clusters = length r.places.items; room = vec_capacity r.rows } };
-
-    ghost invariant = { λ r. ArePlaces r.places.items r.rows.items };
+    ghost view = { λ r. record { rows = r.rows.items; clusters = r.clusters; room = vec_capacity r.rows } };
 }
 
 impl NewRows {
@@ -36,13 +34,13 @@ impl NewRows {
     {
         NewRows {
             rows: Vec::new(alloc),
-            places: Vec::new(alloc),
+            clusters: 0,
         }
     }
 
     /// No rows, and room for some (of this project).
     ///
-    /// - `alloc`: where the rows and the table of their places lie.
+    /// - `alloc`: where the rows lie.
     /// - `clusters`: how many clusters there are; rows may be of those with lesser numbers.
     /// - `rows`: how many rows there is room for at least.
     ///
@@ -53,8 +51,7 @@ impl NewRows {
         ensures room { IfOk result (λ made. rows ≤ made.room) }
     {
         let rows = Vec::with_capacity(alloc, rows)?;
-        let places = vec![in alloc; None; clusters as usize]?;
-        Ok(NewRows { rows, places })
+        Ok(NewRows { rows, clusters })
     }
 
     /// Adds the row of a cluster behind the others (of this project).
@@ -70,8 +67,6 @@ impl NewRows {
         ensures clusters { self.new.clusters ≡ self.old.clusters }
         ensures capacity { self.new.room ≡ self.old.room }
     {
-        let place = self.rows.len();
-        self.places[new.cluster as usize] = Some(place);
         self.rows.push_reserved(new);
     }
 
@@ -80,10 +75,23 @@ impl NewRows {
     /// - `cluster`: the cluster's number, any `u32`.
     ///
     /// It takes no memory and refuses nothing.
-    pub fn among(&self, cluster: u32) -> Option<&ClusterRow>
+    pub fn among(&self, cluster: u32) -> Option<&RowValues>
         ensures { option_map (λ row. row.now) result ≡ row_among self.now.rows cluster }
     {
-        row_at(self.rows.as_slice(), self.places.as_slice(), cluster)
+        row_among(self.rows.as_slice(), cluster)
+    }
+
+    /// The least cluster from a number on that gets a row, or the end, where none does (of this project).
+    ///
+    /// - `from`: the least number that counts.
+    /// - `end`: what is answered where no cluster from there on and below it gets a row; the caller owes `from` at least.
+    ///
+    /// It takes no memory and refuses nothing.
+    pub fn next_cluster(&self, from: u32, end: u32) -> u32
+        requires { from ≤ end }
+        ensures { IsNext (clusters_of self.now.rows) from end result }
+    {
+        next_cluster(self.rows.as_slice(), from, end)
     }
 
     /// The rows, in the order in which they were added (of this project). It takes no memory and refuses nothing.
@@ -94,24 +102,29 @@ impl NewRows {
     }
 }
 
-// The row at a cluster's place.
-fn row_at<'a>(rows: &'a [NewRow], places: &[Option<usize>], cluster: u32) -> Option<&'a ClusterRow>
-    requires { ArePlaces places.now rows.now }
+// The row of a cluster among rows.
+#[tactic(auto, using(crate::proofs::NewRowLemmas::among_next))]
+fn row_among<'a>(rows: &'a [NewRow], cluster: u32) -> Option<&'a RowValues>
     ensures { option_map (λ row. row.now) result ≡ row_among rows.now cluster }
 {
-    match place_of(places, cluster) {
-        Some(place) => Some(&rows[place].row),
-        None => None,
+    for new in rows {
+        if new.cluster == cluster {
+            return Some(&new.row);
+        }
     }
+    None
 }
 
-// The place of a cluster's row.
-fn place_of(places: &[Option<usize>], cluster: u32) -> Option<usize>
-    ensures { result ≡ get_or places.now cluster None }
+// The least cluster from a number on that one of the rows is of, or the end.
+fn next_cluster(rows: &[NewRow], from: u32, end: u32) -> u32
+    requires { from ≤ end }
+    ensures { IsNext (clusters_of rows.now) from end result }
 {
-    if (cluster as usize) < places.len() {
-        places[cluster as usize]
-    } else {
-        None
+    let mut next = end;
+    for new in rows {
+        if from <= new.cluster && new.cluster < next {
+            next = new.cluster;
+        }
     }
+    next
 }

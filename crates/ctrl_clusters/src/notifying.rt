@@ -1,6 +1,7 @@
 //! Whom a device notifies of rows, and the words that they say.
 
-ghost use Rattle.std.specs.Prelude.{◌≡◌, ◌<◌, length, IfOk, OnOk, OnErr};
+ghost use Rattle.std.specs.Prelude.{◌≡◌, ◌<◌, ℕ, false, length, nat_eq, IfOk, OnOk, OnErr};
+ghost use Rattle.std.specs.List.{list_any};
 ghost use Rattle.ctrl_handlers.specs.Plan.{calls_of, members};
 ghost use Rattle.ctrl_clusters.specs.Rows.{row_of};
 ghost use Rattle.ctrl_clusters.specs.NewRows.{AreNewRows, row_or_empty};
@@ -9,11 +10,12 @@ ghost use Rattle.ctrl_clusters.specs.Moments.{moved};
 ghost use Rattle.ctrl_clusters.specs.Notified.{MaySay, HaveWords, AreNotified, IsNotified, notified_count, notifier_count, after_notifying, after_change};
 
 use crate::change::Change;
-use crate::changes::row_changes;
+use crate::changes::{is_any_changed, row_changes};
 use crate::moment::Moment;
 use crate::new_rows::NewRows;
+use crate::rising::next_number;
 use crate::writing::present_row;
-use ctrl_calls::{ClusterRow, Driver, Work};
+use ctrl_calls::{Driver, RowValues, Work, tell, tell_row};
 use ctrl_handlers::Plan;
 use ctrl_types::{CtrlValue, Pair};
 use std::alloc::{AllocError, Global};
@@ -41,8 +43,11 @@ pub fn notify_changed<D: Driver>(
     ensures words { AreNotified D.told before.now.plan.now (cluster_changes before.now.plan.now before.now.values.now pairs.now rows.now.rows) (row_or_empty rows.now.rows) words.old.items words.new.items }
     ensures work { work.new ≡ record work.old { told = notified_count before.now.plan.now (cluster_changes before.now.plan.now before.now.values.now pairs.now rows.now.rows) } }
 {
-    for cluster in 0..before.plan.cluster_count() {
-        notify_touched(before, pairs, rows, cluster, words, work);
+    let end = before.plan.cluster_count();
+    let mut next = rows.next_cluster(0, end);
+    while next < end {
+        notify_touched(before, pairs, rows, next, words, work);
+        next = rows.next_cluster(next + 1, end);
     }
 }
 
@@ -72,6 +77,7 @@ fn notify_touched<D: Driver>(
 ///
 /// - `change`: the moments before and afterwards.
 /// - `pairs`: what was applied to come from the one to the other.
+/// - `clusters`: the numbers of some clusters, in any order, which are looked at; the caller owes that no other has a changed member.
 /// - `words`: the words; the caller owes one for each cluster.
 /// - `work`: its count `told`, which the caller owes to be 0, is then the number of notifiers that were called.
 ///
@@ -79,16 +85,21 @@ fn notify_touched<D: Driver>(
 pub fn notify_between<D: Driver>(
     change: &Change<D>,
     pairs: &[Pair],
+    clusters: &[u32],
     words: &mut Vec<u64>,
     work: &mut Work,
 )
+    requires touched { (k : ℕ) → list_any (nat_eq k) clusters.now ≡ false → moved change.now pairs.now k ≡ false }
     requires words { length words.old.items ≡ length change.now.before.plan.now.clusters }
     requires fresh { work.old.told ≡ 0 }
     ensures words { AreNotified D.told change.now.before.plan.now (moved change.now pairs.now) (λ k. row_of change.now.values.now (members change.now.before.plan.now k)) words.old.items words.new.items }
     ensures work { work.new ≡ record work.old { told = notified_count change.now.before.plan.now (moved change.now pairs.now) } }
 {
-    for cluster in 0..change.before.plan.cluster_count() {
-        notify_moved(change, pairs, cluster, words, work);
+    let end = change.before.plan.cluster_count();
+    let mut next = next_number(clusters, 0, end);
+    while next < end {
+        notify_moved(change, pairs, next, words, work);
+        next = next_number(clusters, next + 1, end);
     }
 }
 
@@ -105,15 +116,15 @@ fn notify_moved<D: Driver>(
     ensures words { IsNotified D.told change.now.before.plan.now cluster (moved change.now pairs.now cluster) (row_of change.now.values.now (members change.now.before.plan.now cluster)) words.old.items words.new.items }
     ensures work { work.new ≡ record work.old { told = after_change change.now.before.plan.now cluster (moved change.now pairs.now cluster) work.old.told } }
 {
-    let row = present_row(change.values, change.before.plan.members(cluster));
-    notify_of(&change.before, pairs, &row, cluster, words, work);
+    let changed = is_any_changed(change, pairs, change.before.plan.members(cluster));
+    notify_cluster(&change.after(), cluster, changed, words, work);
 }
 
 // Notifies a cluster of a row that it gets, where the row changes a member.
 fn notify_of<D: Driver>(
     before: &Moment<D>,
     pairs: &[Pair],
-    row: &ClusterRow,
+    row: &RowValues,
     cluster: u32,
     words: &mut Vec<u64>,
     work: &mut Work,
@@ -135,7 +146,7 @@ fn notify_where<D: Driver>(
     words: &mut Vec<u64>,
     cluster: u32,
     changed: bool,
-    row: &ClusterRow,
+    row: &RowValues,
     work: &mut Work,
 )
     requires known { cluster < length plan.now.clusters }
@@ -170,8 +181,9 @@ pub fn notify_cluster<D: Driver>(
     ensures words { IsNotified D.told at.now.plan.now cluster changed (row_of at.now.values.now (members at.now.plan.now cluster)) words.old.items words.new.items }
     ensures work { work.new ≡ record work.old { told = after_change at.now.plan.now cluster changed work.old.told } }
 {
-    let row = present_row(at.values, at.plan.members(cluster));
-    notify_where(at.plan, words, cluster, changed, &row, work);
+    if changed {
+        words[cluster as usize] = notify_present(at, cluster, work);
+    }
 }
 
 /// Notifies each cluster of its row of a device's first values, in rising number, and answers the words (Linux driver API, "V4L2 Controls",
@@ -206,17 +218,20 @@ fn notify_present<D: Driver>(at: &Moment<D>, cluster: u32, work: &mut Work) -> u
     ensures word { MaySay D.told (calls_of at.now.plan.now cluster).notifier (row_of at.now.values.now (members at.now.plan.now cluster)) result }
     ensures work { work.new ≡ record work.old { told = after_notifying (calls_of at.now.plan.now cluster).notifier work.old.told } }
 {
-    let row = present_row(at.values, at.plan.members(cluster));
-    notify(at.plan, cluster, &row, work)
+    let members = at.plan.members(cluster);
+    match at.plan.notifier(cluster) {
+        Some(notifier) => tell_row(notifier, present_row(at.values, members), work),
+        None => 0,
+    }
 }
 
 // Notifies a cluster of a row, and answers the word; 0 where it has no notifier.
-fn notify<D: Driver>(plan: &Plan<D>, cluster: u32, row: &ClusterRow, work: &mut Work) -> u64
+fn notify<D: Driver>(plan: &Plan<D>, cluster: u32, row: &RowValues, work: &mut Work) -> u64
     ensures word { MaySay D.told (calls_of plan.now cluster).notifier row.now result }
     ensures work { work.new ≡ record work.old { told = after_notifying (calls_of plan.now cluster).notifier work.old.told } }
 {
     match plan.notifier(cluster) {
-        Some(notifier) => ctrl_calls::tell(notifier, row, work),
+        Some(notifier) => tell(notifier, row, work),
         None => 0,
     }
 }

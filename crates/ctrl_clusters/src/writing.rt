@@ -8,11 +8,12 @@ ghost use Rattle.ctrl_handlers.specs.Plan.{members};
 ghost use Rattle.ctrl_clusters.specs.NewRows.{AreNewRows, one_row, written, with_row};
 
 use crate::new_row::NewRow;
-use ctrl_calls::{ClusterRow, Driver, MAX_MEMBERS};
+use ctrl_calls::{ClusterRow, Driver, MAX_MEMBERS, RowValues};
 use ctrl_handlers::Plan;
 use ctrl_types::CtrlValue;
 
-/// The row of some controls among a device's values (Linux driver API, "V4L2 Controls", "Control Clusters").
+/// The row of some controls among a device's values, which may be of any form, as a closure is told it (Linux driver API, "V4L2 Controls", "Control
+/// Clusters").
 ///
 /// - `values`: a value for each control, in the order of their numbers.
 /// - `members`: the numbers of at most eight controls; the caller owes that each has a value.
@@ -42,6 +43,21 @@ pub fn read_row(values: &[CtrlValue], members: &[u32], row: &mut ClusterRow)
 {
     for (place, &member) in members.iter().enumerate() {
         row.set(place, values[member as usize]);
+    }
+}
+
+/// Puts the values of a row where another row stood (Linux driver API, "V4L2 Controls", "Control Clusters").
+///
+/// - `from`: the row whose values count.
+/// - `row`: any row of as many values, which the caller owes; the same row then.
+///
+/// It takes no memory and refuses nothing.
+pub fn copy_row(from: &RowValues, row: &mut ClusterRow)
+    requires { length row.old ≡ length from.now }
+    ensures { row.new ≡ from.now }
+{
+    for place in 0..from.len() {
+        row.set(place, from.value(place));
     }
 }
 
@@ -75,7 +91,7 @@ pub fn write_row<D: Driver>(
     plan: &Plan<D>,
     values: &mut Vec<CtrlValue>,
     cluster: u32,
-    row: &ClusterRow,
+    row: &RowValues,
 )
     requires values { length values.old.items ≡ length plan.now.controls }
     requires cluster { cluster < length plan.now.clusters }
@@ -85,9 +101,51 @@ pub fn write_row<D: Driver>(
     write_members(values, plan.members(cluster), row);
 }
 
+/// Writes values of the members of one cluster into a device's values, as `write_row` does a row; they may be of any form (Linux driver API, "V4L2
+/// Controls", "Control Clusters").
+///
+/// - `plan`, `values`, `cluster`: as of `write_row`.
+/// - `row`: a value for each of its members; the caller owes exactly as many.
+///
+/// It takes no memory and refuses nothing.
+pub fn write_values<D: Driver>(
+    plan: &Plan<D>,
+    values: &mut Vec<CtrlValue>,
+    cluster: u32,
+    row: &[CtrlValue],
+)
+    requires values { length values.old.items ≡ length plan.now.controls }
+    requires cluster { cluster < length plan.now.clusters }
+    requires row { length row.now ≡ length (members plan.now cluster) }
+    ensures { values.new.items ≡ written plan.now values.old.items (one_row cluster row.now) }
+{
+    write_each(values, plan.members(cluster), row);
+}
+
+// Gives the members of a cluster these values.
+#[tactic(auto, using(crate::proofs::NewRowLemmas::write_next))]
+fn write_each(values: &mut Vec<CtrlValue>, members: &[u32], row: &[CtrlValue])
+    requires known { All (λ c. c < length values.old.items) members.now }
+    requires long { length row.now ≡ length members.now }
+    ensures { values.new.items ≡ with_row values.old.items members.now row.now }
+{
+    for (place, &member) in members.iter().enumerate() {
+        write_value(values, member, row, place);
+    }
+}
+
+// Gives a member its value of these.
+fn write_value(values: &mut Vec<CtrlValue>, member: u32, row: &[CtrlValue], place: usize)
+    requires known { member < length values.old.items }
+    requires within { place < length row.now }
+    ensures { values.new.items ≡ slice_set values.old.items member (value_at row.now place) }
+{
+    values[member as usize] = row[place];
+}
+
 // Gives the members of a cluster the values of a row.
 #[tactic(auto, using(crate::proofs::NewRowLemmas::write_next))]
-fn write_members(values: &mut Vec<CtrlValue>, members: &[u32], row: &ClusterRow)
+fn write_members(values: &mut Vec<CtrlValue>, members: &[u32], row: &RowValues)
     requires known { All (λ c. c < length values.old.items) members.now }
     requires long { length row.now ≡ length members.now }
     ensures { values.new.items ≡ with_row values.old.items members.now row.now }
@@ -98,7 +156,7 @@ fn write_members(values: &mut Vec<CtrlValue>, members: &[u32], row: &ClusterRow)
 }
 
 // Gives a member its value of a row.
-fn write_at(values: &mut Vec<CtrlValue>, member: u32, row: &ClusterRow, place: usize)
+fn write_at(values: &mut Vec<CtrlValue>, member: u32, row: &RowValues, place: usize)
     requires known { member < length values.old.items }
     requires within { place < length row.now }
     ensures { values.new.items ≡ slice_set values.old.items member (value_at row.now place) }

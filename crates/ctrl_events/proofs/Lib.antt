@@ -1,5 +1,9 @@
 pub mod KeptLemmas
+pub mod OrderLemmas
+pub mod QueueLemmas
 pub mod FileLemmas
+pub mod HeardLemmas
 pub mod RaiseLemmas
 pub mod LikeLemmas
+pub mod AlikeLemmas
 pub mod PendingLemmas

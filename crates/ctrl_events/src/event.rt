@@ -69,3 +69,14 @@ pub struct Waiting {
     /// The number of that raise among those for the file handle.
     pub sequence: u32,
 }
+
+/// What is told of the event of a control that waits.
+#[derive(Clone, Copy, Debug, PartialEq, Eq)]
+pub(crate) struct Told {
+    /// What the raises for the file handle said that changed, since an event of the control was taken or the subscription was ended.
+    pub(crate) changes: Changes,
+    /// What the last raise shows of the control.
+    pub(crate) payload: Payload,
+    /// The number of that raise among those for the file handle.
+    pub(crate) sequence: u32,
+}

@@ -1,12 +1,14 @@
-ghost use Rattle.std.specs.Prelude.{◌≡◌, ◌↔◌, ◌<◌, ℕ, [], IsTrue, length, IfSome, OnErr, OnOk, slice_get, nat_eq};
+ghost use Rattle.std.specs.Prelude.{◌≡◌, ◌↔◌, ◌<◌, ℕ, [], IsTrue, length, IfSome, OnErr, OnOk, None, false, get_or, slice_get, nat_eq};
+ghost use Rattle.std.specs.Int.{bit_at};
 ghost use Rattle.std.specs.Option.{option_map};
 ghost use Rattle.std.specs.List.{IsDistinct};
 ghost use Rattle.std.specs.Map.{keys_of};
 ghost use Rattle.ctrl_types.specs.Checks.{with_errno};
 ghost use Rattle.ctrl_events.specs.Events.{events_of, only_at, no_events, flags_in, event_at, after_subscribe, after_unsubscribe, first_waiting, after_take, after_raise, is_from, WaitsForSubscribed, IsLike};
+ghost use Rattle.ctrl_events.specs.Heard.{IsHeard};
 ghost use Rattle.ctrl_events.specs.Files.{changed_at, raised_in_entry};
 
-use crate::event::{Event, Payload, Waiting};
+use crate::event::{Event, Payload};
 use crate::queue::Queue;
 use ctrl_types::{Changes, Check, Errno, FhId, SubFlags};
 use indexmap::IndexMap;
@@ -15,9 +17,13 @@ use std::marker::Model;
 
 /// The control events of file handles. Contracts see what is kept of each: its subscriptions, the events that wait, in the order of their last
 /// raises, and the number of the next. A file handle needs no call before its first subscription.
+///
+/// A raise passes over the file handles that can't be subscribed: for each control there is a bit of each 64th file handle by number, which is set
+/// from its first subscription on.
 #[derive(Drop)]
 pub struct Events {
     files: IndexMap<u32, Queue>,
+    heard: Vec<u64>,
     alloc: Global,
 }
 
@@ -26,7 +32,11 @@ impl Model for Events {
 
     ghost Value = { EventsData };
 
+    ghost use Rattle.ctrl_events.specs.Heard.{AreHeard};
+
     ghost view = { λ e. record { files = e.files.entries } };
+
+    ghost invariant = { λ e. AreHeard e.heard.items e.files.entries };
 }
 
 impl Events {
@@ -36,6 +46,7 @@ impl Events {
     {
         Events {
             files: IndexMap::new(alloc),
+            heard: Vec::new(alloc),
             alloc,
         }
     }
@@ -64,7 +75,10 @@ impl Events {
         ensures pending { result ≡ length (events_of self.now fh.0).waiting }
         ensures kept { WaitsForSubscribed (events_of self.now fh.0) }
     {
-        self.waiting_for(fh).len()
+        match self.files.get(&fh.0) {
+            Some(queue) => queue.len(),
+            None => 0,
+        }
     }
 
     /// The event that waits for a file handle at a place, from 0, with the number of its control. It is as it would be taken there:
@@ -88,17 +102,6 @@ impl Events {
         }
     }
 
-    // The events that wait for a file handle.
-    fn waiting_for(&self, fh: FhId) -> &[Waiting]
-        ensures waiting { result.now ≡ (events_of self.now fh.0).waiting }
-        ensures kept { WaitsForSubscribed (events_of self.now fh.0) }
-    {
-        match self.files.get(&fh.0) {
-            Some(queue) => queue.waiting(),
-            None => &[],
-        }
-    }
-
     /// Whether the same events wait for a file handle in the same order, with control, changes, payload and number, and the next has the same
     /// number. Subscriptions don't count. It takes no memory.
     pub fn is_like(&self, other: &Events, fh: FhId) -> bool
@@ -107,7 +110,20 @@ impl Events {
         if self.next_sequence(fh) != other.next_sequence(fh) {
             return false;
         }
-        self.waiting_for(fh) == other.waiting_for(fh)
+        self.waits_like(other, fh)
+    }
+
+    // Whether the same events wait for a file handle in the same order.
+    fn waits_like(&self, other: &Events, fh: FhId) -> bool
+        ensures { IsTrue result ↔ ((events_of self.now fh.0).waiting ≡ (events_of other.now fh.0).waiting) }
+    {
+        match self.files.get(&fh.0) {
+            Some(queue) => match other.files.get(&fh.0) {
+                Some(others) => queue.waits_like(others),
+                None => queue.len() == 0,
+            },
+            None => other.pending_len(fh) == 0,
+        }
     }
 
     /// Subscribes a file handle to the events of a control (`VIDIOC_SUBSCRIBE_EVENT`), and makes room for the one that can wait. A
@@ -130,6 +146,9 @@ impl Events {
         ensures ok { OnOk result ((j : ℕ) → events_of self.new j ≡ only_at fh.0 (after_subscribe control flags changes payload.now) j (events_of self.old j)) }
         ensures err { OnErr result (self.new ≡ self.old) }
     {
+        if hear(&mut self.heard, control, fh).is_err() {
+            return Err(AllocError);
+        }
         match self.files.get_mut(&fh.0) {
             Some(queue) => match queue.subscribe(control, flags, changes, payload) {
                 Ok(()) => Ok(()),
@@ -152,6 +171,9 @@ impl Events {
         ensures ok { OnOk result ((j : ℕ) → events_of self.new j ≡ only_at fh.0 (after_subscribe control flags changes payload.now) j (events_of self.old j)) }
         ensures err { OnErr result (self.new ≡ self.old) }
     {
+        if hear(&mut self.heard, control, fh).is_err() {
+            return Err(AllocError);
+        }
         let mut queue = Queue::new(self.alloc);
         if queue.subscribe(control, flags, changes, payload).is_err() {
             return Err(AllocError);
@@ -210,6 +232,9 @@ impl Events {
         requires { (j : ℕ) → (events_of self.old j).next < 4294967295 }
         ensures { (j : ℕ) → events_of self.new j ≡ after_raise control changes payload.now (option_map (λ fh. fh.0) from) j (events_of self.old j) }
     {
+        if !self.is_heard(control) {
+            return;
+        }
         for place in 0..self.count() {
             self.raise_at(place, control, changes, payload, from);
         }
@@ -235,9 +260,30 @@ impl Events {
         requires { IfSome (slice_get self.old.files place) (λ e. e.1.next < 4294967295) }
         ensures { self.new.files ≡ changed_at place (raised_in_entry control changes payload.now (option_map (λ fh. fh.0) from)) self.old.files }
     {
+        if !self.is_heard_at(place, control) {
+            return;
+        }
         let is_own = self.is_at(place, from);
         if let Some(queue) = self.files.get_index_mut(place) {
             queue.raise(control, changes, payload, is_own);
+        }
+    }
+
+    // Whether a file handle may be subscribed to a control; else none is.
+    fn is_heard(&self, control: u32) -> bool
+        ensures { result ≡ false → (j : ℕ) → flags_in (events_of self.now j).subscribed control ≡ None }
+    {
+        heard_by(self.heard.as_slice(), control) != 0
+    }
+
+    // Whether the file handle at a place may be subscribed to a control; else it isn't.
+    fn is_heard_at(&self, place: usize, control: u32) -> bool
+        ensures { result ≡ false → IfSome (slice_get self.now.files place) (λ e. flags_in e.1.subscribed control ≡ None) }
+    {
+        let _count = self.files.len();
+        match self.files.get_index(place) {
+            Some((fh, _)) => { has_bit(heard_by(self.heard.as_slice(), control), *fh % 64) }
+            None => false,
         }
     }
 
@@ -258,4 +304,45 @@ impl Events {
     {
         let _ = self.files.swap_remove(&fh.0);
     }
+}
+
+// The bits of the file handles that may be subscribed to a control.
+fn heard_by(heard: &[u64], control: u32) -> u64
+    ensures { result ≡ get_or heard.now control 0 }
+{
+    match heard.get(control as usize) {
+        Some(bits) => *bits,
+        None => 0,
+    }
+}
+
+// Whether a bit is set.
+fn has_bit(bits: u64, place: u32) -> bool
+    requires { place < 64 }
+    ensures { IsTrue result ↔ (bit_at bits place ≡ 1) }
+{
+    (bits >> place) & 1 == 1
+}
+
+// Sets the bit of a file handle that may be subscribed to a control from now on. The error is that a growth was refused.
+fn hear(heard: &mut Vec<u64>, control: u32, fh: FhId) -> Result<(), AllocError>
+    ensures heard { OnOk result (IsHeard heard.new.items fh.0 control) }
+    ensures kept { (j c : ℕ) → IsHeard heard.old.items j c → IsHeard heard.new.items j c }
+{
+    make_marks(heard, control)?;
+    let bits = heard[control as usize];
+    heard[control as usize] = bits | (1 << (fh.0 % 64));
+    Ok(())
+}
+
+// Makes room for the bits of a control; those that are set stay.
+fn make_marks(heard: &mut Vec<u64>, control: u32) -> Result<(), AllocError>
+    ensures bound { OnOk result (control < length heard.new.items) }
+    ensures kept { (c : ℕ) → c < length heard.old.items → get_or heard.new.items c 0 ≡ get_or heard.old.items c 0 }
+{
+    let at = control as usize;
+    if at < heard.len() {
+        return Ok(());
+    }
+    heard.resize(at + 1, 0)
 }

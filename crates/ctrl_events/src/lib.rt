@@ -6,6 +6,7 @@
 mod event;
 mod events;
 pub mod laws;
+mod order;
 mod queue;
 
 pub use event::{Event, Payload, Subscription, Waiting};

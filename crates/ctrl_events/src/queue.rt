@@ -1,33 +1,37 @@
-ghost use Rattle.std.specs.Prelude.{◌≡◌, ◌<◌, ◌≤◌, true, [], length, is_some, filter, not, nat_eq, IsTrue, OnOk, OnErr, if◌then◌else◌};
-ghost use Rattle.std.specs.List.{list_any};
-ghost use Rattle.std.specs.Prelude.{vec_capacity};
-ghost use Rattle.ctrl_events.specs.Events.{no_events, flags_in, changes_in, other_events, event_of, event_at, raised, with_subscription, after_subscribe, after_unsubscribe, first_waiting, after_take, reaches, WaitsForSubscribed};
+ghost use Rattle.std.specs.Prelude.{◌≡◌, ◌↔◌, ◌<◌, ◌≤◌, ℕ, true, false, Some, length, get_or, is_some, slice_get, IsTrue, OnOk, OnErr, if◌then◌else◌};
+ghost use Rattle.std.specs.Option.{option_map};
+ghost use Rattle.ctrl_events.specs.Order.{has, logged, entry_number};
+ghost use Rattle.ctrl_events.specs.Queue.{no_flags, nothing_told, said, event_to, events_to, changes_before, HasGrown};
+ghost use Rattle.ctrl_events.specs.Events.{no_events, flags_in, event_of, event_at, raised, with_subscription, after_subscribe, after_unsubscribe, first_waiting, after_take, reaches, WaitsForSubscribed};
 
-use crate::event::{Event, Payload, Subscription, Waiting};
+use crate::event::{Event, Payload, Told};
+use crate::order::{Order, next_entry, number_at};
 use bitflags::Flags;
 use ctrl_types::{Changes, Check, SubFlags};
 use std::alloc::{AllocError, Global};
 use std::marker::Model;
 
-/// The subscriptions of a file handle, the events that wait for it, in the order of their last raises, and the number of the next. There is
-/// room for an event of each subscription, so that a raise needs no memory.
+/// The subscriptions of a file handle, the events that wait for it, in the order of their last raises, and the number of the next. Both are
+/// orders of controls; the flags of a subscription and what is told of an event stand at the control's number. There is room for an event of
+/// each subscription, so that a raise needs no memory; a raise, a take and the end of a subscription take a step each, however many wait.
 #[derive(Drop)]
 pub(crate) struct Queue {
-    subscribed: Vec<Subscription>,
-    waiting: Vec<Waiting>,
+    subscribed: Order,
+    flags: Vec<SubFlags>,
+    waiting: Order,
+    told: Vec<Told>,
     next: u32,
 }
 
 impl Model for Queue {
     ghost use Rattle.ctrl_events.specs.Events.{FileEvents};
-    ghost use Rattle.ctrl_events.specs.Queue.{HasRoom};
-    ghost use Rattle.std.specs.Prelude.{vec_capacity};
+    ghost use Rattle.ctrl_events.specs.Queue.{subscriptions, events_to, IsQueue};
 
     ghost Value = { FileEvents };
 
-    ghost view = { λ q. record { subscribed = q.subscribed.items; waiting = q.waiting.items; next = q.next } };
+    ghost view = { λ q. record { subscribed = subscriptions q.flags.items q.subscribed.members; waiting = events_to q.told.items q.waiting.members; next = q.next } };
 
-    ghost invariant = { λ q. HasRoom q.subscribed.items q.waiting.items q.next (vec_capacity q.waiting) };
+    ghost invariant = { λ q. IsQueue q.subscribed.members q.flags.items q.told.items q.waiting.members q.waiting.bound q.waiting.room q.next };
 }
 
 impl Queue {
@@ -36,8 +40,10 @@ impl Queue {
         ensures { result ≡ no_events }
     {
         Queue {
-            subscribed: Vec::new(alloc),
-            waiting: Vec::new(alloc),
+            subscribed: Order::new(alloc),
+            flags: Vec::new(alloc),
+            waiting: Order::new(alloc),
+            told: Vec::new(alloc),
             next: 0,
         }
     }
@@ -46,15 +52,18 @@ impl Queue {
     pub(crate) fn flags_of(&self, control: u32) -> Option<SubFlags>
         ensures { result ≡ flags_in self.now.subscribed control }
     {
-        flags_among(self.subscribed.as_slice(), control)
+        if !self.subscribed.contains(control) {
+            return None;
+        }
+        Some(self.flags[control as usize])
     }
 
-    /// The events that wait.
-    pub(crate) fn waiting(&self) -> &[Waiting]
-        ensures waiting { result.now ≡ self.now.waiting }
+    /// How many events wait.
+    pub(crate) fn len(&self) -> usize
+        ensures waiting { result ≡ length self.now.waiting }
         ensures kept { WaitsForSubscribed self.now }
     {
-        self.waiting.as_slice()
+        self.waiting.len()
     }
 
     /// The number of the next event.
@@ -70,13 +79,28 @@ impl Queue {
     {
         // No more wait than were raised, so that their number fits.
         let _raised = self.next;
-        match self.waiting.get(place) {
-            Some(waiting) => {
+        match self.waiting.nth(place) {
+            Some(control) => {
                 let behind = self.waiting.len() - place - 1;
-                Some((waiting.control, event_of(behind as u32, waiting)))
+                Some((
+                    control,
+                    event_of(behind as u32, &self.told[control as usize]),
+                ))
             }
             None => None,
         }
+    }
+
+    /// Whether the same events wait for another.
+    pub(crate) fn waits_like(&self, other: &Queue) -> bool
+        ensures { IsTrue result ↔ (self.now.waiting ≡ other.now.waiting) }
+    {
+        are_alike(
+            self.waiting.entries(),
+            self.told.as_slice(),
+            other.waiting.entries(),
+            other.told.as_slice(),
+        )
     }
 
     /// Subscribes to a control, where it isn't subscribed yet, and makes room for its event. The error is that a growth was refused.
@@ -94,24 +118,26 @@ impl Queue {
         if self.flags_of(control).is_some() {
             return Ok(());
         }
-        self.add(control, flags)?;
+        self.add(control, flags, payload)?;
         if flags.intersects(SubFlags::SEND_INITIAL) {
             self.put(control, changes, payload);
         }
         Ok(())
     }
 
-    // Adds a subscription, with room for its event.
-    fn add(&mut self, control: u32, flags: SubFlags) -> Result<(), AllocError>
+    // Adds a subscription to a control that has none, with room for its event.
+    fn add(&mut self, control: u32, flags: SubFlags, payload: &Payload) -> Result<(), AllocError>
+        requires { is_some (flags_in self.old.subscribed control) ≡ false }
         ensures ok { OnOk result (self.new ≡ with_subscription control flags self.old) }
         ensures there { OnOk result (is_some (flags_in self.new.subscribed control) ≡ true) }
         ensures err { OnErr result (self.new ≡ self.old) }
     {
-        self.subscribed.reserve(1)?;
-        self.waiting
-            .reserve(self.subscribed.len() + 1 - self.waiting.len())?;
-        self.subscribed
-            .push_reserved(Subscription { control, flags });
+        let fits = self.subscribed.len() + 1;
+        self.subscribed.reserve(control, fits)?;
+        self.waiting.reserve(control, fits)?;
+        make_room(&mut self.flags, &mut self.told, control, payload)?;
+        self.flags[control as usize] = flags;
+        self.subscribed.push(control);
         Ok(())
     }
 
@@ -119,8 +145,8 @@ impl Queue {
     pub(crate) fn unsubscribe(&mut self, control: u32)
         ensures { self.new ≡ after_unsubscribe control self.old }
     {
-        forget(&mut self.subscribed, control);
-        drop_events(&mut self.waiting, control);
+        let _ = self.subscribed.remove(control);
+        let _ = self.waiting.remove(control);
     }
 
     /// Takes the first event that waits, where one does.
@@ -128,11 +154,10 @@ impl Queue {
         ensures answer { result ≡ first_waiting self.old.waiting }
         ensures events { self.new ≡ after_take self.old }
     {
-        if self.waiting.is_empty() {
-            return Err(Check::NoEventWaits);
+        match self.waiting.take_first() {
+            Some(control) => Ok(event_of(self.waiting.len() as u32, &self.told[control as usize])),
+            None => Err(Check::NoEventWaits),
         }
-        let first = self.waiting.remove(0);
-        Ok(event_of(self.waiting.len() as u32, &first))
     }
 
     /// Raises an event of a control, which is the file handle's own or another's, where it reaches the file handle.
@@ -161,73 +186,147 @@ impl Queue {
         requires next { self.old.next < 4294967295 }
         ensures { self.new ≡ raised control changes payload.now self.old }
     {
-        let before = changes_among(self.waiting.as_slice(), control);
-        drop_events(&mut self.waiting, control);
-        self.waiting.push_reserved(Waiting {
-            control,
+        let waited = self.waiting.remove(control);
+        let before = changes_before(waited, &self.told[control as usize]);
+        self.told[control as usize] = Told {
             changes: before.union(changes),
             payload: *payload,
             sequence: self.next,
-        });
+        };
+        self.waiting.push(control);
         self.next += 1;
     }
 }
 
-// The flags of the subscription to a control.
-fn flags_among(subscribed: &[Subscription], control: u32) -> Option<SubFlags>
-    ensures { result ≡ flags_in subscribed.now control }
+// Makes room for a control's flags and for what is told of it; what is there stays.
+fn make_room(
+    flags: &mut Vec<SubFlags>,
+    told: &mut Vec<Told>,
+    control: u32,
+    payload: &Payload,
+) -> Result<(), AllocError>
+    ensures bound { OnOk result (control < length flags.new.items) }
+    ensures tellable { OnOk result (control < length told.new.items) }
+    ensures grown { HasGrown flags.old.items flags.new.items told.old.items told.new.items }
 {
-    for subscription in subscribed {
-        if subscription.control == control {
-            return Some(subscription.flags);
-        }
+    make_flags(flags, control)?;
+    make_told(told, control, payload)
+}
+
+// Makes room for a control's flags; those that are there stay.
+fn make_flags(flags: &mut Vec<SubFlags>, control: u32) -> Result<(), AllocError>
+    ensures bound { OnOk result (control < length flags.new.items) }
+    ensures grows { length flags.old.items ≤ length flags.new.items }
+    ensures kept { (c : ℕ) → c < length flags.old.items → get_or flags.new.items c no_flags ≡ get_or flags.old.items c no_flags }
+{
+    let at = control as usize;
+    if at < flags.len() {
+        return Ok(());
     }
-    None
+    flags.resize(at + 1, SubFlags::empty())
 }
 
-// What the event of a control that waits says that changed; nothing, where none waits.
-fn changes_among(waiting: &[Waiting], control: u32) -> Changes
-    ensures { result ≡ changes_in waiting.now control }
+// Makes room for what is told of a control; what is there stays.
+fn make_told(told: &mut Vec<Told>, control: u32, shown: &Payload) -> Result<(), AllocError>
+    ensures bound { OnOk result (control < length told.new.items) }
+    ensures grows { length told.old.items ≤ length told.new.items }
+    ensures kept { (c : ℕ) → c < length told.old.items → get_or told.new.items c nothing_told ≡ get_or told.old.items c nothing_told }
 {
-    for event in waiting {
-        if event.control == control {
-            return event.changes;
-        }
+    let at = control as usize;
+    if at < told.len() {
+        return Ok(());
     }
-    Changes::empty()
+    let first = Told {
+        changes: Changes::empty(),
+        payload: *shown,
+        sequence: 0,
+    };
+    told.resize(at + 1, first)
 }
 
-// Takes the subscription to a control out.
-fn forget(subscribed: &mut Vec<Subscription>, control: u32)
-    ensures { subscribed.new.items ≡ filter (λ s. not (nat_eq control s.control)) subscribed.old.items }
+// What the event of a control that waits, if one does, says that changed.
+fn changes_before(waited: bool, told: &Told) -> Changes
+    ensures { result ≡ changes_before waited told.now }
 {
-    subscribed.retain(|subscription| control != subscription.control);
-}
-
-// Takes the event of a control out.
-fn drop_events(waiting: &mut Vec<Waiting>, control: u32)
-    ensures events { waiting.new.items ≡ other_events control waiting.old.items }
-    ensures room { vec_capacity waiting.new ≡ vec_capacity waiting.old }
-{
-    waiting.retain(|event| control != event.control);
+    if waited {
+        told.changes
+    } else {
+        Changes::empty()
+    }
 }
 
 // The event that is taken, where so many still wait.
-fn event_of(pending: u32, waiting: &Waiting) -> Event
-    ensures { result ≡ event_of pending waiting.now }
+fn event_of(pending: u32, told: &Told) -> Event
+    ensures { result ≡ event_of pending (said 0 told.now) }
 {
-    let payload = waiting.payload;
+    let payload = told.payload;
     Event {
         id: payload.id,
         kind: payload.kind,
-        changes: waiting.changes,
+        changes: told.changes,
         value: payload.value,
         flags: payload.flags,
         minimum: payload.minimum,
         maximum: payload.maximum,
         step: payload.step,
         default_value: payload.default_value,
-        sequence: waiting.sequence,
+        sequence: told.sequence,
         pending,
     }
+}
+
+// Whether the same events of two orders wait, in the same order.
+fn are_alike(
+    log: &[Option<u32>],
+    told: &[Told],
+    others: &[Option<u32>],
+    told_of_others: &[Told],
+) -> bool
+    requires own { (c : ℕ) → has (logged log.now) c ≡ true → c < length told.now }
+    requires other { (c : ℕ) → has (logged others.now) c ≡ true → c < length told_of_others.now }
+    ensures { IsTrue result ↔ (events_to told.now (logged log.now) ≡ events_to told_of_others.now (logged others.now)) }
+{
+    let mut at = 0;
+    for entry in log {
+        let Some(control) = entry else {
+            continue;
+        };
+        at = next_entry(others, at);
+        if !is_alike(*control, told, others, at, told_of_others) {
+            return false;
+        }
+        at += 1;
+    }
+    next_entry(others, at) >= others.len()
+}
+
+// Whether the event of a control is the one that waits at a place among others.
+fn is_alike(
+    control: u32,
+    told: &[Told],
+    others: &[Option<u32>],
+    at: usize,
+    told_of_others: &[Told],
+) -> bool
+    requires own { control < length told.now }
+    requires other { (c : ℕ) → Some c ≡ entry_number (slice_get others.now at) → c < length told_of_others.now }
+    ensures alike { IsTrue result ↔ (Some (event_to told.now control) ≡ option_map (event_to told_of_others.now) (entry_number (slice_get others.now at))) }
+    ensures within { IsTrue result → at < length others.now }
+{
+    match number_at(others, at) {
+        Some(other) => is_same(
+            control,
+            &told[control as usize],
+            other,
+            &told_of_others[other as usize],
+        ),
+        None => false,
+    }
+}
+
+// Whether two events that wait are the same.
+fn is_same(control: u32, told: &Told, other: u32, told_of_other: &Told) -> bool
+    ensures { IsTrue result ↔ (said control told.now ≡ said other told_of_other.now) }
+{
+    control == other && *told == *told_of_other
 }

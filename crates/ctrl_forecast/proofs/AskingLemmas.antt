@@ -63,7 +63,7 @@ behind_last values [] row = refl
 behind_last values (r ∷ rows) row = behind_last r.values rows row
 
 -- what one more frame leaves
-after_next : (verdicts : Verdicts) (plan : PlanData) (controls : List Control) (grabs : Grabs) (values : Values) (qs : List QueuedData) (p : ℕ) → p < length qs
+pub after_next : (verdicts : Verdicts) (plan : PlanData) (controls : List Control) (grabs : Grabs) (values : Values) (qs : List QueuedData) (p : ℕ) → p < length qs
     → values_after verdicts plan controls values grabs qs (suc p) ≡ overlay verdicts plan controls (values_after verdicts plan controls values grabs qs p) grabs (asked_at qs p)
 after_next verdicts plan controls grabs values qs p lt =
     ap (λ (l : List QueuedData). values_behind values (forecasts verdicts plan controls values grabs l)) (ap (λ (n : ℕ). take n qs) (sym (add-one p)) ∙ take_more qs p d lt)
@@ -74,11 +74,11 @@ after_next verdicts plan controls grabs values qs p lt =
     d = record { request = record { 0 = 0 }; buffer = 0; asked = [] }
 
 -- what a frame asks for, as it is kept and as it was queued
-kept_asked : (fs : List FrameData) (p : ℕ) → p < length fs → (frame_at fs p).asked ≡ asked_at (map queued_of fs) p
+pub kept_asked : (fs : List FrameData) (p : ℕ) → p < length fs → (frame_at fs p).asked ≡ asked_at (map queued_of fs) p
 kept_asked fs p lt = ap (λ (q : QueuedData). q.asked) (sym (get_or-map queued_of fs p no_frame (queued_of no_frame) lt))
 
 -- where the rows before agree in a cluster, so does what pairs make of it
-over_alike : (s : Setting) (base values : Values) (pairs : List Pair) (k : ℕ) → row_of base (members s.plan k) ≡ row_of values (members s.plan k) → row_over s base pairs k ≡ row_over s values pairs k
+pub over_alike : (s : Setting) (base values : Values) (pairs : List Pair) (k : ℕ) → row_of base (members s.plan k) ≡ row_of values (members s.plan k) → row_over s base pairs k ≡ row_over s values pairs k
 over_alike s base values pairs k same =
     ap (λ (r : List CtrlValue). row_or r (row_result s base pairs k)) same
     ∙ ap (row_or (row_of values (members s.plan k))) (outcome_alike s.verdicts s.plan s.controls s.controls base values s.grabs s.grabs pairs k same (ranges_agree s (members s.plan k)) (grabs_agree s (members s.plan k)))
@@ -90,7 +90,7 @@ row_alike s base values pairs k same =
     ap (λ (b : Bool). is_touched pairs (members s.plan k) && (not (names_grabbed s.grabs pairs (members s.plan k)) && b)) (asks_alike s.plan s.controls base values pairs k (rows_alike base values (members s.plan k) same))
 
 -- Before a place up to which a cluster is right, the kept values have the row that the frames before leave.
-based_right : (s : Setting) (fs : List FrameData) (k p : ℕ) → IsPlan s.plan → length s.values ≡ length s.plan.controls → k < length s.plan.clusters → p ≤ length fs
+pub based_right : (s : Setting) (fs : List FrameData) (k p : ℕ) → IsPlan s.plan → length s.values ≡ length s.plan.controls → k < length s.plan.clusters → p ≤ length fs
     → ((i : ℕ) → i < p → i < length fs → IsRightAt s fs k i)
     → row_of (base_at s fs p) (members s.plan k) ≡ row_of (values_after s.verdicts s.plan s.controls s.values s.grabs (map queued_of fs) p) (members s.plan k)
 unfolding forecasts

@@ -7,7 +7,11 @@ pub mod NamingLemmas
 pub mod RightLemmas
 pub mod RenewLemmas
 pub mod AskingLemmas
+pub mod UnchangedLemmas
+pub mod WalkLemmas
 pub mod KeptLemmas
 pub mod ReadyLemmas
 pub mod LikeLemmas
 pub mod FrameLemmas
+pub mod ApartLemmas
+pub mod TurnLemmas

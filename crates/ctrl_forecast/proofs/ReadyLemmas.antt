@@ -15,7 +15,8 @@ use Rattle.ctrl_clusters.specs.Rows.{Values, value_at, row_of, Grabs, is_grabbed
 use Rattle.ctrl_clusters.specs.Overlay.{is_touched}
 use Rattle.ctrl_clusters.proofs.OverlayLemmas.{or_true, or_true_right, same_each}
 use Rattle.ctrl_forecast.specs.Forecasts.{QueuedData, forecasts}
-use Rattle.ctrl_forecast.specs.Boards.{BoardData, DifferOnlyIn, board_of, is_in_one_of, named_clusters}
+use Rattle.ctrl_clusters.specs.ControlsData.{is_in_one_of}
+use Rattle.ctrl_forecast.specs.Boards.{BoardData, DifferOnlyIn, board_of, named_clusters}
 use Rattle.ctrl_forecast.specs.Frames.{FrameData, no_frame, frame_at, queued_of, forecast_of, board_seen, setting, values_before, IsKeptFrame, AreKeptFrames, IsRightAt, AreReady}
 use Rattle.ctrl_forecast.proofs.RisingLemmas.{among_passing}
 use Rattle.ctrl_forecast.proofs.RightLemmas.{right_moves, untouched_row}

@@ -68,10 +68,10 @@ marked_room s base k frame is lt =
     omega (arith, fewer, ap length same, ap length is.names)
 
 -- The frame at a place is renewed: the others stay, and of this one the other clusters do.
-step_at : (s : Setting) (k p : ℕ) (fs : List FrameData) → p < length fs → frame_at (renewed_at s k p fs) p ≡ renewed s (base_at s fs p) k (frame_at fs p)
+pub step_at : (s : Setting) (k p : ℕ) (fs : List FrameData) → p < length fs → frame_at (renewed_at s k p fs) p ≡ renewed s (base_at s fs p) k (frame_at fs p)
 step_at s k p fs lt = get_or-set_same fs p (renewed s (base_at s fs p) k (frame_at fs p)) no_frame lt
 
-step_else : (s : Setting) (k p i : ℕ) (fs : List FrameData) → i ≢ p → frame_at (renewed_at s k p fs) i ≡ frame_at fs i
+pub step_else : (s : Setting) (k p i : ℕ) (fs : List FrameData) → i ≢ p → frame_at (renewed_at s k p fs) i ≡ frame_at fs i
 step_else s k p i fs other = get_or-set_other fs p i (renewed s (base_at s fs p) k (frame_at fs p)) no_frame other
 
 step_asked : (s : Setting) (k p i : ℕ) (fs : List FrameData) → p < length fs → (frame_at (renewed_at s k p fs) i).asked ≡ (frame_at fs i).asked
@@ -81,7 +81,7 @@ step_asked s k p i fs lt = by (eqb_tells i p)
     by (inl e) = subst (λ (x : ℕ). (frame_at (renewed_at s k p fs) x).asked ≡ (frame_at fs x).asked) (sym e.1) (ap (λ (f : FrameData). f.asked) (step_at s k p fs lt))
     by (inr e) = ap (λ (f : FrameData). f.asked) (step_else s k p i fs e.1)
 
-step_rows : (s : Setting) (k p j i : ℕ) (fs : List FrameData) → IsPlan s.plan → AreKeptFrames s.plan fs → p < length fs → j < length s.plan.clusters → k ≢ j
+pub step_rows : (s : Setting) (k p j i : ℕ) (fs : List FrameData) → IsPlan s.plan → AreKeptFrames s.plan fs → p < length fs → j < length s.plan.clusters → k ≢ j
     → row_of (frame_at (renewed_at s k p fs) i).values (members s.plan j) ≡ row_of (frame_at fs i).values (members s.plan j)
 unfolding AreKeptFrames
 step_rows s k p j i fs is are lt less other = by (eqb_tells i p)
@@ -93,7 +93,7 @@ step_rows s k p j i fs is are lt less other = by (eqb_tells i p)
         ∙ written_apart s.plan (frame_at fs p).values k j (row_over s (base_at s fs p) (frame_at fs p).asked k) is (are p lt).long less other)
     by (inr e) = ap (λ (f : FrameData). row_of f.values (members s.plan j)) (step_else s k p i fs e.1)
 
-step_refused : (s : Setting) (k p j i : ℕ) (fs : List FrameData) → AreKeptFrames s.plan fs → p < length fs → k < length s.plan.clusters → j < length s.plan.clusters → k ≢ j
+pub step_refused : (s : Setting) (k p j i : ℕ) (fs : List FrameData) → AreKeptFrames s.plan fs → p < length fs → k < length s.plan.clusters → j < length s.plan.clusters → k ≢ j
     → list_any (nat_eq j) (frame_at (renewed_at s k p fs) i).refused ≡ list_any (nat_eq j) (frame_at fs i).refused
 unfolding AreKeptFrames
 step_refused s k p j i fs are lt within less other = by (eqb_tells i p)

@@ -1,11 +1,12 @@
 -- The forecasts that a device keeps, with the queued frames that they are of (of this project).
-use Rattle.std.specs.Prelude.{◌≡◌, ℕ, Bool, false, List, [], length, map, filter, Option, None, Some, nat_eq, slice_index_or}
-use Rattle.std.specs.List.{list_any, range_with_len}
+use Rattle.std.specs.Prelude.{◌≡◌, ℕ, false, List, [], length, map, filter, slice_index_or}
+use Rattle.std.specs.List.{range_with_len}
 use Rattle.ctrl_types.specs.declared.ids.Pair.{Pair}
 use Rattle.ctrl_calls.specs.Meanings.{Verdicts}
 use Rattle.ctrl_settle.specs.Control.{Control}
 use Rattle.ctrl_handlers.specs.Plan.{PlanData, cluster_of, members, control_in}
-use Rattle.ctrl_clusters.specs.Rows.{Values, value_at, Grabs, is_grabbed}
+use Rattle.ctrl_clusters.specs.ControlsData.{DifferIn, is_in_one_of}
+use Rattle.ctrl_clusters.specs.Rows.{Values, Grabs, is_grabbed}
 use Rattle.ctrl_clusters.specs.Overlay.{is_touched}
 use Rattle.ctrl_clusters.specs.declared.moment.Moment.{Moment}
 use Rattle.ctrl_forecast.specs.Forecasts.{QueuedData, forecasts}
@@ -41,15 +42,15 @@ board_at verdicts at queued = board_of verdicts at.plan.now at.ranges.now at.val
 abbrev pub asked_at : List QueuedData → ℕ → List Pair
 asked_at queued place = (slice_index_or queued place (record { request = record { 0 = 0 }; buffer = 0; asked = [] })).asked
 
--- the cluster that a control is in is one of some
-abbrev pub is_in_one_of : List ℕ → Option ℕ → Bool
-is_in_one_of clusters None = false
-is_in_one_of clusters (Some k) = list_any (nat_eq k) clusters
-
 -- Ranges, values and grabs differ from those before in some clusters at most: every control of another cluster has its range and its value, and is
 -- grabbed or not, as it was.
 pub record DifferOnlyIn (plan : PlanData) (clusters : List ℕ) (earlier : List Control) (before : Values) (held : Grabs) (controls : List Control) (values : Values) (grabs : Grabs) : Type 0 where
   pub many : length before ≡ length values
   pub ranges_stay : (c : ℕ) → is_in_one_of clusters (cluster_of plan c) ≡ false → control_in earlier c ≡ control_in controls c
-  pub values_stay : (c : ℕ) → is_in_one_of clusters (cluster_of plan c) ≡ false → value_at before c ≡ value_at values c
+  pub values_stay : DifferIn plan clusters before values
   pub grabs_stay : (c : ℕ) → is_in_one_of clusters (cluster_of plan c) ≡ false → is_grabbed held c ≡ is_grabbed grabs c
+
+-- The same of values alone: there are as many as before.
+pub record ValuesDifferOnlyIn (plan : PlanData) (clusters : List ℕ) (before values : Values) : Type 0 where
+  pub many : length before ≡ length values
+  pub values_stay : DifferIn plan clusters before values

@@ -137,6 +137,24 @@ pub record AreReady (s : Setting) (from : ℕ) (left : List ℕ) (frames : List 
   pub before : (k i : ℕ) → k < length s.plan.clusters → i < from → i < length frames → IsRightAt s frames k i
   pub apart : (k i : ℕ) → k < length s.plan.clusters → list_any (nat_eq k) left ≡ false → i < length frames → IsRightAt s frames k i
 
+-- Frames are right but for some clusters of the one at a place.
+pub record AreReadyAt (s : Setting) (place : ℕ) (left : List ℕ) (frames : List FrameData) : Type 0 where
+  pub frames_ok : AreKeptFrames s.plan frames
+  pub elsewhere : (k i : ℕ) → k < length s.plan.clusters → i ≢ place → i < length frames → IsRightAt s frames k i
+  pub apart : (k i : ℕ) → k < length s.plan.clusters → list_any (nat_eq k) left ≡ false → i < length frames → IsRightAt s frames k i
+
+-- one cluster of each frame has the row that it had, and is refused where it was
+pub record IsAlikeIn (plan : PlanData) (k : ℕ) (old new : List FrameData) : Type 0 where
+  pub rows : (i : ℕ) → row_of (frame_at new i).values (members plan k) ≡ row_of (frame_at old i).values (members plan k)
+  pub refused : (i : ℕ) → list_any (nat_eq k) (frame_at new i).refused ≡ list_any (nat_eq k) (frame_at old i).refused
+
+-- Some clusters are renewed: they are right in all frames, and every other one is as it was.
+pub record AreRenewed (s : Setting) (done : List ℕ) (old new : List FrameData) : Type 0 where
+  pub frames_ok : AreKeptFrames s.plan new
+  pub queued : map queued_of new ≡ map queued_of old
+  pub right : (k i : ℕ) → k < length s.plan.clusters → list_any (nat_eq k) done ≡ true → i < length new → IsRightAt s new k i
+  pub stay : (k : ℕ) → k < length s.plan.clusters → list_any (nat_eq k) done ≡ false → IsAlikeIn s.plan k old new
+
 -- One cluster is renewed in the frames below a place: it is right there, and no other cluster is less right than before.
 pub record IsClusterRenewed (s : Setting) (k below : ℕ) (old new : List FrameData) : Type 0 where
   pub frames_ok : AreKeptFrames s.plan new

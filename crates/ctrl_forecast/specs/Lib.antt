@@ -4,6 +4,7 @@ pub mod Touched
 pub mod Applied
 pub mod Forecasts
 pub mod Boards
+pub mod Unchanged
 pub mod Asking
 pub mod Frames
 pub mod Looks

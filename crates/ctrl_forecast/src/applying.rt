@@ -62,7 +62,7 @@ fn is_refused<D: Driver>(plan: &Plan<D>, refused: &[u32], control: u32) -> bool
 }
 
 // Whether a cluster is one of some.
-fn is_one_of(clusters: &[u32], cluster: u32) -> bool
+pub(crate) fn is_one_of(clusters: &[u32], cluster: u32) -> bool
     ensures { result ≡ list_any (nat_eq cluster) clusters.now }
 {
     clusters.iter().any(|other| cluster == *other)

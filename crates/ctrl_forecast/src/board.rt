@@ -5,15 +5,15 @@ ghost use Rattle.std.specs.List.{All, position, remove};
 ghost use Rattle.ctrl_settle.specs.Control.{Control};
 ghost use Rattle.ctrl_clusters.specs.Rows.{Grabs, Values};
 ghost use Rattle.ctrl_clusters.specs.Judging.{with_calls};
-ghost use Rattle.ctrl_forecast.specs.Asking.{asked_count, renewing_count};
-ghost use Rattle.ctrl_forecast.specs.Boards.{DifferOnlyIn, asked_at, board_at, named_clusters, no_board, board_of};
+ghost use Rattle.ctrl_forecast.specs.Asking.{asked_count, removing_count, renewing_count, renewing_until_same};
+ghost use Rattle.ctrl_forecast.specs.Boards.{DifferOnlyIn, ValuesDifferOnlyIn, asked_at, board_at, named_clusters, no_board, board_of};
 ghost use Rattle.ctrl_forecast.specs.Forecasts.{named_by_frames, touched_by_all, values_behind};
 ghost use Rattle.ctrl_forecast.specs.Looks.{seen};
 ghost use Rattle.ctrl_forecast.specs.Touched.{touched_count};
 
 use crate::frame::{Frame, Queued};
 use crate::lists::{ClusterList, ValueRow};
-use crate::renewing::renew_clusters;
+use crate::renewing::{rejudge_clusters, renew_clusters};
 use ctrl_calls::{Driver, Work};
 use ctrl_clusters::Moment;
 use ctrl_types::{CtrlValue, RequestId};
@@ -200,15 +200,17 @@ impl Board {
         Ok(())
     }
 
-    /// Takes the first frame out, and answers what it will have (of this project). What the others will have stays as it is: it is what they have over
-    /// the values that the first one leaves. The caller owes that a frame is queued. It takes no memory, and asks nobody.
-    pub fn begin(&mut self) -> Forecast
+    /// Takes the first frame out, and answers what it will have, and the clusters with a member among its pairs, rising, which alone it changes (of this project).
+    /// What the others will have stays as it is: it is what they have over the values that the first one leaves. The caller owes that a frame is queued. It takes
+    /// no memory, and asks nobody.
+    pub fn begin(&mut self) -> (Forecast, ClusterList)
         requires { 0 < length self.old.queued }
-        ensures first { Some result ≡ slice_get self.old.forecasts 0 }
+        ensures first { Some result.0 ≡ slice_get self.old.forecasts 0 }
+        ensures named { Some result.1 ≡ slice_get self.old.named 0 }
         ensures rest { self.new ≡ record { queued = drop 1 self.old.queued; named = drop 1 self.old.named; forecasts = drop 1 self.old.forecasts } }
     {
         let first = self.frames.remove(0);
-        first.into_forecast()
+        first.into_parts()
     }
 
     /// Takes the first frame out, and answers what it will have; none where no frame is queued (of this project). What the others will have stays as it is: it is
@@ -220,14 +222,16 @@ impl Board {
         if self.frames.is_empty() {
             return None;
         }
-        Some(self.begin())
+        let (first, _) = self.begin();
+        Some(first)
     }
 
-    /// Takes the frame at a place out. Behind it only the clusters with a member among its pairs are judged anew (of this project).
+    /// Takes the frame at a place out. Behind it only the clusters with a member among its pairs are judged anew, each up to and with the first frame that comes out as
+    /// it was: with the same row of the cluster, and refused where it was (of this project).
     ///
     /// - `place`: a place, from 0; the caller owes a frame there.
     /// - `at`: as of `overlay`; its values are those before the first frame.
-    /// - `work`: its count `asked` grows by one for each cluster with a validator that the frame names, a member being among its pairs, and each frame
+    /// - `work`: its count `asked` grows by one for each cluster with a validator that the frame names, a member being among its pairs, and each of these frames
     ///   behind it that names the cluster too, unless a member that this asks for is grabbed or a member doesn't settle.
     ///
     /// The caller owes that the board was kept with this plan, over these values, under these ranges and grabs. It takes no memory and
@@ -237,15 +241,36 @@ impl Board {
         requires kept { self.old ≡ board_at D.verdict at.now self.old.queued }
         ensures frames { self.new ≡ board_at D.verdict at.now (remove self.old.queued place) }
         ensures asked { work.new.asked ≤ work.old.asked + named_by_frames at.now.plan.now (drop (place + 1) self.old.queued) (named_clusters at.now.plan.now (asked_at self.old.queued place)) }
-        ensures counted { work.new.asked ≡ with_calls (renewing_count D.verdict at.now.plan.now at.now.ranges.now at.now.values.now at.now.grabs.now (remove self.old.queued place) place (named_clusters at.now.plan.now (asked_at self.old.queued place))) work.old.asked }
+        ensures counted { work.new.asked ≡ with_calls (removing_count D.verdict at.now.plan.now at.now.ranges.now at.now.values.now at.now.grabs.now self.old.queued place) work.old.asked }
         ensures told { work.new.told ≡ work.old.told }
     {
         let removed = self.frames.remove(place);
         renew_clusters(&mut self.frames, place, at, removed.named(), work);
     }
 
+    /// Renews some clusters, after the values before the first frame were changed in these clusters (of this project): each in the frames up to and with the first that
+    /// comes out as it was, with the same row of the cluster, and refused where it was. The frames behind that one stand over the same values of the cluster.
+    ///
+    /// - `at`: as of `overlay`, as it is now; its values are those before the first frame.
+    /// - `clusters`: the clusters, in any order; the caller owes that each is one of the plan.
+    /// - `work`: its count `asked` grows by one for each of the clusters with a validator and each of these frames that names it, a member being among its pairs,
+    ///   unless a member that it asks for is grabbed or a member doesn't settle. A cluster that comes again is renewed in the first frame alone.
+    ///
+    /// The caller owes that the board was kept with this plan, under these ranges and grabs, over values that differ from these in the clusters alone; after
+    /// a change of ranges or grabs call `rejudge`. It takes no memory and refuses nothing. Nobody is told.
+    pub fn renew<D: Driver>(&mut self, at: &Moment<D>, clusters: &[u32], work: &mut Work)
+        requires clusters { All (λ k. k < length at.now.plan.now.clusters) clusters.now }
+        requires kept { (before : Values) × (self.old ≡ board_of D.verdict at.now.plan.now at.now.ranges.now before at.now.grabs.now self.old.queued) × ValuesDifferOnlyIn at.now.plan.now clusters.now before at.now.values.now }
+        ensures frames { self.new ≡ board_at D.verdict at.now self.old.queued }
+        ensures asked { work.new.asked ≤ work.old.asked + named_by_frames at.now.plan.now self.old.queued clusters.now }
+        ensures counted { work.new.asked ≡ with_calls (renewing_until_same D.verdict at.now.plan.now at.now.ranges.now at.now.values.now at.now.grabs.now self.old.queued self.old.forecasts 0 clusters.now) work.old.asked }
+        ensures told { work.new.told ≡ work.old.told }
+    {
+        renew_clusters(&mut self.frames, 0, at, clusters, work);
+    }
+
     /// Renews some clusters in all frames, after the ranges, the values before the first frame, or the grabs, were changed in these clusters (of this
-    /// project).
+    /// project). Where only the values were, `renew` does the same and asks no more.
     ///
     /// - `at`: as of `overlay`, as it is now; its values are those before the first frame.
     /// - `clusters`: the clusters, in any order; the caller owes that each is one of the plan.
@@ -254,7 +279,7 @@ impl Board {
     ///
     /// The caller owes that the board was kept with this plan, under ranges and grabs and over values that differ from these in the
     /// clusters alone. It takes no memory and refuses nothing. Nobody is told.
-    pub fn renew<D: Driver>(&mut self, at: &Moment<D>, clusters: &[u32], work: &mut Work)
+    pub fn rejudge<D: Driver>(&mut self, at: &Moment<D>, clusters: &[u32], work: &mut Work)
         requires clusters { All (λ k. k < length at.now.plan.now.clusters) clusters.now }
         requires kept { (earlier : List Control) × (before : Values) × (held : Grabs) × (self.old ≡ board_of D.verdict at.now.plan.now earlier before held self.old.queued) × DifferOnlyIn at.now.plan.now clusters.now earlier before held at.now.ranges.now at.now.values.now at.now.grabs.now }
         ensures frames { self.new ≡ board_at D.verdict at.now self.old.queued }
@@ -262,7 +287,7 @@ impl Board {
         ensures counted { work.new.asked ≡ with_calls (renewing_count D.verdict at.now.plan.now at.now.ranges.now at.now.values.now at.now.grabs.now self.old.queued 0 clusters.now) work.old.asked }
         ensures told { work.new.told ≡ work.old.told }
     {
-        renew_clusters(&mut self.frames, 0, at, clusters, work);
+        rejudge_clusters(&mut self.frames, 0, at, clusters, work);
     }
 
     /// Takes all frames out (of this project). It takes no memory, and asks nobody.

@@ -1,18 +1,23 @@
 //! A queued frame that is kept, with what it will have.
 
-ghost use Rattle.std.specs.Prelude.{◌≡◌, ◌<◌, ◌≤◌, ◌+◌, length, IfOk, OnOk};
+ghost use Rattle.std.specs.Prelude.{◌≡◌, ◌<◌, ◌≤◌, ◌+◌, not, cond, length, nat_eq, IfOk, OnOk};
+ghost use Rattle.std.specs.List.{All, list_any};
+ghost use Rattle.ctrl_types.specs.Values.{is_same};
 ghost use Rattle.ctrl_handlers.specs.Plan.{members};
+ghost use Rattle.ctrl_clusters.specs.Rows.{row_of, value_at};
 ghost use Rattle.ctrl_clusters.specs.Judging.{with_calls};
 ghost use Rattle.ctrl_forecast.specs.Asking.{asked_count};
 ghost use Rattle.ctrl_forecast.specs.Frames.{forecast_of, frame_over, with_or_without, with_row_result};
 ghost use Rattle.ctrl_forecast.specs.Touched.{touched_count};
+ghost use Rattle.ctrl_forecast.specs.Unchanged.{are_same_values, is_same_outcome};
 
+use crate::applying::is_one_of;
 use crate::board::Forecast;
 use crate::laying::{Overlaid, overlay_named};
 use crate::lists::{ClusterList, ValueRow};
 use crate::rising::{mark, named_clusters};
 use ctrl_calls::{ClusterRow, Driver, Work};
-use ctrl_clusters::{Moment, write_row};
+use ctrl_clusters::{Moment, write_values};
 use ctrl_handlers::Plan;
 use ctrl_types::{CtrlValue, Pair, RequestId};
 use std::alloc::{AllocError, Global};
@@ -140,28 +145,69 @@ impl Frame {
         self.refused.as_slice()
     }
 
-    // What the frame will have, with the memory that it lies in.
-    pub(crate) fn into_forecast(self) -> Forecast
-        ensures { result ≡ forecast_of self }
+    // What the frame will have, and the clusters that it names, with the memory that they lie in.
+    pub(crate) fn into_parts(self) -> (Forecast, ClusterList)
+        ensures forecast { result.0 ≡ forecast_of self }
+        ensures named { result.1 ≡ self.named }
     {
         let Frame {
             request,
             buffer,
             asked: _,
-            named: _,
+            named,
             values,
             refused,
         } = self;
-        Forecast {
+        let forecast = Forecast {
             request,
             buffer,
             values: ValueRow::from_vec(values),
             refused: ClusterList::from_vec(refused),
+        };
+        (forecast, ClusterList::from_vec(named))
+    }
+
+    // Gives a cluster a row, and has it refused or not, where it isn't so; answers whether it wasn't. Else nothing is written. It takes no memory.
+    pub(crate) fn replace_row_result<D: Driver>(
+        &mut self,
+        plan: &Plan<D>,
+        cluster: u32,
+        row: &ClusterRow,
+        is_refused: bool,
+    ) -> bool
+        requires values { length self.old.values ≡ length plan.now.controls }
+        requires cluster { cluster < length plan.now.clusters }
+        requires row { length row.now ≡ length (members plan.now cluster) }
+        requires room { length (with_or_without cluster is_refused self.old.refused) ≤ length self.old.named }
+        ensures changed { result ≡ not (is_same_outcome (row_of self.old.values (members plan.now cluster)) (list_any (nat_eq cluster) self.old.refused) row.now is_refused) }
+        ensures frame { self.new ≡ cond result (with_row_result plan.now cluster row.now is_refused self.old) self.old }
+    {
+        if self.has_row_result(plan, cluster, row, is_refused) {
+            return false;
         }
+        self.set_row_result(plan, cluster, row, is_refused);
+        true
+    }
+
+    // Whether a cluster has a row, and is refused where it is to be.
+    fn has_row_result<D: Driver>(
+        &self,
+        plan: &Plan<D>,
+        cluster: u32,
+        row: &ClusterRow,
+        is_refused: bool,
+    ) -> bool
+        requires values { length self.now.values ≡ length plan.now.controls }
+        requires cluster { cluster < length plan.now.clusters }
+        requires row { length row.now ≡ length (members plan.now cluster) }
+        ensures { result ≡ is_same_outcome (row_of self.now.values (members plan.now cluster)) (list_any (nat_eq cluster) self.now.refused) row.now is_refused }
+    {
+        has_row(self.values.as_slice(), plan.members(cluster), row)
+            && is_mark(self.refused.as_slice(), cluster, is_refused)
     }
 
     // Gives a cluster a row, and has it refused or not. It takes no memory.
-    pub(crate) fn set_row_result<D: Driver>(
+    fn set_row_result<D: Driver>(
         &mut self,
         plan: &Plan<D>,
         cluster: u32,
@@ -174,7 +220,42 @@ impl Frame {
         requires room { length (with_or_without cluster is_refused self.old.refused) ≤ length self.old.named }
         ensures { self.new ≡ with_row_result plan.now cluster row.now is_refused self.old }
     {
-        write_row(plan, &mut self.values, cluster, row);
+        write_values(plan, &mut self.values, cluster, row.values());
         mark(&mut self.refused, cluster, is_refused);
+    }
+}
+
+// Whether members have the values of a row.
+#[tactic(auto, using(crate::proofs::UnchangedLemmas::same_next))]
+fn has_row(values: &[CtrlValue], members: &[u32], row: &ClusterRow) -> bool
+    requires known { All (λ c. c < length values.now) members.now }
+    requires long { length row.now ≡ length members.now }
+    ensures { result ≡ are_same_values (row_of values.now members.now) row.now }
+{
+    for (place, &member) in members.iter().enumerate() {
+        if !has_value(values, member, row, place) {
+            return false;
+        }
+    }
+    true
+}
+
+// Whether a member has its value of the row.
+fn has_value(values: &[CtrlValue], member: u32, row: &ClusterRow, place: usize) -> bool
+    requires known { member < length values.now }
+    requires within { place < length row.now }
+    ensures { result ≡ is_same (value_at values.now member) (value_at row.now place) }
+{
+    values[member as usize].is_same(&row.values()[place])
+}
+
+// Whether a cluster is among some where it is to be, and else isn't.
+fn is_mark(clusters: &[u32], cluster: u32, is_in: bool) -> bool
+    ensures { result ≡ cond is_in (list_any (nat_eq cluster) clusters.now) (not (list_any (nat_eq cluster) clusters.now)) }
+{
+    if is_in {
+        is_one_of(clusters, cluster)
+    } else {
+        !is_one_of(clusters, cluster)
     }
 }

@@ -9,8 +9,8 @@ ghost use Rattle.ctrl_forecast.specs.Touched.{touched_count};
 
 use crate::lists::{ClusterList, ValueRow};
 use crate::rising::named_clusters;
-use ctrl_calls::{ClusterRow, Driver, Work};
-use ctrl_clusters::{Moment, is_among, read_row, validated_row, write_row};
+use ctrl_calls::{ClusterRow, Driver, RowValues, Work};
+use ctrl_clusters::{Moment, copy_row, is_among, read_row, validated_row, write_row};
 use ctrl_types::{Errno, Pair};
 use std::alloc::{AllocError, Global};
 
@@ -69,7 +69,7 @@ pub(crate) fn overlay_named<D: Driver>(
     let mut after = Vec::from_slice(alloc, at.values)?;
     let mut refused = Vec::new(alloc);
     for &cluster in named {
-        let mut row = ClusterRow::zeros(at.plan.members(cluster).len());
+        let mut row = RowValues::zeros(at.plan.members(cluster).len());
         match touched_row(at, pairs, cluster, &mut row, work) {
             Ok(()) => write_row(at.plan, &mut after, cluster, &row),
             Err(_) => refused.push(cluster)?,
@@ -101,7 +101,14 @@ pub(crate) fn row_after<D: Driver>(
         read_row(at.values, members, row);
         return Ok(());
     }
-    touched_row(at, pairs, cluster, row, work)
+    let mut settled = RowValues::zeros(members.len());
+    match touched_row(at, pairs, cluster, &mut settled, work) {
+        Ok(()) => {
+            copy_row(&settled, row);
+            Ok(())
+        }
+        Err(errno) => Err(errno),
+    }
 }
 
 // The same, of a cluster with a member among the pairs.
@@ -109,7 +116,7 @@ fn touched_row<D: Driver>(
     at: &Moment<D>,
     pairs: &[Pair],
     cluster: u32,
-    row: &mut ClusterRow,
+    row: &mut RowValues,
     work: &mut Work,
 ) -> Result<(), Errno>
     requires cluster { cluster < length at.now.plan.now.clusters }

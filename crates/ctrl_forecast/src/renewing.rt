@@ -1,23 +1,73 @@
-//! Clusters that are renewed in frames that are kept, one cluster after another, each through the frames in their order.
+//! Clusters that are renewed in frames that are kept, one cluster after another, each through the frames in their order: up to the first that comes out as it was, or,
+//! where what the frames refuse may have changed, through all of them.
 
-ghost use Rattle.std.specs.Prelude.{◌≡◌, ◌<◌, ◌≤◌, ℕ, length, map, is_err};
-ghost use Rattle.std.specs.List.{All};
+ghost use Rattle.std.specs.Prelude.{◌≡◌, ◌≢◌, ◌<◌, ◌≤◌, ℕ, not, cond, length, map, is_err, nat_eq, slice_set};
+ghost use Rattle.std.specs.List.{All, list_any};
 ghost use Rattle.ctrl_handlers.specs.Plan.{members};
 ghost use Rattle.ctrl_clusters.specs.Rows.{row_of};
 ghost use Rattle.ctrl_clusters.specs.Overlay.{row_after};
 ghost use Rattle.ctrl_clusters.specs.Judging.{with_call, with_calls};
-ghost use Rattle.ctrl_forecast.specs.Asking.{asked_from, asks_row, renewing_count};
+ghost use Rattle.ctrl_forecast.specs.Asking.{asked_from, asked_up_to, asks_row, renewing_count, renewing_until_same};
 ghost use Rattle.ctrl_forecast.specs.Boards.{board_at};
-ghost use Rattle.ctrl_forecast.specs.Frames.{AreKeptFrames, AreReady, IsClusterRenewed, IsRightAt, board_seen, frame_at, queued_of, renewed_at, row_or, setting_at, values_before};
+ghost use Rattle.ctrl_forecast.specs.Frames.{AreKeptFrames, AreReady, AreReadyAt, IsAlikeIn, IsClusterRenewed, IsRightAt, base_at, board_seen, forecast_of, frame_at, queued_of, renewed_at, row_or, row_over, row_result, setting_at, values_before, with_or_without, with_row_result};
+ghost use Rattle.ctrl_forecast.specs.Unchanged.{is_same_outcome};
 
 use crate::frame::Frame;
 use crate::laying::row_after;
 use ctrl_calls::{ClusterRow, Driver, Work};
 use ctrl_clusters::{Moment, read_row};
+use ctrl_handlers::Plan;
 use ctrl_types::{CtrlValue, Pair};
 
-// Renews some clusters from a place on, where all else is right already. Then all is.
+// Renews some clusters from a place on, where all else is right already, and behind that place everything is. Then all is.
 pub(crate) fn renew_clusters<D: Driver>(
+    frames: &mut Vec<Frame>,
+    from: usize,
+    at: &Moment<D>,
+    clusters: &[u32],
+    work: &mut Work,
+)
+    requires clusters { All (λ k. k < length at.now.plan.now.clusters) clusters.now }
+    requires from { from ≤ length frames.old.items }
+    requires ready { AreReadyAt (setting_at D.verdict at.now) from clusters.now frames.old.items }
+    ensures frames { board_seen frames.new.items ≡ board_at D.verdict at.now (map queued_of frames.old.items) }
+    ensures counted { work.new.asked ≡ with_calls (renewing_until_same D.verdict at.now.plan.now at.now.ranges.now at.now.values.now at.now.grabs.now (map queued_of frames.old.items) (map forecast_of frames.old.items) from clusters.now) work.old.asked }
+    ensures told { work.new.told ≡ work.old.told }
+{
+    for &cluster in clusters {
+        renew_cluster(frames, from, at, cluster, work);
+    }
+}
+
+// Renews a cluster from a place on, where it is right but there. It ends at the first frame that comes out as it was, since the frames behind it stand over the same
+// values of the cluster.
+fn renew_cluster<D: Driver>(
+    frames: &mut Vec<Frame>,
+    from: usize,
+    at: &Moment<D>,
+    cluster: u32,
+    work: &mut Work,
+)
+    requires cluster { cluster < length at.now.plan.now.clusters }
+    requires from { from ≤ length frames.old.items }
+    requires frames { AreKeptFrames at.now.plan.now frames.old.items }
+    requires elsewhere { (i : ℕ) → i ≢ from → i < length frames.old.items → IsRightAt (setting_at D.verdict at.now) frames.old.items cluster i }
+    ensures renewed { IsClusterRenewed (setting_at D.verdict at.now) cluster (length frames.new.items) frames.old.items frames.new.items }
+    ensures apart { (j : ℕ) → j < length at.now.plan.now.clusters → j ≢ cluster → IsAlikeIn at.now.plan.now j frames.old.items frames.new.items }
+    ensures counted { work.new.asked ≡ with_calls (asked_up_to D.verdict at.now.plan.now at.now.ranges.now at.now.values.now at.now.grabs.now (map queued_of frames.old.items) (map forecast_of frames.old.items) from cluster) work.old.asked }
+    ensures told { work.new.told ≡ work.old.told }
+{
+    // one row for all frames, since every row of the cluster is as long
+    let mut row = ClusterRow::zeros(at.plan.members(cluster).len());
+    for place in from..frames.len() {
+        if !renew_at(frames, place, at, cluster, &mut row, work) {
+            return;
+        }
+    }
+}
+
+// Renews some clusters in all frames from a place on, where all else is right already. Then all is.
+pub(crate) fn rejudge_clusters<D: Driver>(
     frames: &mut Vec<Frame>,
     from: usize,
     at: &Moment<D>,
@@ -32,12 +82,12 @@ pub(crate) fn renew_clusters<D: Driver>(
     ensures told { work.new.told ≡ work.old.told }
 {
     for &cluster in clusters {
-        renew_cluster(frames, from, at, cluster, work);
+        rejudge_cluster(frames, from, at, cluster, work);
     }
 }
 
-// Renews a cluster from a place on, where it is right before that.
-fn renew_cluster<D: Driver>(
+// Renews a cluster in all frames from a place on, where it is right before that.
+fn rejudge_cluster<D: Driver>(
     frames: &mut Vec<Frame>,
     from: usize,
     at: &Moment<D>,
@@ -55,11 +105,12 @@ fn renew_cluster<D: Driver>(
     // one row for all frames, since every row of the cluster is as long
     let mut row = ClusterRow::zeros(at.plan.members(cluster).len());
     for place in from..frames.len() {
-        renew_at(frames, place, at, cluster, &mut row, work);
+        let _ = renew_at(frames, place, at, cluster, &mut row, work);
     }
 }
 
-// Renews a cluster of the frame at a place, over the values before it as they are; its row is made where another of the cluster stands.
+// Renews a cluster of the frame at a place, over the values before it as they are; its row is made where another of the cluster stands. It answers whether the frame had
+// another row, or was refused where it isn't, or not where it is.
 fn renew_at<D: Driver>(
     frames: &mut Vec<Frame>,
     place: usize,
@@ -67,13 +118,16 @@ fn renew_at<D: Driver>(
     cluster: u32,
     row: &mut ClusterRow,
     work: &mut Work,
-)
+) -> bool
     requires cluster { cluster < length at.now.plan.now.clusters }
     requires frames { AreKeptFrames at.now.plan.now frames.old.items }
     requires place { place < length frames.old.items }
     requires row { length row.old ≡ length (members at.now.plan.now cluster) }
     ensures frames { frames.new.items ≡ renewed_at (setting_at D.verdict at.now) cluster place frames.old.items }
     ensures counted { work.new ≡ record work.old { asked = with_call (asks_row at.now.plan.now at.now.ranges.now (values_before at.now.values.now frames.old.items place) at.now.grabs.now (frame_at frames.old.items place).asked cluster) work.old.asked } }
+    ensures changed { result ≡ not (is_same_outcome (row_of (frame_at frames.old.items place).values (members at.now.plan.now cluster)) (list_any (nat_eq cluster) (frame_at frames.old.items place).refused)
+        (row_over (setting_at D.verdict at.now) (base_at (setting_at D.verdict at.now) frames.old.items place) (frame_at frames.old.items place).asked cluster)
+        (is_err (row_result (setting_at D.verdict at.now) (base_at (setting_at D.verdict at.now) frames.old.items place) (frame_at frames.old.items place).asked cluster))) }
     ensures long { length row.new ≡ length (members at.now.plan.now cluster) }
 {
     let base = values_before(frames.as_slice(), place, at.values);
@@ -85,8 +139,28 @@ fn renew_at<D: Driver>(
         grabs: at.grabs,
     };
     let is_refused = lay_row(&over, asked, cluster, row, work);
+    write_at(frames, place, at.plan, cluster, row, is_refused)
+}
+
+// Gives a cluster of the frame at a place a row, and has it refused or not, where it isn't so; answers whether it wasn't.
+fn write_at<D: Driver>(
+    frames: &mut Vec<Frame>,
+    place: usize,
+    plan: &Plan<D>,
+    cluster: u32,
+    row: &ClusterRow,
+    is_refused: bool,
+) -> bool
+    requires place { place < length frames.old.items }
+    requires values { length (frame_at frames.old.items place).values ≡ length plan.now.controls }
+    requires cluster { cluster < length plan.now.clusters }
+    requires row { length row.now ≡ length (members plan.now cluster) }
+    requires room { length (with_or_without cluster is_refused (frame_at frames.old.items place).refused) ≤ length (frame_at frames.old.items place).named }
+    ensures changed { result ≡ not (is_same_outcome (row_of (frame_at frames.old.items place).values (members plan.now cluster)) (list_any (nat_eq cluster) (frame_at frames.old.items place).refused) row.now is_refused) }
+    ensures frames { frames.new.items ≡ slice_set frames.old.items place (cond result (with_row_result plan.now cluster row.now is_refused (frame_at frames.old.items place)) (frame_at frames.old.items place)) }
+{
     let frame = &mut frames[place];
-    frame.set_row_result(at.plan, cluster, row, is_refused);
+    frame.replace_row_result(plan, cluster, row, is_refused)
 }
 
 // The values before the frame at a place.

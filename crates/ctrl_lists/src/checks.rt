@@ -64,7 +64,7 @@ pub(crate) fn first_unreadable<D: Driver>(plan: &Plan<D>, pairs: &[Pair]) -> Opt
     ensures { result ≡ at_first (reading_check plan.now) pairs.now }
 {
     for (place, pair) in pairs.iter().enumerate() {
-        if let Some(check) = reading_check(plan, *pair) {
+        if let Some(check) = reading_check(plan, pair) {
             return Some(Refusal::at(check, place as u32));
         }
     }
@@ -72,9 +72,9 @@ pub(crate) fn first_unreadable<D: Driver>(plan: &Plan<D>, pairs: &[Pair]) -> Opt
 }
 
 // What keeps a control from being read.
-fn reading_check<D: Driver>(plan: &Plan<D>, pair: Pair) -> Option<Check>
-    requires { pair.control < length plan.now.controls }
-    ensures { result ≡ reading_check plan.now pair }
+fn reading_check<D: Driver>(plan: &Plan<D>, pair: &Pair) -> Option<Check>
+    requires { pair.now.control < length plan.now.controls }
+    ensures { result ≡ reading_check plan.now pair.now }
 {
     if plan
         .control(pair.control)
@@ -98,7 +98,7 @@ pub(crate) fn first_unwritable<D: Driver>(
     ensures { result ≡ at_first (writing_check view.now.plan view.now.parts is_set) pairs.now }
 {
     for (place, pair) in pairs.iter().enumerate() {
-        if let Some(check) = writing_check(view, is_set, *pair) {
+        if let Some(check) = writing_check(view, is_set, pair) {
             return Some(Refusal::at(check, place as u32));
         }
     }
@@ -106,9 +106,9 @@ pub(crate) fn first_unwritable<D: Driver>(
 }
 
 // What keeps a control from being written.
-fn writing_check<D: Driver>(view: &View<D>, is_set: bool, pair: Pair) -> Option<Check>
-    requires known { pair.control < length view.now.plan.controls }
-    ensures { result ≡ writing_check view.now.plan view.now.parts is_set pair }
+fn writing_check<D: Driver>(view: &View<D>, is_set: bool, pair: &Pair) -> Option<Check>
+    requires known { pair.now.control < length view.now.plan.controls }
+    ensures { result ≡ writing_check view.now.plan view.now.parts is_set pair.now }
 {
     let flags = view.at.plan.control(pair.control).flags();
     if flags.contains(Flags::READ_ONLY) {

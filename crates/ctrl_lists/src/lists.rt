@@ -124,15 +124,15 @@ fn entries_read<D: Driver>(
 {
     let mut answers = Vec::with_capacity(alloc, pairs.len())?;
     for pair in pairs {
-        answers.push_reserved(entry_read(view, *pair));
+        answers.push_reserved(entry_read(view, pair));
     }
     Ok(ControlList::from_vec(answers))
 }
 
 // A control, as it is read.
-fn entry_read<D: Driver>(view: &View<D>, pair: Pair) -> ExtControl
-    requires known { pair.control < length view.now.plan.controls }
-    ensures { result ≡ entry_read view.now.plan view.now.parts pair }
+fn entry_read<D: Driver>(view: &View<D>, pair: &Pair) -> ExtControl
+    requires known { pair.now.control < length view.now.plan.controls }
+    ensures { result ≡ entry_read view.now.plan view.now.parts pair.now }
 {
     let value = value_read(view.at.ranges, view.at.values, view.which, pair.control);
     ExtControl {

@@ -33,7 +33,7 @@ pub(crate) fn pairs_of<D: Driver>(
         return Err(Refusal::of_memory());
     };
     for (place, entry) in list.iter().enumerate() {
-        match pair_of(view, *entry) {
+        match pair_of(view, entry) {
             Some(pair) => pairs.push_reserved(pair),
             None => return Err(Refusal::at(Check::EntryNamesNone, place as u32)),
         }
@@ -42,8 +42,8 @@ pub(crate) fn pairs_of<D: Driver>(
 }
 
 // An entry's control with the value as it was given.
-fn pair_of<D: Driver>(view: &View<D>, entry: ExtControl) -> Option<Pair>
-    ensures pair { result ≡ pair_of view.now.plan view.now.parts.handler view.now.parts.which entry }
+fn pair_of<D: Driver>(view: &View<D>, entry: &ExtControl) -> Option<Pair>
+    ensures pair { result ≡ pair_of view.now.plan view.now.parts.handler view.now.parts.which entry.now }
     ensures known { IfSome result (λ p. p.control < length view.now.plan.controls) }
 {
     let control = named(view, entry.id)?;

@@ -13,7 +13,7 @@ ghost use Rattle.ctrl_lists.specs.declared.limits.TheConstants.{MAX_ENTRIES};
 use crate::control_list::ControlList;
 use crate::refusal::Refusal;
 use crate::view::View;
-use ctrl_calls::{ClusterRow, Driver, Work};
+use ctrl_calls::{Driver, RowValues, Work};
 use ctrl_clusters::{Moment, NewRow, NewRows, member_value, validated_row};
 use ctrl_types::{Check, Errno, ExtControl, Pair};
 use std::alloc::{AllocError, Global};
@@ -82,7 +82,7 @@ fn judge_next<D: Driver>(
     if rows.among(cluster).is_some() {
         return Ok(());
     }
-    let mut row = ClusterRow::zeros(at.plan.members(cluster).len());
+    let mut row = RowValues::zeros(at.plan.members(cluster).len());
     match validated_row(at, cluster, laid, &mut row, work) {
         Ok(()) => {
             rows.push_reserved(NewRow { cluster, row });

@@ -2,7 +2,7 @@ ghost use Rattle.std.specs.Prelude.{◌≡◌, [], option_map};
 ghost use Rattle.ctrl_clusters.specs.NewRows.{row_among};
 
 use crate::control_list::ControlList;
-use ctrl_calls::ClusterRow;
+use ctrl_calls::RowValues;
 use ctrl_clusters::{NewRow, NewRows};
 use ctrl_types::{ExtControl, Pair};
 use std::alloc::Global;
@@ -68,7 +68,7 @@ impl Touched {
     /// The row that a cluster gets; none where the list doesn't touch it.
     ///
     /// - `cluster`: the cluster's number, any `u32`; one that isn't there isn't touched.
-    pub fn row_of(&self, cluster: u32) -> Option<&ClusterRow>
+    pub fn row_of(&self, cluster: u32) -> Option<&RowValues>
         ensures { option_map (λ row. row.now) result ≡ row_among self.now.rows cluster }
     {
         self.rows.among(cluster)

@@ -1,2 +1,3 @@
 pub mod RaiseLemmas
 pub mod RangeLemmas
+pub mod WithinLemmas

@@ -31,10 +31,10 @@ use Rattle.ctrl_raises.proofs.RaiseLemmas.{raised_next}
 same_number : (z : ℤ) → int_eq z z ≡ true
 same_number z = (Decides-int_eq z z).1 refl
 
-same_flags : (f : Flags) → differ f f ≡ false
+pub same_flags : (f : Flags) → differ f f ≡ false
 same_flags f = rw (eq-eqb f.0 f.0 refl) refl
 
-same_range : (c : Control) → range_differs c c ≡ false
+pub same_range : (c : Control) → range_differs c c ≡ false
 same_range c = rw (same_number c.minimum, same_number c.maximum, eq-eqb c.step c.step refl, same_number c.default_value) refl
 
 -- a value that is put at one place leaves those at the others
@@ -108,13 +108,19 @@ still change told from fh a (suc n) old seen nothing before =
     raised_next change told from fh (a + n) old seen seen rest (raised_not (change (a + n)) (told (a + n)) (from (a + n)) fh (a + n) seen (nothing (a + n) (omega arith) (omega arith)))
     ∙ ap (λ (k : ℕ). raised_all change told from fh (range_with_len 0 k) old) all
 
--- The events that are raised of the controls below a number are those of the controls below a further one, where no member of the cluster lies between.
+-- The events that are raised of the controls below a number are those of the controls below a further one, where nothing changes of those between.
+pub raised_past : (change : ℕ → Changes) (told : ℕ → Payload) (from : ℕ → Option ℕ) (fh a b : ℕ) (old seen : FileEvents) → a ≤ b → ((c : ℕ) → a ≤ c → c < b → is_nothing (change c) ≡ true)
+    → seen ≡ raised_all change told from fh (range_with_len 0 a) old → seen ≡ raised_all change told from fh (range_with_len 0 b) old
+raised_past change told from fh a b old seen order nothing before =
+    let all : a + (b - a) ≡ b = omega (arith, order) in
+    still change told from fh a (b - a) old seen (λ c no_less below. nothing c no_less (omega (arith, below, order))) before
+    ∙ ap (λ (n : ℕ). raised_all change told from fh (range_with_len 0 n) old) all
+
+-- So it is where no member of the cluster lies between.
 pub raised_further : (plan : PlanData) (after : ControlsData) (c k : ℕ) (old_range : Control) (value : CtrlValue) (a b fh : ℕ) (old seen : FileEvents) → IsPlan plan → cluster_of plan c ≡ Some k → a ≤ b
     → ((d : ℕ) → a ≤ d → d < b → list_any (nat_eq d) (members plan k) ≡ false)
     → seen ≡ raised_all (changed_between plan (before_range after c old_range value) after []) (payload_at plan after) (λ d. None) fh (range_with_len 0 a) old
     → seen ≡ raised_all (changed_between plan (before_range after c old_range value) after []) (payload_at plan after) (λ d. None) fh (range_with_len 0 b) old
 raised_further plan after c k old_range value a b fh old seen is own order none before =
-    let all : a + (b - a) ≡ b = omega (arith, order) in
-    still (changed_between plan (before_range after c old_range value) after []) (payload_at plan after) (λ d. None) fh a (b - a) old seen
-    (λ d no_less below. nothing_outside plan after c d k old_range value is own (none d no_less (omega (arith, below, order)))) before
-    ∙ ap (λ (n : ℕ). raised_all (changed_between plan (before_range after c old_range value) after []) (payload_at plan after) (λ d. None) fh (range_with_len 0 n) old) all
+    raised_past (changed_between plan (before_range after c old_range value) after []) (payload_at plan after) (λ d. None) fh a b old seen order
+    (λ d no_less below. nothing_outside plan after c d k old_range value is own (none d no_less below)) before

@@ -1,2 +1,2 @@
 pub mod Raises
-pub mod Rising
+pub mod Within

@@ -47,8 +47,8 @@ pub fn raise_between<D: Driver>(
     }
 }
 
-// Raises what changes of one control.
-fn raise_one<D: Driver>(
+/// Raises what changes of one control.
+pub(crate) fn raise_one<D: Driver>(
     change: &Change<D>,
     pairs: &[Pair],
     from: Option<FhId>,

@@ -10,13 +10,12 @@ ghost use Rattle.ctrl_clusters.specs.PresentFlags.{flags_under};
 ghost use Rattle.ctrl_clusters.specs.Ranges.{modified};
 ghost use Rattle.ctrl_clusters.specs.Rows.{value_at};
 ghost use Rattle.ctrl_raises.specs.Raises.{before_range, changed_between, differ, payload_at, raised_all, raised_one, range_differs};
-ghost use Rattle.ctrl_raises.specs.Rising.{IsNext};
 
 use crate::payloads::payload_at;
 use crate::raising::{changes_of, range_differs};
 use bitflags::Flags as FlagSet;
 use ctrl_calls::Driver;
-use ctrl_clusters::{Moment, Ranges, flags_under, flags_with};
+use ctrl_clusters::{Moment, Ranges, flags_under, flags_with, next_number};
 use ctrl_events::Events;
 use ctrl_settle::Ctrl;
 use ctrl_types::{Changes, CtrlValue};
@@ -52,25 +51,11 @@ pub fn raise_range<D: Driver>(
     }
     let end = after.plan.control_count();
     let members = after.plan.members(after.plan.cluster_of(control));
-    let mut next = next_member(members, 0, end);
+    let mut next = next_number(members, 0, end);
     while next < end {
         raise_member(after, control, old, old_value, next, events);
-        next = next_member(members, next + 1, end);
+        next = next_number(members, next + 1, end);
     }
-}
-
-// The least member from a number on, or the end, where there is none.
-fn next_member(members: &[u32], from: u32, end: u32) -> u32
-    requires { from ≤ end }
-    ensures { IsNext members.now from end result }
-{
-    let mut next = end;
-    for &member in members {
-        if from <= member && member < next {
-            next = member;
-        }
-    }
-    next
 }
 
 // Raises what changes of a member of the cluster of the control whose range was changed.

@@ -15,3 +15,4 @@ pub mod HandleLemmas
 pub mod RangingLemmas
 pub mod RunLemmas
 pub mod AuditLemmas
+pub mod WithinLemmas

@@ -12,7 +12,7 @@ use Rattle.ctrl_clusters.specs.NewRows.{clusters_of, row_among, value_among, wri
 use Rattle.ctrl_clusters.specs.declared.new_row.NewRow.{NewRow}
 use Rattle.ctrl_clusters.proofs.NewRowLemmas.{has_row, length_written, written_at}
 use Rattle.ctrl_clusters.proofs.OverlayLemmas.{or_true}
-use Rattle.ctrl_forecast.specs.Boards.{is_in_one_of}
+use Rattle.ctrl_clusters.specs.ControlsData.{is_in_one_of}
 
 -- a cluster without a row gives nothing
 nothing_among : (plan : PlanData) (rows : List NewRow) (o : Option ℕ) (c : ℕ) → is_in_one_of (clusters_of rows) o ≡ false → value_among plan rows o c ≡ None

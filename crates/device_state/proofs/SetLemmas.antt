@@ -84,7 +84,7 @@ pub unchanged : (v : CtrlValue) (y a : Bool) → a ≡ false → (not (is_same v
 unchanged v y a h = rw ((Decides-same v v).1 refl, h) (and_false y)
 
 -- the present row changes nothing, where no pair is one of a member
-changes_same : (plan : PlanData) (values : Values) (pairs : List Pair) (cs : List ℕ) → is_touched pairs cs ≡ false → row_changes plan values pairs cs (row_of values cs) ≡ false
+pub changes_same : (plan : PlanData) (values : Values) (pairs : List Pair) (cs : List ℕ) → is_touched pairs cs ≡ false → row_changes plan values pairs cs (row_of values cs) ≡ false
 changes_same plan values pairs [] free = refl
 changes_same plan values pairs (c ∷ cs) free =
     rw (unchanged (value_at values c) (contains (control plan c).flags EXECUTE_ON_WRITE) (is_among pairs c) (or_false (is_among pairs c) (is_touched pairs cs) free))

@@ -22,6 +22,7 @@ ghost use Rattle.device_state.specs.Device.{Handles, cluster_asks, with_step};
 
 mod begin;
 mod checks;
+mod entering;
 mod events;
 mod forecasts;
 mod lists;
@@ -42,7 +43,7 @@ use history_audit::Scratch;
 use indexmap::IndexMap;
 use std::alloc::{AllocError, Global};
 use std::marker::Model;
-use step_effects::{copied_grabs, raise_step};
+use step_effects::raise_touched;
 
 /// The controls of one device (Linux driver API, "V4L2 Controls"), and the history of the steps that it accepted. Contracts
 /// see it as its plan, those steps, the words that its clusters were told last, and the counts of the last call: its open file
@@ -333,48 +334,19 @@ impl<D: Driver> Device<D> {
                 step,
                 default_value,
             } => self.modify_range(seat, *control, *min, *max, *step, *default_value),
-            Ask::Alloc => {
-                let check = self.alloc_refusal();
-                let request = RequestId(self.steps.len() as u32);
-                self.enter(seat, ask, check, Step::Alloc, Reply::Request(request))
-            }
+            Ask::Alloc => self.enter_alloc(seat, ask),
             Ask::AddBuffer { request, buffer } => {
-                let (request, buffer) = (*request, *buffer);
-                let check = self.buffer_refusal(request, buffer);
-                let step = Step::Buffer { request, buffer };
-                self.enter(seat, ask, check, step, Reply::Done)
+                self.enter_buffer(seat, ask, *request, *buffer)
             }
-            Ask::Queue { request } => {
-                let request = *request;
-                let check = self.queue_refusal(request);
-                self.enter(seat, ask, check, Step::Queue { request }, Reply::Done)
-            }
+            Ask::Queue { request } => self.enter_queue(seat, ask, *request),
             Ask::Begin => self.begin(seat),
             Ask::Complete => self.complete(seat),
-            Ask::Cancel { request } => {
-                let request = *request;
-                let check = self.cancel_refusal(request);
-                self.enter(seat, ask, check, Step::Cancel { request }, Reply::Done)
-            }
-            Ask::StreamOff => self.enter(seat, ask, None, Step::StreamOff, Reply::Done),
-            Ask::Reinit { request } => {
-                let request = *request;
-                let check = self.clear_refusal(request);
-                self.enter(seat, ask, check, Step::Reinit { request }, Reply::Done)
-            }
-            Ask::Free { request } => {
-                let request = *request;
-                let check = self.clear_refusal(request);
-                self.enter(seat, ask, check, Step::Free { request }, Reply::Done)
-            }
+            Ask::Cancel { request } => self.enter_cancel(seat, ask, *request),
+            Ask::StreamOff => self.enter_stream_off(seat, ask),
+            Ask::Reinit { request } => self.enter_reinit(seat, ask, *request),
+            Ask::Free { request } => self.enter_free(seat, ask, *request),
             Ask::Subscribe { fh, id, flags } => self.subscribe(seat, *fh, *id, *flags),
-            Ask::Unsubscribe { fh, id } => {
-                let (fh, id) = (*fh, *id);
-                let check = self.through(fh);
-                let control = self.shown(fh, id);
-                let step = Step::Unsubscribe { fh, control };
-                self.enter(seat, ask, check, step, Reply::Done)
-            }
+            Ask::Unsubscribe { fh, id } => self.enter_unsubscribe(seat, ask, *fh, *id),
             Ask::Take { fh } => self.take(seat, *fh),
             Ask::StateOf { request } => self.read_state(*request),
             Ask::Forecast { place } => self.forecast(*place),
@@ -395,6 +367,7 @@ impl<D: Driver> Device<D> {
     ///
     /// Refused, without an index, by check 12 (EBADF, 9) or 15 (EINVAL, 22) of docs/RULES.md. Answered or refused, nothing is changed but
     /// the counts of `work`.
+    #[inline(never)]
     pub fn query(&mut self, fh: FhId, id: CtrlId) -> Result<Reply, Fault>
         ensures { (seat : ℕ) → Handles D.verdict self.old self.new seat (asks.Query fh id) result }
     {
@@ -409,6 +382,7 @@ impl<D: Driver> Device<D> {
     ///
     /// Refused, without an index, by check 14 of docs/RULES.md (EINVAL, 22). Answered or refused, nothing is changed but the counts of
     /// `work`.
+    #[inline(never)]
     pub fn told(&mut self, cluster: u32) -> Result<Reply, Fault>
         ensures { (seat : ℕ) → Handles D.verdict self.old self.new seat (asks.Told cluster) result }
     {
@@ -417,6 +391,7 @@ impl<D: Driver> Device<D> {
     }
 
     // Answers an ask for a request's state.
+    #[inline(never)]
     fn read_state(&mut self, request: RequestId) -> Result<Reply, Fault>
         ensures { (seat : ℕ) → Handles D.verdict self.old self.new seat (asks.StateOf request) result }
     {
@@ -438,6 +413,7 @@ impl<D: Driver> Device<D> {
     }
 
     // Answers an ask for the next id.
+    #[inline(never)]
     fn next(&mut self, fh: FhId, id: CtrlId) -> Result<Reply, Fault>
         ensures { (seat : ℕ) → Handles D.verdict self.old self.new seat (asks.NextId fh id) result }
     {
@@ -449,6 +425,7 @@ impl<D: Driver> Device<D> {
     }
 
     // Answers an ask for an item of a menu.
+    #[inline(never)]
     fn item(&mut self, fh: FhId, id: CtrlId, index: u32) -> Result<Reply, Fault>
         ensures { (seat : ℕ) → Handles D.verdict self.old self.new seat (asks.MenuItem fh id index) result }
     {
@@ -456,6 +433,7 @@ impl<D: Driver> Device<D> {
         self.menu_item(fh, id, index)
     }
 
+    #[inline(never)]
     fn open(&mut self, seat: u32, handler: u32) -> Result<Reply, Fault>
         ensures { Handles D.verdict self.old self.new seat (asks.OpenFh handler) result }
     {
@@ -498,6 +476,7 @@ impl<D: Driver> Device<D> {
         Ok(FhId(number))
     }
 
+    #[inline(never)]
     fn close(&mut self, seat: u32, fh: FhId) -> Result<Reply, Fault>
         ensures { Handles D.verdict self.old self.new seat (asks.CloseFh fh) result }
     {
@@ -537,6 +516,7 @@ impl<D: Driver> Device<D> {
         Ok(())
     }
 
+    #[inline(never)]
     fn grab(&mut self, seat: u32, control: u32, on: bool) -> Result<Reply, Fault>
         ensures { Handles D.verdict self.old self.new seat (asks.Grab control on) result }
     {
@@ -568,15 +548,33 @@ impl<D: Driver> Device<D> {
         ensures told { OnOk result (self.new.work.told ≡ self.old.work.told) }
         ensures err { OnErr result (self.new ≡ self.old) }
     {
+        let grabs = self.controls.lend_grabs(self.alloc)?;
+        self.write_grab(seat, control, on, grabs)
+    }
+
+    // The same, with the grabs once more.
+    fn write_grab(
+        &mut self,
+        seat: u32,
+        control: u32,
+        on: bool,
+        mut grabs: Vec<bool>,
+    ) -> Result<(), AllocError>
+        requires accepted { step_check (past self.old.steps) (grab_check self.old.plan control) ≡ None }
+        requires copied { grabs.items ≡ grabbed self.old.plan (past self.old.steps) }
+        ensures ok { OnOk result (self.new ≡ with_step (record self.old { work = self.new.work }) seat (steps.Grab control on)) }
+        ensures asked { OnOk result (self.new.work.asked ≤ self.old.work.asked + cluster_asks self.old.plan (past self.old.steps) (cluster_of self.old.plan control)) }
+        ensures told { OnOk result (self.new.work.told ≡ self.old.work.told) }
+        ensures err { OnErr result (self.new ≡ self.old) }
+    {
         self.steps.reserve(1)?;
-        let mut grabs = copied_grabs(self.alloc, self.controls.grabs())?;
         grabs[control as usize] = on;
         let change = self.controls.to_grabs(&self.plan, grabs.as_slice());
         let cluster = self.plan.cluster_of(control);
         self.board
-            .renew(&change.after(), &[cluster], &mut self.work);
-        raise_step(&change, &[], None, &mut self.events);
-        self.controls.grab(control, on);
+            .rejudge(&change.after(), &[cluster], &mut self.work);
+        raise_touched(&change, &[], None, &[cluster], &mut self.events);
+        self.controls.replace_grab(grabs, control, on);
         self.steps.push_reserved(Entry {
             seat,
             step: Step::Grab { control, on },

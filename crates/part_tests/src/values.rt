@@ -2,7 +2,7 @@
 
 ghost use Rattle.std.specs.Prelude.{◌≡◌, length, IfOk};
 
-use ctrl_calls::{ClusterRow, MAX_MEMBERS};
+use ctrl_calls::{MAX_MEMBERS, RowValues};
 use ctrl_types::{CtrlValue, Pair};
 use std::alloc::{AllocError, Global};
 
@@ -37,12 +37,17 @@ pub(crate) fn are_pairs(pairs: &[Pair], asked: &[(u32, i64)]) -> bool {
 }
 
 /// The row of these numbers, where there are at most eight.
-pub(crate) fn row_of(numbers: &[i64]) -> Option<ClusterRow> {
+pub(crate) fn row_of(numbers: &[i64]) -> Option<RowValues> {
     let mut cells = [CtrlValue::Number(0); MAX_MEMBERS];
     for (cell, number) in cells.iter_mut().zip(numbers) {
         *cell = CtrlValue::Number(*number);
     }
-    ClusterRow::from_slice(cells.get(..numbers.len())?)
+    RowValues::from_slice(cells.get(..numbers.len())?)
+}
+
+/// Whether a row has these values.
+pub(crate) fn is_row(row: &RowValues, numbers: &[i64]) -> bool {
+    are_numbers(row.to_cluster_row().values(), numbers)
 }
 
 /// Pairs of controls and these numbers.

@@ -3,3 +3,4 @@ pub mod Commands
 pub mod Lexemes
 pub mod Names
 pub mod Dividing
+pub mod Walking

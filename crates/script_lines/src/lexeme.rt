@@ -105,16 +105,3 @@ pub fn control_id(known: &ControlWords, word: &[u8]) -> Option<CtrlId>
         None => hexadecimal_u32(word).map(CtrlId),
     }
 }
-
-/// The first of some words that is this one, by its place; none where it isn't among them.
-pub fn place_of_word(words: &[&[u8]], word: &[u8]) -> Option<usize>
-    ensures { result ≡ position (λ w. bytes_eq word.now w.now) words.now }
-{
-    words.iter().position(|one| is_same(*one, word))
-}
-
-fn is_same(one: &[u8], word: &[u8]) -> bool
-    ensures { result ≡ bytes_eq word.now one.now }
-{
-    word == one
-}

@@ -1,16 +1,17 @@
-ghost use Rattle.std.specs.Prelude.{◌≡◌, ◌+◌, ◌<◌, ◌≤◌, ◌^◌, ◌∷◌, ◌==◌, length, map, position, vec_len, IfOk, IfSome};
+ghost use Rattle.std.specs.Prelude.{◌≡◌, ◌+◌, ◌<◌, ◌≤◌, ◌^◌, [], ◌∷◌, ◌==◌, length, map, position, vec_len, true, Some, IfOk, IfSome};
+ghost use Rattle.std.specs.Option.{option_map};
 ghost use Rattle.script_lines.specs.Commands.{IsRead, words as words_in, line_of, command_of, verb_of, open_of, close_of, grab_of, range_of, on_or_off as on_or_off_of, handle_and_control as handle_and_control_of, query_of, next_of, menu_of, replied_with, buffer_of, request_of, on_request, row_of, bare_of, subscribe_of, sub_flag as sub_flag_of, sub_flags as sub_flags_of, unsubscribe_of, take_of, list_command_of, which_of, fixed_which_of, entry_of, entry_at, list_of};
 ghost use Rattle.script_lines.specs.Dividing.{divides as divides_of};
+ghost use Rattle.script_lines.specs.Walking.{head_of, is_short};
 ghost use Rattle.script_lines.specs.declared.command.Command.TheVariants as commands;
 
 use crate::command::{Command, WhichWord};
 use crate::control_words::ControlWords;
 use crate::entry_list::EntryList;
 use crate::fault::LineFault;
-use crate::lexeme::{
-    control_id, decimal_i64, decimal_u32, decimal_u64, hexadecimal_u32, place_of_word, value,
-};
+use crate::lexeme::{control_id, decimal_i64, decimal_u32, decimal_u64, hexadecimal_u32, value};
 use crate::name::Name;
+use crate::walk::{first_word, only_word, word_count};
 use bitflags::Flags as FlagSet;
 use ctrl_types::{CtrlId, CtrlValue, ExtControl, SubFlags};
 use std::alloc::{AllocError, Global};
@@ -29,12 +30,9 @@ pub fn read_line(
     requires { length line.now + 1 < 2 ^ 32 }
     ensures { IsRead result (line_of known.now (words_in line.now)) }
 {
-    let Ok(words) = words_of(alloc, line) else {
-        return Err(LineFault::Memory);
-    };
-    match words.as_slice() {
-        [] => Ok(None),
-        [verb, operands @ ..] => read_words(alloc, known, *verb, operands),
+    match first_word(line) {
+        Some((verb, operands)) => read_words(alloc, known, verb, operands),
+        None => Ok(None),
     }
 }
 
@@ -53,18 +51,15 @@ fn read_words(
     alloc: Global,
     known: &ControlWords,
     verb: &[u8],
-    operands: &[&[u8]],
+    operands: &[u8],
 ) -> Result<Option<Command>, LineFault>
     requires { length operands.now < 2 ^ 32 }
-    ensures { IsRead result (line_of known.now (verb.now ∷ map (λ w. w.now) operands.now)) }
+    ensures { IsRead result (line_of known.now (verb.now ∷ words_in operands.now)) }
 {
     if let [b'#', ..] = verb {
         return Ok(None);
     }
-    match read_command(alloc, known, verb, operands) {
-        Ok(command) => Ok(Some(command)),
-        Err(fault) => Err(fault),
-    }
+    read_command(alloc, known, verb, operands)
 }
 
 // What stands between the spaces of a line.
@@ -114,7 +109,7 @@ enum RequestVerb {
     State,
 }
 
-/// The first words of the commands (docs/SCRIPTS.md), in the same order as `VERBS`.
+/// The first words of the commands (docs/SCRIPTS.md).
 pub const VERB_WORDS: [&[u8]; 26] = [
     b"open",
     b"close",
@@ -144,74 +139,120 @@ pub const VERB_WORDS: [&[u8]; 26] = [
     b"audit",
 ];
 
-const VERBS: [Verb; 26] = [
-    Verb::Open,
-    Verb::Close,
-    Verb::Get,
-    Verb::Set,
-    Verb::Try,
-    Verb::Grab,
-    Verb::Range,
-    Verb::Query,
-    Verb::Next,
-    Verb::Menu,
-    Verb::Told,
-    Verb::OfRequest(RequestVerb::Alloc),
-    Verb::Buffer,
-    Verb::OfRequest(RequestVerb::Queue),
-    Verb::OfRequest(RequestVerb::Cancel),
-    Verb::OfRequest(RequestVerb::Reinit),
-    Verb::OfRequest(RequestVerb::Free),
-    Verb::OfRequest(RequestVerb::State),
-    Verb::Row,
-    Verb::Begin,
-    Verb::Complete,
-    Verb::Off,
-    Verb::Subscribe,
-    Verb::Unsubscribe,
-    Verb::Take,
-    Verb::Audit,
-];
-
 fn read_verb(word: &[u8]) -> Option<Verb>
     ensures { result ≡ verb_of word.now }
 {
-    let place = place_of_word(&VERB_WORDS, word)?;
-    VERBS.get(place).copied()
+    match word {
+        b"set" => Some(Verb::Set),
+        b"get" => Some(Verb::Get),
+        b"take" => Some(Verb::Take),
+        b"try" => Some(Verb::Try),
+        b"queue" => Some(Verb::OfRequest(RequestVerb::Queue)),
+        b"buffer" => Some(Verb::Buffer),
+        b"reinit" => Some(Verb::OfRequest(RequestVerb::Reinit)),
+        b"begin" => Some(Verb::Begin),
+        b"complete" => Some(Verb::Complete),
+        b"row" => Some(Verb::Row),
+        b"grab" => Some(Verb::Grab),
+        b"range" => Some(Verb::Range),
+        b"cancel" => Some(Verb::OfRequest(RequestVerb::Cancel)),
+        b"query" => Some(Verb::Query),
+        b"next" => Some(Verb::Next),
+        b"menu" => Some(Verb::Menu),
+        b"told" => Some(Verb::Told),
+        b"state" => Some(Verb::OfRequest(RequestVerb::State)),
+        b"alloc" => Some(Verb::OfRequest(RequestVerb::Alloc)),
+        b"free" => Some(Verb::OfRequest(RequestVerb::Free)),
+        b"sub" => Some(Verb::Subscribe),
+        b"unsub" => Some(Verb::Unsubscribe),
+        b"open" => Some(Verb::Open),
+        b"close" => Some(Verb::Close),
+        b"off" => Some(Verb::Off),
+        b"audit" => Some(Verb::Audit),
+        _ => None,
+    }
 }
 
 fn read_command(
     alloc: Global,
     known: &ControlWords,
     verb: &[u8],
-    operands: &[&[u8]],
-) -> Result<Command, LineFault>
+    operands: &[u8],
+) -> Result<Option<Command>, LineFault>
     requires { length operands.now < 2 ^ 32 }
-    ensures { IsRead result (command_of known.now (verb_of verb.now) (map (λ w. w.now) operands.now)) }
+    ensures { IsRead result (option_map (λ command. Some command) (command_of known.now (verb_of verb.now) (words_in operands.now))) }
 {
     match read_verb(verb) {
-        Some(Verb::Open) => read_open(operands),
-        Some(Verb::Close) => read_close(operands),
-        Some(Verb::Get) => read_get(alloc, known, operands),
         Some(Verb::Set) => read_set(alloc, known, operands),
+        Some(Verb::Get) => read_get(alloc, known, operands),
         Some(Verb::Try) => read_try(alloc, known, operands),
-        Some(Verb::Grab) => read_grab(known, operands),
-        Some(Verb::Range) => read_range(known, operands),
-        Some(Verb::Query) => read_query(known, operands),
-        Some(Verb::Next) => read_next(operands),
-        Some(Verb::Menu) => read_menu(known, operands),
-        Some(Verb::Told) => read_told(operands),
-        Some(Verb::Buffer) => read_buffer(operands),
-        Some(Verb::OfRequest(verb)) => read_of_request(verb, operands),
-        Some(Verb::Row) => read_row(operands),
-        Some(Verb::Begin) => read_bare(Command::Begin, operands),
-        Some(Verb::Complete) => read_bare(Command::Complete, operands),
-        Some(Verb::Off) => read_bare(Command::Off, operands),
-        Some(Verb::Subscribe) => read_subscribe(known, operands),
-        Some(Verb::Unsubscribe) => read_unsubscribe(known, operands),
-        Some(Verb::Take) => read_take(operands),
-        Some(Verb::Audit) => read_bare(Command::Audit, operands),
+        Some(verb) => read_other(known, verb, operands),
         None => Err(LineFault::NotACommand),
+    }
+}
+
+// A command that isn't about a list, as that of a line.
+fn read_other(
+    known: &ControlWords,
+    verb: Verb,
+    operands: &[u8],
+) -> Result<Option<Command>, LineFault>
+    requires { is_short verb ≡ true }
+    ensures { IsRead result (option_map (λ command. Some command) (command_of known.now (Some verb) (words_in operands.now))) }
+{
+    match read_short(known, verb, operands) {
+        Ok(command) => Ok(Some(command)),
+        Err(fault) => Err(fault),
+    }
+}
+
+// How many operands a command has at most that isn't about a list.
+const MOST: usize = 5;
+
+// A command that isn't about a list.
+fn read_short(known: &ControlWords, verb: Verb, operands: &[u8]) -> Result<Command, LineFault>
+    requires { is_short verb ≡ true }
+    ensures { IsRead result (command_of known.now (Some verb) (words_in operands.now)) }
+{
+    let mut room: [&[u8]; MOST] = [b""; MOST];
+    let mut count = 0;
+    let mut rest = operands;
+    while let Some((word, more)) = first_word(rest) {
+        if count == MOST {
+            return Err(LineFault::NotACommand);
+        }
+        room[count] = word;
+        count += 1;
+        rest = more;
+    }
+    read_operands(known, verb, &room[..count])
+}
+
+fn read_operands(known: &ControlWords, verb: Verb, operands: &[&[u8]]) -> Result<Command, LineFault>
+    requires { is_short verb ≡ true }
+    ensures { IsRead result (command_of known.now (Some verb) (map (λ w. w.now) operands.now)) }
+{
+    match verb {
+        Verb::Open => read_open(operands),
+        Verb::Close => read_close(operands),
+        Verb::Grab => read_grab(known, operands),
+        Verb::Range => read_range(known, operands),
+        Verb::Query => read_query(known, operands),
+        Verb::Next => read_next(operands),
+        Verb::Menu => read_menu(known, operands),
+        Verb::Told => read_told(operands),
+        Verb::Buffer => read_buffer(operands),
+        Verb::OfRequest(verb) => read_of_request(verb, operands),
+        Verb::Row => read_row(operands),
+        Verb::Begin => read_bare(Command::Begin, operands),
+        Verb::Complete => read_bare(Command::Complete, operands),
+        Verb::Off => read_bare(Command::Off, operands),
+        Verb::Subscribe => read_subscribe(known, operands),
+        Verb::Unsubscribe => read_unsubscribe(known, operands),
+        Verb::Take => read_take(operands),
+        Verb::Audit => read_bare(Command::Audit, operands),
+        // commands about lists are read word by word
+        Verb::Get | Verb::Set | Verb::Try => Err(LineFault::NotACommand),
     }
 }
 
@@ -476,46 +517,70 @@ fn read_take(operands: &[&[u8]]) -> Result<Command, LineFault>
     }
 }
 
-fn read_get(alloc: Global, known: &ControlWords, operands: &[&[u8]]) -> Result<Command, LineFault>
+#[tactic(auto, using(crate::proofs::Walks::list_by_head))]
+fn read_get(
+    alloc: Global,
+    known: &ControlWords,
+    operands: &[u8],
+) -> Result<Option<Command>, LineFault>
     requires { length operands.now < 2 ^ 32 }
-    ensures { IsRead result (list_command_of known.now (λ fh which list. commands.Get fh which list) EntryForm.Control (map (λ w. w.now) operands.now)) }
+    ensures { IsRead result (option_map (λ command. Some command) (list_command_of known.now (λ fh which list. commands.Get fh which list) EntryForm.Control (words_in operands.now))) }
 {
-    let [fh, which, entries @ ..] = operands else {
-        return Err(LineFault::NotACommand);
-    };
-    let (Some(fh), Some(which)) = (Name::read(*fh), read_which(*which)) else {
+    let Some((fh, which, entries)) = list_head(operands) else {
         return Err(LineFault::NotACommand);
     };
     let list = read_list(alloc, known, EntryForm::Control, entries)?;
-    Ok(Command::Get { fh, which, list })
+    Ok(Some(Command::Get { fh, which, list }))
 }
 
-fn read_set(alloc: Global, known: &ControlWords, operands: &[&[u8]]) -> Result<Command, LineFault>
+#[tactic(auto, using(crate::proofs::Walks::list_by_head))]
+fn read_set(
+    alloc: Global,
+    known: &ControlWords,
+    operands: &[u8],
+) -> Result<Option<Command>, LineFault>
     requires { length operands.now < 2 ^ 32 }
-    ensures { IsRead result (list_command_of known.now (λ fh which list. commands.Set fh which list) EntryForm.ControlWithValue (map (λ w. w.now) operands.now)) }
+    ensures { IsRead result (option_map (λ command. Some command) (list_command_of known.now (λ fh which list. commands.Set fh which list) EntryForm.ControlWithValue (words_in operands.now))) }
 {
-    let [fh, which, entries @ ..] = operands else {
-        return Err(LineFault::NotACommand);
-    };
-    let (Some(fh), Some(which)) = (Name::read(*fh), read_which(*which)) else {
+    let Some((fh, which, entries)) = list_head(operands) else {
         return Err(LineFault::NotACommand);
     };
     let list = read_list(alloc, known, EntryForm::ControlWithValue, entries)?;
-    Ok(Command::Set { fh, which, list })
+    Ok(Some(Command::Set { fh, which, list }))
 }
 
-fn read_try(alloc: Global, known: &ControlWords, operands: &[&[u8]]) -> Result<Command, LineFault>
+#[tactic(auto, using(crate::proofs::Walks::list_by_head))]
+fn read_try(
+    alloc: Global,
+    known: &ControlWords,
+    operands: &[u8],
+) -> Result<Option<Command>, LineFault>
     requires { length operands.now < 2 ^ 32 }
-    ensures { IsRead result (list_command_of known.now (λ fh which list. commands.Try fh which list) EntryForm.ControlWithValue (map (λ w. w.now) operands.now)) }
+    ensures { IsRead result (option_map (λ command. Some command) (list_command_of known.now (λ fh which list. commands.Try fh which list) EntryForm.ControlWithValue (words_in operands.now))) }
 {
-    let [fh, which, entries @ ..] = operands else {
-        return Err(LineFault::NotACommand);
-    };
-    let (Some(fh), Some(which)) = (Name::read(*fh), read_which(*which)) else {
+    let Some((fh, which, entries)) = list_head(operands) else {
         return Err(LineFault::NotACommand);
     };
     let list = read_list(alloc, known, EntryForm::ControlWithValue, entries)?;
-    Ok(Command::Try { fh, which, list })
+    Ok(Some(Command::Try { fh, which, list }))
+}
+
+// What stands before the entries of a command about a list, and these.
+#[inline(always)]
+fn list_head(operands: &[u8]) -> Option<(Name, WhichWord, &[u8])>
+    ensures head { option_map (λ h. (h.0, h.1, words_in h.2.now)) result ≡ head_of (words_in operands.now) }
+    ensures within { IfSome result (λ h. length h.2.now ≤ length operands.now) }
+{
+    let Some((fh, operands)) = first_word(operands) else {
+        return None;
+    };
+    let Some((which, entries)) = first_word(operands) else {
+        return None;
+    };
+    match (Name::read(fh), read_which(which)) {
+        (Some(fh), Some(which)) => Some((fh, which, entries)),
+        _ => None,
+    }
 }
 
 // Which values a list speaks of.
@@ -531,18 +596,17 @@ fn read_which(word: &[u8]) -> Option<WhichWord>
     }
 }
 
-// The words for values that lists speak of.
-const WHICH_WORDS: [&[u8]; 4] = [b"cur", b"def", b"user", b"camera"];
-
-// What `which` is for each, in the same order.
-const WHICH_NUMBERS: [u32; 4] = [0, 0x0f00_0000, 0x0098_0000, 0x009a_0000];
-
 // The numbers that have words.
 fn fixed_which(word: &[u8]) -> Option<u32>
     ensures { result ≡ fixed_which_of word.now }
 {
-    let place = place_of_word(&WHICH_WORDS, word)?;
-    WHICH_NUMBERS.get(place).copied()
+    match word {
+        b"cur" => Some(0),
+        b"def" => Some(0x0f00_0000),
+        b"user" => Some(0x0098_0000),
+        b"camera" => Some(0x009a_0000),
+        _ => None,
+    }
 }
 
 // How the entries of a list are written.
@@ -554,27 +618,68 @@ enum EntryForm {
     ControlWithValue,
 }
 
+// The entries of a list. Most lists have one.
 fn read_list(
     alloc: Global,
     known: &ControlWords,
     form: EntryForm,
-    words: &[&[u8]],
+    text: &[u8],
 ) -> Result<EntryList, LineFault>
-    requires { length words.now < 2 ^ 32 }
-    ensures { IsRead result (list_of known.now form (map (λ w. w.now) words.now)) }
+    requires { length text.now < 2 ^ 32 }
+    ensures { IsRead result (list_of known.now form (words_in text.now)) }
 {
-    let Ok(mut list) = Vec::with_capacity(alloc, words.len()) else {
+    match only_word(text) {
+        Some(word) => read_single(alloc, known, form, text, word),
+        None => read_several(alloc, known, form, text),
+    }
+}
+
+// The entry of a text that has no more words.
+fn read_single(
+    alloc: Global,
+    known: &ControlWords,
+    form: EntryForm,
+    text: &[u8],
+    word: &[u8],
+) -> Result<EntryList, LineFault>
+    requires { words_in text.now ≡ word.now ∷ [] }
+    ensures { IsRead result (list_of known.now form (words_in text.now)) }
+{
+    let _ = text;
+    let Ok(mut list) = Vec::with_capacity(alloc, 1) else {
         return Err(LineFault::Memory);
     };
-    for word in words {
-        let Some(ExtControl { id, value }) = read_entry(known, form, *word) else {
+    let Some(ExtControl { id, value }) = read_entry(known, form, word) else {
+        return Err(LineFault::NotACommand);
+    };
+    list.push_reserved(ExtControl { id, value });
+    Ok(EntryList::from_vec(list))
+}
+
+fn read_several(
+    alloc: Global,
+    known: &ControlWords,
+    form: EntryForm,
+    text: &[u8],
+) -> Result<EntryList, LineFault>
+    requires { length text.now < 2 ^ 32 }
+    ensures { IsRead result (list_of known.now form (words_in text.now)) }
+{
+    let Ok(mut list) = Vec::with_capacity(alloc, word_count(text)) else {
+        return Err(LineFault::Memory);
+    };
+    let mut rest = text;
+    while let Some((word, more)) = first_word(rest) {
+        let Some(ExtControl { id, value }) = read_entry(known, form, word) else {
             return Err(LineFault::NotACommand);
         };
         list.push_reserved(ExtControl { id, value });
+        rest = more;
     }
     Ok(EntryList::from_vec(list))
 }
 
+#[inline(always)]
 fn read_entry(known: &ControlWords, form: EntryForm, word: &[u8]) -> Option<ExtControl>
     ensures { result ≡ entry_of known.now form word.now }
 {

@@ -1,4 +1,5 @@
 ghost use Rattle.std.specs.Prelude.{◌≡◌, ◌≤◌, OnOk, ◌++◌, ◌∷◌, codes, length};
+ghost use Rattle.std.specs.Fmt.{decimal, signed_decimal};
 ghost use Rattle.std.specs.Io.KnownBytes.{Appends};
 ghost use Rattle.std.specs.List.{flat_map};
 ghost use Rattle.hex.specs.Hex.{encode_lower};
@@ -13,6 +14,7 @@ use ctrl_forecast::Forecast;
 use ctrl_handlers::MenuItem;
 use ctrl_types::{CtrlId, CtrlValue, Errno, ExtControl, Fault, Flags, Kind, MAX_ELEMENTS};
 use device_history::{Ask, CtrlInfo, Reply};
+use itoa::Buffer;
 use req_book::RequestState;
 use std::io;
 use std::io::Write;
@@ -35,7 +37,7 @@ fn print_reply<W: Write>(out: &mut W, ask: &Ask, reply: &Reply) -> io::Result<()
     ensures { OnOk result (Appends (W.contents out.old) (W.contents out.new) (line_of ask.now reply.now)) }
 {
     match reply {
-        Reply::Fh(_) | Reply::Done | Reply::Request(_) => writeln!(out, "ok"),
+        Reply::Fh(_) | Reply::Done | Reply::Request(_) => out.write_all(b"ok\n"),
         Reply::Controls(list) => print_values(out, list.as_slice()),
         Reply::State(state) => print_state(out, *state),
         Reply::Frame {
@@ -58,11 +60,11 @@ fn print_reply<W: Write>(out: &mut W, ask: &Ask, reply: &Reply) -> io::Result<()
 fn print_values<W: Write>(out: &mut W, list: &[ExtControl]) -> io::Result<()>
     ensures { OnOk result (Appends (W.contents out.old) (W.contents out.new) (codes "ok" ++ (flat_map entry_text list.now ++ codes "\n"))) }
 {
-    write!(out, "ok")?;
+    out.write_all(b"ok")?;
     for entry in list {
         print_value(out, entry.value)?;
     }
-    writeln!(out)
+    out.write_all(b"\n")
 }
 
 // A value behind a space.
@@ -70,9 +72,26 @@ fn print_value<W: Write>(out: &mut W, value: CtrlValue) -> io::Result<()>
     ensures { OnOk result (Appends (W.contents out.old) (W.contents out.new) (value_text value)) }
 {
     match value {
-        CtrlValue::Number(number) => write!(out, " {number}"),
+        CtrlValue::Number(number) => print_number(out, number),
         CtrlValue::Bytes(row) => print_elements(out, row.bytes()),
     }
+}
+
+// A number behind a space.
+fn print_number<W: Write>(out: &mut W, number: i64) -> io::Result<()>
+    ensures { OnOk result (Appends (W.contents out.old) (W.contents out.new) (codes " " ++ signed_decimal number)) }
+{
+    let mut digits = Buffer::new();
+    out.write_all(b" ")?;
+    out.write_all(digits.format(number).as_bytes())
+}
+
+// A number without a sign.
+fn print_count<W: Write>(out: &mut W, number: u32) -> io::Result<()>
+    ensures { OnOk result (Appends (W.contents out.old) (W.contents out.new) (decimal number)) }
+{
+    let mut digits = Buffer::new();
+    out.write_all(digits.format(number).as_bytes())
 }
 
 // The elements of an array behind a space.
@@ -83,7 +102,7 @@ fn print_elements<W: Write>(out: &mut W, bytes: &[u8]) -> io::Result<()>
     let mut digits = [0; 2 * MAX_ELEMENTS];
     let digits = &mut digits[..2 * bytes.len()];
     let _ = hex::encode_to_slice(bytes, digits);
-    write!(out, " x")?;
+    out.write_all(b" x")?;
     out.write_all(digits)
 }
 
@@ -92,10 +111,10 @@ fn print_state<W: Write>(out: &mut W, state: RequestState) -> io::Result<()>
     ensures { OnOk result (Appends (W.contents out.old) (W.contents out.new) (state_line state)) }
 {
     match state {
-        RequestState::Idle => writeln!(out, "ok idle"),
-        RequestState::Queued => writeln!(out, "ok queued"),
-        RequestState::Running => writeln!(out, "ok running"),
-        RequestState::Complete => writeln!(out, "ok complete"),
+        RequestState::Idle => out.write_all(b"ok idle\n"),
+        RequestState::Queued => out.write_all(b"ok queued\n"),
+        RequestState::Running => out.write_all(b"ok running\n"),
+        RequestState::Complete => out.write_all(b"ok complete\n"),
     }
 }
 
@@ -103,9 +122,11 @@ fn print_state<W: Write>(out: &mut W, state: RequestState) -> io::Result<()>
 fn print_frame<W: Write>(out: &mut W, buffer: u32, refused: &[u32]) -> io::Result<()>
     ensures { OnOk result (Appends (W.contents out.old) (W.contents out.new) (frame_line buffer refused.now)) }
 {
-    write!(out, "ok buffer {buffer} refused ")?;
+    out.write_all(b"ok buffer ")?;
+    print_count(out, buffer)?;
+    out.write_all(b" refused ")?;
     print_clusters(out, refused)?;
-    writeln!(out)
+    out.write_all(b"\n")
 }
 
 // The place in the queue that an ask names; 0 where it names none.
@@ -122,21 +143,31 @@ fn place_of(ask: &Ask) -> u32
 fn print_forecast<W: Write>(out: &mut W, place: u32, row: &Forecast) -> io::Result<()>
     ensures { OnOk result (Appends (W.contents out.old) (W.contents out.new) (forecast_line place row.now.buffer row.now.refused row.now.values)) }
 {
-    let buffer = row.buffer;
-    write!(out, "frame {place} buffer {buffer} refused ")?;
+    print_frame_head(out, place, row.buffer)?;
     print_clusters(out, row.refused.as_slice())?;
     print_row(out, row.values.as_slice())
+}
+
+// The place of a frame in the queue, and its buffer.
+fn print_frame_head<W: Write>(out: &mut W, place: u32, buffer: u32) -> io::Result<()>
+    ensures { OnOk result (Appends (W.contents out.old) (W.contents out.new) (codes "frame " ++ (decimal place ++ (codes " buffer " ++ (decimal buffer ++ codes " refused "))))) }
+{
+    out.write_all(b"frame ")?;
+    print_count(out, place)?;
+    out.write_all(b" buffer ")?;
+    print_count(out, buffer)?;
+    out.write_all(b" refused ")
 }
 
 // The values of a frame, and the end of its line.
 fn print_row<W: Write>(out: &mut W, values: &[CtrlValue]) -> io::Result<()>
     ensures { OnOk result (Appends (W.contents out.old) (W.contents out.new) (codes " values" ++ (flat_map value_text values.now ++ codes "\n"))) }
 {
-    write!(out, " values")?;
+    out.write_all(b" values")?;
     for value in values {
         print_value(out, *value)?;
     }
-    writeln!(out)
+    out.write_all(b"\n")
 }
 
 // Numbers of clusters, joined by commas; where there is none, `-`.
@@ -144,7 +175,7 @@ fn print_clusters<W: Write>(out: &mut W, clusters: &[u32]) -> io::Result<()>
     ensures { OnOk result (Appends (W.contents out.old) (W.contents out.new) (clusters_text clusters.now)) }
 {
     match clusters {
-        [] => write!(out, "-"),
+        [] => out.write_all(b"-"),
         [first, more @ ..] => print_joined(out, *first, more),
     }
 }
@@ -152,12 +183,19 @@ fn print_clusters<W: Write>(out: &mut W, clusters: &[u32]) -> io::Result<()>
 fn print_joined<W: Write>(out: &mut W, first: u32, more: &[u32]) -> io::Result<()>
     ensures { OnOk result (Appends (W.contents out.old) (W.contents out.new) (clusters_text (first ∷ more.now))) }
 {
-    write!(out, "{first}")?;
+    print_count(out, first)?;
     for cluster in more {
-        let cluster = *cluster;
-        write!(out, ",{cluster}")?;
+        print_further(out, *cluster)?;
     }
     Ok(())
+}
+
+// A number behind a comma.
+fn print_further<W: Write>(out: &mut W, cluster: u32) -> io::Result<()>
+    ensures { OnOk result (Appends (W.contents out.old) (W.contents out.new) (further_text cluster)) }
+{
+    out.write_all(b",")?;
+    print_count(out, cluster)
 }
 
 // An event that was taken.

@@ -65,6 +65,15 @@ impl Write for ReplyLine {
         Ok(count)
     }
 
+    // all of it or nothing
+    fn write_all(&mut self, buf: &[u8]) -> io::Result<()> {
+        if self.bytes.capacity() - self.bytes.len() < buf.len() {
+            return Err(io::Error::from(ErrorKind::WriteZero));
+        }
+        self.bytes.extend_from_slice(buf)?;
+        Ok(())
+    }
+
     // nothing is held back
     fn flush(&mut self) -> io::Result<()> {
         Ok(())

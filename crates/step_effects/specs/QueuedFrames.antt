@@ -8,7 +8,7 @@ use Rattle.ctrl_settle.specs.Control.{Control}
 use Rattle.ctrl_handlers.specs.Plan.{PlanData}
 use Rattle.ctrl_clusters.specs.Rows.{Grabs, Values}
 use Rattle.ctrl_clusters.specs.Judging.{with_calls}
-use Rattle.ctrl_forecast.specs.Asking.{asked_count, renewing_count}
+use Rattle.ctrl_forecast.specs.Asking.{asked_count, removing_count}
 use Rattle.ctrl_forecast.specs.Boards.{asked_at, named_clusters}
 use Rattle.ctrl_forecast.specs.Forecasts.{QueuedData, forecasts, named_by_frames, values_behind}
 use Rattle.ctrl_forecast.specs.Touched.{touched_count}
@@ -54,7 +54,7 @@ counted_queueing verdicts plan controls values grabs frame queued count =
 abbrev pub counted_removing : Verdicts → PlanData → List Control → Values → Grabs → List QueuedData → Option ℕ → ℕ → ℕ
 counted_removing verdicts plan controls values grabs queued None count = count
 counted_removing verdicts plan controls values grabs queued (Some place) count =
-    with_calls (renewing_count verdicts plan controls values grabs (remove queued place) place (named_clusters plan (asked_at queued place))) count
+    with_calls (removing_count verdicts plan controls values grabs queued place) count
 
 -- What a count of the validators that were asked is once such a step has changed the queued frames: a queueing and a cancellation ask, and no other step.
 abbrev pub counted_after : Verdicts → PlanData → List Control → Values → Grabs → FramesData → Step → List QueuedData → ℕ → ℕ

@@ -1,6 +1,7 @@
 //! What a set, the begin of a frame, and a grab raise.
 
-ghost use Rattle.std.specs.Prelude.{◌≡◌, ◌≤◌, ◌+◌, ℕ, length};
+ghost use Rattle.std.specs.Prelude.{◌≡◌, ◌<◌, ◌≤◌, ◌+◌, ℕ, length};
+ghost use Rattle.std.specs.List.{All};
 ghost use Rattle.history.specs.declared.entry.Entry.{Entry as EntryOf};
 ghost use Rattle.ctrl_calls.specs.Meanings.{Verdicts};
 ghost use Rattle.ctrl_types.specs.declared.ids.FhId.{FhId as FhIdOf};
@@ -9,12 +10,13 @@ ghost use Rattle.ctrl_events.specs.Events.{events_of};
 ghost use Rattle.device_history.specs.declared.ask.Step.{Step as StepOf};
 ghost use Rattle.device_history.specs.Steps.{Past};
 ghost use Rattle.device_history.specs.EventSteps.{AreAround, events_after};
+ghost use Rattle.ctrl_raises.specs.Within.{DifferWithin};
 ghost use Rattle.step_effects.specs.Sources.{IsSourceOf};
 
 use ctrl_calls::Driver;
 use ctrl_clusters::Change;
 use ctrl_events::Events;
-use ctrl_raises::raise_between;
+use ctrl_raises::{raise_between, raise_within};
 use ctrl_types::{FhId, Pair};
 
 /// Raises what a set, the begin of a frame, or a grab changes, as the history says of each file handle (Linux userspace API, "ioctl
@@ -36,4 +38,26 @@ pub fn raise_step<D: Driver>(
         → (fh : FhIdOf) → events_of events.new fh.0 ≡ events_after verdicts change.now.before.plan.now e older fh (events_of events.old fh.0) }
 {
     raise_between(change, pairs, from, events);
+}
+
+/// Raises what a set, the begin of a frame, or a grab changes, as `raise_step` does, but looks at the members of some clusters alone. It takes no memory and
+/// refuses nothing.
+///
+/// - `change`, `pairs`, `from`, `events`: as of `raise_step`.
+/// - `clusters`: the numbers of some clusters, in any order; the caller owes that each is below `Plan::cluster_count`, and that nothing differs outside of these
+///   clusters, as `raise_within` says.
+pub fn raise_touched<D: Driver>(
+    change: &Change<D>,
+    pairs: &[Pair],
+    from: Option<FhId>,
+    clusters: &[u32],
+    events: &mut Events,
+)
+    requires numbers { (j : ℕ) → (events_of events.old j).next + length change.now.before.plan.now.controls ≤ 4294967295 }
+    requires known { All (λ k. k < length change.now.before.plan.now.clusters) clusters.now }
+    requires within { DifferWithin change.now.before.plan.now clusters.now (parts change.now.before) (parts_after change.now) pairs.now }
+    ensures { (verdicts : Verdicts) (e : EntryOf StepOf) (older : Past) → AreAround verdicts change.now.before.plan.now e older (parts change.now.before) (parts_after change.now) → IsSourceOf verdicts change.now.before.plan.now older e.step pairs.now from
+        → (fh : FhIdOf) → events_of events.new fh.0 ≡ events_after verdicts change.now.before.plan.now e older fh (events_of events.old fh.0) }
+{
+    raise_within(change, pairs, from, clusters, events);
 }

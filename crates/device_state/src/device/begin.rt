@@ -22,7 +22,7 @@ use ctrl_types::{Check, Fault, Pair, RequestId};
 use device_history::{Reply, Step, refused};
 use history::Entry;
 use std::alloc::AllocError;
-use step_effects::raise_step;
+use step_effects::raise_touched;
 
 // A frame that can begin: its request, and what is applied of what it asks for.
 #[derive(Drop)]
@@ -33,6 +33,7 @@ struct Begun {
 
 impl<D: Driver> Device<D> {
     // Answers an ask for the begin of a frame.
+    #[inline(never)]
     pub(super) fn begin(&mut self, seat: u32) -> Result<Reply, Fault>
         ensures { Handles D.verdict self.old self.new seat asks.Begin result }
     {
@@ -103,16 +104,30 @@ impl<D: Driver> Device<D> {
     {
         self.steps.reserve(1)?;
         let Begun { request, applied } = begun;
+        let (forecast, named) = self.board.begin();
         let Forecast {
             request: _,
             buffer: _,
             values,
             refused,
-        } = self.board.begin();
+        } = forecast;
         let change = self.controls.to_values(&self.plan, values.as_slice());
-        notify_between(&change, applied.as_slice(), &mut self.words, &mut self.work);
-        raise_step(&change, applied.as_slice(), None, &mut self.events);
-        self.controls.replace_values(values.into_vec());
+        notify_between(
+            &change,
+            applied.as_slice(),
+            named.as_slice(),
+            &mut self.words,
+            &mut self.work,
+        );
+        raise_touched(
+            &change,
+            applied.as_slice(),
+            None,
+            named.as_slice(),
+            &mut self.events,
+        );
+        self.controls
+            .replace_within(&self.plan, values.into_vec(), named.as_slice());
         let (_, buffer) = self.frames.begin(applied.as_slice());
         self.steps.push_reserved(Entry {
             seat,

@@ -60,6 +60,7 @@ impl<D: Driver> Device<D> {
     ///
     /// Refused, without an index, by check 12 (EBADF, 9), 32 (ENOENT, 2), 33 (ENOSPC, 28) or 34 (ENOMEM, 12) of docs/RULES.md. Nothing is changed
     /// then but the counts of `work`.
+    #[inline(never)]
     pub fn take(&mut self, seat: u32, fh: FhId) -> Result<Reply, Fault>
         ensures { Handles D.verdict self.old self.new seat (asks.Take fh) result }
     {
@@ -88,6 +89,7 @@ impl<D: Driver> Device<D> {
     }
 
     // Subscribes a file handle to the events of the control that is shown to it under an id.
+    #[inline(never)]
     pub(super) fn subscribe(
         &mut self,
         seat: u32,

@@ -37,6 +37,7 @@ impl<D: Driver> Device<D> {
     ///
     /// It asks no validator: what the frames will have is kept, and renewed by each call that changes it. Refused, without an index, by check 31
     /// (ENOENT, 2) or 34 (ENOMEM, 12) of docs/RULES.md. Answered or refused, nothing is changed but the counts of `work`.
+    #[inline(never)]
     pub fn forecast(&mut self, place: u32) -> Result<Reply, Fault>
         ensures { (seat : ℕ) → Handles D.verdict self.old self.new seat (asks.Forecast place) result }
     {

@@ -30,7 +30,7 @@ use ctrl_types::{Check, CtrlValue, Fault, FhId, Pair, RequestId, Which};
 use device_history::{PairList, Reply, Step, meant, spoken, state_check, writes_defaults};
 use history::Entry;
 use std::alloc::AllocError;
-use step_effects::{clusters_of, copied_values, raise_step};
+use step_effects::{clusters_of, raise_touched};
 
 impl<D: Driver> Device<D> {
     /// Gets controls, as `handle` on `Ask::GetCtrls` of these fields at any seat does (Linux userspace API, "ioctl
@@ -47,6 +47,7 @@ impl<D: Driver> Device<D> {
     /// Refused by the first of the checks 1 to 7 of a list in docs/RULES.md that doesn't hold: EBADF (9), EINVAL (22) or EACCES (13). Where
     /// there are 1 to 64 entries, ENOMEM (12) may stand in place of the values and of the refusals from check 6 on. The index is the number
     /// of entries.
+    #[inline(never)]
     pub fn get(
         &mut self,
         fh: FhId,
@@ -85,6 +86,7 @@ impl<D: Driver> Device<D> {
     /// (22), ENOSPC (28) or ERANGE (34). Where there are 1 to 64 entries, ENOMEM (12) may stand in place of success and of the refusals from
     /// check 6 on; where there are none, in place of success alone. The index is the number of entries. Nothing is changed then but the
     /// counts of `work`, and no notifier is told.
+    #[inline(never)]
     pub fn set(
         &mut self,
         seat: u32,
@@ -112,6 +114,7 @@ impl<D: Driver> Device<D> {
     /// Refused as `set` is, through a request too, but never for a grab, never by check 9, and where there are no entries never with ENOMEM
     /// (12). The index is the place of an entry, from 0, in the checks 6, 7 and 8: the entry that is refused, and in check 8 the first one of
     /// its cluster. Else, and with ENOMEM, it is the number of entries.
+    #[inline(never)]
     pub fn try_set(
         &mut self,
         fh: FhId,
@@ -404,12 +407,12 @@ impl<D: Driver> Device<D> {
         ensures ok { OnOk result (SetsAll D.verdict D.told self.old self.new seat fh touch) }
         ensures err { OnErr result (self.new ≡ self.old) }
     {
-        let values = copied_values(self.alloc, self.controls.values())?;
+        let values = self.controls.lend_values(self.alloc)?;
         let clusters = clusters_of(self.alloc, touch.rows())?;
         self.write_list(seat, fh, touch, values, clusters)
     }
 
-    // The same, with a copy of the values and the numbers of the clusters that the list touches.
+    // The same, with the values once more, and the numbers of the clusters that the list touches.
     fn write_list(
         &mut self,
         seat: u32,
@@ -440,8 +443,15 @@ impl<D: Driver> Device<D> {
         self.board
             .renew(&change.after(), clusters.as_slice(), &mut work);
         self.work.asked = self.work.asked.saturating_add(work.asked);
-        raise_step(&change, touch.pairs(), Some(fh), &mut self.events);
-        self.controls.replace_values(values);
+        raise_touched(
+            &change,
+            touch.pairs(),
+            Some(fh),
+            clusters.as_slice(),
+            &mut self.events,
+        );
+        self.controls
+            .replace_within(&self.plan, values, clusters.as_slice());
         let (controls, pairs) = touch.into_parts();
         self.steps.push_reserved(Entry {
             seat,

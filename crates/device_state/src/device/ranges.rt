@@ -20,6 +20,7 @@ use step_effects::change_range;
 
 impl<D: Driver> Device<D> {
     // Answers an ask for another range of a control.
+    #[inline(never)]
     pub(super) fn modify_range(
         &mut self,
         seat: u32,
@@ -85,7 +86,7 @@ impl<D: Driver> Device<D> {
         );
         let cluster = self.plan.cluster_of(control);
         let after = self.controls.at(&self.plan);
-        self.board.renew(&after, &[cluster], &mut self.work);
+        self.board.rejudge(&after, &[cluster], &mut self.work);
         notify_cluster(
             &after,
             cluster,

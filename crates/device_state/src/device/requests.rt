@@ -144,6 +144,7 @@ impl<D: Driver> Device<D> {
     }
 
     // Ends the frame that is being made.
+    #[inline(never)]
     pub(super) fn complete(&mut self, seat: u32) -> Result<Reply, Fault>
         ensures { Handles D.verdict self.old self.new seat asks.Complete result }
     {
@@ -166,6 +167,7 @@ impl<D: Driver> Device<D> {
     }
 
     // Answers an ask whose step leaves file handles, grabs, ranges and values: its own check, that no further step is kept, or the reply.
+    #[inline(never)]
     pub(super) fn enter(
         &mut self,
         seat: u32,

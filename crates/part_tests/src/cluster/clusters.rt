@@ -3,6 +3,7 @@
 mod arrays;
 mod changed;
 mod judged;
+mod lending;
 mod looks;
 mod planning;
 mod rows;

@@ -104,6 +104,25 @@ impl<'a> Scene<'a> {
         touched(self.plan, removed.asked.as_slice()).wrapping_mul(behind)
     }
 
+    /// A control gets a value, as a set gives it. The answer is how many validators may be asked.
+    pub fn set(
+        &mut self,
+        alloc: Global,
+        control: u32,
+        value: CtrlValue,
+        work: &mut Work,
+    ) -> Result<u64, AllocError>
+        requires { control < length self.old.plan.now.controls }
+    {
+        let cluster = self.plan.cluster_of(control);
+        let mut values = Vec::from_slice(alloc, self.controls.values())?;
+        values[control as usize] = value;
+        self.controls.replace_values(values);
+        self.board
+            .renew(&self.controls.at(self.plan), &[cluster], work);
+        Ok(self.waiting.len() as u64)
+    }
+
     /// A control gets a value, and another is grabbed or let go. The answer is how many validators may be asked.
     pub fn change(
         &mut self,
@@ -121,7 +140,7 @@ impl<'a> Scene<'a> {
         self.controls.modify_range(control, range, value);
         self.controls.grab(other, is_grabbed);
         self.board
-            .renew(&self.controls.at(self.plan), &clusters, work);
+            .rejudge(&self.controls.at(self.plan), &clusters, work);
         (self.waiting.len() as u64).wrapping_mul(2)
     }
 
@@ -136,7 +155,7 @@ impl<'a> Scene<'a> {
         self.controls.modify_range(control, narrowed, value);
         let cluster = self.plan.cluster_of(control);
         self.board
-            .renew(&self.controls.at(self.plan), &[cluster], work);
+            .rejudge(&self.controls.at(self.plan), &[cluster], work);
         self.waiting.len() as u64
     }
 

@@ -29,6 +29,11 @@ fn turn(alloc: Global, scene: &mut Scene<'_>, dice: &mut Dice) -> Result<bool, A
             let maximum = i64::from(dice.roll(11));
             bound = scene.narrow(control, maximum, &mut work);
         }
+        10 => {
+            let control = dice.roll(controls);
+            let value = dice.value();
+            bound = scene.set(alloc, control, value, &mut work)?;
+        }
         _ => {
             let control = dice.roll(controls);
             let value = dice.value();

@@ -5,12 +5,12 @@ ghost use Rattle.ctrl_types.specs.declared.errno.Errno.TheVariants.{ERANGE};
 ghost use Rattle.ctrl_calls.specs.Meanings.{JudgesBy, TellsBy};
 ghost use Rattle.ctrl_calls.specs.declared.verdict.Verdict.TheVariants.{Accept, Refuse};
 
-use crate::values::{row_of, values_of};
+use crate::values::{are_numbers, is_row, row_of, values_of};
 use ctrl_calls::{
-    Calls, ClusterRow, Driver, Judging, Notifier, Notifies, Relation, Relations, Telling,
-    Validates, Validator, Verdict, Work, ask, tell,
+    Calls, ClusterRow, Driver, Judging, Notifier, Notifies, Relation, Relations, RowValues,
+    Telling, Validates, Validator, Verdict, Work, ask, tell, tell_row,
 };
-use ctrl_types::{CtrlValue, Errno};
+use ctrl_types::{ByteRow, CtrlValue, Errno};
 use std::alloc::{AllocError, Global};
 use std::sync::Arc;
 use std::sync::atomic::{AtomicU64, Ordering};
@@ -55,14 +55,14 @@ const ROWS: &[(&[i64], bool)] = &[
     (&[i64::MIN, -1, 0, 1, i64::MAX, 5, 6, 7, 8], false),
 ];
 
-// How often a row is asked and told, with what was counted before and what is counted then.
+// How often a row is asked, and told twice, with what was counted before and what is counted then.
 const COUNTS: &[(u64, Work, Work)] = &[
-    (3, Work { asked: 0, told: 0 }, Work { asked: 3, told: 3 }),
+    (3, Work { asked: 0, told: 0 }, Work { asked: 3, told: 6 }),
     (
         2,
         Work {
             asked: u64::MAX - 1,
-            told: u64::MAX,
+            told: u64::MAX - 3,
         },
         Work {
             asked: u64::MAX,
@@ -78,7 +78,7 @@ fn shows(row: &ClusterRow, numbers: &[i64]) -> bool {
             return false;
         }
     }
-    row.len() == numbers.len()
+    row.len() == numbers.len() && are_numbers(row.values(), numbers)
 }
 
 fn holds(alloc: Global, numbers: &[i64], is_row: bool) -> Result<bool, AllocError> {
@@ -99,7 +99,7 @@ fn rows_hold_up_to_eight_values(rt: HostRuntime) -> Result<(), Fail> {
 
 #[test]
 fn a_row_with_another_value(rt: HostRuntime) -> Result<(), Fail> {
-    let row = row_of(&[1, 2, 3]).ok_or("three")?;
+    let row = row_of(&[1, 2, 3]).ok_or("three")?.to_cluster_row();
     let is_written = row.len() == 3 && shows(&row.with(1, CtrlValue::Number(-9)), &[1, -9, 3]);
     assert!(rt; is_written && shows(&row, &[1, 2, 3]));
     Ok(())
@@ -111,12 +111,98 @@ fn rows_of_zeros(rt: HostRuntime) {
     row.set(1, CtrlValue::Number(7));
     assert!(rt; shows(&row, &[0, 7, 0]));
     assert!(rt; shows(&ClusterRow::zeros(0), &[]) && shows(&ClusterRow::zeros(8), &[0; 8]));
+    let mut inside = RowValues::zeros(3);
+    inside.set(1, CtrlValue::Number(7));
+    assert!(rt; is_row(&inside, &[0, 7, 0]));
+    assert!(rt; is_row(&RowValues::zeros(0), &[]) && is_row(&RowValues::zeros(8), &[0; 8]));
 }
 
-// Asks and tells of the row this many times, and answers the work; none where an answer is another than these.
+// Numbers with arrays behind them, and whether they are a row inside.
+const INSIDE: &[(&[i64], &[&[u8]], bool)] = &[
+    (&[], &[], true),
+    (&[i64::MIN], &[], true),
+    (&[i64::MIN, -1, 0], &[], true),
+    (&[i64::MIN, -1, 0, 1, i64::MAX, 5, 6, 7], &[], true),
+    (&[i64::MIN, -1, 0, 1, i64::MAX, 5, 6, 7, 8], &[], false),
+    (&[], &[&[]], true),
+    (&[], &[&[0, 255]], true),
+    (&[], &[&[7; 32]], true),
+    // an array is alone
+    (&[3], &[&[7]], false),
+    (&[], &[&[7], &[8]], false),
+    (&[1, 2, 3, 4, 5, 6, 7], &[&[8]], false),
+];
+
+// A value that none of these has.
+const OTHER: CtrlValue = CtrlValue::Number(4);
+
+fn array(bytes: &[u8]) -> Result<CtrlValue, Fail> {
+    match ByteRow::from_slice(bytes) {
+        Some(row) => Ok(CtrlValue::Bytes(row)),
+        None => Err(Fail::new("at most 32 bytes")),
+    }
+}
+
+// Whether the value at each place is this one, and no other.
+fn has_each(row: &RowValues, values: &[CtrlValue]) -> bool {
+    for (place, value) in values.iter().enumerate() {
+        if place >= row.len()
+            || row.value(place) != *value
+            || !row.has(place, value)
+            || row.has(place, &OTHER)
+        {
+            return false;
+        }
+    }
+    row.len() == values.len()
+}
+
+fn is_inside(alloc: Global, numbers: &[i64], arrays: &[&[u8]], fits: bool) -> Result<bool, Fail> {
+    let mut values = values_of(alloc, numbers)?;
+    for bytes in arrays {
+        values.push(array(bytes)?)?;
+    }
+    Ok(match RowValues::from_slice(values.as_slice()) {
+        Some(row) => {
+            let is_like = row.is_like(values.as_slice());
+            values.push(OTHER)?;
+            fits && is_like
+                && !row.is_like(values.as_slice())
+                && {
+                    values.truncate(row.len());
+                    has_each(&row, values.as_slice())
+                        && row.to_cluster_row().values() == values.as_slice()
+                }
+        }
+        None => !fits,
+    })
+}
+
+#[test]
+fn rows_inside_are_numbers_or_one_array(rt: HostRuntime) -> Result<(), Fail> {
+    for (numbers, arrays, fits) in INSIDE {
+        let is_inside = is_inside(rt.alloc(), numbers, arrays, *fits)?;
+        assert!(rt; is_inside, "{numbers:?} {arrays:?}");
+    }
+    Ok(())
+}
+
+// A row of one takes an array in place of a number, and a number in place of an array.
+#[test]
+fn another_form_in_a_row_of_one(rt: HostRuntime) -> Result<(), Fail> {
+    let bytes = array(&[9, 8])?;
+    let mut row = RowValues::zeros(1);
+    row.set(0, bytes);
+    assert!(rt; row.has(0, &bytes) && row.value(0) == bytes);
+    row.set(0, CtrlValue::Number(-7));
+    assert!(rt; is_row(&row, &[-7]));
+    Ok(())
+}
+
+// Asks and, each way, tells of the row this many times, and answers the work; none where an answer is another than these.
 fn call<D: Driver>(
     calls: &Calls<D>,
-    row: &ClusterRow,
+    row: &RowValues,
     want: &Verdict,
     times: u64,
     start: Work,
@@ -129,7 +215,9 @@ fn call<D: Driver>(
             }
         }
         if let Some(notifier) = &calls.notifier {
-            if tell(notifier, row, &mut work) != 2 {
+            if tell(notifier, row, &mut work) != 2
+                || tell_row(notifier, row.to_cluster_row(), &mut work) != 2
+            {
                 return None;
             }
         }
@@ -142,7 +230,7 @@ fn drives<D: Driver>(
     relation: Relation,
     judge: D::Judge,
     teller: D::Teller,
-    row: &ClusterRow,
+    row: &RowValues,
     want: &Verdict,
 ) -> bool
     requires judge_callable { D.Judge.callable judge }
@@ -190,9 +278,10 @@ fn boxes_are_called_as_often_as_counted(rt: HostRuntime) -> Result<(), Fail> {
             row.len() as u64
         },
     )?;
-    let answers = drives::<Boxed>(ACCEPTS, judge, teller, &row, &Verdict::Accept(row));
+    let want = Verdict::Accept(row.to_cluster_row());
+    let answers = drives::<Boxed>(ACCEPTS, judge, teller, &row, &want);
     let (asked, told) = (asked.load(Ordering::SeqCst), told.load(Ordering::SeqCst));
-    assert!(rt; answers && asked == 5 && told == 5, "{asked} {told}");
+    assert!(rt; answers && asked == 5 && told == 10, "{asked} {told}");
     Ok(())
 }
 

@@ -1,7 +1,7 @@
 //! Limits and words as data, asked and told through the calls that are made of them.
 
 use crate::values::row_of;
-use ctrl_calls::{ClusterRow, Relation, Verdict, Work, ask, tell};
+use ctrl_calls::{Relation, RowValues, Verdict, Work, ask, tell};
 use ctrl_types::Errno;
 use data_driver::{Excess, Limit, NoMember, Word, data_calls};
 
@@ -151,13 +151,13 @@ const PLACES: &[(Option<Limit>, Option<Word>, usize, Option<u8>)] = &[
 ];
 
 // What the validator of a cluster with this limit makes of a row.
-fn verdict_on(limit: Limit, row: &ClusterRow) -> Option<Verdict> {
+fn verdict_on(limit: Limit, row: &RowValues) -> Option<Verdict> {
     let calls = data_calls(8, Some(limit), None).ok()?;
     let mut work = Work::new();
     Some(ask(calls.validator.as_ref()?, row, &mut work))
 }
 
-fn word_on(word: Word, row: &ClusterRow) -> Option<u64> {
+fn word_on(word: Word, row: &RowValues) -> Option<u64> {
     let calls = data_calls(8, None, Some(word)).ok()?;
     let mut work = Work::new();
     Some(tell(calls.notifier.as_ref()?, row, &mut work))
@@ -165,7 +165,7 @@ fn word_on(word: Word, row: &ClusterRow) -> Option<u64> {
 
 fn wanted(row: Option<&[i64]>) -> Option<Verdict> {
     match row {
-        Some(row) => row_of(row).map(Verdict::Accept),
+        Some(row) => row_of(row).map(|row| Verdict::Accept(row.to_cluster_row())),
         None => Some(Verdict::Refuse(Errno::EINVAL)),
     }
 }

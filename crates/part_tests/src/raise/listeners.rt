@@ -1,13 +1,13 @@
 //! File handles that are subscribed to the events of controls.
 
-ghost use Rattle.std.specs.Prelude.{ℕ, ◌<◌, ◌≤◌, length};
+ghost use Rattle.std.specs.Prelude.{ℕ, ◌≡◌, ◌<◌, ◌≤◌, ◌+◌, length};
 ghost use Rattle.ctrl_events.specs.Events.{events_of};
 
 use crate::raise::planning::Silent;
 use bitflags::Flags as FlagSet;
 use ctrl_clusters::{Change, Moment};
 use ctrl_events::{Event, Events, Payload};
-use ctrl_raises::{raise_between, raise_range};
+use ctrl_raises::{raise_between, raise_range, raise_within};
 use ctrl_settle::Ctrl;
 use ctrl_types::{Changes, CtrlId, CtrlValue, Errno, FhId, Flags, Kind, Pair, SubFlags};
 use std::alloc::Global;
@@ -98,6 +98,22 @@ impl Listeners {
         Ok(events)
     }
 
+    /// The same, where the four clusters of the plan are looked at.
+    pub(crate) fn raised_within(
+        self,
+        change: &Change<Silent>,
+        pairs: &[Pair],
+        from: Option<FhId>,
+    ) -> Result<Events, Fail> {
+        let plan = change.before.plan;
+        if self.calls > MOST || plan.control_count() > MOST || plan.cluster_count() != 4 {
+            return Err(Fail::new("four clusters of a few controls"));
+        }
+        let mut events = self.events;
+        raise_of_four(change, pairs, from, &mut events);
+        Ok(events)
+    }
+
     /// The events once what another range and another value of one control change is raised.
     pub(crate) fn range_raised(
         self,
@@ -115,6 +131,24 @@ impl Listeners {
         raise_range(after, control, old, old_value, &mut events);
         Ok(events)
     }
+}
+
+// Raises what changes, where each of the plan's four clusters is looked at.
+fn raise_of_four(change: &Change<Silent>, pairs: &[Pair], from: Option<FhId>, events: &mut Events)
+    requires numbers { (j : ℕ) → (events_of events.old j).next + length change.now.before.plan.now.controls ≤ 4294967295 }
+    requires four { length change.now.before.plan.now.clusters ≡ 4 }
+{
+    raise_within(change, pairs, from, &[3, 0, 2, 1], events);
+}
+
+/// Whether the same waits for each file handle.
+pub(crate) fn are_alike(events: &Events, others: &Events) -> bool {
+    for fh in 0..3 {
+        if !events.is_like(others, FhId(fh)) {
+            return false;
+        }
+    }
+    true
 }
 
 /// What an event tells: the control's number, the changes, the value and the flags.

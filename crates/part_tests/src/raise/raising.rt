@@ -4,7 +4,7 @@ ghost use Rattle.std.specs.Prelude.{IfOk};
 ghost use Rattle.ctrl_clusters.specs.Rows.{AreControlsOf};
 
 use crate::raise::changing::change;
-use crate::raise::listeners::{Listeners, Told, takes};
+use crate::raise::listeners::{Listeners, Told, are_alike, takes};
 use crate::raise::planning::{FIRST, Silent, plan};
 use crate::values::{pairs_of, values_of};
 use ctrl_clusters::{Moment, Ranges};
@@ -297,7 +297,7 @@ fn ranges_with(alloc: Global, plan: &Plan<Silent>, range: Range) -> Result<Range
     Ok(ranges)
 }
 
-// Whether the file handles take what they should, where control 3 has another range afterwards.
+// Whether the file handles take what they should, where control 3 has another range afterwards. The same is raised where the clusters are handed in.
 fn is_heard(alloc: Global, plan: &Plan<Silent>, range: Range, case: &Case) -> Result<bool, Fail> {
     let ((old, held), (new, holding)) = (case.before, case.after);
     let (old, new) = (values_of(alloc, old)?, values_of(alloc, new)?);
@@ -323,9 +323,12 @@ fn is_heard(alloc: Global, plan: &Plan<Silent>, range: Range, case: &Case) -> Re
     };
     let listeners = Listeners::subscribed(alloc)?;
     let mut events = listeners.raised(&change, pairs.as_slice(), from)?;
+    let listeners = Listeners::subscribed(alloc)?;
+    let others = listeners.raised_within(&change, pairs.as_slice(), from)?;
     let [first, second, third] = case.taken;
     Ok(
-        takes(&mut events, 0, FIRST, first)
+        are_alike(&events, &others)
+            && takes(&mut events, 0, FIRST, first)
             && takes(&mut events, 1, FIRST, second)
             && takes(&mut events, 2, FIRST, third),
     )

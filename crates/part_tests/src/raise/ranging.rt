@@ -4,14 +4,14 @@ ghost use Rattle.std.specs.Prelude.{◌<◌, length, IfOk};
 ghost use Rattle.ctrl_handlers.specs.Plan.{control_in};
 ghost use Rattle.ctrl_clusters.specs.Ranges.{HasRangeFor};
 
-use crate::raise::listeners::{Listeners, Told, takes};
+use crate::raise::listeners::{Listeners, Told, are_alike, takes};
 use crate::raise::planning::{FIRST, Silent, plan, plan_with};
 use crate::values::values_of;
 use ctrl_clusters::{Change, Controls, Moment, Ranges};
 use ctrl_events::Events;
 use ctrl_handlers::Plan;
 use ctrl_settle::Ctrl;
-use ctrl_types::{CtrlValue, FhId};
+use ctrl_types::CtrlValue;
 use std::alloc::Global;
 use std::test::Fail;
 
@@ -235,16 +235,6 @@ fn heard_between(alloc: Global, after: &Moment<Silent>, case: &Case) -> Result<E
     };
     let listeners = Listeners::subscribed(alloc)?;
     listeners.raised(&change, &[], None)
-}
-
-// Whether the same waits for each file handle.
-fn are_alike(events: &Events, others: &Events) -> bool {
-    for fh in 0..3 {
-        if !events.is_like(others, FhId(fh)) {
-            return false;
-        }
-    }
-    true
 }
 
 // Whether the file handles take what they should, which is also what is raised between the two moments.

@@ -16,11 +16,9 @@ unfolding asks_validator
 returns-in-Ok-clause-counted g c =
     let k : ℕ = c.args.cluster in
     let settled : settle_row c.args.at.now.ranges.now (members c.args.at.now.plan.now k) (overwritten c.args.at.now.values.now c.args.pairs.now (members c.args.at.now.plan.now k)) ≡ Ok c.settle_row.new.row =
-    sym
-    (ap (settle_row c.args.at.now.ranges.now c.members-members.result.now) c.read_overwritten.ensures
-    ∙ ap (λ (cs : List ℕ). settle_row c.args.at.now.ranges.now cs (overwritten c.args.at.now.values.now c.args.pairs.now cs)) c.members-members.ensures.members)
-    ∙ c.in-Ok.ensures.ok in
-    c.judge.ensures.counted ∙ ap (λ (n : ℕ). record c.args.work.now { asked = n }) (asked_settled (calls_of c.args.at.now.plan.now k).validator _ c.settle_row.new.row c.args.work.now.asked settled)
+    sym (ap (λ (cs : List ℕ). settle_row c.args.at.now.ranges.now cs (overwritten c.args.at.now.values.now c.args.pairs.now cs)) c.members_of-members.ensures.members) ∙ c.in-Ok.ensures.ok in
+    c.judge_settled.ensures.counted
+    ∙ ap (λ (n : ℕ). record c.args.work.now { asked = n }) (asked_settled (calls_of c.args.at.now.plan.now k).validator _ c.settle_row.new.row c.args.work.now.asked settled)
 
 -- and nobody is asked where it doesn't
 pub returns-in-Err-clause-counted : goal.returns-in-Err-clause-counted
@@ -28,8 +26,5 @@ unfolding asks_validator
 returns-in-Err-clause-counted g c =
     let k : ℕ = c.args.cluster in
     let unsettled : settle_row c.args.at.now.ranges.now (members c.args.at.now.plan.now k) (overwritten c.args.at.now.values.now c.args.pairs.now (members c.args.at.now.plan.now k)) ≡ Err c.in-Err.errno =
-    sym
-    (ap (settle_row c.args.at.now.ranges.now c.members-members.result.now) c.read_overwritten.ensures
-    ∙ ap (λ (cs : List ℕ). settle_row c.args.at.now.ranges.now cs (overwritten c.args.at.now.values.now c.args.pairs.now cs)) c.members-members.ensures.members)
-    ∙ c.in-Err.ensures.err in
+    sym (ap (λ (cs : List ℕ). settle_row c.args.at.now.ranges.now cs (overwritten c.args.at.now.values.now c.args.pairs.now cs)) c.members_of-members.ensures.members) ∙ c.in-Err.ensures.err in
     ap (λ (n : ℕ). record c.args.work.now { asked = n }) (asked_unsettled (calls_of c.args.at.now.plan.now k).validator _ c.in-Err.errno c.args.work.now.asked unsettled)

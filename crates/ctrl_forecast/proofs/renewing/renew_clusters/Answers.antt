@@ -1,40 +1,44 @@
-use Rattle.std.proofs.Common.{◌∙◌, ◌+◌, ℕ, List, drop, get_or, map, ap, subst}
-use Rattle.std.proofs.lemmas.List.{drop_more, drop_all}
-use Rattle.ctrl_clusters.specs.Judging.{with_calls}
-use Rattle.ctrl_forecast.specs.Asking.{asked_from}
-use Rattle.ctrl_forecast.specs.Boards.{board_of}
-use Rattle.ctrl_forecast.specs.Forecasts.{QueuedData}
-use Rattle.ctrl_forecast.specs.Frames.{AreReady, FrameData, Setting, queued_of, setting}
-use Rattle.ctrl_forecast.proofs.AskingLemmas.{cluster_count, clusters_count}
-use Rattle.ctrl_forecast.proofs.KeptLemmas.{ready_kept, ready_next}
+use Rattle.std.proofs.Common.{◌∙◌, ◌<◌, ℕ, List, length, take, get_or, map, sym, subst}
+use Rattle.std.proofs.lemmas.List.{take_more, take_all}
+use Rattle.std.proofs.lemmas.List.Elements.{All-get_or}
+use Rattle.ctrl_forecast.specs.Frames.{AreRenewed, FrameData, Setting, queued_of, forecast_of, setting}
+use Rattle.ctrl_forecast.proofs.TurnLemmas.{still_ready, turns_count, turns_end, turns_kept, turns_next}
 use Rattle.ctrl_forecast.proofs.renewing.renew_clusters.Goals as goal
+
+pub renew_cluster-requires-clause-elsewhere : goal.renew_cluster-requires-clause-elsewhere
+renew_cluster-requires-clause-elsewhere g c =
+    let s : Setting = setting g.D.Validates.verdict c.args.at.now.plan.now c.args.at.now.ranges.now c.args.at.now.values.now c.args.at.now.grabs.now in
+    let i : ℕ = c.loop-cluster.cluster-index in
+    let ks : List ℕ = c.args.clusters.now in
+    λ j other less. still_ready s c.args.from ks (take i ks) c.args.frames.now.items c.loop-cluster.frames.items c.requires.ready c.loop-cluster.invariant.renewed (get_or ks i 0) j
+    (All-get_or (λ k. k < length c.args.at.now.plan.now.clusters) ks i 0 c.loop-cluster-test.true c.requires.clusters) other less
 
 pub loop-cluster-preserved : goal.loop-cluster-preserved
 loop-cluster-preserved g c =
     let s : Setting = setting g.D.Validates.verdict c.args.at.now.plan.now c.args.at.now.ranges.now c.args.at.now.values.now c.args.at.now.grabs.now in
+    let old : List FrameData = c.args.frames.now.items in
     let fs : List FrameData = c.loop-cluster.frames.items in
     let gs : List FrameData = c.renew_cluster.new.frames.items in
     let i : ℕ = c.loop-cluster.cluster-index in
     let ks : List ℕ = c.args.clusters.now in
     record {
-      ready = ready_next s c.args.from (get_or ks i 0) (drop (i + 1) ks) fs gs (subst (λ (l : List ℕ). AreReady s c.args.from l fs) (drop_more ks i 0 c.loop-cluster-test.true) c.loop-cluster.invariant.ready) c.renew_cluster.ensures.renewed;
-      queued = c.renew_cluster.ensures.renewed.queued ∙ c.loop-cluster.invariant.queued;
-      counted = cluster_count (asked_from g.D.Validates.verdict c.args.at.now.plan.now c.args.at.now.ranges.now c.args.at.now.values.now c.args.at.now.grabs.now (map queued_of c.args.frames.now.items) c.args.from) ks i
-          c.args.work.now.asked c.loop-cluster.work.asked c.renew_cluster.new.work.asked c.loop-cluster-test.true c.loop-cluster.invariant.counted
-          (c.renew_cluster.ensures.counted
-          ∙ ap (λ (qs : List QueuedData). with_calls (asked_from g.D.Validates.verdict c.args.at.now.plan.now c.args.at.now.ranges.now c.args.at.now.values.now c.args.at.now.grabs.now qs c.args.from (get_or ks i 0)) c.loop-cluster.work.asked) c.loop-cluster.invariant.queued);
+      renewed = subst (λ (l : List ℕ). AreRenewed s l old gs) (sym (take_more ks i 0 c.loop-cluster-test.true))
+          (turns_next s (get_or ks i 0) (take i ks) old fs gs c.loop-cluster.invariant.renewed c.renew_cluster.ensures.renewed c.renew_cluster.ensures.apart);
+      counted = turns_count s c.args.from i c.args.work.now.asked c.loop-cluster.work.asked c.renew_cluster.new.work.asked ks old fs c.args.at.now.planned.is_plan c.args.at.now.valued c.loop-cluster-test.true
+          (All-get_or (λ k. k < length c.args.at.now.plan.now.clusters) ks i 0 c.loop-cluster-test.true c.requires.clusters) c.loop-cluster.invariant.renewed c.loop-cluster.invariant.counted c.renew_cluster.ensures.counted;
       told = c.renew_cluster.ensures.told ∙ c.loop-cluster.invariant.told;
     }
 
 pub returns-clause-frames : goal.returns-clause-frames
 returns-clause-frames g c =
     let s : Setting = setting g.D.Validates.verdict c.args.at.now.plan.now c.args.at.now.ranges.now c.args.at.now.values.now c.args.at.now.grabs.now in
+    let old : List FrameData = c.args.frames.now.items in
     let fs : List FrameData = c.loop-cluster.frames.items in
-    ready_kept g.D.Validates.verdict c.args.at.now.plan.now c.args.at.now.ranges.now c.args.at.now.grabs.now c.args.at.now.values.now c.args.from fs c.args.at.now.planned c.args.at.now.valued
-    (subst (λ (l : List ℕ). AreReady s c.args.from l fs) (drop_all c.loop-cluster.cluster-index c.args.clusters.now c.loop-cluster-test.false) c.loop-cluster.invariant.ready)
-    ∙ ap (board_of g.D.Validates.verdict c.args.at.now.plan.now c.args.at.now.ranges.now c.args.at.now.values.now c.args.at.now.grabs.now) c.loop-cluster.invariant.queued
+    turns_kept s c.args.from c.args.clusters.now old fs c.args.at.now.planned c.args.at.now.valued c.requires.ready
+    (subst (λ (l : List ℕ). AreRenewed s l old fs) (take_all c.loop-cluster.cluster-index c.args.clusters.now c.loop-cluster-test.false) c.loop-cluster.invariant.renewed)
 
 pub returns-clause-counted : goal.returns-clause-counted
 returns-clause-counted g c =
-    clusters_count g.D.Validates.verdict c.args.at.now.plan.now c.args.at.now.ranges.now c.args.at.now.grabs.now c.args.at.now.values.now (map queued_of c.args.frames.now.items) c.args.from c.args.clusters.now
-    c.loop-cluster.cluster-index c.args.work.now.asked c.loop-cluster.work.asked c.loop-cluster-test.false c.loop-cluster.invariant.counted
+    let s : Setting = setting g.D.Validates.verdict c.args.at.now.plan.now c.args.at.now.ranges.now c.args.at.now.values.now c.args.at.now.grabs.now in
+    turns_end s c.args.from c.loop-cluster.cluster-index c.args.work.now.asked c.loop-cluster.work.asked c.args.clusters.now (map queued_of c.args.frames.now.items) (map forecast_of c.args.frames.now.items)
+    c.loop-cluster-test.false c.loop-cluster.invariant.counted

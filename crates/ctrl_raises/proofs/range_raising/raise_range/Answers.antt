@@ -12,11 +12,11 @@ returns-then-is_empty g c = λ j. raised_nowhere _ _ _ j (length c.args.after.no
 -- nothing is raised of the controls below the first member
 pub loop-next-init : goal.loop-next-init
 loop-next-init g c = record {
-  ends = c.next_member-next.ensures.ends;
+  ends = c.next_number-next.ensures.ends;
   raised = λ j.
-      raised_further c.args.after.now.plan.now (parts c.args.after.now) c.args.control c.cluster_of.result c.args.old.now _ 0 c.next_member-next.result j (events_of c.args.events.now j) (events_of c.args.events.now j)
-      c.args.after.now.planned.is_plan c.cluster_of.ensures.cluster c.next_member-next.ensures.starts
-      (λ d no_less below. rw c.members-members.ensures.members at (c.next_member-next.ensures.first d no_less below)) (raised_first _ _ _ j (events_of c.args.events.now j));
+      raised_further c.args.after.now.plan.now (parts c.args.after.now) c.args.control c.cluster_of.result c.args.old.now _ 0 c.next_number-next.result j (events_of c.args.events.now j) (events_of c.args.events.now j)
+      c.args.after.now.planned.is_plan c.cluster_of.ensures.cluster c.next_number-next.ensures.starts
+      (λ d no_less below. rw c.members-members.ensures.members at (c.next_number-next.ensures.first d no_less below)) (raised_first _ _ _ j (events_of c.args.events.now j));
 }
 
 pub raise_member-requires-clause-numbers : goal.raise_member-requires-clause-numbers
@@ -27,10 +27,10 @@ raise_member-requires-clause-numbers g c =
 -- one more member is raised, and nothing of the controls between it and the next
 pub loop-next-preserved : goal.loop-next-preserved
 loop-next-preserved g c = record {
-  ends = c.next_member-next-in-loop-next.ensures.ends;
+  ends = c.next_number-next-in-loop-next.ensures.ends;
   raised = λ j.
-      raised_further c.args.after.now.plan.now (parts c.args.after.now) c.args.control c.cluster_of.result c.args.old.now _ (c.loop-next.next + 1) c.next_member-next-in-loop-next.result j (events_of c.args.events.now j)
-      (events_of c.raise_member.new.events j) c.args.after.now.planned.is_plan c.cluster_of.ensures.cluster c.next_member-next-in-loop-next.ensures.starts
-      (λ d no_less below. rw c.members-members.ensures.members at (c.next_member-next-in-loop-next.ensures.first d no_less below))
+      raised_further c.args.after.now.plan.now (parts c.args.after.now) c.args.control c.cluster_of.result c.args.old.now _ (c.loop-next.next + 1) c.next_number-next-in-loop-next.result j (events_of c.args.events.now j)
+      (events_of c.raise_member.new.events j) c.args.after.now.planned.is_plan c.cluster_of.ensures.cluster c.next_number-next-in-loop-next.ensures.starts
+      (λ d no_less below. rw c.members-members.ensures.members at (c.next_number-next-in-loop-next.ensures.first d no_less below))
       (raised_next _ _ _ j c.loop-next.next (events_of c.args.events.now j) (events_of c.loop-next.events j) (events_of c.raise_member.new.events j) (c.loop-next.invariant.raised j) (c.raise_member.ensures j));
 }

@@ -2,7 +2,7 @@
 use super::planning::{Made, Named, plan_of};
 use super::rows::is_work;
 use crate::cluster::driver::Strict;
-use ctrl_calls::{ClusterRow, Work};
+use ctrl_calls::{RowValues, Work};
 use ctrl_clusters::{Controls, Moment, validated_row};
 use ctrl_types::{ByteRow, CtrlValue, Errno, Pair};
 use std::alloc::Global;
@@ -58,10 +58,10 @@ fn becomes(
         value,
     }];
     let mut work = Work::new();
-    let mut row = ClusterRow::zeros(at.plan.members(cluster).len());
+    let mut row = RowValues::zeros(at.plan.members(cluster).len());
     validated_row(at, cluster, pairs.as_slice(), &mut row, &mut work)?;
     Ok(if is_work(&work, asked, 0) {
-        row.values().first().copied()
+        row.to_cluster_row().values().first().copied()
     } else {
         None
     })

@@ -1,13 +1,15 @@
 // Rows that are written, and notifiers that hear of them.
-ghost use Rattle.ctrl_clusters.specs.Rows.{AreControlsOf};
+ghost use Rattle.std.specs.Prelude.{◌≡◌};
 
 use super::planning::{BYTE, Made, Named, plan_of};
 use super::rows::{Two, are_rows, is_work, kept_rows, rows_of};
 use crate::cluster::common::controls_of;
 use crate::cluster::driver::Strict;
 use crate::values::{are_numbers, pairs_of, values_of};
-use ctrl_calls::Work;
-use ctrl_clusters::{Controls, Moment, first_words, notify_changed, write_row, write_rows};
+use ctrl_calls::{ClusterRow, RowValues, Work};
+use ctrl_clusters::{
+    Moment, copy_row, first_words, notify_changed, write_row, write_rows, write_values,
+};
 use ctrl_handlers::Plan;
 use ctrl_types::{CtrlValue, Pair};
 use std::alloc::{AllocError, Global};
@@ -47,10 +49,20 @@ fn is_written(plan: &Plan<Strict>, values: &mut Vec<CtrlValue>, two: Two, want: 
     are_numbers(values.as_slice(), want)
 }
 
-// The same, one row at a time.
+// The same row, as a closure is told it.
+fn copied(row: &RowValues) -> ClusterRow
+    ensures { result ≡ row.now }
+{
+    let mut copy = ClusterRow::zeros(row.len());
+    copy_row(row, &mut copy);
+    copy
+}
+
+// The same, one row at a time, and one row's values.
 fn is_written_singly(
     plan: &Plan<Strict>,
     values: &mut Vec<CtrlValue>,
+    others: &mut Vec<CtrlValue>,
     two: Two,
     want: &[i64],
 ) -> bool {
@@ -59,21 +71,27 @@ fn is_written_singly(
     };
     for new in &rows {
         if values.len() != plan.controls().len()
+            || others.len() != plan.controls().len()
             || new.cluster >= plan.cluster_count()
             || new.row.len() != plan.members(new.cluster).len()
         {
             return false;
         }
         write_row(plan, values, new.cluster, &new.row);
+        write_values(plan, others, new.cluster, copied(&new.row).values());
     }
-    are_numbers(values.as_slice(), want)
+    are_numbers(values.as_slice(), want) && are_numbers(others.as_slice(), want)
 }
 
 // Whether the values are these, whichever way the rows are written.
 fn are_written(alloc: Global, plan: &Plan<Strict>, two: Two, want: &[i64]) -> Result<bool, Fail> {
     let mut values = values_of(alloc, VALUES)?;
     let mut singly = values_of(alloc, VALUES)?;
-    Ok(is_written(plan, &mut values, two, want) && is_written_singly(plan, &mut singly, two, want))
+    let mut others = values_of(alloc, VALUES)?;
+    Ok(
+        is_written(plan, &mut values, two, want)
+            && is_written_singly(plan, &mut singly, &mut others, two, want),
+    )
 }
 
 #[test]

@@ -1,11 +1,11 @@
 // What a plan is asked at values, as data.
 use super::planning::{Made, Named, plan_of};
-use super::rows::{is_row, is_work};
+use super::rows::is_work;
 use crate::cluster::common::controls_of;
 use crate::cluster::driver::Strict;
-use crate::values::{are_numbers, pairs_of, row_of};
+use crate::values::{are_numbers, is_row, pairs_of, row_of};
 use bitflags::Flags as FlagSet;
-use ctrl_calls::{ClusterRow, Work};
+use ctrl_calls::{ClusterRow, RowValues, Work};
 use ctrl_clusters::{Moment, flags_under, inactive, judge, present_row, read_row, validated_row};
 use ctrl_forecast::overlay;
 use ctrl_types::{CtrlValue, Errno, Pair};
@@ -33,7 +33,7 @@ pub enum Look {
 pub type Answer = Result<&'static [i64], Errno>;
 
 // Whether this is answered, and where it is accepted the row has these values.
-fn is_answer(answer: Result<(), Errno>, row: &ClusterRow, want: Answer) -> bool {
+fn is_answer(answer: Result<(), Errno>, row: &RowValues, want: Answer) -> bool {
     match (answer, want) {
         (Ok(()), Ok(values)) => is_row(row, values),
         (Err(errno), Err(wanted)) => errno == wanted,
@@ -52,7 +52,7 @@ fn is_becoming(
         return false;
     }
     let mut work = Work::new();
-    let mut row = ClusterRow::zeros(at.plan.members(cluster).len());
+    let mut row = RowValues::zeros(at.plan.members(cluster).len());
     let answer = validated_row(at, cluster, pairs, &mut row, &mut work);
     is_answer(answer, &row, want) && is_work(&work, asked, 0)
 }
@@ -79,7 +79,7 @@ fn has_row(values: &[CtrlValue], members: &[u32], want: &[i64]) -> bool {
     }
     let mut read = ClusterRow::zeros(members.len());
     read_row(values, members, &mut read);
-    is_row(&read, want) && is_row(&present_row(values, members), want)
+    are_numbers(read.values(), want) && are_numbers(present_row(values, members).values(), want)
 }
 
 // The same moment under other grabs; none where they aren't as many as the controls.

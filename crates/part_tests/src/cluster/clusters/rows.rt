@@ -4,18 +4,13 @@ ghost use Rattle.ctrl_handlers.specs.Plan.{members};
 ghost use Rattle.ctrl_clusters.specs.NewRows.{AreNewRows};
 
 use crate::cluster::driver::Strict;
-use crate::values::row_of;
-use ctrl_calls::{ClusterRow, Work};
-use ctrl_clusters::{NewRow, NewRows, member_value};
+use crate::values::{is_row, row_of};
+use ctrl_calls::Work;
+use ctrl_clusters::{NewRow, NewRows, member_value, next_number};
 use ctrl_handlers::Plan;
 use ctrl_types::CtrlValue;
 use std::alloc::{AllocError, Global};
 use std::test::Fail;
-
-/// Whether a row has these values.
-pub fn is_row(row: &ClusterRow, want: &[i64]) -> bool {
-    row_of(want) == Some(*row)
-}
 
 /// Whether so many validators were asked, and so many notifiers told.
 pub fn is_work(work: &Work, asked: u64, told: u64) -> bool {
@@ -127,6 +122,42 @@ fn is_among(
 fn rows_among_others(rt: HostRuntime) -> Result<(), Fail> {
     for &(two, cluster, want) in AMONG {
         assert!(rt; is_among(rt.alloc(), two, cluster, want)?, "{cluster}");
+    }
+    Ok(())
+}
+
+// Rows of two clusters, a number from which on one is looked for, the end, and the cluster that comes next.
+const NEXT: &[(Two, u32, u32, u32)] = &[
+    (&[(7, &[1, 2]), (3, &[5])], 0, 8, 3),
+    (&[(7, &[1, 2]), (3, &[5])], 3, 8, 3),
+    (&[(7, &[1, 2]), (3, &[5])], 4, 8, 7),
+    (&[(7, &[1, 2]), (3, &[5])], 8, 8, 8),
+    // the end comes before them
+    (&[(7, &[1, 2]), (3, &[5])], 0, 2, 2),
+    (&[(7, &[1, 2]), (3, &[5])], 4, 7, 7),
+    (&[(0, &[1]), (7, &[5])], 0, u32::MAX, 0),
+    (&[(0, &[1]), (7, &[5])], 8, u32::MAX, u32::MAX),
+];
+
+// Whether this one comes next, among the rows and among the numbers of their clusters.
+fn is_next(alloc: Global, two: Two, from: u32, end: u32, want: u32) -> Result<bool, AllocError> {
+    let Some(rows) = kept_rows(alloc, 8, two)? else {
+        return Ok(false);
+    };
+    if from > end {
+        return Ok(false);
+    }
+    let mut clusters = Vec::new(alloc);
+    for (cluster, _) in two {
+        clusters.push(*cluster)?;
+    }
+    Ok(rows.next_cluster(from, end) == want && next_number(clusters.as_slice(), from, end) == want)
+}
+
+#[test]
+fn clusters_in_rising_order(rt: HostRuntime) -> Result<(), Fail> {
+    for &(two, from, end, want) in NEXT {
+        assert!(rt; is_next(rt.alloc(), two, from, end, want)?, "{from}, {end}");
     }
     Ok(())
 }

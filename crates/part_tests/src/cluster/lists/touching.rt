@@ -1,7 +1,7 @@
 // What a set makes of the clusters that it touches.
 use super::listing::{FIRST, SIX, VALUES, are_entries, list_of, plan_of};
 use crate::cluster::common::controls_of;
-use crate::values::row_of;
+use crate::values::is_row;
 use ctrl_calls::Work;
 use ctrl_lists::{Touched, View, plan_set};
 use ctrl_types::{CtrlValue, Pair, Which};
@@ -12,10 +12,11 @@ const ROWS: &[(u32, &[i64])] = &[(3, &[1]), (0, &[10, 2])];
 
 fn are_rows(touched: &Touched, rows: &[(u32, &[i64])]) -> bool {
     for (new, &(cluster, numbers)) in touched.rows().iter().zip(rows) {
-        let row = row_of(numbers);
         if new.cluster != cluster
-            || Some(new.row) != row
-            || touched.row_of(cluster).copied() != row
+            || !is_row(&new.row, numbers)
+            || !touched
+                .row_of(cluster)
+                .is_some_and(|row| is_row(row, numbers))
         {
             return false;
         }

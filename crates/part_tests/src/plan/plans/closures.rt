@@ -3,8 +3,8 @@ ghost use Rattle.std.specs.Prelude.{⊤, ◌≡◌};
 ghost use Rattle.ctrl_calls.specs.declared.verdict.Verdict.TheVariants.{Accept};
 
 use ctrl_calls::{
-    Calls, ClusterRow, Judging, Notifier, Notifies, Relation, Telling, Validates, Validator,
-    Verdict, Work, ask, tell,
+    Calls, ClusterRow, Judging, Notifier, Notifies, Relation, RowValues, Telling, Validates,
+    Validator, Verdict, Work, ask, tell,
 };
 use ctrl_handlers::Plan;
 use std::alloc::Global;
@@ -85,7 +85,7 @@ pub fn closures(rt: &impl Abort, called: &Arc<AtomicU64>, number: u64) -> Calls<
 
 // The number of a validator.
 fn judges(validator: &Validator<Alike>, called: &Arc<AtomicU64>) -> Option<u64> {
-    let row = ClusterRow::from_slice(&[])?;
+    let row = RowValues::zeros(0);
     called.store(0, Ordering::SeqCst);
     let _ = ask(validator, &row, &mut Work::new());
     Some(called.load(Ordering::SeqCst))
@@ -93,7 +93,7 @@ fn judges(validator: &Validator<Alike>, called: &Arc<AtomicU64>) -> Option<u64> 
 
 // The number of a notifier.
 fn tells(notifier: &Notifier<Alike>) -> Option<u64> {
-    let row = ClusterRow::from_slice(&[])?;
+    let row = RowValues::zeros(0);
     Some(tell(notifier, &row, &mut Work::new()))
 }
 

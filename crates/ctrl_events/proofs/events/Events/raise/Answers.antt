@@ -2,6 +2,7 @@ use Rattle.std.proofs.Common.{arith, add-one, length, ◌∙◌, ◌≡◌, ◌<
 use Rattle.std.specs.Option.{option_map}
 use Rattle.ctrl_events.specs.Events.{FileEvents}
 use Rattle.ctrl_events.specs.Files.{raised_in_entry, changed_at}
+use Rattle.ctrl_events.proofs.HeardLemmas.{quiet_raise}
 use Rattle.ctrl_events.proofs.RaiseLemmas.{changed_none, changed_more, next_unchanged, at_entry, raised_for}
 use Rattle.ctrl_events.proofs.events.Events.raise.Goals as goal
 
@@ -23,3 +24,6 @@ pub returns : goal.returns
 returns c =
     let all : c.loop-place.place ≡ length c.args.self.now.files = omega (arith, c.loop-place-test.false, c.loop-place.auto.place-end, c.count-place-end.ensures.files) in
     raised_for c.args.self.now c.loop-place.self c.loop-place.place c.args.control c.args.changes c.args.payload.now (option_map (λ fh. fh.0) c.args.from) all c.loop-place.invariant
+
+pub returns-then-not-is_heard : goal.returns-then-not-is_heard
+returns-then-not-is_heard c = quiet_raise c.args.self.now c.args.control c.args.changes c.args.payload.now (option_map (λ fh. fh.0) c.args.from) (c.is_heard.ensures c.if-not-is_heard.true)

@@ -1,10 +1,22 @@
-use Rattle.std.proofs.Common.{arith, ap, length}
-use Rattle.ctrl_events.proofs.KeptLemmas.{kept_without, fewer_subscriptions, length_others}
+use Rattle.std.proofs.Common.{◌∙◌, ap, sym, subst}
+use Rattle.ctrl_events.specs.Events.{FileEvents, other_events}
+use Rattle.ctrl_events.specs.Order.{OrderData, without}
+use Rattle.ctrl_events.specs.Queue.{subscriptions, events_to, IsQueue}
+use Rattle.ctrl_events.proofs.KeptLemmas.{other_subscriptions}
+use Rattle.ctrl_events.proofs.QueueLemmas.{subscriptions_without, events_without, queue_without, file_is}
 use Rattle.ctrl_events.proofs.queue.Queue.unsubscribe.Goals as goal
 
 pub invariant_of-self : goal.invariant_of-self
-invariant_of-self c = record {
-  kept = rw (c.forget.ensures, c.drop_events.ensures.events) (kept_without c.args.control c.self.inside.subscribed.items c.self.inside.waiting.items c.self.invariant.kept);
-  fits = rw (c.forget.ensures, c.drop_events.ensures.room) (fewer_subscriptions c.args.control c.self.inside.subscribed.items _ c.self.invariant.fits);
-  few = let less = length_others c.args.control c.self.inside.waiting.items in omega (arith, less, ap length c.drop_events.ensures.events, c.self.invariant.few);
-}
+invariant_of-self c =
+    subst (λ (o : OrderData). IsQueue o.members c.self.inside.flags.items c.self.inside.told.items c.remove-2.new.self.members c.remove-2.new.self.bound c.remove-2.new.self.room c.self.inside.next) (sym c.remove.ensures.left) (
+    subst (λ (o : OrderData). IsQueue (without c.args.control c.self.inside.subscribed.members) c.self.inside.flags.items c.self.inside.told.items o.members o.bound o.room c.self.inside.next) (sym c.remove-2.ensures.left) (
+    queue_without c.self.inside.subscribed.members c.self.inside.waiting.members c.self.inside.flags.items c.self.inside.told.items c.self.inside.waiting.bound c.self.inside.waiting.room c.self.inside.next c.args.control c.self.invariant
+    ))
+
+pub returns : goal.returns
+returns c = file_is _ _ _ _ _ _
+    (ap (λ (o : OrderData). subscriptions c.self.inside.flags.items o.members) c.remove.ensures.left ∙ subscriptions_without c.self.inside.flags.items c.self.inside.subscribed.members c.args.control
+    ∙ ap (λ (f : FileEvents). other_subscriptions c.args.control f.subscribed) c.self.view_is)
+    (ap (λ (o : OrderData). events_to c.self.inside.told.items o.members) c.remove-2.ensures.left ∙ events_without c.self.inside.told.items c.self.inside.waiting.members c.args.control
+    ∙ ap (λ (f : FileEvents). other_events c.args.control f.waiting) c.self.view_is)
+    (ap (λ (f : FileEvents). f.next) c.self.view_is)

@@ -2,13 +2,16 @@ use Rattle.std.proofs.Common.{◌≡◌, ◌∙◌, ◌<◌, ◌≤◌, ◌+◌,
 use Rattle.std.specs.List.{All, remove}
 use Rattle.std.proofs.lemmas.List.{get_or_read_under, length-map, get_or-map}
 use Rattle.ctrl_clusters.specs.Judging.{with_calls}
-use Rattle.ctrl_forecast.specs.Asking.{renewing_count}
+use Rattle.ctrl_forecast.specs.Asking.{removing_count, renewing_until_same}
 use Rattle.ctrl_forecast.specs.Boards.{BoardData, asked_at, board_of, named_clusters}
-use Rattle.ctrl_forecast.specs.Forecasts.{QueuedData, named_by_frames}
-use Rattle.ctrl_forecast.specs.Frames.{AreReady, FrameData, Setting, frame_at, no_frame, queued_of, setting}
+use Rattle.ctrl_forecast.specs.Forecasts.{QueuedData, forecasts, named_by_frames}
+use Rattle.ctrl_forecast.specs.declared.board.Forecast.{Forecast}
+use Rattle.ctrl_forecast.specs.Frames.{AreReadyAt, FrameData, Setting, forecast_of, frame_at, no_frame, queued_of, setting}
 use Rattle.ctrl_clusters.proofs.CallLemmas.{calls_most}
 use Rattle.ctrl_forecast.proofs.AskingLemmas.{behind_removed, renewing_most}
-use Rattle.ctrl_forecast.proofs.ReadyLemmas.{kept_named, named_within, ready_removed, removed_queued}
+use Rattle.ctrl_forecast.proofs.ReadyLemmas.{kept_named, named_within, removed_queued}
+use Rattle.ctrl_forecast.proofs.TurnLemmas.{ready_without, removed_rows}
+use Rattle.ctrl_forecast.proofs.UnchangedLemmas.{until_same_most}
 use Rattle.ctrl_forecast.proofs.board.Board.remove.Goals as goal
 
 pub renew_clusters-requires-clause-clusters : goal.renew_clusters-requires-clause-clusters
@@ -31,9 +34,9 @@ renew_clusters-requires-clause-ready g c =
     let named : c.named.result.now ≡ (frame_at fs p).named = c.named.ensures ∙ ap (λ (f : FrameData). f.named) own in
     let asks : c.args.self.now.queued ≡ map queued_of fs = sym (ap (λ (b : BoardData). b.queued) c.self.view_is) in
     let kept = c.self.view_is ∙ c.requires.kept ∙ ap (board_of g.D.Validates.verdict c.args.at.now.plan.now c.args.at.now.ranges.now c.args.at.now.values.now c.args.at.now.grabs.now) asks in
-    subst (λ (l : List FrameData). AreReady s p c.named.result.now l) (sym c.remove-removed.ensures.items)
-    (subst (λ (ks : List ℕ). AreReady s p ks (remove fs p)) (sym named)
-    (ready_removed g.D.Validates.verdict c.args.at.now.plan.now c.args.at.now.ranges.now c.args.at.now.grabs.now c.args.at.now.values.now p fs c.args.at.now.planned.is_plan c.args.at.now.valued lt kept))
+    subst (λ (l : List FrameData). AreReadyAt s p c.named.result.now l) (sym c.remove-removed.ensures.items)
+    (subst (λ (ks : List ℕ). AreReadyAt s p ks (remove fs p)) (sym named)
+    (ready_without g.D.Validates.verdict c.args.at.now.plan.now c.args.at.now.ranges.now c.args.at.now.grabs.now c.args.at.now.values.now p fs c.args.at.now.planned.is_plan c.args.at.now.valued lt kept))
 
 pub returns-clause-frames : goal.returns-clause-frames
 returns-clause-frames g c =
@@ -57,9 +60,12 @@ renewed g c =
     ∙ ap (named_clusters c.args.at.now.plan.now) asks in
     let queued : map queued_of c.remove-removed.new.self.items ≡ remove c.args.self.now.queued p =
     ap (map queued_of) c.remove-removed.ensures.items ∙ removed_queued fs p ∙ ap (λ (qs : List QueuedData). remove qs p) (ap (λ (b : BoardData). b.queued) c.self.view_is) in
+    let rows : map forecast_of c.remove-removed.new.self.items ≡ remove (forecasts g.D.Validates.verdict c.args.at.now.plan.now c.args.at.now.ranges.now c.args.at.now.values.now c.args.at.now.grabs.now c.args.self.now.queued) p =
+    ap (map forecast_of) c.remove-removed.ensures.items ∙ removed_rows fs p ∙ ap (λ (l : List Forecast). remove l p) (ap (λ (b : BoardData). b.forecasts) (c.self.view_is ∙ c.requires.kept)) in
     c.renew_clusters.ensures.counted
-    ∙ ap (λ (qs : List QueuedData). with_calls (renewing_count g.D.Validates.verdict c.args.at.now.plan.now c.args.at.now.ranges.now c.args.at.now.values.now c.args.at.now.grabs.now qs p c.named.result.now) c.args.work.now.asked) queued
-    ∙ ap (λ (ks : List ℕ). with_calls (renewing_count g.D.Validates.verdict c.args.at.now.plan.now c.args.at.now.ranges.now c.args.at.now.values.now c.args.at.now.grabs.now (remove c.args.self.now.queued p) p ks) c.args.work.now.asked) named
+    ∙ ap (λ (qs : List QueuedData). with_calls (renewing_until_same g.D.Validates.verdict c.args.at.now.plan.now c.args.at.now.ranges.now c.args.at.now.values.now c.args.at.now.grabs.now qs (map forecast_of c.remove-removed.new.self.items) p c.named.result.now) c.args.work.now.asked) queued
+    ∙ ap (λ (had : List Forecast). with_calls (renewing_until_same g.D.Validates.verdict c.args.at.now.plan.now c.args.at.now.ranges.now c.args.at.now.values.now c.args.at.now.grabs.now (remove c.args.self.now.queued p) had p c.named.result.now) c.args.work.now.asked) rows
+    ∙ ap (λ (ks : List ℕ). with_calls (renewing_until_same g.D.Validates.verdict c.args.at.now.plan.now c.args.at.now.ranges.now c.args.at.now.values.now c.args.at.now.grabs.now (remove c.args.self.now.queued p) (remove (forecasts g.D.Validates.verdict c.args.at.now.plan.now c.args.at.now.ranges.now c.args.at.now.values.now c.args.at.now.grabs.now c.args.self.now.queued) p) p ks) c.args.work.now.asked) named
 
 pub returns-clause-counted : goal.returns-clause-counted
 returns-clause-counted g c = renewed g c
@@ -70,8 +76,14 @@ returns-clause-asked g c =
     let p : ℕ = c.args.place in
     let qs : List QueuedData = c.args.self.now.queued in
     let ks : List ℕ = named_clusters c.args.at.now.plan.now (asked_at qs p) in
-    let n : ℕ = renewing_count g.D.Validates.verdict c.args.at.now.plan.now c.args.at.now.ranges.now c.args.at.now.values.now c.args.at.now.grabs.now (remove qs p) p ks in
+    let n : ℕ = removing_count g.D.Validates.verdict c.args.at.now.plan.now c.args.at.now.ranges.now c.args.at.now.values.now c.args.at.now.grabs.now qs p in
     let made : c.renew_clusters.new.work.asked ≡ with_calls n c.args.work.now.asked = renewed g c in
+    let fewer : n ≤ named_by_frames c.args.at.now.plan.now (drop p (remove qs p)) ks =
+    omega (
+      arith,
+      until_same_most g.D.Validates.verdict c.args.at.now.plan.now c.args.at.now.ranges.now c.args.at.now.values.now c.args.at.now.grabs.now (remove qs p) (remove (forecasts g.D.Validates.verdict c.args.at.now.plan.now c.args.at.now.ranges.now c.args.at.now.values.now c.args.at.now.grabs.now qs) p) p ks,
+      renewing_most g.D.Validates.verdict c.args.at.now.plan.now c.args.at.now.ranges.now c.args.at.now.grabs.now c.args.at.now.values.now (remove qs p) p ks,
+    ) in
     let most : with_calls n c.args.work.now.asked ≤ c.args.work.now.asked + named_by_frames c.args.at.now.plan.now (drop p (remove qs p)) ks =
-    calls_most n (named_by_frames c.args.at.now.plan.now (drop p (remove qs p)) ks) c.args.work.now.asked (renewing_most g.D.Validates.verdict c.args.at.now.plan.now c.args.at.now.ranges.now c.args.at.now.grabs.now c.args.at.now.values.now (remove qs p) p ks) in
+    calls_most n (named_by_frames c.args.at.now.plan.now (drop p (remove qs p)) ks) c.args.work.now.asked fewer in
     omega (arith, made, most, ap (λ (behind : List QueuedData). named_by_frames c.args.at.now.plan.now behind ks) (behind_removed qs p c.requires.place))

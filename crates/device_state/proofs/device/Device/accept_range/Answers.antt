@@ -65,8 +65,8 @@ pub change_range-requires-clause-numbers : goal.change_range-requires-clause-num
 change_range-requires-clause-numbers g c = numbered g.D.Validates.verdict g.D.Notifies.told c.self.inside.plan c.self.inside.steps.items _ c.self.invariant
 
 -- ranges and values differ in the control's cluster alone
-pub renew-requires-clause-kept : goal.renew-requires-clause-kept
-renew-requires-clause-kept g c =
+pub rejudge-requires-clause-kept : goal.rejudge-requires-clause-kept
+rejudge-requires-clause-kept g c =
     let device = c.self.inside in
     let P : List (Entry Step) = past device.steps.items in
     let v : CtrlValue = settled_anew c.args.changed (value_at device.controls.values c.args.control) in
@@ -90,8 +90,8 @@ renew-requires-clause-kept g c =
       },
     ))
 
-pub renew-requires-clause-clusters : goal.renew-requires-clause-clusters
-renew-requires-clause-clusters g c =
+pub rejudge-requires-clause-clusters : goal.rejudge-requires-clause-clusters
+rejudge-requires-clause-clusters g c =
     rw c.at-after.ensures.plan (All-cons (λ k. k < length c.self.inside.plan.clusters) c.cluster_of-cluster.result [] c.cluster_of-cluster.ensures.within (λ k d lt. absurd (omega (arith, lt))))
 
 pub notify_cluster-requires-clause-known : goal.notify_cluster-requires-clause-known
@@ -153,7 +153,7 @@ invariant_of-self-2 g c =
     (c.change_range.ensures.events g.D.Validates.verdict entry P changed.minimum changed.maximum changed.step changed.default_value refl
     (ranged.its_own ∙ ap (λ (cs : List Control). with_range (control_in cs control) changed.minimum changed.maximum changed.step changed.default_value) (sym c.self.invariant.ranges))
     c.self.invariant.ranges c.self.invariant.values c.self.invariant.grabs)
-    ((rw c.at-after.ensures.plan at c.renew.ensures.frames) ∙ board_same g.D.Validates.verdict device.plan c.at-after.ensures.ranges c.at-after.ensures.values c.at-after.ensures.grabs refl)
+    ((rw c.at-after.ensures.plan at c.rejudge.ensures.frames) ∙ board_same g.D.Validates.verdict device.plan c.at-after.ensures.ranges c.at-after.ensures.values c.at-after.ensures.grabs refl)
 
 -- the control's own cluster is told where its value differs, and the frames that name it are judged anew
 pub returns-clause-ok : goal.returns-clause-ok
@@ -168,9 +168,9 @@ returns-clause-ok g c =
     let set : c.change_range.new.controls.values ≡ slice_set device.controls.values control v = ap (λ (m : ControlsData). m.values) c.change_range.ensures.controls in
     let then : c.change_range.new.controls.values ≡ values_then g.D.Validates.verdict device.plan P (range_step control changed) =
     values_ranged g.D.Validates.verdict device.plan P control changed device.controls.values c.change_range.new.controls.values ranged c.self.invariant.values set in
-    let fresh : c.renew.new.work.told ≡ 0 = c.renew.ensures.told ∙ (rw (← c.self.view_is) at c.requires.fresh) in
-    let told : c.notify_cluster.new.work.told ≡ after_change device.plan k (not c.is_same.result) c.renew.new.work.told =
-    ap (λ (w : Work). w.told) c.notify_cluster.ensures.work ∙ ap (λ (p : PlanData). after_change p k (not c.is_same.result) c.renew.new.work.told) c.at-after.ensures.plan in
+    let fresh : c.rejudge.new.work.told ≡ 0 = c.rejudge.ensures.told ∙ (rw (← c.self.view_is) at c.requires.fresh) in
+    let told : c.notify_cluster.new.work.told ≡ after_change device.plan k (not c.is_same.result) c.rejudge.new.work.told =
+    ap (λ (w : Work). w.told) c.notify_cluster.ensures.work ∙ ap (λ (p : PlanData). after_change p k (not c.is_same.result) c.rejudge.new.work.told) c.at-after.ensures.plan in
     rw (← c.self.view_is)
     (record {
       plan = refl;
@@ -181,11 +181,11 @@ returns-clause-ok g c =
           set (differs g c) (spoken g c));
       notified =
           rw (c.self.invariant.values, then)
-          at (counted_alone device.plan device.controls.values c.change_range.new.controls.values control k v _ c.notify_cluster.new.work.told c.renew.new.work.told c.self.invariant.plans.is_plan c.cluster_of-cluster.ensures.cluster
+          at (counted_alone device.plan device.controls.values c.change_range.new.controls.values control k v _ c.notify_cluster.new.work.told c.rejudge.new.work.told c.self.invariant.plans.is_plan c.cluster_of-cluster.ensures.cluster
           set (differs g c) fresh told);
       asked = omega (
         arith,
-        rw c.at-after.ensures.plan at c.renew.ensures.asked,
+        rw c.at-after.ensures.plan at c.rejudge.ensures.asked,
         ap (λ (w : Work). w.asked) c.notify_cluster.ensures.work,
         ap (λ (b : BoardData). named_by_frames device.plan b.queued (k ∷ [])) c.self.invariant.board,
         ap (cluster_asks device.plan P) c.cluster_of-cluster.ensures.cluster,

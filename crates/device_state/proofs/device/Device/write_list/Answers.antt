@@ -25,6 +25,7 @@ use Rattle.device_state.proofs.BoardLemmas.{board_own, board_same}
 use Rattle.device_state.proofs.KeptLemmas.{around, kept_set, numbered, ranges_kept, set_lays, values_kept}
 use Rattle.device_state.proofs.RenewLemmas.{written_apart}
 use Rattle.device_state.proofs.SetLemmas.{new_rows}
+use Rattle.device_state.proofs.WithinLemmas.{set_within, within_same}
 use Rattle.device_state.proofs.device.Device.write_list.Goals as goal
 
 -- what is kept fits the plan
@@ -63,8 +64,51 @@ write_rows-requires-clause-rows g c =
     rw c.rows.ensures (new_rows g.D.Validates.verdict device.plan (ranges_now device.plan (past device.steps.items)) _ _ c.args.touch.pairs c.args.touch.rows sets.judged)
 
 -- there are numbers
-pub raise_step-requires : goal.raise_step-requires
-raise_step-requires g c = record { numbers = rw c.to_values-change.ensures.plan (numbered g.D.Validates.verdict g.D.Notifies.told c.self.inside.plan c.self.inside.steps.items _ c.self.invariant) }
+pub raise_touched-requires-clause-numbers : goal.raise_touched-requires-clause-numbers
+raise_touched-requires-clause-numbers g c = rw c.to_values-change.ensures.plan (numbered g.D.Validates.verdict g.D.Notifies.told c.self.inside.plan c.self.inside.steps.items _ c.self.invariant)
+
+-- nothing differs outside of the clusters of the rows
+pub raise_touched-requires-clause-known : goal.raise_touched-requires-clause-known
+raise_touched-requires-clause-known g c =
+    let device = c.self.inside in
+    let settable = rw (← c.self.view_is) at c.requires.settable in
+    rw (c.to_values-change.ensures.plan, c.as_slice-3.ensures.value, c.requires.clusters)
+    (All-map (λ k. k < length device.plan.clusters) (λ (r : NewRow). r.cluster) c.args.touch.rows settable.judged.within)
+
+pub raise_touched-requires-clause-within : goal.raise_touched-requires-clause-within
+raise_touched-requires-clause-within g c =
+    let device = c.self.inside in
+    let change = c.to_values-change in
+    let settable = rw (← c.self.view_is) at c.requires.settable in
+    let copied : c.args.values.items ≡ device.controls.values = (rw (← c.self.view_is) at c.requires.copied) ∙ sym c.self.invariant.values in
+    let laid : c.write_rows.new.values.items ≡ written device.plan device.controls.values c.args.touch.rows = rw (copied, c.rows.ensures) at c.write_rows.ensures in
+    within_same _ device.plan _ (clusters_of c.args.touch.rows) _ device.controls _ (record device.controls { values = written device.plan device.controls.values c.args.touch.rows }) _ c.args.touch.pairs change.ensures.plan
+    (c.as_slice-3.ensures.value ∙ c.requires.clusters) change.ensures.before (change.ensures.after ∙ ap (λ (vs : Values). record device.controls { values = vs }) (c.as_slice.ensures.value ∙ laid)) c.pairs-2.ensures
+    (set_within device.plan device.controls c.args.touch.rows c.args.touch.pairs settable.plans settable.judged.each_once)
+
+-- so the values that are lent next are the same
+pub replace_within-requires-clause-plan : goal.replace_within-requires-clause-plan
+replace_within-requires-clause-plan g c = ranges_kept g.D.Validates.verdict g.D.Notifies.told c.self.inside.plan c.self.inside.steps.items _ c.self.invariant
+
+pub replace_within-requires-clause-values : goal.replace_within-requires-clause-values
+replace_within-requires-clause-values g c =
+    let device = c.self.inside in
+    ap length c.write_rows.ensures ∙ length_written device.plan c.args.values.items c.rows.result.now ∙ ap length ((rw (← c.self.view_is) at c.requires.copied) ∙ sym c.self.invariant.values)
+    ∙ values_kept g.D.Validates.verdict g.D.Notifies.told device.plan device.steps.items _ c.self.invariant
+    ∙ sym (ranges_kept g.D.Validates.verdict g.D.Notifies.told device.plan device.steps.items _ c.self.invariant).many
+
+pub replace_within-requires-clause-known : goal.replace_within-requires-clause-known
+replace_within-requires-clause-known g c =
+    let device = c.self.inside in
+    let settable = rw (← c.self.view_is) at c.requires.settable in
+    rw (c.as_slice-4.ensures.value, c.requires.clusters) (All-map (λ k. k < length device.plan.clusters) (λ (r : NewRow). r.cluster) c.args.touch.rows settable.judged.within)
+
+pub replace_within-requires-clause-within : goal.replace_within-requires-clause-within
+replace_within-requires-clause-within g c =
+    let device = c.self.inside in
+    let copied : c.args.values.items ≡ device.controls.values = (rw (← c.self.view_is) at c.requires.copied) ∙ sym c.self.invariant.values in
+    let laid : c.write_rows.new.values.items ≡ written device.plan device.controls.values c.args.touch.rows = rw (copied, c.rows.ensures) at c.write_rows.ensures in
+    rw (c.as_slice-4.ensures.value, c.requires.clusters, laid) (written_apart device.plan device.controls.values c.args.touch.rows)
 
 -- each touched cluster has its row, and those are told for whom something changed
 pub invariant_of-self-2 : goal.invariant_of-self-2
@@ -75,15 +119,15 @@ invariant_of-self-2 g c =
     let with : List Pair → Entry Step = λ pairs. record { seat = c.args.seat; step = Set c.args.fh pairs } in
     let settable = rw (← c.self.view_is) at c.requires.settable in
     let laid : c.write_rows.new.values.items ≡ written device.plan device.controls.values c.args.touch.rows = rw (copied, c.rows.ensures) at c.write_rows.ensures in
-    let made : c.replace_values.new.self ≡ record device.controls { values = written device.plan device.controls.values c.args.touch.rows } = c.replace_values.ensures.new ∙ ap (λ (vs : Values). record device.controls { values = vs }) laid in
-    let after : parts_after change.result ≡ c.replace_values.new.self = change.ensures.after ∙ ap (λ (vs : Values). record device.controls { values = vs }) c.as_slice.ensures.value ∙ sym c.replace_values.ensures.new in
+    let made : c.replace_within.new.self ≡ record device.controls { values = written device.plan device.controls.values c.args.touch.rows } = c.replace_within.ensures ∙ ap (λ (vs : Values). record device.controls { values = vs }) laid in
+    let after : parts_after change.result ≡ c.replace_within.new.self = change.ensures.after ∙ ap (λ (vs : Values). record device.controls { values = vs }) c.as_slice.ensures.value ∙ sym c.replace_within.ensures in
     let lays = set_lays g.D.Validates.verdict g.D.Notifies.told device.plan device.steps.items _ c.write_rows.new.values.items c.args.fh c.args.touch c.self.invariant settable laid in
     kept_set g.D.Validates.verdict g.D.Notifies.told device.plan device.steps.items _ _ _ _ _ _ c.args.seat c.args.fh c.args.touch c.self.invariant settable
     (c.push_reserved.ensures.items
     ∙ ap (λ (s : List (Entry Step)). s ++ with c.from_vec.result ∷ []) c.reserve.ensures.items
     ∙ ap (λ (pairs : List Pair). device.steps.items ++ with pairs ∷ []) (c.from_vec.ensures ∙ c.into_parts-controls.ensures.pairs))
     made (rw (c.at.ensures.plan, c.at.ensures.values, c.pairs.ensures, c.new_rows.ensures) at c.notify_changed.ensures.words)
-    (rw change.ensures.plan at c.raise_step.ensures g.D.Validates.verdict (with c.args.touch.pairs) (past device.steps.items)
+    (rw change.ensures.plan at c.raise_touched.ensures g.D.Validates.verdict (with c.args.touch.pairs) (past device.steps.items)
     (around g.D.Validates.verdict g.D.Notifies.told device.plan device.steps.items _ (with c.args.touch.pairs) _ _ c.self.invariant change.ensures.before (ap (λ (m : ControlsData). m.ranges) change.ensures.after ∙ c.self.invariant.ranges)
     (ap (λ (m : ControlsData). m.values) change.ensures.after ∙ c.as_slice.ensures.value ∙ lays)
     (ap (λ (m : ControlsData). m.grabs) change.ensures.after ∙ c.self.invariant.grabs))
@@ -110,18 +154,14 @@ renew-requires-clause-kept g c =
     let copied : c.args.values.items ≡ device.controls.values = (rw (← c.self.view_is) at c.requires.copied) ∙ sym c.self.invariant.values in
     let laid : c.write_rows.new.values.items ≡ written device.plan device.controls.values rows = rw (copied, c.rows.ensures) at c.write_rows.ensures in
     let values : change.result.values.now ≡ written device.plan device.controls.values rows = ap (λ (m : ControlsData). m.values) change.ensures.after ∙ c.as_slice.ensures.value ∙ laid in
-    rw (c.after.ensures.plan, change.ensures.plan, c.after.ensures.ranges, c.after.ensures.values, c.after.ensures.grabs, c.as_slice-2.ensures.value, c.requires.clusters)
+    rw (c.after.ensures.plan, change.ensures.plan, c.after.ensures.ranges, c.after.ensures.values, c.after.ensures.grabs, c.as_slice-2.ensures.value, c.requires.clusters, ap (λ (m : ControlsData). m.ranges) change.ensures.after, ap (λ (m : ControlsData). m.grabs) change.ensures.after)
     ((
-      device.controls.ranges,
       device.controls.values,
-      device.controls.grabs,
       board_own g.D.Validates.verdict device.plan (ranges_now device.plan P) device.controls.ranges (now g.D.Validates.verdict device.plan P) device.controls.values (grabbed device.plan P) device.controls.grabs (queued_frames device.plan P) device.board
           c.self.invariant.board c.self.invariant.ranges c.self.invariant.values c.self.invariant.grabs,
       record {
         many = sym (ap length values ∙ length_written device.plan device.controls.values rows);
-        ranges_stay = λ d apart. ap (λ (m : ControlsData). control_in m.ranges d) (sym change.ensures.after);
         values_stay = λ d apart. written_apart device.plan device.controls.values rows d apart ∙ sym (ap (λ (v : Values). value_at v d) values);
-        grabs_stay = λ d apart. ap (λ (m : ControlsData). is_grabbed m.grabs d) (sym change.ensures.after);
       },
     ))
 

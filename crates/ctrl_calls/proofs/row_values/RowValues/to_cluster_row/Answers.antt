@@ -1,0 +1,12 @@
+use Rattle.std.proofs.Common.{◌∙◌, ap, take, length, ◌+◌, rules, arith}
+use Rattle.std.proofs.lemmas.List.{length-set}
+use Rattle.ctrl_calls.proofs.FormLemmas.{copied_next}
+use Rattle.ctrl_calls.proofs.row_values.RowValues.to_cluster_row.Goals as goal
+
+-- one more value is copied
+pub loop-place-preserved : goal.loop-place-preserved
+loop-place-preserved c =
+    let i = c.loop-place.place in record {
+      so_far = ap (take (i + 1)) c.set.ensures ∙ copied_next c.loop-place.row c.args.self.now i c.value.result c.loop-place.invariant.so_far (search rules) (search rules) c.value.ensures;
+      long = search rules;
+    }

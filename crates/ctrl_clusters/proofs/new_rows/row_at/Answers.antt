@@ -1,6 +1,0 @@
--- written out so that a wrong body is refused soon (docs/GATE.md)
-use Rattle.std.proofs.Common.{rules}
-use Rattle.ctrl_clusters.proofs.new_rows.row_at.Goals as goal
-
-pub returns-in-Some : goal.returns-in-Some
-returns-in-Some c = search rules

@@ -1,0 +1,260 @@
+-- Clusters are renewed one after another, each up to the first frame that comes out as it was.
+use Rattle.std.proofs.Common.{◌≡◌, ◌≢◌, ◌∙◌, ◌<◌, ◌≤◌, ◌+◌, ◌-◌, ◌==◌, ◌⊎◌, ◌||◌, ◌++◌, ℕ, zero, suc, nat_eq, Bool, true, false, cond, List, [], ◌∷◌, length, map, take, drop, get_or, count_by, inl, inr, refl, sym, ap, subst, arith}
+use Rattle.std.specs.List.{list_any, remove}
+use Rattle.std.proofs.lemmas.Bool.{cases_Bool, cases_lt}
+use Rattle.std.proofs.lemmas.Bool.Decides.{eqb_tells}
+use Rattle.std.proofs.lemmas.List.{append-nil, append_assoc, length-map, map-append, take-map, drop-map, take_more, take_all, get_or-map}
+use Rattle.std.proofs.lemmas.List.Edits.{length-remove, get_or-remove_above}
+use Rattle.std.proofs.lemmas.List.Folds.{list_any-append}
+use Rattle.ctrl_types.specs.declared.value.CtrlValue.{CtrlValue}
+use Rattle.ctrl_calls.specs.Meanings.{Verdicts}
+use Rattle.ctrl_settle.specs.Control.{Control}
+use Rattle.ctrl_handlers.specs.Plan.{PlanData, IsPlan, IsFinished, members}
+use Rattle.ctrl_clusters.specs.Rows.{Values, row_of, Grabs}
+use Rattle.ctrl_clusters.specs.Judging.{with_calls}
+use Rattle.ctrl_clusters.proofs.CallLemmas.{calls_more}
+use Rattle.ctrl_forecast.specs.declared.board.Forecast.{Forecast}
+use Rattle.ctrl_forecast.specs.Forecasts.{QueuedData, forecasts}
+use Rattle.ctrl_forecast.specs.Boards.{BoardData, DifferOnlyIn, ValuesDifferOnlyIn, asked_at, board_of}
+use Rattle.ctrl_forecast.specs.Asking.{row_at, asks_at, comes_out_at, asked_up_to, had_at_turn, asked_in_turn, renewing_until_same}
+use Rattle.ctrl_forecast.specs.Unchanged.{is_same_outcome, comes_out_same}
+use Rattle.ctrl_forecast.specs.Frames.{FrameData, no_frame, frame_at, queued_of, forecast_of, board_seen, Setting, setting, values_before, AreKeptFrames, IsRightAt, AreReady, AreReadyAt, IsAlikeIn, AreRenewed, IsClusterRenewed}
+use Rattle.ctrl_forecast.proofs.RightLemmas.{right_moves}
+use Rattle.ctrl_forecast.proofs.RenewLemmas.{ranges_agree, grabs_agree}
+use Rattle.ctrl_forecast.proofs.AskingLemmas.{kept_asked}
+use Rattle.ctrl_forecast.proofs.KeptLemmas.{rows_right, ready_kept}
+use Rattle.ctrl_forecast.proofs.ReadyLemmas.{ready_changed, ready_removed}
+use Rattle.ctrl_forecast.proofs.UnchangedLemmas.{up_to_alike}
+use Rattle.ctrl_forecast.proofs.WalkLemmas.{now_at, right_now}
+
+-- frames that are queued alike are as many
+as_many : (old new : List FrameData) → map queued_of new ≡ map queued_of old → length new ≡ length old
+as_many old new queued = sym (length-map new queued_of) ∙ ap length queued ∙ length-map old queued_of
+
+-- a cluster that has its rows still is right where it was
+alike_right : (s : Setting) (k i : ℕ) (old new : List FrameData) → map queued_of new ≡ map queued_of old → IsAlikeIn s.plan k old new → i < length new → IsRightAt s old k i → IsRightAt s new k i
+alike_right s k i old new queued alike less right =
+    right_moves s.verdicts s.plan s.controls s.controls s.grabs s.grabs s.values s.values old new k i i (based i) (ranges_agree s (members s.plan k)) (grabs_agree s (members s.plan k))
+    (sym (alike.rows i))
+    (kept_asked old i (omega (arith, less, as_many old new queued)) ∙ ap (λ (qs : List QueuedData). asked_at qs i) (sym queued) ∙ sym (kept_asked new i less))
+    (sym (alike.refused i)) right
+  where
+    based : (i : ℕ) → row_of (values_before s.values old i) (members s.plan k) ≡ row_of (values_before s.values new i) (members s.plan k)
+    based zero = refl
+    based (suc i) = sym (alike.rows i)
+
+-- the clusters that aren't renewed yet are right but at the place
+pub still_ready : (s : Setting) (place : ℕ) (left done : List ℕ) (old fs : List FrameData) → AreReadyAt s place left old → AreRenewed s done old fs
+    → (k i : ℕ) → k < length s.plan.clusters → i ≢ place → i < length fs → IsRightAt s fs k i
+still_ready s place left done old fs ready so_far k i lt other less = by (cases_Bool (list_any (nat_eq k) done))
+  where
+    by : (list_any (nat_eq k) done ≡ true) ⊎ (list_any (nat_eq k) done ≡ false) → IsRightAt s fs k i
+    by (inl among) = so_far.right k i lt among less
+    by (inr apart) = alike_right s k i old fs so_far.queued (so_far.stay k lt apart) less (ready.elsewhere k i lt other (omega (arith, less, as_many old fs so_far.queued)))
+
+-- nothing is renewed yet
+pub turns_none : (s : Setting) (fs : List FrameData) → AreKeptFrames s.plan fs → AreRenewed s [] fs fs
+turns_none s fs are = record { frames_ok = are; queued = refl; right = λ k i lt among less. absurd (clash among); stay = λ k lt apart. record { rows = λ i. refl; refused = λ i. refl } }
+  where
+    clash : false ≡ true → ⊥
+    clash h = cc
+
+-- one cluster more is
+pub turns_next : (s : Setting) (k : ℕ) (done : List ℕ) (old fs gs : List FrameData) → AreRenewed s done old fs → IsClusterRenewed s k (length gs) fs gs
+    → ((j : ℕ) → j < length s.plan.clusters → j ≢ k → IsAlikeIn s.plan j fs gs) → AreRenewed s (done ++ k ∷ []) old gs
+turns_next s k done old fs gs so_far one apart = record {
+  frames_ok = one.frames_ok;
+  queued = one.queued ∙ so_far.queued;
+  right = λ j i lt among less. right_by j i lt (sym (split j) ∙ among) less (eqb_tells j k);
+  stay = λ j lt none. stay_by j lt (sym (split j) ∙ none) (eqb_tells j k);
+}
+  where
+    split : (j : ℕ) → list_any (nat_eq j) (done ++ k ∷ []) ≡ (list_any (nat_eq j) done || list_any (nat_eq j) (k ∷ []))
+    split j = list_any-append (nat_eq j) done (k ∷ [])
+
+    first : (a b : Bool) → b ≡ false → (a || (b || false)) ≡ true → a ≡ true
+    first true b e h = refl
+    first false true e h = cc
+    first false false e h = cc
+
+    neither : (a b : Bool) → (a || (b || false)) ≡ false → (a ≡ false) × (b ≡ false)
+    neither true b h = absurd (cc)
+    neither false true h = absurd (cc)
+    neither false false h = (refl, refl)
+
+    clash : true ≡ false → ⊥
+    clash h = cc
+
+    right_by : (j i : ℕ) → j < length s.plan.clusters → (list_any (nat_eq j) done || list_any (nat_eq j) (k ∷ [])) ≡ true → i < length gs
+        → ((j == k) ≡ true × (j ≡ k)) ⊎ ((j == k) ≡ false × (j ≢ k)) → IsRightAt s gs j i
+    right_by j i lt among less (inl e) = subst (λ (x : ℕ). IsRightAt s gs x i) (sym e.1) (one.here i less less)
+    right_by j i lt among less (inr e) =
+        one.stay j i lt e.1 less (so_far.right j i lt (first (list_any (nat_eq j) done) (nat_eq j k) e.0 among) (omega (arith, less, as_many fs gs one.queued)))
+
+    stay_by : (j : ℕ) → j < length s.plan.clusters → (list_any (nat_eq j) done || list_any (nat_eq j) (k ∷ [])) ≡ false → ((j == k) ≡ true × (j ≡ k)) ⊎ ((j == k) ≡ false × (j ≢ k)) → IsAlikeIn s.plan j old gs
+    stay_by j lt none (inl e) = absurd (clash (sym e.0 ∙ (neither (list_any (nat_eq j) done) (nat_eq j k) none).1))
+    stay_by j lt none (inr e) =
+        let was : IsAlikeIn s.plan j old fs = so_far.stay j lt (neither (list_any (nat_eq j) done) (nat_eq j k) none).0 in
+        let now : IsAlikeIn s.plan j fs gs = apart j lt e.1 in
+        record { rows = λ i. now.rows i ∙ was.rows i; refused = λ i. now.refused i ∙ was.refused i }
+
+-- once all are, what is kept is as it should be
+pub turns_kept : (s : Setting) (place : ℕ) (clusters : List ℕ) (old fs : List FrameData) → IsFinished s.plan → length s.values ≡ length s.plan.controls → AreReadyAt s place clusters old → AreRenewed s clusters old fs
+    → board_seen fs ≡ board_of s.verdicts s.plan s.controls s.values s.grabs (map queued_of old)
+turns_kept s place clusters old fs done many ready all =
+    ready_kept s.verdicts s.plan s.controls s.grabs s.values 0 fs done many
+    (record { frames_ok = all.frames_ok; before = λ k i lt early less. absurd (omega (arith, early)); apart = λ k i lt none less. right k i lt less (cases_Bool (list_any (nat_eq k) clusters)) })
+    ∙ ap (board_of s.verdicts s.plan s.controls s.values s.grabs) all.queued
+  where
+    right : (k i : ℕ) → k < length s.plan.clusters → i < length fs → (list_any (nat_eq k) clusters ≡ true) ⊎ (list_any (nat_eq k) clusters ≡ false) → IsRightAt s fs k i
+    right k i lt less (inl among) = all.right k i lt among less
+    right k i lt less (inr apart) = alike_right s k i old fs all.queued (all.stay k lt apart) less (ready.apart k i lt apart (omega (arith, less, as_many old fs all.queued)))
+
+-- rows of which a cluster has the same, and refused alike, come out alike
+outcome_of : (plan : PlanData) (k : ℕ) (a b later : Forecast) → row_of a.values (members plan k) ≡ row_of b.values (members plan k) → list_any (nat_eq k) a.refused ≡ list_any (nat_eq k) b.refused
+    → comes_out_same plan k a later ≡ comes_out_same plan k b later
+outcome_of plan k a b later rows marks =
+    ap (λ (r : List CtrlValue). is_same_outcome r (list_any (nat_eq k) a.refused) (row_of later.values (members plan k)) (list_any (nat_eq k) later.refused)) rows
+    ∙ ap (λ (m : Bool). is_same_outcome (row_of b.values (members plan k)) m (row_of later.values (members plan k)) (list_any (nat_eq k) later.refused)) marks
+
+-- When a cluster's turn comes, it is asked for as often as where what is compared is what the frames have by then.
+pub turn_count : (s : Setting) (from k : ℕ) (done : List ℕ) (old fs : List FrameData) → IsPlan s.plan → length s.values ≡ length s.plan.controls → k < length s.plan.clusters → AreRenewed s done old fs
+    → asked_up_to s.verdicts s.plan s.controls s.values s.grabs (map queued_of fs) (map forecast_of fs) from k
+    ≡ asked_up_to s.verdicts s.plan s.controls s.values s.grabs (map queued_of old) (had_at_turn s.verdicts s.plan s.controls s.values s.grabs (map queued_of old) (map forecast_of old) done k) from k
+turn_count s from k done old fs is many lt so_far =
+    ap (λ (qs : List QueuedData). asked_up_to s.verdicts s.plan s.controls s.values s.grabs qs (map forecast_of fs) from k) so_far.queued
+    ∙ ap (count_by (asks_at s.verdicts s.plan s.controls s.values s.grabs qs k))
+    (up_to_alike (comes_out_at s.verdicts s.plan s.controls s.values s.grabs qs (map forecast_of fs) k)
+    (comes_out_at s.verdicts s.plan s.controls s.values s.grabs qs (had_at_turn s.verdicts s.plan s.controls s.values s.grabs qs (map forecast_of old) done k) k) from (length qs - from)
+    (λ i first below. by i (omega (arith, below, long)) (list_any (nat_eq k) done) refl))
+  where
+    qs : List QueuedData
+    qs = map queued_of old
+
+    long : length qs ≡ length fs
+    long = length-map old queued_of ∙ sym (as_many old fs so_far.queued)
+
+    now : ℕ → Forecast
+    now i = now_at s qs i
+
+    has : (i : ℕ) → i < length fs → row_at (map forecast_of fs) i ≡ forecast_of (frame_at fs i)
+    has i less = get_or-map forecast_of fs i no_frame (forecast_of no_frame) less
+
+    had : (i : ℕ) → i < length fs → row_at (map forecast_of old) i ≡ forecast_of (frame_at old i)
+    had i less = get_or-map forecast_of old i no_frame (forecast_of no_frame) (omega (arith, less, as_many old fs so_far.queued))
+
+    by : (i : ℕ) → i < length fs → (b : Bool) → list_any (nat_eq k) done ≡ b
+        → comes_out_same s.plan k (row_at (map forecast_of fs) i) (now i) ≡ comes_out_same s.plan k (row_at (cond b (forecasts s.verdicts s.plan s.controls s.values s.grabs qs) (map forecast_of old)) i) (now i)
+    by i less true among =
+        let right = right_now s fs k i is many lt less (λ j within. so_far.right k j lt among within) in
+        ap (λ (f : Forecast). comes_out_same s.plan k f (now i)) (has i less)
+        ∙ outcome_of s.plan k (forecast_of (frame_at fs i)) (now i) (now i) (right.0 ∙ ap (λ (l : List QueuedData). row_of (now_at s l i).values (members s.plan k)) so_far.queued)
+        (right.1 ∙ ap (λ (l : List QueuedData). list_any (nat_eq k) (now_at s l i).refused) so_far.queued)
+    by i less false apart =
+        let alike : IsAlikeIn s.plan k old fs = so_far.stay k lt apart in
+        ap (λ (f : Forecast). comes_out_same s.plan k f (now i)) (has i less)
+        ∙ outcome_of s.plan k (forecast_of (frame_at fs i)) (forecast_of (frame_at old i)) (now i) (alike.rows i) (alike.refused i)
+        ∙ ap (λ (f : Forecast). comes_out_same s.plan k f (now i)) (sym (had i less))
+
+-- one turn more
+turn_more : (verdicts : Verdicts) (plan : PlanData) (controls : List Control) (values : Values) (grabs : Grabs) (qs : List QueuedData) (had : List Forecast) (from k : ℕ) (done ks : List ℕ)
+    → asked_in_turn verdicts plan controls values grabs qs had from done (ks ++ k ∷ [])
+    ≡ asked_in_turn verdicts plan controls values grabs qs had from done ks + asked_up_to verdicts plan controls values grabs qs (had_at_turn verdicts plan controls values grabs qs had (done ++ ks) k) from k
+turn_more verdicts plan controls values grabs qs had from k done [] =
+    ap (λ (l : List ℕ). asked_up_to verdicts plan controls values grabs qs (had_at_turn verdicts plan controls values grabs qs had l k) from k + 0) (sym (append-nil done)) ∙ omega arith
+turn_more verdicts plan controls values grabs qs had from k done (j ∷ ks) =
+    let own : ℕ = asked_up_to verdicts plan controls values grabs qs (had_at_turn verdicts plan controls values grabs qs had done j) from j in
+    ap (λ (n : ℕ). own + n) (turn_more verdicts plan controls values grabs qs had from k (done ++ j ∷ []) ks
+    ∙ ap (λ (l : List ℕ). asked_in_turn verdicts plan controls values grabs qs had from (done ++ j ∷ []) ks + asked_up_to verdicts plan controls values grabs qs (had_at_turn verdicts plan controls values grabs qs had l k) from k)
+    (append_assoc done (j ∷ []) ks))
+    ∙ omega arith
+
+-- one cluster more has had its turn
+pub turns_count : (s : Setting) (from i count asked new : ℕ) (clusters : List ℕ) (old fs : List FrameData) → IsPlan s.plan → length s.values ≡ length s.plan.controls → i < length clusters
+    → get_or clusters i 0 < length s.plan.clusters → AreRenewed s (take i clusters) old fs
+    → asked ≡ with_calls (asked_in_turn s.verdicts s.plan s.controls s.values s.grabs (map queued_of old) (map forecast_of old) from [] (take i clusters)) count
+    → new ≡ with_calls (asked_up_to s.verdicts s.plan s.controls s.values s.grabs (map queued_of fs) (map forecast_of fs) from (get_or clusters i 0)) asked
+    → new ≡ with_calls (asked_in_turn s.verdicts s.plan s.controls s.values s.grabs (map queued_of old) (map forecast_of old) from [] (take (i + 1) clusters)) count
+turns_count s from i count asked new clusters old fs is many less lt so_far before made =
+    made ∙ ap (with_calls own) before ∙ calls_more (turns (take i clusters)) own count
+    ∙ ap (λ (n : ℕ). with_calls n count)
+    (ap (λ (n : ℕ). turns (take i clusters) + n) (turn_count s from k (take i clusters) old fs is many lt so_far)
+    ∙ sym (turn_more s.verdicts s.plan s.controls s.values s.grabs (map queued_of old) (map forecast_of old) from k [] (take i clusters)) ∙ ap turns (sym (take_more clusters i 0 less)))
+  where
+    k : ℕ
+    k = get_or clusters i 0
+
+    own : ℕ
+    own = asked_up_to s.verdicts s.plan s.controls s.values s.grabs (map queued_of fs) (map forecast_of fs) from k
+
+    turns : List ℕ → ℕ
+    turns ks = asked_in_turn s.verdicts s.plan s.controls s.values s.grabs (map queued_of old) (map forecast_of old) from [] ks
+
+-- and all have
+pub turns_end : (s : Setting) (from i count asked : ℕ) (clusters : List ℕ) (qs : List QueuedData) (had : List Forecast) → length clusters ≤ i
+    → asked ≡ with_calls (asked_in_turn s.verdicts s.plan s.controls s.values s.grabs qs had from [] (take i clusters)) count
+    → asked ≡ with_calls (renewing_until_same s.verdicts s.plan s.controls s.values s.grabs qs had from clusters) count
+unfolding renewing_until_same
+turns_end s from i count asked clusters qs had all is =
+    is ∙ ap (λ (l : List ℕ). with_calls (asked_in_turn s.verdicts s.plan s.controls s.values s.grabs qs had from [] l) count) (take_all i clusters all)
+
+-- kept frames, where the values before them were changed in some clusters
+pub ready_values : (verdicts : Verdicts) (plan : PlanData) (controls : List Control) (grabs : Grabs) (before values : Values) (clusters : List ℕ) (fs : List FrameData) → IsPlan plan → length values ≡ length plan.controls
+    → ValuesDifferOnlyIn plan clusters before values → board_seen fs ≡ board_of verdicts plan controls before grabs (map queued_of fs) → AreReadyAt (setting verdicts plan controls values grabs) 0 clusters fs
+ready_values verdicts plan controls grabs before values clusters fs is many differ kept = record {
+  frames_ok = ready.frames_ok;
+  elsewhere = λ k i lt other less. right k i lt other less;
+  apart = ready.apart;
+}
+  where
+    all : DifferOnlyIn plan clusters controls before grabs controls values grabs
+    all = record { many = differ.many; ranges_stay = λ c out. refl; values_stay = differ.values_stay; grabs_stay = λ c out. refl }
+
+    ready : AreReady (setting verdicts plan controls values grabs) 0 clusters fs
+    ready = ready_changed verdicts plan controls controls grabs grabs before values clusters fs is many all kept
+
+    rows : map forecast_of fs ≡ forecasts verdicts plan controls before grabs (map queued_of fs)
+    rows = ap (λ (b : BoardData). b.forecasts) kept
+
+    right : (k i : ℕ) → k < length plan.clusters → i ≢ 0 → i < length fs → IsRightAt (setting verdicts plan controls values grabs) fs k i
+    right k zero lt other less = absurd (other refl)
+    right k (suc i) lt other less =
+        let was : IsRightAt (setting verdicts plan controls before grabs) fs k (suc i) = rows_right verdicts plan controls grabs before fs is (differ.many ∙ many) rows k (suc i) lt less in
+        record { row = was.row; refused = was.refused }
+
+-- frames without one have what they had, without it
+pub removed_rows : (fs : List FrameData) (p : ℕ) → map forecast_of (remove fs p) ≡ remove (map forecast_of fs) p
+removed_rows fs p = map-append forecast_of (take p fs) (drop (suc p) fs) ∙ ap (λ (l : List Forecast). l ++ map forecast_of (drop (suc p) fs)) (sym (take-map forecast_of p fs)) ∙ ap (λ (l : List Forecast). take p (map forecast_of fs) ++ l) (sym (drop-map forecast_of (suc p) fs))
+
+-- kept frames, of which the one at a place is taken out
+pub ready_without : (verdicts : Verdicts) (plan : PlanData) (controls : List Control) (grabs : Grabs) (values : Values) (p : ℕ) (fs : List FrameData) → IsPlan plan → length values ≡ length plan.controls → p < length fs
+    → board_seen fs ≡ board_of verdicts plan controls values grabs (map queued_of fs) → AreReadyAt (setting verdicts plan controls values grabs) p (frame_at fs p).named (remove fs p)
+ready_without verdicts plan controls grabs values p fs is many lt kept = record {
+  frames_ok = ready.frames_ok;
+  elsewhere = λ k i within other less. by k i within other less (cases_lt i p);
+  apart = ready.apart;
+}
+  where
+    s : Setting
+    s = setting verdicts plan controls values grabs
+
+    ready : AreReady s p (frame_at fs p).named (remove fs p)
+    ready = ready_removed verdicts plan controls grabs values p fs is many lt kept
+
+    long : length (remove fs p) + 1 ≡ length fs
+    long = length-remove fs p lt
+
+    late : (i : ℕ) → p ≤ i → frame_at fs (suc i) ≡ frame_at (remove fs p) i
+    late i le = sym (get_or-remove_above fs p no_frame i le lt ∙ ap (frame_at fs) (omega arith))
+
+    based : (i : ℕ) → p < i → values_before values fs (suc i) ≡ values_before values (remove fs p) i
+    based zero further = absurd (omega (arith, further))
+    based (suc i) further = ap (λ (f : FrameData). f.values) (late i (omega (arith, further)))
+
+    by : (k i : ℕ) → k < length plan.clusters → i ≢ p → i < length (remove fs p) → (i < p) ⊎ (p ≤ i) → IsRightAt s (remove fs p) k i
+    by k i within other less (inl early) = ready.before k i within early less
+    by k i within other less (inr le) =
+        right_moves verdicts plan controls controls grabs grabs values values fs (remove fs p) k (suc i) i
+        (ap (λ (v : Values). row_of v (members plan k)) (based i (omega (arith, le, other)))) (ranges_agree s (members plan k)) (grabs_agree s (members plan k))
+        (ap (λ (f : FrameData). row_of f.values (members plan k)) (late i le)) (ap (λ (f : FrameData). f.asked) (late i le)) (ap (λ (f : FrameData). list_any (nat_eq k) f.refused) (late i le))
+        (rows_right verdicts plan controls grabs values fs is many (ap (λ (b : BoardData). b.forecasts) kept) k (suc i) within (omega (arith, less, long)))

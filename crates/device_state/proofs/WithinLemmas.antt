@@ -1,0 +1,112 @@
+-- In which clusters a set, the begin of a frame, and a grab change something.
+use Rattle.std.proofs.Common.{◌≡◌, ◌≢◌, ◌∙◌, ◌<◌, ◌≤◌, ◌⊎◌, ◌||◌, ◌==◌, ℕ, Bool, true, false, nat_eq, List, [], ◌∷◌, length, slice_get, slice_set, Some, inl, inr, map, refl, sym, ap, subst, arith}
+use Rattle.std.specs.List.{list_any}
+use Rattle.std.proofs.Math.Dec.{leb}
+use Rattle.std.proofs.lemmas.Bool.Decides.{leb_tells}
+use Rattle.std.proofs.lemmas.List.{get_or_past}
+use Rattle.ctrl_types.specs.declared.ids.Pair.{Pair}
+use Rattle.ctrl_types.specs.declared.value.CtrlValue.{CtrlValue}
+use Rattle.ctrl_calls.specs.Meanings.{Verdicts}
+use Rattle.ctrl_settle.specs.Control.{Control}
+use Rattle.ctrl_handlers.specs.ClusterData.{ClusterData}
+use Rattle.ctrl_handlers.specs.Plan.{PlanData, IsPlan, cluster_of, members, no_cluster}
+use Rattle.ctrl_clusters.specs.Changes.{members_change, row_changes}
+use Rattle.ctrl_clusters.specs.ControlsData.{ControlsData, DifferIn, as_one, is_in_one_of}
+use Rattle.ctrl_clusters.specs.NewRows.{clusters_of, written}
+use Rattle.ctrl_clusters.specs.Overlay.{is_touched, overlay}
+use Rattle.ctrl_clusters.specs.Rows.{Grabs, Values, row_of, value_at}
+use Rattle.ctrl_clusters.specs.declared.new_row.NewRow.{NewRow}
+use Rattle.ctrl_clusters.proofs.OverlayLemmas.{same_each}
+use Rattle.ctrl_lists.specs.Touched.{touched}
+use Rattle.ctrl_lists.proofs.TouchedLemmas.{touched_is}
+use Rattle.ctrl_forecast.specs.Applied.{applied_pairs}
+use Rattle.ctrl_forecast.specs.Boards.{named_clusters}
+use Rattle.ctrl_forecast.specs.Forecasts.{QueuedData}
+use Rattle.ctrl_forecast.proofs.ApartLemmas.{applied_apart, not_named, overlaid_apart}
+use Rattle.ctrl_raises.specs.Within.{DifferWithin}
+use Rattle.device_history.specs.Forecasts.{queued_frame, queued_frames}
+use Rattle.device_history.specs.Frames.{first_of, queue}
+use Rattle.device_history.specs.Grabs.{grabbed}
+use Rattle.device_history.specs.Ranges.{ranges_now}
+use Rattle.device_history.specs.Requests.{asked}
+use Rattle.device_history.specs.Snapshots.{begun_pairs, begun_refused, begun_values}
+use Rattle.device_history.specs.Values.{now}
+use Rattle.device_history.specs.Steps.{Past}
+use Rattle.device_state.proofs.RenewLemmas.{set_apart, written_apart}
+use Rattle.device_state.proofs.SetLemmas.{changes_same}
+
+-- the same, of what is equal
+pub within_same : (plan plan' : PlanData) (clusters clusters' : List ℕ) (before before' after after' : ControlsData) (pairs pairs' : List Pair) → plan ≡ plan' → clusters ≡ clusters' → before ≡ before' → after ≡ after' → pairs ≡ pairs'
+    → DifferWithin plan' clusters' before' after' pairs' → DifferWithin plan clusters before after pairs
+within_same plan plan' clusters clusters' before before' after after' pairs pairs' p k b a ps is = rw (p, k, b, a, ps) is
+
+-- A set changes what its rows are of.
+pub set_within : (plan : PlanData) (controls : ControlsData) (rows : List NewRow) (pairs : List Pair) → IsPlan plan → clusters_of rows ≡ touched plan pairs
+    → DifferWithin plan (clusters_of rows) controls (record controls { values = written plan controls.values rows }) pairs
+set_within plan controls rows pairs is each = record {
+  ranges_stay = λ c outside. refl;
+  values_stay = written_apart plan controls.values rows;
+  grabs_stay = λ c outside. refl;
+  unasked = λ k lt outside. touched_is plan pairs k is lt ∙ ap (list_any (nat_eq k)) (sym each) ∙ outside;
+}
+
+-- no pairs touch anything
+none_asked : (cs : List ℕ) → is_touched [] cs ≡ false
+none_asked [] = refl
+none_asked (c ∷ cs) = none_asked cs
+
+-- A grab changes the cluster of its control.
+pub grab_within : (plan : PlanData) (controls : ControlsData) (c k : ℕ) (on : Bool) → cluster_of plan c ≡ Some k
+    → DifferWithin plan (k ∷ []) controls (record controls { grabs = slice_set controls.grabs c on }) []
+grab_within plan controls c k on is = record {
+  ranges_stay = λ d outside. refl;
+  values_stay = λ d outside. refl;
+  grabs_stay = λ d outside. set_apart plan controls.grabs false c k on d is outside;
+  unasked = λ j lt outside. none_asked (members plan j);
+}
+
+-- The begin of a frame changes the clusters that it names.
+pub begin_within : (verdicts : Verdicts) (plan : PlanData) (controls : ControlsData) (refused : List ℕ) (pairs : List Pair)
+    → DifferWithin plan (named_clusters plan pairs) controls (record controls { values = overlay verdicts plan controls.ranges controls.values controls.grabs pairs })
+    (applied_pairs plan (overlay verdicts plan controls.ranges controls.values controls.grabs pairs) refused pairs)
+begin_within verdicts plan controls refused pairs = record {
+  ranges_stay = λ c outside. refl;
+  values_stay = overlaid_apart verdicts plan controls.ranges controls.values controls.grabs pairs;
+  grabs_stay = λ c outside. refl;
+  unasked = λ k lt outside. applied_apart plan (overlay verdicts plan controls.ranges controls.values controls.grabs pairs) refused pairs (members plan k) (not_named plan pairs k lt outside);
+}
+
+-- the same at the end of a history
+pub begun_within : (verdicts : Verdicts) (plan : PlanData) (older : Past) (r : ℕ) (controls : ControlsData) → controls.ranges ≡ ranges_now plan older → controls.values ≡ now verdicts plan older → controls.grabs ≡ grabbed plan older
+    → DifferWithin plan (named_clusters plan (asked plan older r)) controls (record controls { values = begun_values verdicts plan older r }) (begun_pairs verdicts plan older r)
+begun_within verdicts plan older r controls ranges values grabs =
+    let same : as_one controls.ranges controls.values controls.grabs ≡ as_one (ranges_now plan older) (now verdicts plan older) (grabbed plan older) = rw (ranges, values, grabs) refl in
+    subst (λ (m : ControlsData). DifferWithin plan (named_clusters plan (asked plan older r)) m (record m { values = begun_values verdicts plan older r }) (begun_pairs verdicts plan older r)) (sym same)
+    (begin_within verdicts plan (as_one (ranges_now plan older) (now verdicts plan older) (grabbed plan older)) (begun_refused verdicts plan older r) (asked plan older r))
+
+-- Where nothing differs outside of some clusters, no member of another one is changed.
+pub unmoved : (plan : PlanData) (clusters : List ℕ) (before after : ControlsData) (pairs : List Pair) (k : ℕ) → IsPlan plan → DifferWithin plan clusters before after pairs → list_any (nat_eq k) clusters ≡ false
+    → members_change plan before.values after.values pairs k ≡ false
+unmoved plan clusters before after pairs k is within outside = by (leb_tells (length plan.clusters) k)
+  where
+    by : ((leb (length plan.clusters) k ≡ true) × (length plan.clusters ≤ k)) ⊎ ((leb (length plan.clusters) k ≡ false) × (k < length plan.clusters)) → members_change plan before.values after.values pairs k ≡ false
+    by (inl past) = ap (λ (cs : List ℕ). row_changes plan before.values pairs cs (row_of after.values cs)) (ap (λ (d : ClusterData). d.members) (get_or_past plan.clusters k no_cluster past.1))
+    by (inr there) =
+        ap (row_changes plan before.values pairs (members plan k))
+        (sym (same_each (value_at before.values) (value_at after.values) (members plan k) (λ c among. within.values_stay c (ap (is_in_one_of clusters) (is.members_apart k c there.1 among) ∙ outside))))
+        ∙ changes_same plan before.values pairs (members plan k) (within.unasked k there.1 outside)
+
+-- the clusters that the first of the queued frames names
+pub first_named : (plan : PlanData) (older : Past) (r : ℕ) (ks : List ℕ) → first_of (queue older) ≡ Some r → Some ks ≡ slice_get (map (λ (q : QueuedData). named_clusters plan q.asked) (queued_frames plan older)) 0
+    → ks ≡ named_clusters plan (asked plan older r)
+first_named plan older r ks first is = by (queue older) first is
+  where
+    same : (a b : ℕ) → Some a ≡ Some b → a ≡ b
+    same a b h = cc
+
+    own : (a b : List ℕ) → Some a ≡ Some b → a ≡ b
+    own a b h = cc
+
+    by : (ids : List ℕ) → first_of ids ≡ Some r → Some ks ≡ slice_get (map (λ (q : QueuedData). named_clusters plan q.asked) (map (queued_frame plan older) ids)) 0 → ks ≡ named_clusters plan (asked plan older r)
+    by [] f h = cc
+    by (i ∷ rest) f h = own ks (named_clusters plan (asked plan older i)) h ∙ ap (λ (j : ℕ). named_clusters plan (asked plan older j)) (same i r f)
