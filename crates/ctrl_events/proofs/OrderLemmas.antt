@@ -307,6 +307,12 @@ rest_of (Some n ∷ log) (suc k) empty = absurd (full (empty 0 (omega arith)))
     full : Some (Some n) ≡ Some None → ⊥
     full h = cc
 
+-- they are no more than all
+pub within_log : (log : List (Option ℕ)) (k : ℕ) → AreEmptyBelow k log → k ≤ length log
+unfolding AreEmptyBelow
+within_log log zero empty = omega arith
+within_log log (suc k) empty = let less = slice_get_within log k None (empty k (omega arith)) in omega (arith, less)
+
 pub nothing_at : (log : List (Option ℕ)) (p : ℕ) → None ≡ entry_number (slice_get log p) → is_empty_entry (slice_get log p) ≡ false → logged (drop p log) ≡ []
 nothing_at [] zero none full = refl
 nothing_at [] (suc p) none full = refl
@@ -382,6 +388,28 @@ first_taken log first p n before passed number =
 -- there is no first number
 pub none_first : (log : List (Option ℕ)) (first p : ℕ) → AreEmptyBelow first log → logged (drop p log) ≡ logged (drop first log) → is_empty_entry (slice_get log p) ≡ false → None ≡ entry_number (slice_get log p) → logged log ≡ []
 none_first log first p before rest full none = sym (rest_of log first before) ∙ sym rest ∙ nothing_at log p none full
+
+-- the last number stands behind all others
+last_put : (log : List (Option ℕ)) (p n : ℕ) → suc p ≡ length log → slice_get log p ≡ Some (Some n) → logged log ≡ logged (set log p None) ++ n ∷ []
+last_put [] p n last there = cc
+last_put (None ∷ log) zero n last there = cc
+last_put (Some m ∷ []) zero n last there = let same : m ≡ n = cc in ap (λ (k : ℕ). k ∷ []) same
+last_put (Some m ∷ e ∷ log) zero n last there = absurd (omega (arith, last))
+last_put (None ∷ log) (suc p) n last there = last_put log p n (omega (arith, last)) there
+last_put (Some m ∷ log) (suc p) n last there = ap (λ ns. m ∷ ns) (last_put log p n (omega (arith, last)) there)
+
+pub last_stays : (log : List (Option ℕ)) (places : List ℕ) (p n : ℕ) → ArePlaced log places → suc p ≡ length log → slice_get log p ≡ Some (Some n) → logged log ≡ without n (logged log) ++ n ∷ []
+last_stays log places p n placed last there = last_put log p n last there ∙ ap (λ ns. ns ++ n ∷ []) (without_at log p n (λ i other. once_placed log places i p n placed other there) there)
+
+-- an entry that is of a number is the number's
+pub entry_is : (e : Option (Option ℕ)) (n : ℕ) → is_of n e ≡ true → e ≡ Some (Some n)
+entry_is None n is = absurd (true≢false (sym is))
+entry_is (Some None) n is = absurd (true≢false (sym is))
+entry_is (Some (Some m)) n is = by (eqb_tells n m) is
+  where
+    by : Tells n m → nat_eq n m ≡ true → Some (Some m) ≡ Some (Some n)
+    by (inl same) is = ap (λ (k : ℕ). Some (Some k)) (sym same.1)
+    by (inr other) is = absurd (true≢false (sym is ∙ other.0))
 
 pub whenever_not : {T F : Type 0} (r : Result T F) (P : Type 0) → P → OnErr r P
 whenever_not (Ok x) P holds = tt

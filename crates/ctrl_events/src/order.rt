@@ -1,13 +1,13 @@
-ghost use Rattle.std.specs.Prelude.{◌≡◌, ◌<◌, ◌≤◌, ◌+◌, ℕ, false, [], ◌∷◌, ◌++◌, length, map, drop, Some, OnOk, slice_get};
+ghost use Rattle.std.specs.Prelude.{◌≡◌, ◌<◌, ◌≤◌, ◌+◌, ℕ, false, [], ◌∷◌, ◌++◌, length, map, drop, Some, OnOk, IsTrue, true, slice_get};
 ghost use Rattle.std.specs.Prelude.{vec_capacity};
 ghost use Rattle.ctrl_events.specs.Order.{has, without, AreApart, logged, is_of, is_empty_entry, entry_number, place_in, ArePlaced, AreEmptyBelow, IsOrder, renewed};
 
 use std::alloc::{AllocError, Global};
 use std::marker::Model;
 
-/// Numbers in the order in which they came, each at most once. One is found, taken out and put last in a step each: a log has them in order,
-/// where one was taken out its place is empty, and for each number its place is kept. The log is packed once more of it is empty than not, which
-/// costs a step for each that was taken out since.
+/// Numbers in the order in which they came, each at most once. One is found, taken out and put last in a step each, however many there are: a log
+/// has them in order, where one was taken out its place is empty, and for each number its place is kept. The log is packed once it has two entries
+/// more than twice as many as there are numbers; that takes a step for each entry, at most two for each that was taken out since the last time.
 #[derive(Drop)]
 pub(crate) struct Order {
     log: Vec<Option<u32>>,
@@ -104,6 +104,30 @@ impl Order {
         }
     }
 
+    /// Puts a number last, for which room was made, wherever it stood before, and answers whether it was there.
+    pub(crate) fn put_last(&mut self, number: u32) -> bool
+        requires bound { number < self.old.bound }
+        requires room { length (without number self.old.members) + length (without number self.old.members) + 2 ≤ self.old.room }
+        ensures answer { result ≡ has self.old.members number }
+        ensures put { self.new ≡ record self.old { members = without number self.old.members ++ number ∷ [] } }
+    {
+        if self.is_last(number) {
+            return true;
+        }
+        let was = self.remove(number);
+        self.push(number);
+        was
+    }
+
+    // Whether a number is the last.
+    fn is_last(&self, number: u32) -> bool
+        ensures there { IsTrue result → has self.now.members number ≡ true }
+        ensures last { IsTrue result → self.now.members ≡ without number self.now.members ++ number ∷ [] }
+    {
+        let len = self.log.len();
+        len > 0 && is_at(self.log.as_slice(), len - 1, number)
+    }
+
     /// Takes the first number out, and answers it, where there is one.
     pub(crate) fn take_first(&mut self) -> Option<u32>
         ensures answer { result ≡ slice_get self.old.members 0 }
@@ -130,7 +154,8 @@ impl Order {
     pub(crate) fn nth(&self, place: usize) -> Option<u32>
         ensures { result ≡ slice_get self.now.members place }
     {
-        nth_entry(self.log.as_slice(), place)
+        // below the first all entries are empty
+        nth_entry(entries_from(self.log.as_slice(), self.first), place)
     }
 
     /// The numbers as they stand, with the entries that are empty.
@@ -192,6 +217,14 @@ pub(crate) fn next_entry(log: &[Option<u32>], from: usize) -> usize
     log.len()
 }
 
+// The entries from a place on.
+fn entries_from(log: &[Option<u32>], from: usize) -> &[Option<u32>]
+    requires { from ≤ length log.now }
+    ensures { result.now ≡ drop from log.now }
+{
+    &log[from..]
+}
+
 // The number at a place among those of a log.
 fn nth_entry(log: &[Option<u32>], place: usize) -> Option<u32>
     ensures { result ≡ slice_get (logged log.now) place }
@@ -222,7 +255,7 @@ fn keep_place(places: &mut Vec<usize>, number: u32) -> Result<(), AllocError>
     places.resize(number + 1, 0)
 }
 
-// Packs a log with so many numbers where more than half of it and one is empty, and answers below which place all entries are empty now.
+// Packs a log with so many numbers where it has two entries more than twice as many, and answers below which place all entries are empty now.
 fn pack_where_sparse(
     log: &mut Vec<Option<u32>>,
     places: &mut Vec<usize>,

@@ -13,7 +13,8 @@ use std::marker::Model;
 
 /// The subscriptions of a file handle, the events that wait for it, in the order of their last raises, and the number of the next. Both are
 /// orders of controls; the flags of a subscription and what is told of an event stand at the control's number. There is room for an event of
-/// each subscription, so that a raise needs no memory; a raise, a take and the end of a subscription take a step each, however many wait.
+/// each subscription, so that a raise needs no memory; a raise, a take and the end of a subscription take a few steps each in the mean, however
+/// many wait.
 #[derive(Drop)]
 pub(crate) struct Queue {
     subscribed: Order,
@@ -186,14 +187,13 @@ impl Queue {
         requires next { self.old.next < 4294967295 }
         ensures { self.new ≡ raised control changes payload.now self.old }
     {
-        let waited = self.waiting.remove(control);
+        let waited = self.waiting.put_last(control);
         let before = changes_before(waited, &self.told[control as usize]);
         self.told[control as usize] = Told {
             changes: before.union(changes),
             payload: *payload,
             sequence: self.next,
         };
-        self.waiting.push(control);
         self.next += 1;
     }
 }

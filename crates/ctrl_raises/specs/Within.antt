@@ -14,8 +14,9 @@ pub record DifferWithin (plan : PlanData) (clusters : List ℕ) (before after : 
   pub grabs_stay : (c : ℕ) → is_in_one_of clusters (cluster_of plan c) ≡ false → is_grabbed before.grabs c ≡ is_grabbed after.grabs c
   pub unasked : (k : ℕ) → k < length plan.clusters → list_any (nat_eq k) clusters ≡ false → is_touched pairs (members plan k) ≡ false
 
--- The next member of some clusters, from one number on and before the end: no member of theirs lies between.
+-- The next member of some clusters: the least of them from one number on, or the end, where none comes before it.
 pub record IsNextMember (plan : PlanData) (clusters : List ℕ) (from end next : ℕ) : Type 0 where
   pub starts : from ≤ next
   pub ends : next ≤ end
+  pub among : next < end → list_any (λ k. list_any (nat_eq next) (members plan k)) clusters ≡ true
   pub first : (c k : ℕ) → from ≤ c → c < next → list_any (nat_eq k) clusters ≡ true → list_any (nat_eq c) (members plan k) ≡ false

@@ -1,4 +1,4 @@
-use Rattle.std.proofs.Common.{arith, ◌≡◌, ◌∙◌, ◌<◌, ◌≤◌, ◌+◌, ◌++◌, [], ◌∷◌, List, true, is_some, length, bit_or, get_or, set, sym, ap, subst}
+use Rattle.std.proofs.Common.{arith, ◌≡◌, ◌∙◌, ◌+◌, ◌++◌, [], ◌∷◌, List, true, is_some, bit_or, get_or, set, sym, ap, subst}
 use Rattle.std.proofs.Math.Path.{ap₂}
 use Rattle.std.proofs.lemmas.List.{get_or_read}
 use Rattle.ctrl_types.specs.Events.{joined}
@@ -7,7 +7,7 @@ use Rattle.ctrl_events.specs.declared.event.Told.{Told}
 use Rattle.ctrl_events.specs.Events.{Waiting, FileEvents, flags_in, other_events, changes_in}
 use Rattle.ctrl_events.specs.Order.{OrderData, has, without}
 use Rattle.ctrl_events.specs.Queue.{nothing_told, events_to, changes_before, IsQueue}
-use Rattle.ctrl_events.proofs.QueueLemmas.{is_subscribed, queue_room, queue_told, none_without, told_last, changes_found, file_is}
+use Rattle.ctrl_events.proofs.QueueLemmas.{is_subscribed, queue_room, queue_told, told_last, changes_found, file_is}
 use Rattle.ctrl_events.proofs.queue.Queue.put.Goals as goal
 
 whole : (x y z : Changes) → x.0 ≡ bit_or y.0 z.0 → x ≡ joined y z
@@ -27,27 +27,23 @@ index_mut-requires c =
     let within = c.self.invariant.tellable c.args.control there in
     omega (arith, within)
 
-pub push-requires-clause-absent : goal.push-requires-clause-absent
-push-requires-clause-absent c = ap (λ (o : OrderData). has o.members c.args.control) c.remove-waited.ensures.left ∙ none_without c.args.control c.self.inside.waiting.members
-
-pub push-requires-clause-bound : goal.push-requires-clause-bound
-push-requires-clause-bound c =
+pub put_last-waited-requires-clause-bound : goal.put_last-waited-requires-clause-bound
+put_last-waited-requires-clause-bound c =
     let there : has c.self.inside.subscribed.members c.args.control ≡ true =
     sym (is_subscribed c.self.inside.flags.items c.self.inside.subscribed.members c.args.control) ∙ ap (λ (f : FileEvents). is_some (flags_in f.subscribed c.args.control)) c.self.view_is ∙ c.requires.subscribed in
-    subst (λ (o : OrderData). c.args.control < o.bound) (sym c.remove-waited.ensures.left) (c.self.invariant.placed c.args.control there)
+    c.self.invariant.placed c.args.control there
 
-pub push-requires-clause-room : goal.push-requires-clause-room
-push-requires-clause-room c =
+pub put_last-waited-requires-clause-room : goal.put_last-waited-requires-clause-room
+put_last-waited-requires-clause-room c =
     let there : has c.self.inside.subscribed.members c.args.control ≡ true =
     sym (is_subscribed c.self.inside.flags.items c.self.inside.subscribed.members c.args.control) ∙ ap (λ (f : FileEvents). is_some (flags_in f.subscribed c.args.control)) c.self.view_is ∙ c.requires.subscribed in
-    subst (λ (o : OrderData). length o.members + length o.members + 2 ≤ o.room) (sym c.remove-waited.ensures.left) (queue_room c.self.inside.subscribed.members c.self.inside.waiting.members c.self.inside.flags.items c.self.inside.told.items c.self.inside.waiting.bound c.self.inside.waiting.room c.self.inside.next c.args.control c.self.invariant there)
+    queue_room c.self.inside.subscribed.members c.self.inside.waiting.members c.self.inside.flags.items c.self.inside.told.items c.self.inside.waiting.bound c.self.inside.waiting.room c.self.inside.next c.args.control c.self.invariant there
 
 pub invariant_of-self : goal.invariant_of-self
 invariant_of-self c =
     let there : has c.self.inside.subscribed.members c.args.control ≡ true =
     sym (is_subscribed c.self.inside.flags.items c.self.inside.subscribed.members c.args.control) ∙ ap (λ (f : FileEvents). is_some (flags_in f.subscribed c.args.control)) c.self.view_is ∙ c.requires.subscribed in
-    let members : c.push.new.self ≡ record { members = without c.args.control c.self.inside.waiting.members ++ c.args.control ∷ []; bound = c.self.inside.waiting.bound; room = c.self.inside.waiting.room } =
-    c.push.ensures ∙ ap (λ (o : OrderData). record { members = o.members ++ c.args.control ∷ []; bound = o.bound; room = o.room }) c.remove-waited.ensures.left in
+    let members : c.put_last-waited.new.self ≡ record { members = without c.args.control c.self.inside.waiting.members ++ c.args.control ∷ []; bound = c.self.inside.waiting.bound; room = c.self.inside.waiting.room } = c.put_last-waited.ensures.put in
     let told : Told = record { changes = c.union.result; payload = c.args.payload.now; sequence = c.self.inside.next } in
     subst (λ (o : OrderData). IsQueue c.self.inside.subscribed.members c.self.inside.flags.items (set c.self.inside.told.items c.args.control told) o.members o.bound o.room (c.self.inside.next + 1)) (sym members) (
     queue_told c.self.inside.subscribed.members c.self.inside.waiting.members c.self.inside.flags.items c.self.inside.told.items c.self.inside.waiting.bound c.self.inside.waiting.room c.self.inside.next c.args.control told c.self.invariant there
@@ -57,13 +53,12 @@ pub returns : goal.returns
 returns c =
     let there : has c.self.inside.subscribed.members c.args.control ≡ true =
     sym (is_subscribed c.self.inside.flags.items c.self.inside.subscribed.members c.args.control) ∙ ap (λ (f : FileEvents). is_some (flags_in f.subscribed c.args.control)) c.self.view_is ∙ c.requires.subscribed in
-    let members : c.push.new.self ≡ record { members = without c.args.control c.self.inside.waiting.members ++ c.args.control ∷ []; bound = c.self.inside.waiting.bound; room = c.self.inside.waiting.room } =
-    c.push.ensures ∙ ap (λ (o : OrderData). record { members = o.members ++ c.args.control ∷ []; bound = o.bound; room = o.room }) c.remove-waited.ensures.left in
+    let members : c.put_last-waited.new.self ≡ record { members = without c.args.control c.self.inside.waiting.members ++ c.args.control ∷ []; bound = c.self.inside.waiting.bound; room = c.self.inside.waiting.room } = c.put_last-waited.ensures.put in
     let told : Told = record { changes = c.union.result; payload = c.args.payload.now; sequence = c.self.inside.next } in
     let ws : List Waiting = events_to c.self.inside.told.items c.self.inside.waiting.members in
     let read : c.index.result.now ≡ get_or c.self.inside.told.items c.args.control nothing_told = get_or_read c.self.inside.told.items c.args.control c.index.result.now (c.self.invariant.tellable c.args.control there) c.index.ensures nothing_told in
     let before : c.changes_before-before.result ≡ changes_in ws c.args.control =
-    c.changes_before-before.ensures ∙ ap₂ changes_before c.remove-waited.ensures.answer read ∙ sym (changes_found c.self.inside.told.items c.self.inside.waiting.members c.args.control) in
+    c.changes_before-before.ensures ∙ ap₂ changes_before c.put_last-waited.ensures.answer read ∙ sym (changes_found c.self.inside.told.items c.self.inside.waiting.members c.args.control) in
     let all : c.union.result ≡ joined (changes_in ws c.args.control) c.args.changes = whole c.union.result c.changes_before-before.result c.args.changes (c.union.ensures tt) ∙ ap (λ (x : Changes). joined x c.args.changes) before in
     file_is _ _ _ _ _ _
     (ap (λ (f : FileEvents). f.subscribed) c.self.view_is)
