@@ -9,7 +9,7 @@ use Rattle.ctrl_handlers.specs.Plan.{PlanData}
 use Rattle.ctrl_clusters.specs.Rows.{Grabs, Values}
 use Rattle.ctrl_clusters.specs.Judging.{with_calls}
 use Rattle.ctrl_forecast.specs.Asking.{asked_count, removing_count}
-use Rattle.ctrl_forecast.specs.Boards.{asked_at, named_clusters}
+use Rattle.ctrl_forecast.specs.Boards.{named_clusters}
 use Rattle.ctrl_forecast.specs.Forecasts.{QueuedData, forecasts, named_by_frames, values_behind}
 use Rattle.ctrl_forecast.specs.Touched.{touched_count}
 use Rattle.req_book.specs.Requests.{RequestData, find}
