@@ -85,7 +85,7 @@ subscribed_then c d flags changes payload f there = by (is_some (flags_in f.subs
     by false false is = subscribed_more f.subscribed c d flags is
 
 -- a raise leaves the subscriptions
-raise_leaves : (c : ℕ) (changes : Changes) (payload : Payload) (from : Option ℕ) (fh : ℕ) (f : FileEvents) → (after_raise c changes payload from fh f).subscribed ≡ f.subscribed
+pub raise_leaves : (c : ℕ) (changes : Changes) (payload : Payload) (from : Option ℕ) (fh : ℕ) (f : FileEvents) → (after_raise c changes payload from fh f).subscribed ≡ f.subscribed
 raise_leaves c changes payload from fh f = by (reaches (is_from from fh) (flags_in f.subscribed c))
   where
     by : (b : Bool) → (cond b (raised c changes payload f) f).subscribed ≡ f.subscribed

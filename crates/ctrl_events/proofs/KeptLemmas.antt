@@ -1,13 +1,12 @@
 -- What waits is of controls that are subscribed, and no control waits twice: what each call keeps of that.
-use Rattle.std.proofs.Common.{◌≡◌, ◌≢◌, ℕ, zero, suc, ◌-◌, ◌<◌, get_or, ◌∙◌, ◌+◌, ◌==◌, ◌⊎◌, ◌≤◌, Bool, true, false, not, cond, inl, inr, List, [], ◌∷◌, ◌++◌, filter, length, Option, None, Some, is_some, nat_eq, eq-eqb, refl, sym, ap, subst, arith}
+use Rattle.std.proofs.Common.{◌≡◌, ◌≢◌, ℕ, suc, ◌∙◌, ◌+◌, ◌==◌, ◌⊎◌, ◌≤◌, Bool, true, false, not, cond, inl, inr, List, [], ◌∷◌, ◌++◌, filter, length, Option, None, Some, is_some, nat_eq, eq-eqb, refl, sym, ap, subst, arith}
 use Rattle.std.proofs.lemmas.Bool.{or_from, or_parts}
 use Rattle.std.proofs.lemmas.Bool.Decides.{eqb_tells}
 use Rattle.ctrl_types.specs.declared.changes.Changes.{Changes}
 use Rattle.ctrl_types.specs.declared.sub_flags.SubFlags.{SubFlags}
 use Rattle.ctrl_types.specs.Events.{joined, sends_initial}
 use Rattle.ctrl_events.specs.declared.event.Payload.{Payload}
-use Rattle.ctrl_events.specs.declared.event.Event.{Event}
-use Rattle.ctrl_events.specs.Events.{Subscription, Waiting, FileEvents, flags_in, changes_in, other_events, is_waiting, raised, with_subscription, after_subscribe, after_unsubscribe, behind_first, after_take, event_of, event_at, is_from, reaches, after_raise, AreSubscribed, WaitsForSubscribed}
+use Rattle.ctrl_events.specs.Events.{Subscription, Waiting, FileEvents, flags_in, changes_in, other_events, is_waiting, raised, with_subscription, after_subscribe, after_unsubscribe, behind_first, after_take, is_from, reaches, after_raise, AreSubscribed, WaitsForSubscribed}
 
 -- what a comparison of two numbers tells
 abbrev pub Tells : ℕ → ℕ → Type 0
@@ -154,15 +153,7 @@ kept_raise c changes payload from fh f kept = by (reaches (is_from from fh) (fla
     by true is = kept_raised c changes payload f (reached_there (is_from from fh) (flags_in f.subscribed c) is) kept
     by false is = kept
 
--- there are no more of others than of all
-pub length_others : (c : ℕ) (ws : List Waiting) → length (other_events c ws) ≤ length ws
-length_others c [] = omega arith
-length_others c (w ∷ ws) = by (nat_eq c w.control) (length_others c ws)
-  where
-    by : (b : Bool) → length (other_events c ws) ≤ length ws → length (cond (not b) (w ∷ other_events c ws) (other_events c ws)) ≤ suc (length ws)
-    by true rest = omega (arith, rest)
-    by false rest = omega (arith, rest)
-
+-- there are no more subscriptions to others than to all
 length_subscriptions : (c : ℕ) (ss : List Subscription) → length (other_subscriptions c ss) ≤ length ss
 length_subscriptions c [] = omega arith
 length_subscriptions c (s ∷ ss) = by (nat_eq c s.control) (length_subscriptions c ss)
@@ -170,9 +161,6 @@ length_subscriptions c (s ∷ ss) = by (nat_eq c s.control) (length_subscription
     by : (b : Bool) → length (other_subscriptions c ss) ≤ length ss → length (cond (not b) (s ∷ other_subscriptions c ss) (other_subscriptions c ss)) ≤ suc (length ss)
     by true rest = omega (arith, rest)
     by false rest = omega (arith, rest)
-
-pub fewer_subscriptions : (c : ℕ) (ss : List Subscription) (room : ℕ) → length ss ≤ room → length (other_subscriptions c ss) ≤ room
-fewer_subscriptions c ss room fits = omega (arith, length_subscriptions c ss)
 
 -- without a subscription that is there, there are fewer
 fewer : (c : ℕ) (ss : List Subscription) → is_some (flags_in ss c) ≡ true → suc (length (other_subscriptions c ss)) ≤ length ss
@@ -199,21 +187,6 @@ room_left c ss ws room there kept fits =
     let below = no_more (other_subscriptions c ss) (other_events c ws) (kept_without c ss ws kept) in
     let less = fewer c ss there in
     omega (arith, below, less, fits)
-
--- the event at a place has those behind it pending
-pub event_seen : (ws : List Waiting) (place n : ℕ) (w : Waiting) (e : Event) → place < length ws → w ≡ get_or ws place w → n ≡ length ws → e ≡ event_of (n - place - 1) w → Some (w.control, e) ≡ event_at ws place
-event_seen [] place n w e within is many made = absurd (omega (arith, within))
-event_seen (v ∷ ws) zero n w e within is many made =
-    let left : n - 0 - 1 ≡ length ws = omega (arith, many) in
-    ap (λ (x : Event). Some (w.control, x)) (made ∙ ap (λ (m : ℕ). event_of m w) left) ∙ ap (λ (u : Waiting). Some (u.control, event_of (length ws) u)) is
-event_seen (v ∷ ws) (suc place) n w e within is many made =
-    let left : n - suc place - 1 ≡ n - 1 - place - 1 = omega arith in
-    event_seen ws place (n - 1) w e (omega (arith, within)) is (omega (arith, many)) (made ∙ ap (λ (m : ℕ). event_of m w) left)
-
-pub nothing_seen : (ws : List Waiting) (place : ℕ) → length ws ≤ place → None ≡ event_at ws place
-nothing_seen [] place beyond = refl
-nothing_seen (v ∷ ws) zero beyond = absurd (omega (arith, beyond))
-nothing_seen (v ∷ ws) (suc place) beyond = nothing_seen ws place (omega (arith, beyond))
 
 -- a call raises at most one event for a file handle
 pub counted_subscribe : (c : ℕ) (flags : SubFlags) (changes : Changes) (payload : Payload) (f : FileEvents) → (after_subscribe c flags changes payload f).next ≤ f.next + 1

@@ -4,6 +4,7 @@ pub mod QueueLemmas
 pub mod FileLemmas
 pub mod HeardLemmas
 pub mod RaiseLemmas
+pub mod GatherLemmas
 pub mod LikeLemmas
 pub mod AlikeLemmas
 pub mod PendingLemmas

@@ -1,11 +1,11 @@
-ghost use Rattle.std.specs.Prelude.{◌≡◌, ◌↔◌, ◌<◌, ℕ, [], IsTrue, length, IfSome, OnErr, OnOk, None, false, get_or, slice_get, nat_eq};
+ghost use Rattle.std.specs.Prelude.{◌≡◌, ◌↔◌, ◌<◌, ◌%◌, ℕ, [], IsTrue, length, IfSome, OnErr, OnOk, None, true, false, is_some, get_or, slice_get, bit_or, nat_eq, if◌then◌else◌};
 ghost use Rattle.std.specs.Int.{bit_at};
 ghost use Rattle.std.specs.Option.{option_map};
 ghost use Rattle.std.specs.List.{IsDistinct};
 ghost use Rattle.std.specs.Map.{keys_of};
 ghost use Rattle.ctrl_types.specs.Checks.{with_errno};
 ghost use Rattle.ctrl_events.specs.Events.{events_of, only_at, no_events, flags_in, event_at, after_subscribe, after_unsubscribe, first_waiting, after_take, after_raise, is_from, WaitsForSubscribed, IsLike};
-ghost use Rattle.ctrl_events.specs.Heard.{IsHeard};
+ghost use Rattle.ctrl_events.specs.Heard.{IsHeard, HasBit};
 ghost use Rattle.ctrl_events.specs.Files.{changed_at, raised_in_entry};
 
 use crate::event::{Event, Payload};
@@ -18,8 +18,8 @@ use std::marker::Model;
 /// The control events of file handles. Contracts see what is kept of each: its subscriptions, the events that wait, in the order of their last
 /// raises, and the number of the next. A file handle needs no call before its first subscription.
 ///
-/// A raise passes over the file handles that can't be subscribed: for each control there is a bit of each 64th file handle by number, which is set
-/// from its first subscription on.
+/// A raise passes over the file handles that can't be subscribed: for each control there is a bit of each 64th file handle by number. A
+/// subscription sets it, and a raise clears it where none of these is subscribed any longer.
 #[derive(Drop)]
 pub struct Events {
     files: IndexMap<u32, Queue>,
@@ -235,9 +235,11 @@ impl Events {
         if !self.is_heard(control) {
             return;
         }
+        let mut still = 0;
         for place in 0..self.count() {
-            self.raise_at(place, control, changes, payload, from);
+            still = self.raise_at(place, still, control, changes, payload, from);
         }
+        self.keep_heard(control, still);
     }
 
     // For how many file handles something is kept.
@@ -248,25 +250,43 @@ impl Events {
         self.files.len()
     }
 
-    // Raises an event of a control for the file handle at a place.
+    // Raises an event of a control for the file handle at a place, and adds its bit to those of the file handles that are still subscribed to the
+    // control, where it is one.
     fn raise_at(
         &mut self,
         place: usize,
+        still: u64,
         control: u32,
         changes: Changes,
         payload: &Payload,
         from: Option<FhId>,
-    )
+    ) -> u64
         requires { IfSome (slice_get self.old.files place) (λ e. e.1.next < 4294967295) }
-        ensures { self.new.files ≡ changed_at place (raised_in_entry control changes payload.now (option_map (λ fh. fh.0) from)) self.old.files }
+        ensures files { self.new.files ≡ changed_at place (raised_in_entry control changes payload.now (option_map (λ fh. fh.0) from)) self.old.files }
+        ensures own { IfSome (slice_get self.old.files place) (HasBit result control) }
+        ensures kept { (b : ℕ) → bit_at still b ≡ 1 → bit_at result b ≡ 1 }
     {
-        if !self.is_heard_at(place, control) {
-            return;
+        let bit = self.heard_at(place, control);
+        if bit == 0 {
+            return still;
         }
         let is_own = self.is_at(place, from);
-        if let Some(queue) = self.files.get_index_mut(place) {
-            queue.raise(control, changes, payload, is_own);
+        match self.files.get_index_mut(place) {
+            Some(queue) => with_bit(still, bit, queue.raise(control, changes, payload, is_own)),
+            None => still,
         }
+    }
+
+    // Keeps the bits of the file handles that are subscribed to a control, in place of those of which some may no longer be.
+    fn keep_heard(&mut self, control: u32, bits: u64)
+        requires { (j : ℕ) → is_some (flags_in (events_of self.old j).subscribed control) ≡ true → bit_at bits (j % 64) ≡ 1 }
+        ensures { self.new ≡ self.old }
+    {
+        let at = control as usize;
+        if at >= self.heard.len() {
+            return;
+        }
+        self.heard[at] = bits;
     }
 
     // Whether a file handle may be subscribed to a control; else none is.
@@ -276,14 +296,14 @@ impl Events {
         heard_by(self.heard.as_slice(), control) != 0
     }
 
-    // Whether the file handle at a place may be subscribed to a control; else it isn't.
-    fn is_heard_at(&self, place: usize, control: u32) -> bool
-        ensures { result ≡ false → IfSome (slice_get self.now.files place) (λ e. flags_in e.1.subscribed control ≡ None) }
+    // The bit of the file handle at a place, where it may be subscribed to a control; else 0.
+    fn heard_at(&self, place: usize, control: u32) -> u64
+        ensures { IfSome (slice_get self.now.files place) (HasBit result control) }
     {
         let _count = self.files.len();
         match self.files.get_index(place) {
-            Some((fh, _)) => { has_bit(heard_by(self.heard.as_slice(), control), *fh % 64) }
-            None => false,
+            Some((fh, _)) => heard_by(self.heard.as_slice(), control) & (1 << (*fh % 64)),
+            None => 0,
         }
     }
 
@@ -316,12 +336,11 @@ fn heard_by(heard: &[u64], control: u32) -> u64
     }
 }
 
-// Whether a bit is set.
-fn has_bit(bits: u64, place: u32) -> bool
-    requires { place < 64 }
-    ensures { IsTrue result ↔ (bit_at bits place ≡ 1) }
+// Some bits with one more, where it is to be set.
+fn with_bit(bits: u64, bit: u64, is_set: bool) -> u64
+    ensures { result ≡ (if is_set then bit_or bits bit else bits) }
 {
-    (bits >> place) & 1 == 1
+    if is_set { bits | bit } else { bits }
 }
 
 // Sets the bit of a file handle that may be subscribed to a control from now on. The error is that a growth was refused.

@@ -161,24 +161,24 @@ impl Queue {
         }
     }
 
-    /// Raises an event of a control, which is the file handle's own or another's, where it reaches the file handle.
-    pub(crate) fn raise(&mut self, control: u32, changes: Changes, payload: &Payload, is_own: bool)
+    /// Raises an event of a control, which is the file handle's own or another's, where it reaches the file handle. It tells whether the file
+    /// handle is subscribed to the control.
+    pub(crate) fn raise(
+        &mut self,
+        control: u32,
+        changes: Changes,
+        payload: &Payload,
+        is_own: bool,
+    ) -> bool
         requires { self.old.next < 4294967295 }
-        ensures { self.new ≡ (if reaches is_own (flags_in self.old.subscribed control) then raised control changes payload.now self.old else self.old) }
+        ensures answer { result ≡ is_some (flags_in self.old.subscribed control) }
+        ensures events { self.new ≡ (if reaches is_own (flags_in self.old.subscribed control) then raised control changes payload.now self.old else self.old) }
     {
-        if self.is_reached(control, is_own) {
+        let flags = self.flags_of(control);
+        if is_reached(flags, is_own) {
             self.put(control, changes, payload);
         }
-    }
-
-    // Whether a raise of a control's event reaches the file handle.
-    fn is_reached(&self, control: u32, is_own: bool) -> bool
-        ensures { result ≡ reaches is_own (flags_in self.now.subscribed control) }
-    {
-        match self.flags_of(control) {
-            Some(flags) => !is_own || flags.intersects(SubFlags::ALLOW_FEEDBACK),
-            None => false,
-        }
+        flags.is_some()
     }
 
     // Has an event of a control that is subscribed wait as the last.
@@ -195,6 +195,16 @@ impl Queue {
             sequence: self.next,
         };
         self.next += 1;
+    }
+}
+
+// Whether a raise reaches a file handle, by the flags of its subscription, where it has one.
+fn is_reached(flags: Option<SubFlags>, is_own: bool) -> bool
+    ensures { result ≡ reaches is_own flags }
+{
+    match flags {
+        Some(flags) => !is_own || flags.intersects(SubFlags::ALLOW_FEEDBACK),
+        None => false,
     }
 }
 

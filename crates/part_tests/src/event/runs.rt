@@ -370,6 +370,90 @@ const RUNS: &[Run] = &[
             Look::Next(2, 4),
         ],
     ),
+    // a raise between two subscriptions isn't heard, and one after both is
+    (
+        &[
+            (Call::Subscribe(0, 1, 0, 0), Ok(None)),
+            (Call::Subscribe(1, 1, 0, 0), Ok(None)),
+            (Call::Unsubscribe(0, 1), Ok(None)),
+            (Call::Raise(1, 1, 6, None), Ok(None)),
+            (Call::Subscribe(0, 1, 0, 0), Ok(None)),
+            (Call::Raise(1, 2, 7, None), Ok(None)),
+        ],
+        &[
+            Look::Waits(
+                0,
+                &[Told {
+                    control: 1,
+                    changes: 2,
+                    value: 7,
+                    sequence: 0,
+                    pending: 0,
+                }],
+            ),
+            Look::Next(0, 1),
+            Look::Waits(
+                1,
+                &[Told {
+                    control: 1,
+                    changes: 3,
+                    value: 7,
+                    sequence: 1,
+                    pending: 0,
+                }],
+            ),
+            Look::Next(1, 2),
+        ],
+    ),
+    // the same, where no other is subscribed
+    (
+        &[
+            (Call::Subscribe(0, 1, 0, 0), Ok(None)),
+            (Call::Unsubscribe(0, 1), Ok(None)),
+            (Call::Raise(1, 1, 6, None), Ok(None)),
+            (Call::Raise(1, 1, 7, None), Ok(None)),
+            (Call::Subscribe(0, 1, 0, 0), Ok(None)),
+            (Call::Raise(1, 2, 8, None), Ok(None)),
+        ],
+        &[
+            Look::Waits(
+                0,
+                &[Told {
+                    control: 1,
+                    changes: 2,
+                    value: 8,
+                    sequence: 0,
+                    pending: 0,
+                }],
+            ),
+            Look::Next(0, 1),
+        ],
+    ),
+    // one that is no longer subscribed takes nothing from one whose number is 64 more
+    (
+        &[
+            (Call::Subscribe(0, 1, 0, 0), Ok(None)),
+            (Call::Subscribe(64, 1, 0, 0), Ok(None)),
+            (Call::Unsubscribe(0, 1), Ok(None)),
+            (Call::Raise(1, 1, 6, None), Ok(None)),
+            (Call::Raise(1, 4, 7, None), Ok(None)),
+        ],
+        &[
+            Look::Waits(0, &[]),
+            Look::Next(0, 0),
+            Look::Waits(
+                64,
+                &[Told {
+                    control: 1,
+                    changes: 5,
+                    value: 7,
+                    sequence: 1,
+                    pending: 0,
+                }],
+            ),
+            Look::Next(64, 2),
+        ],
+    ),
     // feedback is of the file handle's own subscription to the control
     (
         &[
