@@ -5,11 +5,16 @@ use bitflags::Flags as FlagSet;
 use ctrl_events::{Event, Payload};
 use ctrl_types::{Changes, CtrlId, Errno, Flags, Kind, SubFlags};
 
+/// What an event at once says where a call doesn't.
+pub(crate) const CH_VALUE: u32 = 1;
+
 /// A call. Flags and changes stand as bits, and a payload as the control's value.
 #[derive(Clone, Copy)]
 pub(crate) enum Call {
-    /// A file handle, a control, the flags, and the value of an event at once.
+    /// A file handle, a control, the flags, and the value of an event at once, which says that it changed.
     Subscribe(u32, u32, u32, i64),
+    /// A file handle, a control, the flags, and what an event at once says that changed, with its value.
+    SubscribeSaying(u32, u32, u32, u32, i64),
     /// A file handle and a control.
     Unsubscribe(u32, u32),
     /// A control, what changed, its value, and the file handle that it comes from.
@@ -43,17 +48,17 @@ pub(crate) enum Look {
     Empty(bool),
 }
 
-/// What is told of a control that has a value.
+/// What is told of a control that has a value, whose range goes with it.
 pub(crate) fn payload(control: u32, value: i64) -> Payload {
     Payload {
         id: CtrlId(control),
         kind: Kind::Menu,
         value,
         flags: Flags::UPDATE,
-        minimum: -3,
-        maximum: 9,
+        minimum: value.wrapping_sub(3),
+        maximum: value.wrapping_add(9),
         step: 2,
-        default_value: 1,
+        default_value: value.wrapping_add(1),
     }
 }
 
@@ -65,10 +70,10 @@ pub(crate) fn event(told: Told) -> Event {
         changes: Changes::from_bits_retain(told.changes),
         value: told.value,
         flags: Flags::UPDATE,
-        minimum: -3,
-        maximum: 9,
+        minimum: told.value.wrapping_sub(3),
+        maximum: told.value.wrapping_add(9),
         step: 2,
-        default_value: 1,
+        default_value: told.value.wrapping_add(1),
         sequence: told.sequence,
         pending: told.pending,
     }
@@ -100,7 +105,8 @@ pub(crate) fn shows(scene: &Scene, look: Look) -> bool {
     }
 }
 
-fn waits(scene: &Scene, fh: u32, all: &[Told]) -> bool {
+/// Whether just these events wait for a file handle, in this order.
+pub(crate) fn waits(scene: &Scene, fh: u32, all: &[Told]) -> bool {
     for (place, told) in all.iter().enumerate() {
         if scene.waiting(fh, place) != Some((told.control, event(*told))) {
             return false;

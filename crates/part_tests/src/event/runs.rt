@@ -513,7 +513,7 @@ const RUNS: &[Run] = &[
 // What is seen of the file handle that subscribes.
 fn seen(scene: &Scene, call: Call) -> (usize, u32, Option<SubFlags>) {
     match call {
-        Call::Subscribe(fh, control, _, _) => (
+        Call::Subscribe(fh, control, _, _) | Call::SubscribeSaying(fh, control, _, _, _) => (
             scene.pending_len(fh),
             scene.next_sequence(fh),
             scene.subscribed(fh, control),

@@ -3,7 +3,7 @@
 ghost use Rattle.std.specs.Prelude.{ℕ, ◌≤◌};
 ghost use Rattle.ctrl_events.specs.Events.{events_of};
 
-use crate::event::calls::{Call, payload};
+use crate::event::calls::{CH_VALUE, Call, payload};
 use bitflags::Flags as FlagSet;
 use ctrl_events::{Event, Events};
 use ctrl_types::{Changes, Errno, FhId, SubFlags};
@@ -33,10 +33,10 @@ impl Scene {
         }
         match call {
             Call::Subscribe(fh, control, flags, value) => {
-                match self.subscribe(fh, control, flags, value) {
-                    Ok(()) => Ok(None),
-                    Err(errno) => Err(errno),
-                }
+                self.subscribe(fh, control, flags, CH_VALUE, value)
+            }
+            Call::SubscribeSaying(fh, control, flags, changes, value) => {
+                self.subscribe(fh, control, flags, changes, value)
             }
             Call::Unsubscribe(fh, control) => {
                 self.unsubscribe(fh, control);
@@ -57,7 +57,14 @@ impl Scene {
         }
     }
 
-    fn subscribe(&mut self, fh: u32, control: u32, flags: u32, value: i64) -> Result<(), Errno> {
+    fn subscribe(
+        &mut self,
+        fh: u32,
+        control: u32,
+        flags: u32,
+        changes: u32,
+        value: i64,
+    ) -> Result<Option<Event>, Errno> {
         if self.calls == u32::MAX {
             return Err(Errno::ERANGE);
         }
@@ -65,12 +72,12 @@ impl Scene {
             FhId(fh),
             control,
             SubFlags::from_bits_retain(flags),
-            Changes::CH_VALUE,
+            Changes::from_bits_retain(changes),
             &payload(control, value),
         );
         self.calls += 1;
         match answer {
-            Ok(()) => Ok(()),
+            Ok(()) => Ok(None),
             Err(_) => Err(Errno::ENOMEM),
         }
     }
