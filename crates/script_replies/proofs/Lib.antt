@@ -1,2 +1,2 @@
-mod Texts
+mod Digits
 mod Writes

@@ -2,6 +2,7 @@
 #![tactic(auto)]
 
 mod audited;
+mod hexadecimal;
 mod outcome;
 mod reply;
 mod reply_line;

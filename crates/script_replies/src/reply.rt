@@ -1,12 +1,13 @@
-ghost use Rattle.std.specs.Prelude.{◌≡◌, ◌≤◌, OnOk, ◌++◌, ◌∷◌, codes, length};
+ghost use Rattle.std.specs.Prelude.{◌≡◌, ◌≤◌, OnOk, Some, ◌++◌, ◌∷◌, codes, length};
 ghost use Rattle.std.specs.Fmt.{decimal, signed_decimal};
 ghost use Rattle.std.specs.Io.KnownBytes.{Appends};
 ghost use Rattle.std.specs.List.{flat_map};
 ghost use Rattle.hex.specs.Hex.{encode_lower};
-ghost use Rattle.ctrl_types.specs.Numbers.{errno_number};
+ghost use Rattle.ctrl_types.specs.Numbers.{errno_number, kind_number};
 ghost use Rattle.script_replies.specs.Replies.{accepted_line, answer_line, audit_line, clusters_text, elems_text, ending_text, entry_text, event_line, flags_text, forecast_line, frame_line, further_text, id_text, info_line, item_text, line_of, outcome_line, place_of as asked_place, range_text, refusal_line, state_line, value_text};
 
 use crate::audited::Audited;
+use crate::hexadecimal::{MAX_DIGITS, eight_digits, write_hexadecimal};
 use crate::outcome::Outcome;
 use bitflags::Flags as FlagSet;
 use ctrl_events::Event;
@@ -14,7 +15,7 @@ use ctrl_forecast::Forecast;
 use ctrl_handlers::MenuItem;
 use ctrl_types::{CtrlId, CtrlValue, Errno, ExtControl, Fault, Flags, Kind, MAX_ELEMENTS};
 use device_history::{Ask, CtrlInfo, Reply};
-use itoa::Buffer;
+use itoa::{Buffer, Integer};
 use req_book::RequestState;
 use std::io;
 use std::io::Write;
@@ -50,10 +51,7 @@ fn print_reply<W: Write>(out: &mut W, ask: &Ask, reply: &Reply) -> io::Result<()
         Reply::Info(info) => print_info(out, *info),
         Reply::Id(id) => print_next(out, *id),
         Reply::Item(item) => print_item(out, item),
-        Reply::Word(word) => {
-            let word = *word;
-            writeln!(out, "ok {word}")
-        }
+        Reply::Word(word) => print_counted(out, b"ok ", *word),
     }
 }
 
@@ -81,17 +79,31 @@ fn print_value<W: Write>(out: &mut W, value: CtrlValue) -> io::Result<()>
 fn print_number<W: Write>(out: &mut W, number: i64) -> io::Result<()>
     ensures { OnOk result (Appends (W.contents out.old) (W.contents out.new) (codes " " ++ signed_decimal number)) }
 {
-    let mut digits = Buffer::new();
-    out.write_all(b" ")?;
-    out.write_all(digits.format(number).as_bytes())
+    print_named(out, b" ", number)
 }
 
-// A number without a sign.
-fn print_count<W: Write>(out: &mut W, number: u32) -> io::Result<()>
-    ensures { OnOk result (Appends (W.contents out.old) (W.contents out.new) (decimal number)) }
+// A number, behind a minus where it is negative.
+pub(crate) fn print_decimal<W: Write, I: Integer>(out: &mut W, number: I) -> io::Result<()>
+    ensures { OnOk result (Appends (W.contents out.old) (W.contents out.new) (I.text number)) }
 {
     let mut digits = Buffer::new();
     out.write_all(digits.format(number).as_bytes())
+}
+
+// A number behind a word.
+fn print_named<W: Write, I: Integer>(out: &mut W, word: &[u8], number: I) -> io::Result<()>
+    ensures { OnOk result (Appends (W.contents out.old) (W.contents out.new) (word.now ++ I.text number)) }
+{
+    out.write_all(word)?;
+    print_decimal(out, number)
+}
+
+// A line that ends with a number behind a word.
+fn print_counted<W: Write, I: Integer>(out: &mut W, word: &[u8], number: I) -> io::Result<()>
+    ensures { OnOk result (Appends (W.contents out.old) (W.contents out.new) (word.now ++ (I.text number ++ codes "\n"))) }
+{
+    print_named(out, word, number)?;
+    out.write_all(b"\n")
 }
 
 // The elements of an array behind a space.
@@ -122,8 +134,7 @@ fn print_state<W: Write>(out: &mut W, state: RequestState) -> io::Result<()>
 fn print_frame<W: Write>(out: &mut W, buffer: u32, refused: &[u32]) -> io::Result<()>
     ensures { OnOk result (Appends (W.contents out.old) (W.contents out.new) (frame_line buffer refused.now)) }
 {
-    out.write_all(b"ok buffer ")?;
-    print_count(out, buffer)?;
+    print_named(out, b"ok buffer ", buffer)?;
     out.write_all(b" refused ")?;
     print_clusters(out, refused)?;
     out.write_all(b"\n")
@@ -152,10 +163,8 @@ fn print_forecast<W: Write>(out: &mut W, place: u32, row: &Forecast) -> io::Resu
 fn print_frame_head<W: Write>(out: &mut W, place: u32, buffer: u32) -> io::Result<()>
     ensures { OnOk result (Appends (W.contents out.old) (W.contents out.new) (codes "frame " ++ (decimal place ++ (codes " buffer " ++ (decimal buffer ++ codes " refused "))))) }
 {
-    out.write_all(b"frame ")?;
-    print_count(out, place)?;
-    out.write_all(b" buffer ")?;
-    print_count(out, buffer)?;
+    print_named(out, b"frame ", place)?;
+    print_named(out, b" buffer ", buffer)?;
     out.write_all(b" refused ")
 }
 
@@ -183,7 +192,7 @@ fn print_clusters<W: Write>(out: &mut W, clusters: &[u32]) -> io::Result<()>
 fn print_joined<W: Write>(out: &mut W, first: u32, more: &[u32]) -> io::Result<()>
     ensures { OnOk result (Appends (W.contents out.old) (W.contents out.new) (clusters_text (first ∷ more.now))) }
 {
-    print_count(out, first)?;
+    print_decimal(out, first)?;
     for cluster in more {
         print_further(out, *cluster)?;
     }
@@ -194,29 +203,34 @@ fn print_joined<W: Write>(out: &mut W, first: u32, more: &[u32]) -> io::Result<(
 fn print_further<W: Write>(out: &mut W, cluster: u32) -> io::Result<()>
     ensures { OnOk result (Appends (W.contents out.old) (W.contents out.new) (further_text cluster)) }
 {
-    out.write_all(b",")?;
-    print_count(out, cluster)
+    print_named(out, b",", cluster)
 }
 
 // An event that was taken.
 fn print_event<W: Write>(out: &mut W, event: Event) -> io::Result<()>
     ensures { OnOk result (Appends (W.contents out.old) (W.contents out.new) (event_line event)) }
 {
-    let changes = event.changes.bits();
-    let value = event.value;
-    let sequence = event.sequence;
-    let pending = event.pending;
-    write!(out, "event ")?;
-    print_id(out, event.id)?;
-    write!(out, " changes {changes} value {value} flags ")?;
+    print_change(out, event)?;
+    out.write_all(b" flags ")?;
     print_flags(out, event.flags)?;
-    writeln!(out, " sequence {sequence} pending {pending}")
+    print_named(out, b" sequence ", event.sequence)?;
+    print_counted(out, b" pending ", event.pending)
+}
+
+// The control of an event, what changed, and the value that it tells.
+fn print_change<W: Write>(out: &mut W, event: Event) -> io::Result<()>
+    ensures { OnOk result (Appends (W.contents out.old) (W.contents out.new) (codes "event " ++ (id_text event.id ++ (codes " changes " ++ (decimal event.changes.0 ++ (codes " value " ++ signed_decimal event.value)))))) }
+{
+    out.write_all(b"event ")?;
+    print_id(out, event.id)?;
+    print_named(out, b" changes ", event.changes.bits())?;
+    print_named(out, b" value ", event.value)
 }
 
 fn print_info<W: Write>(out: &mut W, info: CtrlInfo) -> io::Result<()>
     ensures { OnOk result (Appends (W.contents out.old) (W.contents out.new) (info_line info)) }
 {
-    write!(out, "ok ")?;
+    out.write_all(b"ok ")?;
     print_id(out, info.id)?;
     print_range(out, info)?;
     print_ending(out, info)
@@ -228,7 +242,7 @@ fn print_ending<W: Write>(out: &mut W, info: CtrlInfo) -> io::Result<()>
 {
     print_flags(out, info.flags)?;
     print_elems(out, info.kind, info.elems)?;
-    writeln!(out)
+    out.write_all(b"\n")
 }
 
 // How many elements an array has.
@@ -236,7 +250,7 @@ fn print_elems<W: Write>(out: &mut W, kind: Kind, elems: u32) -> io::Result<()>
     ensures { OnOk result (Appends (W.contents out.old) (W.contents out.new) (elems_text kind elems)) }
 {
     match kind {
-        Kind::U8 => write!(out, " elems {elems}"),
+        Kind::U8 => print_named(out, b" elems ", elems),
         _ => Ok(()),
     }
 }
@@ -244,9 +258,9 @@ fn print_elems<W: Write>(out: &mut W, kind: Kind, elems: u32) -> io::Result<()>
 fn print_next<W: Write>(out: &mut W, id: CtrlId) -> io::Result<()>
     ensures { OnOk result (Appends (W.contents out.old) (W.contents out.new) (codes "ok " ++ (id_text id ++ codes "\n"))) }
 {
-    write!(out, "ok ")?;
+    out.write_all(b"ok ")?;
     print_id(out, id)?;
-    writeln!(out)
+    out.write_all(b"\n")
 }
 
 // An item of a menu: its name, or its number.
@@ -255,45 +269,48 @@ fn print_item<W: Write>(out: &mut W, item: &MenuItem) -> io::Result<()>
 {
     match item {
         MenuItem::Name(name) => {
-            let name = name.as_str();
-            writeln!(out, "ok {name}")
+            out.write_all(b"ok ")?;
+            out.write_all(name.as_str().as_bytes())?;
+            out.write_all(b"\n")
         }
-        MenuItem::Number(number) => {
-            let number = *number;
-            writeln!(out, "ok {number}")
-        }
+        MenuItem::Number(number) => print_counted(out, b"ok ", *number),
     }
 }
 
 // An id, with all its digits.
-#[tactic(auto, using(crate::proofs::Texts::eight_digits))]
 fn print_id<W: Write>(out: &mut W, id: CtrlId) -> io::Result<()>
     ensures { OnOk result (Appends (W.contents out.old) (W.contents out.new) (id_text id)) }
 {
-    let number = id.0;
-    write!(out, "0x{number:08x}")
+    out.write_all(b"0x")?;
+    out.write_all(&eight_digits(id.0))
 }
 
 // What stands between the id and the flags of a control.
 fn print_range<W: Write>(out: &mut W, info: CtrlInfo) -> io::Result<()>
     ensures { OnOk result (Appends (W.contents out.old) (W.contents out.new) (range_text info)) }
 {
-    let kind = info.kind.number();
-    let minimum = info.minimum;
-    let maximum = info.maximum;
-    let step = info.step;
-    let default_value = info.default_value;
-    write!(
-        out,
-        " kind {kind} min {minimum} max {maximum} step {step} default {default_value} flags "
-    )
+    print_bounds(out, info)?;
+    print_named(out, b" step ", info.step)?;
+    print_named(out, b" default ", info.default_value)?;
+    out.write_all(b" flags ")
+}
+
+// The number of a control's kind, and its bounds.
+fn print_bounds<W: Write>(out: &mut W, info: CtrlInfo) -> io::Result<()>
+    ensures { OnOk result (Appends (W.contents out.old) (W.contents out.new) (codes " kind " ++ (decimal (kind_number info.kind) ++ (codes " min " ++ (signed_decimal info.minimum ++ (codes " max " ++ signed_decimal info.maximum)))))) }
+{
+    print_named(out, b" kind ", info.kind.number())?;
+    print_named(out, b" min ", info.minimum)?;
+    print_named(out, b" max ", info.maximum)
 }
 
 fn print_flags<W: Write>(out: &mut W, flags: Flags) -> io::Result<()>
     ensures { OnOk result (Appends (W.contents out.old) (W.contents out.new) (flags_text flags)) }
 {
-    let bits = flags.bits();
-    write!(out, "0x{bits:x}")
+    let mut room = [0; MAX_DIGITS];
+    let start = write_hexadecimal(flags.bits(), &mut room);
+    out.write_all(b"0x")?;
+    out.write_all(&room[start..])
 }
 
 fn print_fault<W: Write>(out: &mut W, fault: Fault) -> io::Result<()>
@@ -301,9 +318,16 @@ fn print_fault<W: Write>(out: &mut W, fault: Fault) -> io::Result<()>
 {
     let number = fault.errno.number();
     match fault.index {
-        Some(index) => writeln!(out, "error {number} index {index}"),
-        None => writeln!(out, "error {number}"),
+        Some(index) => print_indexed_fault(out, number, index),
+        None => print_counted(out, b"error ", number),
     }
+}
+
+fn print_indexed_fault<W: Write>(out: &mut W, number: u32, index: u32) -> io::Result<()>
+    ensures { OnOk result (Appends (W.contents out.old) (W.contents out.new) (refusal_line number (Some index))) }
+{
+    print_named(out, b"error ", number)?;
+    print_counted(out, b" index ", index)
 }
 
 /// Prints the line of an audit to a writer, piece by piece. It takes no memory.
@@ -311,8 +335,8 @@ pub fn print_audit<W: Write>(out: &mut W, audited: Audited) -> io::Result<()>
     ensures { OnOk result (Appends (W.contents out.old) (W.contents out.new) (audit_line audited)) }
 {
     match audited {
-        Audited::Equal(count) => writeln!(out, "audit equal {count}"),
-        Audited::Differs => writeln!(out, "audit differs"),
+        Audited::Equal(count) => print_counted(out, b"audit equal ", count),
+        Audited::Differs => out.write_all(b"audit differs\n"),
         Audited::Memory => print_fault(
             out,
             Fault {
@@ -327,7 +351,8 @@ pub fn print_audit<W: Write>(out: &mut W, audited: Audited) -> io::Result<()>
 pub fn print_accepted<W: Write>(out: &mut W, first: usize, second: usize) -> io::Result<()>
     ensures { OnOk result (Appends (W.contents out.old) (W.contents out.new) (accepted_line first second)) }
 {
-    writeln!(out, "accepted {first} {second}")
+    print_named(out, b"accepted ", first)?;
+    print_counted(out, b" ", second)
 }
 
 /// Prints the line of an outcome that has one to a writer, piece by piece. It takes no memory.
@@ -335,11 +360,19 @@ pub fn print_outcome<W: Write>(out: &mut W, outcome: Outcome) -> io::Result<()>
     ensures { OnOk result (Appends (W.contents out.old) (W.contents out.new) (outcome_line outcome)) }
 {
     match outcome {
-        Outcome::BadLine(number) => writeln!(out, "line {number}: not a command"),
-        Outcome::TooLong => writeln!(out, "input too long"),
-        Outcome::ReadFault => writeln!(out, "read fault"),
-        Outcome::NoSecond => writeln!(out, "no second script"),
-        Outcome::Memory => writeln!(out, "no memory"),
+        Outcome::BadLine(number) => print_bad_line(out, number),
+        Outcome::TooLong => out.write_all(b"input too long\n"),
+        Outcome::ReadFault => out.write_all(b"read fault\n"),
+        Outcome::NoSecond => out.write_all(b"no second script\n"),
+        Outcome::Memory => out.write_all(b"no memory\n"),
         Outcome::Finished | Outcome::WriteFault => Ok(()),
     }
+}
+
+// The line of a script that is not a command.
+fn print_bad_line<W: Write>(out: &mut W, number: u32) -> io::Result<()>
+    ensures { OnOk result (Appends (W.contents out.old) (W.contents out.new) (codes "line " ++ (decimal number ++ codes ": not a command\n"))) }
+{
+    print_named(out, b"line ", number)?;
+    out.write_all(b": not a command\n")
 }

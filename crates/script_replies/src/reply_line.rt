@@ -5,7 +5,7 @@ ghost use Rattle.script_replies.specs.declared.outcome.Outcome.TheVariants as ou
 
 use crate::audited::Audited;
 use crate::outcome::Outcome;
-use crate::reply::{print_accepted, print_answer, print_audit, print_outcome};
+use crate::reply::{print_accepted, print_answer, print_audit, print_decimal, print_outcome};
 use ctrl_handlers::MAX_CONTROLS;
 use ctrl_types::Fault;
 use device_history::{Ask, Reply};
@@ -112,7 +112,8 @@ pub fn write_numbered_answer<W: Write>(
     ensures { OnOk result (Appends (W.contents writer.old) (W.contents writer.new) (numbered_line script (answer_line ask.now answer.now))) }
 {
     line.clear();
-    write!(line, "{script} ")?;
+    print_decimal(line, script)?;
+    line.write_all(b" ")?;
     print_answer(line, ask, answer)?;
     write_whole(writer, line.as_slice())
 }
