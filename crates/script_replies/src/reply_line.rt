@@ -1,4 +1,4 @@
-ghost use Rattle.std.specs.Prelude.{◌≡◌, [], IfOk, OnOk, Some};
+ghost use Rattle.std.specs.Prelude.{OnOk};
 ghost use Rattle.std.specs.Io.KnownBytes.{Appends};
 ghost use Rattle.script_replies.specs.Replies.{accepted_line, answer_line, audit_line, no_frames_line, numbered_line, outcome_line};
 ghost use Rattle.script_replies.specs.declared.outcome.Outcome.TheVariants as outcomes;
@@ -6,79 +6,11 @@ ghost use Rattle.script_replies.specs.declared.outcome.Outcome.TheVariants as ou
 use crate::audited::Audited;
 use crate::outcome::Outcome;
 use crate::reply::{print_accepted, print_answer, print_audit, print_decimal, print_outcome};
-use ctrl_handlers::MAX_CONTROLS;
+use crate::room::ReplyLine;
 use ctrl_types::Fault;
 use device_history::{Ask, Reply};
-use std::alloc::{AllocError, Global};
 use std::io;
 use std::io::{ErrorKind, Write};
-use std::marker::Model;
-
-/// How many bytes a reply line may have: 72 for each control that a device can have, and 64 beside them. The longest is that of a
-/// forecast: at most 51 bytes, 4 for each of at most 256 clusters, and 66 for each of at most 256 values.
-pub const MAX_LINE: usize = 64 + 72 * MAX_CONTROLS as usize;
-
-/// Where a reply line is put together, so that it is written at once. Contracts see the bytes so far.
-#[derive(Drop)]
-pub struct ReplyLine {
-    bytes: Vec<u8>,
-}
-
-impl Model for ReplyLine {
-    ghost use Rattle.std.specs.Prelude.{ℕ, List};
-
-    ghost Value = { List ℕ };
-
-    ghost view = { λ l. l.bytes.items };
-}
-
-impl ReplyLine {
-    /// A line without a byte. All the room that it will need is made here, and this may be refused.
-    pub fn new(alloc: Global) -> Result<ReplyLine, AllocError>
-        ensures { IfOk result (λ line. line ≡ []) }
-    {
-        Ok(ReplyLine {
-            bytes: Vec::with_capacity(alloc, MAX_LINE)?,
-        })
-    }
-
-    fn clear(&mut self)
-        ensures { self.new ≡ [] }
-    {
-        self.bytes.clear();
-    }
-
-    fn as_slice(&self) -> &[u8]
-        ensures { result.now ≡ self.now }
-    {
-        self.bytes.as_slice()
-    }
-}
-
-// It takes what there is room for, and no memory.
-impl Write for ReplyLine {
-    ghost contents = { λ l. Some l };
-
-    fn write(&mut self, buf: &[u8]) -> io::Result<usize> {
-        let count = buf.len().min(self.bytes.capacity() - self.bytes.len());
-        self.bytes.extend_from_slice(&buf[..count])?;
-        Ok(count)
-    }
-
-    // all of it or nothing
-    fn write_all(&mut self, buf: &[u8]) -> io::Result<()> {
-        if self.bytes.capacity() - self.bytes.len() < buf.len() {
-            return Err(io::Error::from(ErrorKind::WriteZero));
-        }
-        self.bytes.extend_from_slice(buf)?;
-        Ok(())
-    }
-
-    // nothing is held back
-    fn flush(&mut self) -> io::Result<()> {
-        Ok(())
-    }
-}
 
 /// Writes the line of an answer to an ask. It takes no memory.
 ///
@@ -113,7 +45,7 @@ pub fn write_numbered_answer<W: Write>(
 {
     line.clear();
     print_decimal(line, script)?;
-    line.write_all(b" ")?;
+    line.put(b" ")?;
     print_answer(line, ask, answer)?;
     write_whole(writer, line.as_slice())
 }

@@ -3,4 +3,4 @@ use Rattle.std.proofs.Common.{rules}
 use Rattle.script_replies.proofs.reply.print_fault.Goals as goal
 
 pub returns-in-Some : goal.returns-in-Some
-returns-in-Some g c = search rules
+returns-in-Some c = search rules
