@@ -6,11 +6,11 @@ use denote.Enum.Bare.{sameb}
 use Rattle.ctrl_types.specs.contracts.kind.Kind.{the_type}
 use Rattle.ctrl_types.specs.declared.kind.Kind.{Kind}
 use Rattle.ctrl_events.specs.contracts.event.PayloadPartialEq.TheImpl.{eq-value as payload_eq}
-use Rattle.ctrl_events.specs.contracts.event.ToldPartialEq.TheImpl.{eq-value as told_eq}
+use Rattle.ctrl_events.specs.contracts.event.LatestPartialEq.TheImpl.{eq-value as latest_eq}
 use Rattle.ctrl_events.specs.declared.event.Payload.{Payload}
-use Rattle.ctrl_events.specs.declared.event.Told.{Told}
+use Rattle.ctrl_events.specs.declared.event.Latest.{Latest}
 use Rattle.ctrl_events.specs.Events.{Waiting}
-use Rattle.ctrl_events.specs.Queue.{said}
+use Rattle.ctrl_events.specs.Queue.{waiting_from}
 
 kinds : (a b : Kind) (r : Bool) → r ≡ sameb the_type a b → Decides r (a ≡ b)
 kinds a b r is = search rules
@@ -45,20 +45,20 @@ payload_fields a b is = (
 payloads : (a b : Payload) → Decides (payload_eq.it a b) (a ≡ b)
 payloads a b = (λ h. whole_payload a b ((payload_parts a b).0 h), λ is. (payload_parts a b).1 (payload_fields a b is))
 
--- so is what is told of events
-abbrev SameTold : Told → Told → Type 0
-SameTold a b = (a.changes.0 ≡ b.changes.0) × ((a.payload ≡ b.payload) × (a.sequence ≡ b.sequence))
+-- so is what was raised last of controls
+abbrev SameLatest : Latest → Latest → Type 0
+SameLatest a b = (a.changes.0 ≡ b.changes.0) × ((a.payload ≡ b.payload) × (a.sequence ≡ b.sequence))
 
-told_parts : (a b : Told) → Decides (told_eq.it a b) (SameTold a b)
-told_parts a b = Decides-and _ _ (Decides-eqb a.changes.0 b.changes.0) (Decides-and _ _ (payloads a.payload b.payload) (Decides-eqb a.sequence b.sequence))
+latest_parts : (a b : Latest) → Decides (latest_eq.it a b) (SameLatest a b)
+latest_parts a b = Decides-and _ _ (Decides-eqb a.changes.0 b.changes.0) (Decides-and _ _ (payloads a.payload b.payload) (Decides-eqb a.sequence b.sequence))
 
--- events of one control are the same where the same is told of them
-pub same_said : (c d : ℕ) (a b : Told) (r : Bool) → c ≡ d → r ≡ told_eq.it a b → Decides r (said c a ≡ said d b)
-same_said c d a b r same is =
-    let parts : Decides r (SameTold a b) = Decides-at r (told_eq.it a b) is (told_parts a b) in (
+-- events of one control that wait are the same where the same was raised last of it
+pub same_waiting : (c d : ℕ) (a b : Latest) (r : Bool) → c ≡ d → r ≡ latest_eq.it a b → Decides r (waiting_from c a ≡ waiting_from d b)
+same_waiting c d a b r same is =
+    let parts : Decides r (SameLatest a b) = Decides-at r (latest_eq.it a b) is (latest_parts a b) in (
       λ h. let alike = parts.0 h in λ i. record { control = same i; changes = record { 0 = alike.0 i }; payload = alike.1.0 i; sequence = alike.1.1 i },
       λ alike. parts.1 (ap (λ (w : Waiting). w.changes.0) alike, (ap (λ (w : Waiting). w.payload) alike, ap (λ (w : Waiting). w.sequence) alike)),
     )
 
-pub other_said : (c d : ℕ) (a b : Told) → (c ≡ d → ⊥) → Decides false (said c a ≡ said d b)
-other_said c d a b apart = (λ h. cc, λ alike. absurd (apart (ap (λ (w : Waiting). w.control) alike)))
+pub other_waiting : (c d : ℕ) (a b : Latest) → (c ≡ d → ⊥) → Decides false (waiting_from c a ≡ waiting_from d b)
+other_waiting c d a b apart = (λ h. cc, λ alike. absurd (apart (ap (λ (w : Waiting). w.control) alike)))

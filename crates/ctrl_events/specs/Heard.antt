@@ -1,4 +1,4 @@
--- Which file handles may be subscribed to a control, by a bit of each 64th of them.
+-- Which file handles may be subscribed to a control, by a bit of each 64th of them (of this project).
 use Rattle.std.specs.Prelude.{◌≡◌, ◌%◌, ℕ, true, List, get_or, is_some}
 use Rattle.std.specs.Int.{bit_at}
 use Rattle.ctrl_events.specs.Events.{FileEvents, events_of, flags_in}

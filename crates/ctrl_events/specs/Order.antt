@@ -1,4 +1,5 @@
--- How numbers are kept in the order in which they came, each at most once, so that one is found, taken out and put last in a step each.
+-- How numbers are kept in the order in which they came, each at most once, so that one is found, taken out and put last in a step each
+-- (of this project).
 use Rattle.std.specs.Prelude.{◌≡◌, ◌<◌, ◌≤◌, ◌+◌, ℕ, Bool, true, false, not, nat_eq, cond, List, [], ◌∷◌, filter, length, set, slice_get, Option, None, Some}
 use Rattle.std.specs.List.{list_any}
 

@@ -70,9 +70,9 @@ pub struct Waiting {
     pub sequence: u32,
 }
 
-/// What is told of the event of a control that waits.
+/// What was raised last of a subscribed control, which is its event while that waits.
 #[derive(Clone, Copy, Debug, PartialEq, Eq)]
-pub(crate) struct Told {
+pub(crate) struct Latest {
     /// What the raises for the file handle said that changed, since an event of the control was taken or the subscription was ended.
     pub(crate) changes: Changes,
     /// What the last raise shows of the control.

@@ -1,10 +1,10 @@
 ghost use Rattle.std.specs.Prelude.{◌≡◌, ◌↔◌, ◌<◌, ◌≤◌, ℕ, true, false, Some, length, get_or, is_some, slice_get, IsTrue, OnOk, OnErr, if◌then◌else◌};
 ghost use Rattle.std.specs.Option.{option_map};
 ghost use Rattle.ctrl_events.specs.Order.{has, logged, entry_number};
-ghost use Rattle.ctrl_events.specs.Queue.{no_flags, nothing_told, said, event_to, events_to, changes_before, HasGrown};
+ghost use Rattle.ctrl_events.specs.Queue.{no_flags, no_latest, waiting_from, event_to, events_to, changes_before, HasGrown};
 ghost use Rattle.ctrl_events.specs.Events.{no_events, flags_in, event_of, event_at, raised, with_subscription, after_subscribe, after_unsubscribe, first_waiting, after_take, reaches, WaitsForSubscribed};
 
-use crate::event::{Event, Payload, Told};
+use crate::event::{Event, Latest, Payload};
 use crate::order::{Order, next_entry, number_at};
 use bitflags::Flags;
 use ctrl_types::{Changes, Check, SubFlags};
@@ -12,7 +12,7 @@ use std::alloc::{AllocError, Global};
 use std::marker::Model;
 
 /// The subscriptions of a file handle, the events that wait for it, in the order of their last raises, and the number of the next. Both are
-/// orders of controls; the flags of a subscription and what is told of an event stand at the control's number. There is room for an event of
+/// orders of controls; the flags of a subscription and what was raised last of a control stand at its number. There is room for an event of
 /// each subscription, so that a raise needs no memory; a raise, a take and the end of a subscription take a few steps each in the mean, however
 /// many wait.
 #[derive(Drop)]
@@ -20,7 +20,7 @@ pub(crate) struct Queue {
     subscribed: Order,
     flags: Vec<SubFlags>,
     waiting: Order,
-    told: Vec<Told>,
+    latest: Vec<Latest>,
     next: u32,
 }
 
@@ -30,9 +30,9 @@ impl Model for Queue {
 
     ghost Value = { FileEvents };
 
-    ghost view = { λ q. record { subscribed = subscriptions q.flags.items q.subscribed.members; waiting = events_to q.told.items q.waiting.members; next = q.next } };
+    ghost view = { λ q. record { subscribed = subscriptions q.flags.items q.subscribed.members; waiting = events_to q.latest.items q.waiting.members; next = q.next } };
 
-    ghost invariant = { λ q. IsQueue q.subscribed.members q.flags.items q.told.items q.waiting.members q.waiting.bound q.waiting.room q.next };
+    ghost invariant = { λ q. IsQueue q.subscribed.members q.flags.items q.latest.items q.waiting.members q.waiting.bound q.waiting.room q.next };
 }
 
 impl Queue {
@@ -44,7 +44,7 @@ impl Queue {
             subscribed: Order::new(alloc),
             flags: Vec::new(alloc),
             waiting: Order::new(alloc),
-            told: Vec::new(alloc),
+            latest: Vec::new(alloc),
             next: 0,
         }
     }
@@ -85,7 +85,7 @@ impl Queue {
                 let behind = self.waiting.len() - place - 1;
                 Some((
                     control,
-                    event_of(behind as u32, &self.told[control as usize]),
+                    event_of(behind as u32, &self.latest[control as usize]),
                 ))
             }
             None => None,
@@ -98,9 +98,9 @@ impl Queue {
     {
         are_alike(
             self.waiting.entries(),
-            self.told.as_slice(),
+            self.latest.as_slice(),
             other.waiting.entries(),
-            other.told.as_slice(),
+            other.latest.as_slice(),
         )
     }
 
@@ -136,7 +136,7 @@ impl Queue {
         let fits = self.subscribed.len() + 1;
         self.subscribed.reserve(control, fits)?;
         self.waiting.reserve(control, fits)?;
-        make_room(&mut self.flags, &mut self.told, control, payload)?;
+        make_room(&mut self.flags, &mut self.latest, control, payload)?;
         self.flags[control as usize] = flags;
         self.subscribed.push(control);
         Ok(())
@@ -156,7 +156,10 @@ impl Queue {
         ensures events { self.new ≡ after_take self.old }
     {
         match self.waiting.take_first() {
-            Some(control) => Ok(event_of(self.waiting.len() as u32, &self.told[control as usize])),
+            Some(control) => Ok(event_of(
+                self.waiting.len() as u32,
+                &self.latest[control as usize],
+            )),
             None => Err(Check::NoEventWaits),
         }
     }
@@ -188,8 +191,8 @@ impl Queue {
         ensures { self.new ≡ raised control changes payload.now self.old }
     {
         let waited = self.waiting.put_last(control);
-        let before = changes_before(waited, &self.told[control as usize]);
-        self.told[control as usize] = Told {
+        let before = changes_before(waited, &self.latest[control as usize]);
+        self.latest[control as usize] = Latest {
             changes: before.union(changes),
             payload: *payload,
             sequence: self.next,
@@ -208,19 +211,19 @@ fn is_reached(flags: Option<SubFlags>, is_own: bool) -> bool
     }
 }
 
-// Makes room for a control's flags and for what is told of it; what is there stays.
+// Makes room for a control's flags and for what is raised last of it; what is there stays.
 fn make_room(
     flags: &mut Vec<SubFlags>,
-    told: &mut Vec<Told>,
+    latest: &mut Vec<Latest>,
     control: u32,
     payload: &Payload,
 ) -> Result<(), AllocError>
     ensures bound { OnOk result (control < length flags.new.items) }
-    ensures tellable { OnOk result (control < length told.new.items) }
-    ensures grown { HasGrown flags.old.items flags.new.items told.old.items told.new.items }
+    ensures raisable { OnOk result (control < length latest.new.items) }
+    ensures grown { HasGrown flags.old.items flags.new.items latest.old.items latest.new.items }
 {
     make_flags(flags, control)?;
-    make_told(told, control, payload)
+    make_latest(latest, control, payload)
 }
 
 // Makes room for a control's flags; those that are there stay.
@@ -236,51 +239,51 @@ fn make_flags(flags: &mut Vec<SubFlags>, control: u32) -> Result<(), AllocError>
     flags.resize(at + 1, SubFlags::empty())
 }
 
-// Makes room for what is told of a control; what is there stays.
-fn make_told(told: &mut Vec<Told>, control: u32, shown: &Payload) -> Result<(), AllocError>
-    ensures bound { OnOk result (control < length told.new.items) }
-    ensures grows { length told.old.items ≤ length told.new.items }
-    ensures kept { (c : ℕ) → c < length told.old.items → get_or told.new.items c nothing_told ≡ get_or told.old.items c nothing_told }
+// Makes room for what is raised last of a control; what is there stays.
+fn make_latest(latest: &mut Vec<Latest>, control: u32, shown: &Payload) -> Result<(), AllocError>
+    ensures bound { OnOk result (control < length latest.new.items) }
+    ensures grows { length latest.old.items ≤ length latest.new.items }
+    ensures kept { (c : ℕ) → c < length latest.old.items → get_or latest.new.items c no_latest ≡ get_or latest.old.items c no_latest }
 {
     let at = control as usize;
-    if at < told.len() {
+    if at < latest.len() {
         return Ok(());
     }
-    let first = Told {
+    let first = Latest {
         changes: Changes::empty(),
         payload: *shown,
         sequence: 0,
     };
-    told.resize(at + 1, first)
+    latest.resize(at + 1, first)
 }
 
 // What the event of a control that waits, if one does, says that changed.
-fn changes_before(waited: bool, told: &Told) -> Changes
-    ensures { result ≡ changes_before waited told.now }
+fn changes_before(waited: bool, latest: &Latest) -> Changes
+    ensures { result ≡ changes_before waited latest.now }
 {
     if waited {
-        told.changes
+        latest.changes
     } else {
         Changes::empty()
     }
 }
 
 // The event that is taken, where so many still wait.
-fn event_of(pending: u32, told: &Told) -> Event
-    ensures { result ≡ event_of pending (said 0 told.now) }
+fn event_of(pending: u32, latest: &Latest) -> Event
+    ensures { result ≡ event_of pending (waiting_from 0 latest.now) }
 {
-    let payload = told.payload;
+    let payload = latest.payload;
     Event {
         id: payload.id,
         kind: payload.kind,
-        changes: told.changes,
+        changes: latest.changes,
         value: payload.value,
         flags: payload.flags,
         minimum: payload.minimum,
         maximum: payload.maximum,
         step: payload.step,
         default_value: payload.default_value,
-        sequence: told.sequence,
+        sequence: latest.sequence,
         pending,
     }
 }
@@ -288,13 +291,13 @@ fn event_of(pending: u32, told: &Told) -> Event
 // Whether the same events of two orders wait, in the same order.
 fn are_alike(
     log: &[Option<u32>],
-    told: &[Told],
+    latest: &[Latest],
     others: &[Option<u32>],
-    told_of_others: &[Told],
+    latest_of_others: &[Latest],
 ) -> bool
-    requires own { (c : ℕ) → has (logged log.now) c ≡ true → c < length told.now }
-    requires other { (c : ℕ) → has (logged others.now) c ≡ true → c < length told_of_others.now }
-    ensures { IsTrue result ↔ (events_to told.now (logged log.now) ≡ events_to told_of_others.now (logged others.now)) }
+    requires own { (c : ℕ) → has (logged log.now) c ≡ true → c < length latest.now }
+    requires other { (c : ℕ) → has (logged others.now) c ≡ true → c < length latest_of_others.now }
+    ensures { IsTrue result ↔ (events_to latest.now (logged log.now) ≡ events_to latest_of_others.now (logged others.now)) }
 {
     let mut at = 0;
     for entry in log {
@@ -302,7 +305,7 @@ fn are_alike(
             continue;
         };
         at = next_entry(others, at);
-        if !is_alike(*control, told, others, at, told_of_others) {
+        if !is_alike(*control, latest, others, at, latest_of_others) {
             return false;
         }
         at += 1;
@@ -313,30 +316,30 @@ fn are_alike(
 // Whether the event of a control is the one that waits at a place among others.
 fn is_alike(
     control: u32,
-    told: &[Told],
+    latest: &[Latest],
     others: &[Option<u32>],
     at: usize,
-    told_of_others: &[Told],
+    latest_of_others: &[Latest],
 ) -> bool
-    requires own { control < length told.now }
-    requires other { (c : ℕ) → Some c ≡ entry_number (slice_get others.now at) → c < length told_of_others.now }
-    ensures alike { IsTrue result ↔ (Some (event_to told.now control) ≡ option_map (event_to told_of_others.now) (entry_number (slice_get others.now at))) }
+    requires own { control < length latest.now }
+    requires other { (c : ℕ) → Some c ≡ entry_number (slice_get others.now at) → c < length latest_of_others.now }
+    ensures alike { IsTrue result ↔ (Some (event_to latest.now control) ≡ option_map (event_to latest_of_others.now) (entry_number (slice_get others.now at))) }
     ensures within { IsTrue result → at < length others.now }
 {
     match number_at(others, at) {
         Some(other) => is_same(
             control,
-            &told[control as usize],
+            &latest[control as usize],
             other,
-            &told_of_others[other as usize],
+            &latest_of_others[other as usize],
         ),
         None => false,
     }
 }
 
 // Whether two events that wait are the same.
-fn is_same(control: u32, told: &Told, other: u32, told_of_other: &Told) -> bool
-    ensures { IsTrue result ↔ (said control told.now ≡ said other told_of_other.now) }
+fn is_same(control: u32, latest: &Latest, other: u32, latest_of_other: &Latest) -> bool
+    ensures { IsTrue result ↔ (waiting_from control latest.now ≡ waiting_from other latest_of_other.now) }
 {
-    control == other && *told == *told_of_other
+    control == other && *latest == *latest_of_other
 }

@@ -18,23 +18,23 @@ pub trait Question<T: Served> {
 
 /// What came of calls.
 #[derive(Clone, Copy)]
-pub struct Told {
+pub struct Tally {
     /// How many were answered by a number.
     pub count: u64,
     /// Those numbers, added up, up to 2^64.
     pub sum: u64,
 }
 
-impl Told {
+impl Tally {
     /// What came of no call.
-    pub fn nothing() -> Told {
-        Told { count: 0, sum: 0 }
+    pub fn nothing() -> Tally {
+        Tally { count: 0, sum: 0 }
     }
 
     /// With a further answer: `number` is what it says, if it says a number.
-    pub fn with(self, number: Option<u64>) -> Told {
+    pub fn with(self, number: Option<u64>) -> Tally {
         match number {
-            Some(number) => self.and(Told {
+            Some(number) => self.and(Tally {
                 count: 1,
                 sum: number,
             }),
@@ -43,8 +43,8 @@ impl Told {
     }
 
     /// With what came of other calls.
-    pub fn and(self, other: Told) -> Told {
-        Told {
+    pub fn and(self, other: Tally) -> Tally {
+        Tally {
             count: self.count.wrapping_add(other.count),
             sum: self.sum.wrapping_add(other.sum),
         }
@@ -64,17 +64,17 @@ pub fn call_seated<T: Served, Q: Question<T>, R: Wait>(
     question: &Q,
     calls: u32,
     seat: DeskSeat<T>,
-) -> Told
+) -> Tally
     requires { IsSeatOf desk.now seat }
 {
-    let mut told = Told::nothing();
+    let mut tally = Tally::nothing();
     let mut seat = seat;
     for _ in 0..calls {
         let (back, answer) = desk.call(rt, seat, question.ask());
         seat = back;
-        told = told.with(question.number(answer));
+        tally = tally.with(question.number(answer));
     }
-    told
+    tally
 }
 
 /// Looks from a seat how many steps there are, and answers what came of that.
@@ -82,14 +82,14 @@ pub fn call_seated<T: Served, Q: Question<T>, R: Wait>(
 /// - `desk`: whose object has the steps.
 /// - `calls`: how often.
 /// - `seat`: one of the desk's.
-pub fn look_seated<T: Served>(desk: &Desk<T>, calls: u32, mut seat: DeskSeat<T>) -> Told
+pub fn look_seated<T: Served>(desk: &Desk<T>, calls: u32, mut seat: DeskSeat<T>) -> Tally
     requires { IsSeatOf desk.now seat }
 {
-    let mut told = Told::nothing();
+    let mut tally = Tally::nothing();
     for _ in 0..calls {
-        told = told.with(Some(desk.front(&mut seat)));
+        tally = tally.with(Some(desk.front(&mut seat)));
     }
-    told
+    tally
 }
 
 /// Makes calls under the lock, and answers what came of them.
@@ -105,13 +105,13 @@ pub fn call_locked<T: Served, Q: Question<T>, R: Wait>(
     question: &Q,
     calls: u32,
     seat: u32,
-) -> Told {
-    let mut told = Told::nothing();
+) -> Tally {
+    let mut tally = Tally::nothing();
     for _ in 0..calls {
         let answer = object.lock(rt).handle(seat, question.ask());
-        told = told.with(question.number(answer));
+        tally = tally.with(question.number(answer));
     }
-    told
+    tally
 }
 
 /// Looks under the lock how many steps there are, and answers what came of that.
@@ -119,10 +119,10 @@ pub fn call_locked<T: Served, Q: Question<T>, R: Wait>(
 /// - `rt`: what waits for the lock.
 /// - `object`: what has the steps.
 /// - `calls`: how often.
-pub fn look_locked<T: Served, R: Wait>(rt: &R, object: &Mutex<T>, calls: u32) -> Told {
-    let mut told = Told::nothing();
+pub fn look_locked<T: Served, R: Wait>(rt: &R, object: &Mutex<T>, calls: u32) -> Tally {
+    let mut tally = Tally::nothing();
     for _ in 0..calls {
-        told = told.with(Some(object.lock(rt).step_count()));
+        tally = tally.with(Some(object.lock(rt).step_count()));
     }
-    told
+    tally
 }

@@ -1,4 +1,4 @@
-//! What is called: a counter, as large as the sample device.
+//! What is called: a counter, nearly as large as the sample device.
 
 ghost use Rattle.std.specs.Prelude.{◌≡◌, ◌+◌, [], IfOk, vec_len};
 

@@ -47,14 +47,14 @@ fn measure<R: AllocGlobal + Print + Eprint + Clock + Threads + Wait + Sync>(
     let ask = load.ask.as_ref();
     let (calls, threads, all) = (load.calls, load.threads, load.all());
     let counter = Counter::new(rt.alloc(), START, all as usize)?;
-    let (told, took) = match load.way {
+    let (tally, took) = match load.way {
         Way::Desk => at_desk(rt, rt.alloc(), counter, ask, calls, threads)?,
         Way::Mutex => behind_mutex(rt, rt.alloc(), counter, ask, calls, threads)?,
     };
     let (way, ask) = load.words;
     println!(rt;
         "{way} {ask}: {} of {all} calls answered, {} all together",
-        told.count, told.sum
+        tally.count, tally.sum
     )?;
     let each = took.as_secs_f64() * 1e9 / (f64::from(calls) * f64::from(threads));
     eprintln!(rt; "{way} {ask}: {each:.2} ns a call")

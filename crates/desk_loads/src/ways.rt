@@ -3,7 +3,7 @@
 ghost use Rattle.std.specs.Prelude.{◌≡◌, [], All};
 ghost use Rattle.turn_desk.specs.Views.{IsSeatOf};
 
-use crate::calls::{Question, Told, call_locked, call_seated, look_locked, look_seated};
+use crate::calls::{Question, Tally, call_locked, call_seated, look_locked, look_seated};
 use history::Served;
 use std::alloc::{AllocError, Global};
 use std::rt::Clock;
@@ -29,7 +29,7 @@ pub fn at_desk<T: Served + Send + Drop, Q: Question<T> + Sync, R: Threads + Wait
     question: Option<&Q>,
     calls: u32,
     threads: u32,
-) -> io::Result<(Told, Duration)>
+) -> io::Result<(Tally, Duration)>
     requires { T.steps object ≡ [] }
 {
     let Ok((desk, first)) = Desk::new(alloc, object) else {
@@ -38,9 +38,9 @@ pub fn at_desk<T: Served + Send + Drop, Q: Question<T> + Sync, R: Threads + Wait
     let mut tasks = Vec::new(alloc);
     add_tasks(rt, &desk, question, calls, threads, first, &mut tasks)?;
     let start = Instant::now(rt)?;
-    let told = run_all(rt, tasks)?;
+    let tally = run_all(rt, tasks)?;
     let took = start.elapsed(rt)?;
-    Ok((all_of(&told), took))
+    Ok((all_of(&tally), took))
 }
 
 fn out_of_memory() -> io::Error {
@@ -52,7 +52,7 @@ trait Task {
     // It may start.
     ghost may: { Self → Type 0 };
 
-    fn run(self) -> Told
+    fn run(self) -> Tally
         requires { may self };
 }
 
@@ -60,13 +60,13 @@ trait Task {
 fn run_all<K: Task + Drop + Send, R: Threads + Sync>(
     rt: &R,
     tasks: Vec<K>,
-) -> Result<Vec<Told>, AllocError>
+) -> Result<Vec<Tally>, AllocError>
     requires { All K.may tasks.items }
 {
     thread::map_vec(
         rt,
         tasks,
-        &|task: K| -> Told
+        &|task: K| -> Tally
             requires { K.may task }
         { task.run() },
     )
@@ -85,7 +85,7 @@ struct AtSeat<'a, T: Served, Q, R> {
 impl<'a, T: Served, Q: Question<T>, R: Wait> Task for AtSeat<'a, T, Q, R> {
     ghost may = { λ s. IsSeatOf s.desk.now s.seat };
 
-    fn run(self) -> Told {
+    fn run(self) -> Tally {
         let AtSeat {
             rt,
             desk,
@@ -151,12 +151,12 @@ pub fn behind_mutex<
     question: Option<&Q>,
     calls: u32,
     threads: u32,
-) -> io::Result<(Told, Duration)> {
+) -> io::Result<(Tally, Duration)> {
     let object = Mutex::new(object);
     let start = Instant::now(rt)?;
-    let told = lock_threads(rt, alloc, &object, question, calls, threads)?;
+    let tally = lock_threads(rt, alloc, &object, question, calls, threads)?;
     let took = start.elapsed(rt)?;
-    Ok((all_of(&told), took))
+    Ok((all_of(&tally), took))
 }
 
 // Calls from so many threads.
@@ -167,7 +167,7 @@ fn lock_threads<T: Served + Send, Q: Question<T> + Sync, R: Threads + Wait + Syn
     question: Option<&Q>,
     calls: u32,
     threads: u32,
-) -> Result<Vec<Told>, AllocError> {
+) -> Result<Vec<Tally>, AllocError> {
     match question {
         Some(question) => thread::map_indices(
             rt,
@@ -185,7 +185,8 @@ fn lock_threads<T: Served + Send, Q: Question<T> + Sync, R: Threads + Wait + Syn
 }
 
 // What came of the calls of all.
-fn all_of(told: &[Told]) -> Told {
-    told.iter()
-        .fold(Told::nothing(), |all, told| all.and(*told))
+fn all_of(tally: &[Tally]) -> Tally {
+    tally
+        .iter()
+        .fold(Tally::nothing(), |all, tally| all.and(*tally))
 }

@@ -19,17 +19,17 @@ pub returns-then-not-is_alike : goal.returns-then-not-is_alike
 returns-then-not-is_alike c =
     let there : slice_get c.args.log.now c.loop-entry.entry-index ≡ Some (Some c.in-Some.control) = slice_get-get_or c.args.log.now c.loop-entry.entry-index None c.loop-entry-test.true ∙ ap (λ (o : Option ℕ). Some o) c.in-Some.is in (
       λ h. absurd (true≢false (sym h)),
-      λ all. absurd (unlike c.args.told.now c.args.told_of_others.now c.args.log.now c.args.others.now c.loop-entry.entry-index c.loop-entry.at c.next_entry-at.result c.in-Some.control there c.next_entry-at.ensures.rest c.next_entry-at.ensures.found (λ same. true≢false (sym (c.is_alike.ensures.alike.1 same) ∙ c.if-not-is_alike.true)) (c.loop-entry.invariant.0 all)),
+      λ all. absurd (unlike c.args.latest.now c.args.latest_of_others.now c.args.log.now c.args.others.now c.loop-entry.entry-index c.loop-entry.at c.next_entry-at.result c.in-Some.control there c.next_entry-at.ensures.rest c.next_entry-at.ensures.found (λ same. true≢false (sym (c.is_alike.ensures.alike.1 same) ∙ c.if-not-is_alike.true)) (c.loop-entry.invariant.0 all)),
     )
 
 pub loop-entry-preserved : goal.loop-entry-preserved
 loop-entry-preserved c =
     let there : slice_get c.args.log.now c.loop-entry.entry-index ≡ Some (Some c.in-Some.control) = slice_get-get_or c.args.log.now c.loop-entry.entry-index None c.loop-entry-test.true ∙ ap (λ (o : Option ℕ). Some o) c.in-Some.is in
-    let more = alike_next c.args.told.now c.args.told_of_others.now c.args.log.now c.args.others.now c.loop-entry.entry-index c.loop-entry.at c.next_entry-at.result c.in-Some.control (c.loop-entry.entry-index + 1) (c.next_entry-at.result + 1) (omega arith) (omega arith) there c.next_entry-at.ensures.rest (c.is_alike.ensures.alike.0 c.if-not-is_alike.false) in
+    let more = alike_next c.args.latest.now c.args.latest_of_others.now c.args.log.now c.args.others.now c.loop-entry.entry-index c.loop-entry.at c.next_entry-at.result c.in-Some.control (c.loop-entry.entry-index + 1) (c.next_entry-at.result + 1) (omega arith) (omega arith) there c.next_entry-at.ensures.rest (c.is_alike.ensures.alike.0 c.if-not-is_alike.false) in
     (λ all. more.0 (c.loop-entry.invariant.0 all), λ further. c.loop-entry.invariant.1 (more.1 further))
 
 pub returns : goal.returns
 returns c =
-    let done : events_to c.args.told.now (logged (drop c.loop-entry.entry-index c.args.log.now)) ≡ events_to c.args.told.now [] = ap (λ es. events_to c.args.told.now (logged es)) (drop_all c.loop-entry.entry-index c.args.log.now c.loop-entry-test.false) in
-    let last = all_alike c.args.told.now c.args.told_of_others.now c.args.others.now c.loop-entry.at c.next_entry.result c.next_entry.ensures.rest c.next_entry.ensures.found in
+    let done : events_to c.args.latest.now (logged (drop c.loop-entry.entry-index c.args.log.now)) ≡ events_to c.args.latest.now [] = ap (λ es. events_to c.args.latest.now (logged es)) (drop_all c.loop-entry.entry-index c.args.log.now c.loop-entry-test.false) in
+    let last = all_alike c.args.latest.now c.args.latest_of_others.now c.args.others.now c.loop-entry.at c.next_entry.result c.next_entry.ensures.rest c.next_entry.ensures.found in
     (λ beyond. c.loop-entry.invariant.1 (done ∙ last.0 beyond), λ all. last.1 (sym done ∙ c.loop-entry.invariant.0 all))

@@ -7,4 +7,4 @@ use Rattle.ctrl_events.proofs.queue.are_alike.Given as goal
 -- the events so far are the same
 abbrev pub invariant-loop-entry : goal.invariant-loop-entry
 invariant-loop-entry l =
-    (events_to l.told (logged l.log) ≡ events_to l.told_of_others (logged l.others)) ↔ (events_to l.told (logged (drop l.entry-index l.log)) ≡ events_to l.told_of_others (logged (drop l.at l.others)))
+    (events_to l.latest (logged l.log) ≡ events_to l.latest_of_others (logged l.others)) ↔ (events_to l.latest (logged (drop l.entry-index l.log)) ≡ events_to l.latest_of_others (logged (drop l.at l.others)))
