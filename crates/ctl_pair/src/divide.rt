@@ -114,14 +114,11 @@ impl Scripts {
         if self.is_second {
             return add_command(alloc, known, &mut self.second, line);
         }
-        match divides(alloc, line) {
-            Ok(true) => {
-                self.is_second = true;
-                Ok(())
-            }
-            Ok(false) => add_command(alloc, known, &mut self.first, line),
-            Err(_) => Err(LineFault::Memory),
+        if divides(line) {
+            self.is_second = true;
+            return Ok(());
         }
+        add_command(alloc, known, &mut self.first, line)
     }
 }
 

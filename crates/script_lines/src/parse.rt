@@ -1,4 +1,4 @@
-ghost use Rattle.std.specs.Prelude.{◌≡◌, ◌+◌, ◌<◌, ◌≤◌, ◌^◌, [], ◌∷◌, ◌==◌, length, map, position, vec_len, true, Some, IfOk, IfSome};
+ghost use Rattle.std.specs.Prelude.{◌≡◌, ◌+◌, ◌<◌, ◌≤◌, ◌^◌, [], ◌∷◌, ◌==◌, length, map, position, true, Some, IfSome};
 ghost use Rattle.std.specs.Option.{option_map};
 ghost use Rattle.script_lines.specs.Commands.{IsRead, words as words_in, line_of, command_of, verb_of, open_of, close_of, grab_of, range_of, on_or_off as on_or_off_of, handle_and_control as handle_and_control_of, query_of, next_of, menu_of, replied_with, buffer_of, request_of, on_request, row_of, bare_of, subscribe_of, sub_flag as sub_flag_of, sub_flags as sub_flags_of, unsubscribe_of, take_of, list_command_of, which_of, fixed_which_of, entry_of, entry_at, list_of};
 ghost use Rattle.script_lines.specs.Dividing.{divides as divides_of};
@@ -14,7 +14,7 @@ use crate::name::Name;
 use crate::walk::{first_word, only_word, word_count};
 use bitflags::Flags as FlagSet;
 use ctrl_types::{CtrlId, CtrlValue, ExtControl, SubFlags};
-use std::alloc::{AllocError, Global};
+use std::alloc::Global;
 
 /// Reads a line (of this project): the command, or nothing where the line is to be skipped, since it has no word or its first word begins with
 /// `#`. `NotACommand` where it is neither; `Memory` where a growth was refused.
@@ -36,14 +36,16 @@ pub fn read_line(
     }
 }
 
-/// Whether a line, without its line feed, divides an input into two scripts: its only word is `==`.
-pub fn divides(alloc: Global, line: &[u8]) -> Result<bool, AllocError>
-    ensures { IfOk result (λ divides. divides ≡ divides_of (words_in line.now)) }
+/// Whether a line, without its line feed, divides an input into two scripts: its only word is `==`. It takes no memory.
+pub fn divides(line: &[u8]) -> bool
+    ensures { result ≡ divides_of (words_in line.now) }
 {
-    let words = words_of(alloc, line)?;
-    match words.as_slice() {
-        [word] => Ok(*word == b"==".as_slice()),
-        _ => Ok(false),
+    match first_word(line) {
+        Some((word, rest)) => match first_word(rest) {
+            Some(_) => false,
+            None => word == b"==".as_slice(),
+        },
+        None => false,
     }
 }
 
@@ -60,16 +62,6 @@ fn read_words(
         return Ok(None);
     }
     read_command(alloc, known, verb, operands)
-}
-
-// What stands between the spaces of a line.
-fn words_of<'a>(alloc: Global, line: &'a [u8]) -> Result<Vec<&'a [u8]>, AllocError>
-    ensures words { IfOk result (λ words. map (λ w. w.now) words.items ≡ words_in line.now) }
-    ensures few { IfOk result (λ words. vec_len words ≤ length line.now + 1) }
-{
-    line.split(|byte| *byte == b' ')
-        .filter(|word| !word.is_empty())
-        .collect(alloc)
 }
 
 // The first words of commands.
