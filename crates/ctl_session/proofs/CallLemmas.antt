@@ -1,5 +1,5 @@
 -- What a call does, put together of what its ask does and what is told.
-use Rattle.std.proofs.Common.{arith, ◌≡◌, ◌≤◌, ◌-◌, ◌==◌, ◌∙◌, suc, take, drop, get_or, if◌then◌else◌, length, subst, ℕ, Bool, List, [], ◌∷◌, map, true, false, Ok, Err, refl, sym, ap, inl, inr, Option, None, Some}
+use Rattle.std.proofs.Common.{arith, ◌≡◌, ◌≤◌, ◌-◌, ◌==◌, ◌∙◌, suc, take, drop, get_or, if◌then◌else◌, length, subst, ℕ, Bool, List, [], ◌∷◌, map, true, false, Ok, Err, refl, sym, ap, inl, inr}
 use Rattle.std.proofs.lemmas.List.{take_all}
 use Rattle.ctrl_calls.specs.Meanings.{Verdicts}
 use Rattle.ctrl_types.specs.Numbers.{errno_number}
@@ -12,10 +12,8 @@ use Rattle.device_state.proofs.RunLemmas.{run_plan}
 use Rattle.following_ranges.specs.declared.asking.RangeAsk.{RangeAsk}
 use Rattle.following_ranges.specs.Following.{HandlesAndFollows, is_change, range_call}
 use Rattle.ctl_session.specs.Session.{Asked, SessionData, without_room}
-use Rattle.ctl_session.specs.Calls.{AskedInTurn, Calls, EndedInTurn, Meaning, Told, asking, asking_list, ending_all, last_errno, list_by, list_told, plan_in, refused, sized, unsubscribe_ask, wrong_told}
+use Rattle.ctl_session.specs.Calls.{AskedInTurn, Calls, EndedInTurn, Meaning, Told, asking, asking_list, last_errno, plan_in, refused, sized, unsubscribe_ask}
 use Rattle.ctl_session.specs.declared.calls.TheConstants.{CUT}
-use Rattle.ctl_session.specs.declared.list_calls.Access.{Access}
-use Rattle.ctl_session.specs.Lists.{Wrong}
 
 -- an ask that the device handled
 pub handled : (verdicts : Verdicts) (old new : SessionData) (ask : Ask) (answer : Answer) (ranges : List RangeAsk) → new.followers ≡ old.followers
@@ -43,17 +41,6 @@ asks verdicts old new ask answer tell told asked is = inl (answer ∷ [], once v
 pub asks_list : (verdicts : Verdicts) (old new : SessionData) (ask : Ask) (answer : Answer) (tell : Answer → Told) (told : Told)
     → Asked verdicts old new ask answer → told ≡ tell answer → Calls verdicts old (asking_list ask tell) new told
 asks_list verdicts old new ask answer tell told asked is = inl (answer ∷ [], once verdicts old new ask answer asked, is)
-
--- no room for a list
-pub short : (verdicts : Verdicts) (session : SessionData) (h : ℕ) (access : Access) (bytes : List ℕ) (ask : Ask) (wrong : Option Wrong) (told : Told)
-    → told ≡ list_told (plan_in session) h bytes without_room → Calls verdicts session (list_by (plan_in session) h access bytes ask wrong) session told
-short verdicts session h access bytes ask None told is = inr (refl, ap Some (sym is))
-short verdicts session h access bytes ask (Some wrong) told is = inr (refl, ap Some (sym is))
-
--- a payload refuses a list
-pub refused_by : (verdicts : Verdicts) (session : SessionData) (h : ℕ) (access : Access) (bytes : List ℕ) (ask : Ask) (wrong : Wrong) (told : Told)
-    → told ≡ wrong_told (plan_in session) h access bytes wrong → Calls verdicts session (list_by (plan_in session) h access bytes ask (Some wrong)) session told
-refused_by verdicts session h access bytes ask wrong told is = inl ([], refl, is)
 
 -- an ask leaves the plan as it is
 pub plan_kept : (verdicts : Verdicts) (old new : SessionData) (ask : Ask) (answer : Answer) → Asked verdicts old new ask answer → new.device.plan ≡ old.device.plan
@@ -100,10 +87,6 @@ last_errno_behind : (reply : Reply) (answers : List Answer) → last_errno (Ok r
 last_errno_behind reply [] = refl
 last_errno_behind reply (answer ∷ rest) = refl
 
--- there is none to end
-pub ends_none : (verdicts : Verdicts) (session : SessionData) (fh : FhId) → EndedInTurn verdicts session fh [] session 0
-ends_none verdicts session fh = ([], refl, refl)
-
 -- one is ended, and those behind it
 pub ends_more : (verdicts : Verdicts) (old between new : SessionData) (fh : FhId) (c : ℕ) (rest : List ℕ) (made : Ask) (reply : Reply) (errno : ℕ)
     → made ≡ unsubscribe_ask (plan_in old) fh c → Asked verdicts old between made (Ok reply) → EndedInTurn verdicts between fh rest new errno → EndedInTurn verdicts old fh (c ∷ rest) new errno
@@ -130,8 +113,3 @@ pub ends_at : (verdicts : Verdicts) (old new : SessionData) (fh : FhId) (control
     → made ≡ unsubscribe_ask (plan_in old) fh (get_or controls 0 0) → Asked verdicts old new made (Err fault) → EndedInTurn verdicts old fh controls new (errno_number fault.errno)
 ends_at verdicts old new fh [] made fault long is asked = absurd (omega (arith, long))
 ends_at verdicts old new fh (c ∷ rest) made fault long is asked = ends_no_more verdicts old new fh c rest made fault is asked
-
--- that is what the call does
-pub ends_all : (verdicts : Verdicts) (old new : SessionData) (fh : FhId) (controls bytes : List ℕ) (errno : ℕ)
-    → EndedInTurn verdicts old fh controls new errno → Calls verdicts old (ending_all (plan_in old) fh controls bytes) new (errno, bytes)
-ends_all verdicts old new fh controls bytes errno (answers, turn, told) = inl (answers, turn, ap (λ e. (e, bytes)) told)
