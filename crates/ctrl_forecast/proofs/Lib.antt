@@ -15,3 +15,4 @@ pub mod LikeLemmas
 pub mod FrameLemmas
 pub mod ApartLemmas
 pub mod TurnLemmas
+pub mod CopyLemmas

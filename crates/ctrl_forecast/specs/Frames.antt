@@ -143,7 +143,7 @@ pub record AreReadyAt (s : Setting) (place : ℕ) (left : List ℕ) (frames : Li
   pub elsewhere : (k i : ℕ) → k < length s.plan.clusters → i ≢ place → i < length frames → IsRightAt s frames k i
   pub apart : (k i : ℕ) → k < length s.plan.clusters → list_any (nat_eq k) left ≡ false → i < length frames → IsRightAt s frames k i
 
--- one cluster of each frame has the row that it had, and is refused where it was
+-- one cluster of each frame has the row that it had, and is refused or not as it was
 pub record IsAlikeIn (plan : PlanData) (k : ℕ) (old new : List FrameData) : Type 0 where
   pub rows : (i : ℕ) → row_of (frame_at new i).values (members plan k) ≡ row_of (frame_at old i).values (members plan k)
   pub refused : (i : ℕ) → list_any (nat_eq k) (frame_at new i).refused ≡ list_any (nat_eq k) (frame_at old i).refused

@@ -227,7 +227,7 @@ impl Board {
     }
 
     /// Takes the frame at a place out. Behind it only the clusters with a member among its pairs are judged anew, each up to and with the first frame that comes out as
-    /// it was: with the same row of the cluster, and refused where it was (of this project).
+    /// it was: with the same row of the cluster, which is refused or not as it was (of this project).
     ///
     /// - `place`: a place, from 0; the caller owes a frame there.
     /// - `at`: as of `overlay`; its values are those before the first frame.
@@ -249,7 +249,7 @@ impl Board {
     }
 
     /// Renews some clusters, after the values before the first frame were changed in these clusters (of this project): each in the frames up to and with the first that
-    /// comes out as it was, with the same row of the cluster, and refused where it was. The frames behind that one stand over the same values of the cluster.
+    /// comes out as it was, with the same row of the cluster, which is refused or not as it was. The frames behind that one stand over the same values of the cluster.
     ///
     /// - `at`: as of `overlay`, as it is now; its values are those before the first frame.
     /// - `clusters`: the clusters, in any order; the caller owes that each is one of the plan.

@@ -1,6 +1,6 @@
 //! A queued frame that is kept, with what it will have.
 
-ghost use Rattle.std.specs.Prelude.{◌≡◌, ◌<◌, ◌≤◌, ◌+◌, not, cond, length, nat_eq, IfOk, OnOk};
+ghost use Rattle.std.specs.Prelude.{◌≡◌, ◌<◌, ◌≤◌, ◌+◌, false, not, cond, length, nat_eq, slice_set, IfOk, OnOk};
 ghost use Rattle.std.specs.List.{All, list_any};
 ghost use Rattle.ctrl_types.specs.Values.{is_same};
 ghost use Rattle.ctrl_handlers.specs.Plan.{members};
@@ -16,8 +16,8 @@ use crate::board::Forecast;
 use crate::laying::{Overlaid, overlay_named};
 use crate::lists::{ClusterList, ValueRow};
 use crate::rising::{mark, named_clusters};
-use ctrl_calls::{ClusterRow, Driver, Work};
-use ctrl_clusters::{Moment, write_values};
+use ctrl_calls::{Driver, RowValues, Work};
+use ctrl_clusters::{Moment, write_row};
 use ctrl_handlers::Plan;
 use ctrl_types::{CtrlValue, Pair, RequestId};
 use std::alloc::{AllocError, Global};
@@ -167,67 +167,94 @@ impl Frame {
         (forecast, ClusterList::from_vec(named))
     }
 
-    // Gives a cluster a row, and has it refused or not, where it isn't so; answers whether it wasn't. Else nothing is written. It takes no memory.
-    pub(crate) fn replace_row_result<D: Driver>(
+    // Gives a cluster a row that was settled, and has it not refused, where it isn't so; answers whether it wasn't. Else nothing is written. It takes no memory.
+    pub(crate) fn replace_row<D: Driver>(
         &mut self,
         plan: &Plan<D>,
         cluster: u32,
-        row: &ClusterRow,
-        is_refused: bool,
+        row: &RowValues,
     ) -> bool
         requires values { length self.old.values ≡ length plan.now.controls }
         requires cluster { cluster < length plan.now.clusters }
         requires row { length row.now ≡ length (members plan.now cluster) }
-        requires room { length (with_or_without cluster is_refused self.old.refused) ≤ length self.old.named }
-        ensures changed { result ≡ not (is_same_outcome (row_of self.old.values (members plan.now cluster)) (list_any (nat_eq cluster) self.old.refused) row.now is_refused) }
-        ensures frame { self.new ≡ cond result (with_row_result plan.now cluster row.now is_refused self.old) self.old }
+        requires room { length (with_or_without cluster false self.old.refused) ≤ length self.old.named }
+        ensures changed { result ≡ not (is_same_outcome (row_of self.old.values (members plan.now cluster)) (list_any (nat_eq cluster) self.old.refused) row.now false) }
+        ensures frame { self.new ≡ cond result (with_row_result plan.now cluster row.now false self.old) self.old }
     {
-        if self.has_row_result(plan, cluster, row, is_refused) {
+        if self.has_settled(plan, cluster, row) {
             return false;
         }
-        self.set_row_result(plan, cluster, row, is_refused);
+        self.set_row(plan, cluster, row);
         true
     }
 
-    // Whether a cluster has a row, and is refused where it is to be.
-    fn has_row_result<D: Driver>(
-        &self,
-        plan: &Plan<D>,
-        cluster: u32,
-        row: &ClusterRow,
-        is_refused: bool,
-    ) -> bool
+    // Whether a cluster has a row, and isn't refused.
+    fn has_settled<D: Driver>(&self, plan: &Plan<D>, cluster: u32, row: &RowValues) -> bool
         requires values { length self.now.values ≡ length plan.now.controls }
         requires cluster { cluster < length plan.now.clusters }
         requires row { length row.now ≡ length (members plan.now cluster) }
-        ensures { result ≡ is_same_outcome (row_of self.now.values (members plan.now cluster)) (list_any (nat_eq cluster) self.now.refused) row.now is_refused }
+        ensures { result ≡ is_same_outcome (row_of self.now.values (members plan.now cluster)) (list_any (nat_eq cluster) self.now.refused) row.now false }
     {
         has_row(self.values.as_slice(), plan.members(cluster), row)
-            && is_mark(self.refused.as_slice(), cluster, is_refused)
+            && self.is_marked(cluster, false)
     }
 
-    // Gives a cluster a row, and has it refused or not. It takes no memory.
-    fn set_row_result<D: Driver>(
-        &mut self,
-        plan: &Plan<D>,
-        cluster: u32,
-        row: &ClusterRow,
-        is_refused: bool,
-    )
+    // Gives a cluster a row, and has it not refused. It takes no memory.
+    fn set_row<D: Driver>(&mut self, plan: &Plan<D>, cluster: u32, row: &RowValues)
         requires values { length self.old.values ≡ length plan.now.controls }
         requires cluster { cluster < length plan.now.clusters }
         requires row { length row.now ≡ length (members plan.now cluster) }
-        requires room { length (with_or_without cluster is_refused self.old.refused) ≤ length self.old.named }
-        ensures { self.new ≡ with_row_result plan.now cluster row.now is_refused self.old }
+        requires room { length (with_or_without cluster false self.old.refused) ≤ length self.old.named }
+        ensures { self.new ≡ with_row_result plan.now cluster row.now false self.old }
     {
-        write_values(plan, &mut self.values, cluster, row.values());
+        write_row(plan, &mut self.values, cluster, row);
+        self.set_refused(cluster, false);
+    }
+
+    // Whether a cluster has the row of other values, and is refused where it is to be.
+    pub(crate) fn has_values_of<D: Driver>(
+        &self,
+        plan: &Plan<D>,
+        cluster: u32,
+        values: &[CtrlValue],
+        is_refused: bool,
+    ) -> bool
+        requires own { length self.now.values ≡ length plan.now.controls }
+        requires values { length values.now ≡ length plan.now.controls }
+        requires cluster { cluster < length plan.now.clusters }
+        ensures { result ≡ is_same_outcome (row_of self.now.values (members plan.now cluster)) (list_any (nat_eq cluster) self.now.refused) (row_of values.now (members plan.now cluster)) is_refused }
+    {
+        are_same_at(self.values.as_slice(), values, plan.members(cluster))
+            && self.is_marked(cluster, is_refused)
+    }
+
+    // Gives a control a value.
+    pub(crate) fn set_value(&mut self, control: u32, value: CtrlValue)
+        requires { control < length self.old.values }
+        ensures { self.new ≡ record self.old { values = slice_set self.old.values control value } }
+    {
+        self.values[control as usize] = value;
+    }
+
+    // Has a cluster refused or not. It takes no memory.
+    pub(crate) fn set_refused(&mut self, cluster: u32, is_refused: bool)
+        requires room { length (with_or_without cluster is_refused self.old.refused) ≤ length self.old.named }
+        ensures { self.new ≡ record self.old { refused = with_or_without cluster is_refused self.old.refused } }
+    {
         mark(&mut self.refused, cluster, is_refused);
+    }
+
+    // Whether a cluster is refused where it is to be, and else isn't.
+    fn is_marked(&self, cluster: u32, is_refused: bool) -> bool
+        ensures { result ≡ cond is_refused (list_any (nat_eq cluster) self.now.refused) (not (list_any (nat_eq cluster) self.now.refused)) }
+    {
+        is_mark(self.refused.as_slice(), cluster, is_refused)
     }
 }
 
 // Whether members have the values of a row.
 #[tactic(auto, using(crate::proofs::UnchangedLemmas::same_next))]
-fn has_row(values: &[CtrlValue], members: &[u32], row: &ClusterRow) -> bool
+fn has_row(values: &[CtrlValue], members: &[u32], row: &RowValues) -> bool
     requires known { All (λ c. c < length values.now) members.now }
     requires long { length row.now ≡ length members.now }
     ensures { result ≡ are_same_values (row_of values.now members.now) row.now }
@@ -241,12 +268,36 @@ fn has_row(values: &[CtrlValue], members: &[u32], row: &ClusterRow) -> bool
 }
 
 // Whether a member has its value of the row.
-fn has_value(values: &[CtrlValue], member: u32, row: &ClusterRow, place: usize) -> bool
+fn has_value(values: &[CtrlValue], member: u32, row: &RowValues, place: usize) -> bool
     requires known { member < length values.now }
     requires within { place < length row.now }
     ensures { result ≡ is_same (value_at values.now member) (value_at row.now place) }
 {
-    values[member as usize].is_same(&row.values()[place])
+    row.has(place, &values[member as usize])
+}
+
+// Whether members have the same values among others.
+#[tactic(auto, using(crate::proofs::CopyLemmas::same_at_next))]
+fn are_same_at(values: &[CtrlValue], others: &[CtrlValue], members: &[u32]) -> bool
+    requires known { All (λ c. c < length values.now) members.now }
+    requires others { All (λ c. c < length others.now) members.now }
+    ensures { result ≡ are_same_values (row_of values.now members.now) (row_of others.now members.now) }
+{
+    for &member in members {
+        if !is_same_at(values, others, member) {
+            return false;
+        }
+    }
+    true
+}
+
+// Whether a member has the same value among others.
+fn is_same_at(values: &[CtrlValue], others: &[CtrlValue], member: u32) -> bool
+    requires known { member < length values.now }
+    requires others { member < length others.now }
+    ensures { result ≡ is_same (value_at values.now member) (value_at others.now member) }
+{
+    values[member as usize].is_same(&others[member as usize])
 }
 
 // Whether a cluster is among some where it is to be, and else isn't.

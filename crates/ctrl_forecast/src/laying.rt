@@ -1,6 +1,6 @@
-ghost use Rattle.std.specs.Prelude.{◌≡◌, ◌<◌, ◌≤◌, ◌+◌, ◌&&◌, true, length, Ok, Err, IfOk, IfErr, OnOk};
+ghost use Rattle.std.specs.Prelude.{◌≡◌, ◌<◌, ◌≤◌, ◌+◌, ◌&&◌, true, cond, length, Ok, Err, IfOk, IfErr, OnOk};
 ghost use Rattle.ctrl_handlers.specs.Plan.{members};
-ghost use Rattle.ctrl_clusters.specs.Rows.{is_grabbed};
+ghost use Rattle.ctrl_clusters.specs.Rows.{is_grabbed, row_of};
 ghost use Rattle.ctrl_clusters.specs.Overlay.{is_touched, names_grabbed, row_after, overlay, refused_clusters};
 ghost use Rattle.ctrl_clusters.specs.Judging.{with_call, with_calls};
 ghost use Rattle.ctrl_forecast.specs.Asking.{asked_count, asks_row};
@@ -9,8 +9,8 @@ ghost use Rattle.ctrl_forecast.specs.Touched.{touched_count};
 
 use crate::lists::{ClusterList, ValueRow};
 use crate::rising::named_clusters;
-use ctrl_calls::{ClusterRow, Driver, RowValues, Work};
-use ctrl_clusters::{Moment, copy_row, is_among, read_row, validated_row, write_row};
+use ctrl_calls::{Driver, RowValues, Work};
+use ctrl_clusters::{Moment, is_among, validated_row, write_row};
 use ctrl_types::{Errno, Pair};
 use std::alloc::{AllocError, Global};
 
@@ -81,37 +81,32 @@ pub(crate) fn overlay_named<D: Driver>(
     })
 }
 
-// Makes the row of a cluster what it is then, where any of its length stands; or answers why it is refused, and the row says nothing then.
+// Whether a cluster has a member among the pairs, and then makes its row what it is afterwards, where any of its length stands; one without such a member keeps the row
+// that it has in the values. The error is why it is refused. The row says nothing then, nor where no member is among the pairs.
 pub(crate) fn row_after<D: Driver>(
     at: &Moment<D>,
     pairs: &[Pair],
     cluster: u32,
-    row: &mut ClusterRow,
+    row: &mut RowValues,
     work: &mut Work,
-) -> Result<(), Errno>
+) -> Result<bool, Errno>
     requires cluster { cluster < length at.now.plan.now.clusters }
     requires row { length row.old ≡ length (members at.now.plan.now cluster) }
-    ensures ok { OnOk result (row_after D.verdict at.now.plan.now at.now.ranges.now at.now.values.now at.now.grabs.now pairs.now cluster ≡ Ok row.new) }
+    ensures ok { IfOk result (λ is_settled. row_after D.verdict at.now.plan.now at.now.ranges.now at.now.values.now at.now.grabs.now pairs.now cluster ≡ Ok (cond is_settled row.new (row_of at.now.values.now (members at.now.plan.now cluster)))) }
     ensures err { IfErr result (λ errno. row_after D.verdict at.now.plan.now at.now.ranges.now at.now.values.now at.now.grabs.now pairs.now cluster ≡ Err errno) }
     ensures long { length row.new ≡ length (members at.now.plan.now cluster) }
     ensures counted { work.new ≡ record work.old { asked = with_call (asks_row at.now.plan.now at.now.ranges.now at.now.values.now at.now.grabs.now pairs.now cluster) work.old.asked } }
 {
-    let members = at.plan.members(cluster);
-    if !is_touched(pairs, members) {
-        read_row(at.values, members, row);
-        return Ok(());
+    if !is_touched(pairs, at.plan.members(cluster)) {
+        return Ok(false);
     }
-    let mut settled = RowValues::zeros(members.len());
-    match touched_row(at, pairs, cluster, &mut settled, work) {
-        Ok(()) => {
-            copy_row(&settled, row);
-            Ok(())
-        }
+    match touched_row(at, pairs, cluster, row, work) {
+        Ok(()) => Ok(true),
         Err(errno) => Err(errno),
     }
 }
 
-// The same, of a cluster with a member among the pairs.
+// Makes the row of a cluster with a member among the pairs what it is then; or answers why it is refused, and the row says nothing then.
 fn touched_row<D: Driver>(
     at: &Moment<D>,
     pairs: &[Pair],

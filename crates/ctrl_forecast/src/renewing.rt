@@ -1,23 +1,23 @@
 //! Clusters that are renewed in frames that are kept, one cluster after another, each through the frames in their order: up to the first that comes out as it was, or,
 //! where what the frames refuse may have changed, through all of them.
 
-ghost use Rattle.std.specs.Prelude.{◌≡◌, ◌≢◌, ◌<◌, ◌≤◌, ℕ, not, cond, length, map, is_err, nat_eq, slice_set};
+ghost use Rattle.std.specs.Prelude.{◌≡◌, ◌≢◌, ◌<◌, ◌≤◌, ℕ, false, not, cond, length, map, is_err, nat_eq, slice_set};
 ghost use Rattle.std.specs.List.{All, list_any};
 ghost use Rattle.ctrl_handlers.specs.Plan.{members};
-ghost use Rattle.ctrl_clusters.specs.Rows.{row_of};
-ghost use Rattle.ctrl_clusters.specs.Overlay.{row_after};
+ghost use Rattle.ctrl_clusters.specs.NewRows.{with_row};
+ghost use Rattle.ctrl_clusters.specs.Rows.{row_of, value_at};
 ghost use Rattle.ctrl_clusters.specs.Judging.{with_call, with_calls};
 ghost use Rattle.ctrl_forecast.specs.Asking.{asked_from, asked_up_to, asks_row, renewing_count, renewing_until_same};
 ghost use Rattle.ctrl_forecast.specs.Boards.{board_at};
-ghost use Rattle.ctrl_forecast.specs.Frames.{AreKeptFrames, AreReady, AreReadyAt, IsAlikeIn, IsClusterRenewed, IsRightAt, base_at, board_seen, forecast_of, frame_at, queued_of, renewed_at, row_or, row_over, row_result, setting_at, values_before, with_or_without, with_row_result};
+ghost use Rattle.ctrl_forecast.specs.Frames.{AreKeptFrames, AreReady, AreReadyAt, IsAlikeIn, IsClusterRenewed, IsRightAt, base_at, board_seen, forecast_of, frame_at, queued_of, renewed_at, row_over, row_result, setting_at, values_before, with_or_without, with_row_result};
 ghost use Rattle.ctrl_forecast.specs.Unchanged.{is_same_outcome};
 
 use crate::frame::Frame;
 use crate::laying::row_after;
-use ctrl_calls::{ClusterRow, Driver, Work};
-use ctrl_clusters::{Moment, read_row};
+use ctrl_calls::{Driver, RowValues, Work};
+use ctrl_clusters::Moment;
 use ctrl_handlers::Plan;
-use ctrl_types::{CtrlValue, Pair};
+use ctrl_types::CtrlValue;
 
 // Renews some clusters from a place on, where all else is right already, and behind that place everything is. Then all is.
 pub(crate) fn renew_clusters<D: Driver>(
@@ -58,7 +58,7 @@ fn renew_cluster<D: Driver>(
     ensures told { work.new.told ≡ work.old.told }
 {
     // one row for all frames, since every row of the cluster is as long
-    let mut row = ClusterRow::zeros(at.plan.members(cluster).len());
+    let mut row = RowValues::zeros(at.plan.members(cluster).len());
     for place in from..frames.len() {
         if !renew_at(frames, place, at, cluster, &mut row, work) {
             return;
@@ -103,20 +103,21 @@ fn rejudge_cluster<D: Driver>(
     ensures told { work.new.told ≡ work.old.told }
 {
     // one row for all frames, since every row of the cluster is as long
-    let mut row = ClusterRow::zeros(at.plan.members(cluster).len());
+    let mut row = RowValues::zeros(at.plan.members(cluster).len());
     for place in from..frames.len() {
         let _ = renew_at(frames, place, at, cluster, &mut row, work);
     }
 }
 
-// Renews a cluster of the frame at a place, over the values before it as they are; its row is made where another of the cluster stands. It answers whether the frame had
-// another row, or was refused where it isn't, or not where it is.
+// Renews a cluster of the frame at a place, over the values before it as they are. Only where it has a member among the frame's pairs, and isn't refused, does it get a row
+// that was settled, where another of the cluster stands; else it has the row of the values before the frame. It answers whether the frame had another row, or was refused
+// where it isn't, or not where it is.
 fn renew_at<D: Driver>(
     frames: &mut Vec<Frame>,
     place: usize,
     at: &Moment<D>,
     cluster: u32,
-    row: &mut ClusterRow,
+    row: &mut RowValues,
     work: &mut Work,
 ) -> bool
     requires cluster { cluster < length at.now.plan.now.clusters }
@@ -138,29 +139,96 @@ fn renew_at<D: Driver>(
         values: base,
         grabs: at.grabs,
     };
-    let is_refused = lay_row(&over, asked, cluster, row, work);
-    write_at(frames, place, at.plan, cluster, row, is_refused)
+    match row_after(&over, asked, cluster, row, work) {
+        Ok(true) => write_at(frames, place, at.plan, cluster, row),
+        Ok(false) => keep_at(frames, place, at, cluster, false),
+        Err(_) => keep_at(frames, place, at, cluster, true),
+    }
 }
 
-// Gives a cluster of the frame at a place a row, and has it refused or not, where it isn't so; answers whether it wasn't.
+// Gives a cluster of the frame at a place a row that was settled, and has it not refused, where it isn't so; answers whether it wasn't.
 fn write_at<D: Driver>(
     frames: &mut Vec<Frame>,
     place: usize,
     plan: &Plan<D>,
     cluster: u32,
-    row: &ClusterRow,
-    is_refused: bool,
+    row: &RowValues,
 ) -> bool
     requires place { place < length frames.old.items }
     requires values { length (frame_at frames.old.items place).values ≡ length plan.now.controls }
     requires cluster { cluster < length plan.now.clusters }
     requires row { length row.now ≡ length (members plan.now cluster) }
-    requires room { length (with_or_without cluster is_refused (frame_at frames.old.items place).refused) ≤ length (frame_at frames.old.items place).named }
-    ensures changed { result ≡ not (is_same_outcome (row_of (frame_at frames.old.items place).values (members plan.now cluster)) (list_any (nat_eq cluster) (frame_at frames.old.items place).refused) row.now is_refused) }
-    ensures frames { frames.new.items ≡ slice_set frames.old.items place (cond result (with_row_result plan.now cluster row.now is_refused (frame_at frames.old.items place)) (frame_at frames.old.items place)) }
+    requires room { length (with_or_without cluster false (frame_at frames.old.items place).refused) ≤ length (frame_at frames.old.items place).named }
+    ensures changed { result ≡ not (is_same_outcome (row_of (frame_at frames.old.items place).values (members plan.now cluster)) (list_any (nat_eq cluster) (frame_at frames.old.items place).refused) row.now false) }
+    ensures frames { frames.new.items ≡ slice_set frames.old.items place (cond result (with_row_result plan.now cluster row.now false (frame_at frames.old.items place)) (frame_at frames.old.items place)) }
 {
     let frame = &mut frames[place];
-    frame.replace_row_result(plan, cluster, row, is_refused)
+    frame.replace_row(plan, cluster, row)
+}
+
+// Gives a cluster of the frame at a place the row of the values before it, and has it refused or not, where it isn't so; answers whether it wasn't.
+fn keep_at<D: Driver>(
+    frames: &mut Vec<Frame>,
+    place: usize,
+    at: &Moment<D>,
+    cluster: u32,
+    is_refused: bool,
+) -> bool
+    requires place { place < length frames.old.items }
+    requires frames { AreKeptFrames at.now.plan.now frames.old.items }
+    requires cluster { cluster < length at.now.plan.now.clusters }
+    requires room { length (with_or_without cluster is_refused (frame_at frames.old.items place).refused) ≤ length (frame_at frames.old.items place).named }
+    ensures changed { result ≡ not (is_same_outcome (row_of (frame_at frames.old.items place).values (members at.now.plan.now cluster)) (list_any (nat_eq cluster) (frame_at frames.old.items place).refused) (row_of (values_before at.now.values.now frames.old.items place) (members at.now.plan.now cluster)) is_refused) }
+    ensures frames { frames.new.items ≡ slice_set frames.old.items place (cond result (with_row_result at.now.plan.now cluster (row_of (values_before at.now.values.now frames.old.items place) (members at.now.plan.now cluster)) is_refused (frame_at frames.old.items place)) (frame_at frames.old.items place)) }
+{
+    if is_kept_at(frames.as_slice(), place, at, cluster, is_refused) {
+        return false;
+    }
+    copy_before(frames, place, at.values, at.plan.members(cluster));
+    let frame = &mut frames[place];
+    frame.set_refused(cluster, is_refused);
+    true
+}
+
+// Whether a cluster of the frame at a place has the row of the values before it, and is refused where it is to be.
+fn is_kept_at<D: Driver>(
+    frames: &[Frame],
+    place: usize,
+    at: &Moment<D>,
+    cluster: u32,
+    is_refused: bool,
+) -> bool
+    requires place { place < length frames.now }
+    requires frames { AreKeptFrames at.now.plan.now frames.now }
+    requires cluster { cluster < length at.now.plan.now.clusters }
+    ensures { result ≡ is_same_outcome (row_of (frame_at frames.now place).values (members at.now.plan.now cluster)) (list_any (nat_eq cluster) (frame_at frames.now place).refused) (row_of (values_before at.now.values.now frames.now place) (members at.now.plan.now cluster)) is_refused }
+{
+    let base = values_before(frames, place, at.values);
+    frames[place].has_values_of(at.plan, cluster, base, is_refused)
+}
+
+// Gives members in the frame at a place the values that they have before it.
+fn copy_before(frames: &mut Vec<Frame>, place: usize, values: &[CtrlValue], members: &[u32])
+    requires place { place < length frames.old.items }
+    requires own { All (λ c. c < length (frame_at frames.old.items place).values) members.now }
+    requires before { All (λ c. c < length (values_before values.now frames.old.items place)) members.now }
+    ensures { frames.new.items ≡ slice_set frames.old.items place (record (frame_at frames.old.items place) { values = with_row (frame_at frames.old.items place).values members.now (row_of (values_before values.now frames.old.items place) members.now) }) }
+{
+    for &member in members {
+        copy_one_before(frames, place, values, member);
+    }
+}
+
+// Gives a member in the frame at a place the value that it has before it.
+fn copy_one_before(frames: &mut Vec<Frame>, place: usize, values: &[CtrlValue], member: u32)
+    requires place { place < length frames.old.items }
+    requires own { member < length (frame_at frames.old.items place).values }
+    requires before { member < length (values_before values.now frames.old.items place) }
+    ensures { frames.new.items ≡ slice_set frames.old.items place (record (frame_at frames.old.items place) { values = slice_set (frame_at frames.old.items place).values member (value_at (values_before values.now frames.old.items place) member) }) }
+{
+    let value = values_before(frames.as_slice(), place, values)[member as usize];
+    let frame = &mut frames[place];
+    frame.set_value(member, value);
 }
 
 // The values before the frame at a place.
@@ -172,29 +240,5 @@ fn values_before<'a>(frames: &'a [Frame], place: usize, values: &'a [CtrlValue])
         values
     } else {
         frames[place - 1].values()
-    }
-}
-
-// Makes the row of a cluster the one that it has once pairs are laid over values; answers whether it is refused, where it keeps its own.
-fn lay_row<D: Driver>(
-    at: &Moment<D>,
-    pairs: &[Pair],
-    cluster: u32,
-    row: &mut ClusterRow,
-    work: &mut Work,
-) -> bool
-    requires cluster { cluster < length at.now.plan.now.clusters }
-    requires row { length row.old ≡ length (members at.now.plan.now cluster) }
-    ensures row { row.new ≡ row_or (row_of at.now.values.now (members at.now.plan.now cluster)) (row_after D.verdict at.now.plan.now at.now.ranges.now at.now.values.now at.now.grabs.now pairs.now cluster) }
-    ensures refused { result ≡ is_err (row_after D.verdict at.now.plan.now at.now.ranges.now at.now.values.now at.now.grabs.now pairs.now cluster) }
-    ensures long { length row.new ≡ length (members at.now.plan.now cluster) }
-    ensures counted { work.new ≡ record work.old { asked = with_call (asks_row at.now.plan.now at.now.ranges.now at.now.values.now at.now.grabs.now pairs.now cluster) work.old.asked } }
-{
-    match row_after(at, pairs, cluster, row, work) {
-        Ok(()) => false,
-        Err(_) => {
-            read_row(at.values, at.plan.members(cluster), row);
-            true
-        }
     }
 }
