@@ -9,7 +9,7 @@ ghost use Rattle.ask_reasons.specs.Reasons.{reason_at};
 
 use crate::reason::Reason;
 use ctrl_calls::{Driver, Work};
-use ctrl_lists::{Refusal, plan_set, read_list, try_list};
+use ctrl_lists::{Refusal, Room, plan_set, read_list, try_list};
 use ctrl_types::{Check, FhId, RequestId};
 use device_state::{ControlList, Device};
 use std::alloc::{AllocError, Global};
@@ -29,7 +29,8 @@ pub(crate) fn get_reason<D: Driver>(
         Ok(view) => view,
         Err(check) => return Ok(Some(Reason::as_whole(check))),
     };
-    match read_list(alloc, &view, list) {
+    let mut room = Room::new(alloc);
+    match read_list(alloc, &view, list, &mut room) {
         Ok(_) => Ok(None),
         Err(refusal) => Ok(Some(reason_at(refusal)?)),
     }
@@ -50,8 +51,9 @@ pub(crate) fn set_reason<D: Driver>(
         Ok(view) => view,
         Err(check) => return Ok(Some(Reason::as_whole(check))),
     };
+    let mut room = Room::new(alloc);
     let mut work = Work::new();
-    match plan_set(alloc, &view, list, &mut work) {
+    match plan_set(alloc, &view, list, &mut room, &mut work) {
         Ok(_) if device.is_full() => Ok(Some(Reason::as_whole(Check::ListHistoryFull))),
         Ok(_) => Ok(None),
         Err(refusal) => Ok(Some(reason_at(refusal)?)),
@@ -73,8 +75,9 @@ pub(crate) fn try_reason<D: Driver>(
         Ok(view) => view,
         Err(check) => return Ok(Some(Reason::as_whole(check))),
     };
+    let mut room = Room::new(alloc);
     let mut work = Work::new();
-    match try_list(alloc, &view, list, &mut work) {
+    match try_list(alloc, &view, list, &mut room, &mut work) {
         Ok(_) => Ok(None),
         Err(refusal) => Ok(Some(reason_at(refusal)?)),
     }

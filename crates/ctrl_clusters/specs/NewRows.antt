@@ -49,8 +49,7 @@ with_row values [] row = values
 with_row values (c ∷ cs) [] = values
 with_row values (c ∷ cs) (v ∷ vs) = with_row (slice_set values c v) cs vs
 
--- Rows that are kept: themselves, how many clusters they may be of, and for how many there is room.
+-- Rows that are kept: themselves, and for how many there is room.
 pub record NewRowsData : Type 0 where
   pub rows : List NewRow
-  pub clusters : ℕ
   pub room : ℕ

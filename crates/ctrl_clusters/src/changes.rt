@@ -41,8 +41,7 @@ pub(crate) fn row_changes<D: Driver>(
 /// Whether a control is changed where pairs are applied: it has another value afterwards, or it acts on each write and is among the pairs (Linux userspace API,
 /// "Control Flags", `V4L2_CTRL_FLAG_EXECUTE_ON_WRITE`).
 ///
-/// - `before`: the moment before.
-/// - `after`: the values afterwards; the caller owes one for each control.
+/// - `change`: the moment before, and what there is afterwards.
 /// - `pairs`: what was applied.
 /// - `control`: the number of a control; the caller owes one below `Plan::control_count`.
 ///

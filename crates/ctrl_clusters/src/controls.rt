@@ -183,11 +183,11 @@ impl Controls {
     }
 
     /// The values once more, for what comes next to be written; `replace_within` takes them back (of this project). It takes memory only where they haven't been
-    /// lent before, or weren't given back since.
+    /// lent before, weren't given back since, or `replace_values` was called since.
     ///
     /// - `alloc`: where they lie then.
     ///
-    /// The error is that a growth was refused.
+    /// The error is that a growth was refused; all is as it was then.
     pub fn lend_values(&mut self, alloc: Global) -> Result<Vec<CtrlValue>, AllocError>
         ensures same { self.new ≡ self.old }
         ensures values { IfOk result (λ values. values.items ≡ self.old.values) }
@@ -228,7 +228,7 @@ impl Controls {
     ///
     /// - `alloc`: where it lies then.
     ///
-    /// The error is that a growth was refused.
+    /// The error is that a growth was refused; all is as it was then.
     pub fn lend_grabs(&mut self, alloc: Global) -> Result<Vec<bool>, AllocError>
         ensures same { self.new ≡ self.old }
         ensures grabs { IfOk result (λ grabs. grabs.items ≡ self.old.grabs) }

@@ -1,6 +1,6 @@
 //! What clusters make of values that are asked of their members: a row is overwritten, settles in member order, and is judged by the driver's
 //! validator; how pairs are laid over values, rows written, and changed clusters notified; which range each control has; and which flags under values and grabs.
-//! Only `Controls::of_plan`, `Ranges::of_plan`, `first_words`, `default_values`, `no_grabs` and `NewRows::with_capacity` take memory.
+//! Only `Controls::of_plan`, `lend_values` and `lend_grabs` of `Controls`, `Ranges::of_plan`, `first_words`, `default_values`, `no_grabs` and `NewRows::clear_for` take memory.
 #![tactic(auto)]
 
 mod auto_clusters;

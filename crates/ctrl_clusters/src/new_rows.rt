@@ -1,28 +1,34 @@
-ghost use Rattle.std.specs.Prelude.{◌≡◌, ◌<◌, ◌≤◌, ◌++◌, ◌∷◌, [], false, length, is_some, option_map, IfOk};
+ghost use Rattle.std.specs.Prelude.{◌≡◌, ◌<◌, ◌≤◌, ◌++◌, ◌∷◌, [], false, length, is_some, option_map, OnOk};
 ghost use Rattle.ctrl_clusters.specs.NewRows.{clusters_of, row_among};
 ghost use Rattle.ctrl_clusters.specs.Rising.{IsNext};
 
 use crate::new_row::NewRow;
+use crate::rising::next_number;
 use ctrl_calls::RowValues;
 use std::alloc::{AllocError, Global};
 use std::marker::Model;
 
 /// The rows that some clusters get, each cluster once, in the order in which they were added; the row of a cluster is looked up under its
-/// number (Linux driver API, "V4L2 Controls", "Control Clusters"). Nothing here grows with the clusters that get none. Contracts see it as the rows, the number
-/// of the clusters that rows may be of, and for how many rows there is room.
+/// number (Linux driver API, "V4L2 Controls", "Control Clusters"). Nothing here grows with the clusters that get none. Contracts see it as the rows, and for how many
+/// rows there is room.
 #[derive(Drop)]
 pub struct NewRows {
     rows: Vec<NewRow>,
-    clusters: u32,
+    // the clusters that the rows are of
+    clusters: Vec<u32>,
+    // for how many there is room in both
+    room: usize,
 }
 
 impl Model for NewRows {
-    ghost use Rattle.std.specs.Prelude.{vec_capacity};
-    ghost use Rattle.ctrl_clusters.specs.NewRows.{NewRowsData};
+    ghost use Rattle.std.specs.Prelude.{◌≡◌, ◌≤◌, vec_capacity};
+    ghost use Rattle.ctrl_clusters.specs.NewRows.{NewRowsData, clusters_of};
 
     ghost Value = { NewRowsData };
 
-    ghost view = { λ r. record { rows = r.rows.items; clusters = r.clusters; room = vec_capacity r.rows } };
+    ghost view = { λ r. record { rows = r.rows.items; room = r.room } };
+
+    ghost invariant = { λ r. (r.clusters.items ≡ clusters_of r.rows.items) × (r.room ≤ vec_capacity r.rows) × (r.room ≤ vec_capacity r.clusters) };
 }
 
 impl NewRows {
@@ -34,39 +40,52 @@ impl NewRows {
     {
         NewRows {
             rows: Vec::new(alloc),
-            clusters: 0,
+            clusters: Vec::new(alloc),
+            room: 0,
         }
     }
 
-    /// No rows, and room for some (of this project).
-    ///
-    /// - `alloc`: where the rows lie.
-    /// - `clusters`: how many clusters there are; rows may be of those with lesser numbers.
-    /// - `rows`: how many rows there is room for at least.
-    ///
-    /// Refused with want of memory alone.
-    pub fn with_capacity(alloc: Global, clusters: u32, rows: usize) -> Result<NewRows, AllocError>
-        ensures rows { IfOk result (λ made. made.rows ≡ []) }
-        ensures clusters { IfOk result (λ made. made.clusters ≡ clusters) }
-        ensures room { IfOk result (λ made. rows ≤ made.room) }
+    /// Drops all rows; the memory that they lay in is kept (of this project).
+    pub fn clear(&mut self)
+        ensures rows { self.new.rows ≡ [] }
+        ensures capacity { self.new.room ≡ self.old.room }
     {
-        let rows = Vec::with_capacity(alloc, rows)?;
-        Ok(NewRows { rows, clusters })
+        self.rows.clear();
+        self.clusters.clear();
+    }
+
+    /// Drops all rows, and sees to it that there is room for some, in the memory that is kept where that is enough (of this project).
+    ///
+    /// - `rows`: how many rows there is room for then.
+    ///
+    /// Refused with want of memory alone; the rows are dropped then, too.
+    pub fn clear_for(&mut self, rows: usize) -> Result<(), AllocError>
+        ensures rows { self.new.rows ≡ [] }
+        ensures room { OnOk result (rows ≤ self.new.room) }
+    {
+        self.clear();
+        if let Err(refused) = self.rows.reserve(rows) {
+            return Err(refused);
+        }
+        if let Err(refused) = self.clusters.reserve(rows) {
+            return Err(refused);
+        }
+        self.room = rows;
+        Ok(())
     }
 
     /// Adds the row of a cluster behind the others (of this project).
     ///
-    /// - `new`: the row; the caller owes that its cluster is one of those that rows may be of and has none yet, and that there is room.
+    /// - `new`: the row; the caller owes that its cluster has none yet, and that there is room.
     ///
     /// It takes no memory and refuses nothing.
     pub fn push_reserved(&mut self, new: NewRow)
-        requires known { new.cluster < self.old.clusters }
         requires first { is_some (row_among self.old.rows new.cluster) ≡ false }
         requires room { length self.old.rows < self.old.room }
         ensures items { self.new.rows ≡ self.old.rows ++ new ∷ [] }
-        ensures clusters { self.new.clusters ≡ self.old.clusters }
         ensures capacity { self.new.room ≡ self.old.room }
     {
+        self.clusters.push_reserved(new.cluster);
         self.rows.push_reserved(new);
     }
 
@@ -91,7 +110,14 @@ impl NewRows {
         requires { from ≤ end }
         ensures { IsNext (clusters_of self.now.rows) from end result }
     {
-        next_cluster(self.rows.as_slice(), from, end)
+        next_number(self.clusters(), from, end)
+    }
+
+    /// The clusters that the rows are of, in the order of the rows (of this project). It takes no memory and refuses nothing.
+    pub fn clusters(&self) -> &[u32]
+        ensures { result.now ≡ clusters_of self.now.rows }
+    {
+        self.clusters.as_slice()
     }
 
     /// The rows, in the order in which they were added (of this project). It takes no memory and refuses nothing.
@@ -113,18 +139,4 @@ fn row_among<'a>(rows: &'a [NewRow], cluster: u32) -> Option<&'a RowValues>
         }
     }
     None
-}
-
-// The least cluster from a number on that one of the rows is of, or the end.
-fn next_cluster(rows: &[NewRow], from: u32, end: u32) -> u32
-    requires { from ≤ end }
-    ensures { IsNext (clusters_of rows.now) from end result }
-{
-    let mut next = end;
-    for new in rows {
-        if from <= new.cluster && new.cluster < next {
-            next = new.cluster;
-        }
-    }
-    next
 }

@@ -12,6 +12,7 @@ use crate::checks::{check_whole, first_unreadable, first_unwritable};
 use crate::control_list::ControlList;
 use crate::naming::pairs_of;
 use crate::refusal::Refusal;
+use crate::room::Room;
 use crate::rows::{entries_in, judge_all};
 use crate::touched::Touched;
 use crate::view::View;
@@ -27,6 +28,7 @@ use std::alloc::{AllocError, Global};
 /// - `alloc`: where the answer lies.
 /// - `view`: what the list is checked against. Its grabs and pairs count for nothing.
 /// - `list`: the entries; their values are ignored. It is lent, and never changed.
+/// - `room`: where things lie while the list is read; what was in it counts for nothing.
 ///
 /// Refused by the first of the checks 4 to 7 of a list in docs/RULES.md that doesn't hold: the check is answered, and, of the checks 6 and
 /// 7, the place of the first entry where it stands. Want of memory, check 34, may stand in place of any answer from check 6 on, unless there
@@ -35,6 +37,7 @@ pub fn read_list<D: Driver>(
     alloc: Global,
     view: &View<D>,
     list: &ControlList,
+    room: &mut Room,
 ) -> Result<ControlList, Refusal>
     ensures ok { OnOk result (first_refusal (read_checks view.now.plan view.now.parts list.now) ≡ None) }
     ensures answers { IfOk result (λ answers. answers ≡ entries_read view.now.plan view.now.parts list.now) }
@@ -44,11 +47,12 @@ pub fn read_list<D: Driver>(
     if list.is_empty() {
         return Ok(ControlList::from_vec(Vec::new(alloc)));
     }
-    let pairs = pairs_of(alloc, view, list.as_slice())?;
-    if let Some(refusal) = first_unreadable(view.at.plan, pairs.as_slice()) {
+    pairs_of(view, list.as_slice(), &mut room.pairs)?;
+    let pairs = room.pairs.as_slice();
+    if let Some(refusal) = first_unreadable(view.at.plan, pairs) {
         return Err(refusal);
     }
-    match entries_read(alloc, view, pairs.as_slice()) {
+    match entries_read(alloc, view, pairs) {
         Ok(answers) => Ok(answers),
         Err(_) => Err(Refusal::of_memory()),
     }
@@ -61,9 +65,10 @@ pub fn read_list<D: Driver>(
 /// most once. Each entry is answered with its control's value of that row, so that an id that stands twice is answered one value. Nothing
 /// is changed here.
 ///
-/// - `alloc`: where rows, answers and pairs lie.
+/// - `alloc`: where the answers and the pairs lie, and what the room lacks.
 /// - `view`: what the list is checked against; the caller owes that it doesn't speak of the defaults, which can't be written.
 /// - `list`: the entries. It is lent, and never changed.
+/// - `room`: where things lie while the list is judged; what was in it counts for nothing. The memory of the rows is in the answer then, which hands it back.
 /// - `work`: its count `asked` grows by one for each validator that is asked, by no more than the clusters that the list touches; `told`
 ///   stays. After a refusal by check 8, or for want of memory, `asked` may have grown too; a list that the checks 4 to 7 refuse asks nobody.
 ///
@@ -74,6 +79,7 @@ pub fn plan_set<D: Driver>(
     alloc: Global,
     view: &View<D>,
     list: &ControlList,
+    room: &mut Room,
     work: &mut Work,
 ) -> Result<Touched, Refusal>
     requires which { view.now.parts.which ≢ Defaults }
@@ -85,19 +91,20 @@ pub fn plan_set<D: Driver>(
     ensures asked { OnOk result (work.new.asked ≡ with_calls (judged_count view.now.plan (touched view.now.plan (pairs_of view.now.plan view.now.parts.handler view.now.parts.which list.now))) work.old.asked) }
     ensures told { work.new.told ≡ work.old.told }
 {
-    judge_list(alloc, view, true, list, work)
+    judge_list(alloc, view, true, list, room, work)
 }
 
 /// Judges what a list that tries asks for, as `plan_set` does a list that sets, but that a grabbed control may be tried (Linux userspace
 /// API, "ioctl VIDIOC_G_EXT_CTRLS, VIDIOC_S_EXT_CTRLS, VIDIOC_TRY_EXT_CTRLS"; the order of the checks is of this project).
 ///
-/// - `alloc`, `view`, `list`, `work`: as of `plan_set`.
+/// - `alloc`, `view`, `list`, `room`, `work`: as of `plan_set`.
 ///
 /// Refused as by `plan_set`, but never because a control is grabbed. `Refusal::at_entry` makes the fault.
 pub fn try_list<D: Driver>(
     alloc: Global,
     view: &View<D>,
     list: &ControlList,
+    room: &mut Room,
     work: &mut Work,
 ) -> Result<Touched, Refusal>
     requires which { view.now.parts.which ≢ Defaults }
@@ -109,7 +116,7 @@ pub fn try_list<D: Driver>(
     ensures asked { OnOk result (work.new.asked ≡ with_calls (judged_count view.now.plan (touched view.now.plan (pairs_of view.now.plan view.now.parts.handler view.now.parts.which list.now))) work.old.asked) }
     ensures told { work.new.told ≡ work.old.told }
 {
-    judge_list(alloc, view, false, list, work)
+    judge_list(alloc, view, false, list, room, work)
 }
 
 // The controls of these pairs, as they are read.
@@ -159,6 +166,7 @@ fn judge_list<D: Driver>(
     view: &View<D>,
     is_set: bool,
     list: &ControlList,
+    room: &mut Room,
     work: &mut Work,
 ) -> Result<Touched, Refusal>
     ensures ok { OnOk result (first_refusal (write_checks D.verdict view.now.plan view.now.parts is_set list.now) ≡ None) }
@@ -171,41 +179,50 @@ fn judge_list<D: Driver>(
 {
     check_whole(view, list)?;
     if list.is_empty() {
-        return Ok(Touched::empty(alloc));
+        return Ok(Touched::empty(alloc, room));
     }
-    let pairs = pairs_of(alloc, view, list.as_slice())?;
-    if let Some(refusal) = first_unwritable(view, is_set, pairs.as_slice()) {
+    // the pairs of a set are kept with its step
+    if is_set && room.size_pairs(alloc, list.as_slice().len()).is_err() {
+        return Err(Refusal::of_memory());
+    }
+    pairs_of(view, list.as_slice(), &mut room.pairs)?;
+    if let Some(refusal) = first_unwritable(view, is_set, room.pairs.as_slice()) {
         return Err(refusal);
     }
-    judge_pairs(alloc, view, pairs, work)
+    judge_pairs(alloc, view, room, work)
 }
 
-// Judges what the pairs of a list that writes ask for.
+// Judges what the pairs of a list that writes ask for. They lie in the room.
 fn judge_pairs<D: Driver>(
     alloc: Global,
     view: &View<D>,
-    pairs: Vec<Pair>,
+    room: &mut Room,
     work: &mut Work,
 ) -> Result<Touched, Refusal>
-    requires few { length pairs.items ≤ MAX_ENTRIES }
-    requires known { All (λ p. p.control < length view.now.plan.controls) pairs.items }
-    ensures ok { IfOk result (λ touch. at_first (judging_check D.verdict view.now.plan view.now.parts (view.now.parts.asked ++ pairs.items)) pairs.items ≡ None) }
-    ensures pairs { IfOk result (λ touch. touch.pairs ≡ pairs.items) }
-    ensures rows { IfOk result (λ touch. AreJudged D.verdict view.now.plan view.now.parts.ranges view.now.parts.values (view.now.parts.asked ++ pairs.items) pairs.items touch.rows) }
-    ensures answers { IfOk result (λ touch. touch.answers ≡ map (entry_judged D.verdict view.now.plan view.now.parts (view.now.parts.asked ++ pairs.items)) pairs.items) }
-    ensures err { IfErr result (λ refusal. (at_first (judging_check D.verdict view.now.plan view.now.parts (view.now.parts.asked ++ pairs.items)) pairs.items ≡ Some refusal) ⊎ (refusal ≡ memory_refusal)) }
-    ensures at_most { work.new.asked ≤ work.old.asked + length (touched view.now.plan pairs.items) }
-    ensures asked { OnOk result (work.new.asked ≡ with_calls (judged_count view.now.plan (touched view.now.plan pairs.items)) work.old.asked) }
+    requires few { length room.old.pairs.items ≤ MAX_ENTRIES }
+    requires known { All (λ p. p.control < length view.now.plan.controls) room.old.pairs.items }
+    ensures ok { IfOk result (λ touch. at_first (judging_check D.verdict view.now.plan view.now.parts (view.now.parts.asked ++ room.old.pairs.items)) room.old.pairs.items ≡ None) }
+    ensures pairs { IfOk result (λ touch. touch.pairs ≡ room.old.pairs.items) }
+    ensures rows { IfOk result (λ touch. AreJudged D.verdict view.now.plan view.now.parts.ranges view.now.parts.values (view.now.parts.asked ++ room.old.pairs.items) room.old.pairs.items touch.rows) }
+    ensures answers { IfOk result (λ touch. touch.answers ≡ map (entry_judged D.verdict view.now.plan view.now.parts (view.now.parts.asked ++ room.old.pairs.items)) room.old.pairs.items) }
+    ensures err { IfErr result (λ refusal. (at_first (judging_check D.verdict view.now.plan view.now.parts (view.now.parts.asked ++ room.old.pairs.items)) room.old.pairs.items ≡ Some refusal) ⊎ (refusal ≡ memory_refusal)) }
+    ensures at_most { work.new.asked ≤ work.old.asked + length (touched view.now.plan room.old.pairs.items) }
+    ensures asked { OnOk result (work.new.asked ≡ with_calls (judged_count view.now.plan (touched view.now.plan room.old.pairs.items)) work.old.asked) }
     ensures told { work.new.told ≡ work.old.told }
 {
-    match judge_joined(alloc, view, pairs.as_slice(), work) {
-        Ok((rows, answers)) => Ok(Touched {
-            rows,
-            answers,
-            pairs,
-        }),
-        Err(refusal) => Err(refusal),
-    }
+    let answers = judge_joined(
+        alloc,
+        view,
+        room.pairs.as_slice(),
+        &mut room.laid,
+        &mut room.rows,
+        work,
+    )?;
+    Ok(Touched {
+        rows: room.take_rows(alloc),
+        answers,
+        pairs: room.take_pairs(alloc),
+    })
 }
 
 // The rows and the answers, where the pairs are laid over the values behind those from before.
@@ -214,23 +231,25 @@ fn judge_joined<D: Driver>(
     alloc: Global,
     view: &View<D>,
     pairs: &[Pair],
+    laid: &mut Vec<Pair>,
+    rows: &mut NewRows,
     work: &mut Work,
-) -> Result<(NewRows, ControlList), Refusal>
+) -> Result<ControlList, Refusal>
     requires few { length pairs.now ≤ MAX_ENTRIES }
     requires known { All (λ p. p.control < length view.now.plan.controls) pairs.now }
-    ensures ok { IfOk result (λ judged. at_first (judging_check D.verdict view.now.plan view.now.parts (view.now.parts.asked ++ pairs.now)) pairs.now ≡ None) }
-    ensures rows { IfOk result (λ judged. AreJudged D.verdict view.now.plan view.now.parts.ranges view.now.parts.values (view.now.parts.asked ++ pairs.now) pairs.now judged.0.rows) }
-    ensures answers { IfOk result (λ judged. judged.1 ≡ map (entry_judged D.verdict view.now.plan view.now.parts (view.now.parts.asked ++ pairs.now)) pairs.now) }
+    ensures ok { IfOk result (λ answers. at_first (judging_check D.verdict view.now.plan view.now.parts (view.now.parts.asked ++ pairs.now)) pairs.now ≡ None) }
+    ensures rows { OnOk result (AreJudged D.verdict view.now.plan view.now.parts.ranges view.now.parts.values (view.now.parts.asked ++ pairs.now) pairs.now rows.new.rows) }
+    ensures answers { IfOk result (λ answers. answers ≡ map (entry_judged D.verdict view.now.plan view.now.parts (view.now.parts.asked ++ pairs.now)) pairs.now) }
     ensures err { IfErr result (λ refusal. (at_first (judging_check D.verdict view.now.plan view.now.parts (view.now.parts.asked ++ pairs.now)) pairs.now ≡ Some refusal) ⊎ (refusal ≡ memory_refusal)) }
     ensures at_most { work.new.asked ≤ work.old.asked + length (touched view.now.plan pairs.now) }
     ensures asked { OnOk result (work.new.asked ≡ with_calls (judged_count view.now.plan (touched view.now.plan pairs.now)) work.old.asked) }
     ensures told { work.new.told ≡ work.old.told }
 {
     if view.asked.is_empty() {
-        return judge_under(alloc, view, pairs, pairs, work);
+        return judge_under(alloc, view, pairs, pairs, rows, work);
     }
-    match joined(alloc, view.asked, pairs) {
-        Ok(laid) => judge_under(alloc, view, laid.as_slice(), pairs, work),
+    match join(laid, view.asked, pairs) {
+        Ok(()) => judge_under(alloc, view, laid.as_slice(), pairs, rows, work),
         Err(_) => Err(Refusal::of_memory()),
     }
 }
@@ -241,32 +260,32 @@ fn judge_under<D: Driver>(
     view: &View<D>,
     laid: &[Pair],
     pairs: &[Pair],
+    rows: &mut NewRows,
     work: &mut Work,
-) -> Result<(NewRows, ControlList), Refusal>
+) -> Result<ControlList, Refusal>
     requires few { length pairs.now ≤ MAX_ENTRIES }
     requires known { All (λ p. p.control < length view.now.plan.controls) pairs.now }
     requires among { All (λ p. IsTrue (is_among laid.now p.control)) pairs.now }
-    ensures ok { IfOk result (λ judged. at_first (judging_check D.verdict view.now.plan view.now.parts laid.now) pairs.now ≡ None) }
-    ensures rows { IfOk result (λ judged. AreJudged D.verdict view.now.plan view.now.parts.ranges view.now.parts.values laid.now pairs.now judged.0.rows) }
-    ensures answers { IfOk result (λ judged. judged.1 ≡ map (entry_judged D.verdict view.now.plan view.now.parts laid.now) pairs.now) }
+    ensures ok { IfOk result (λ answers. at_first (judging_check D.verdict view.now.plan view.now.parts laid.now) pairs.now ≡ None) }
+    ensures rows { OnOk result (AreJudged D.verdict view.now.plan view.now.parts.ranges view.now.parts.values laid.now pairs.now rows.new.rows) }
+    ensures answers { IfOk result (λ answers. answers ≡ map (entry_judged D.verdict view.now.plan view.now.parts laid.now) pairs.now) }
     ensures err { IfErr result (λ refusal. (at_first (judging_check D.verdict view.now.plan view.now.parts laid.now) pairs.now ≡ Some refusal) ⊎ (refusal ≡ memory_refusal)) }
     ensures at_most { work.new.asked ≤ work.old.asked + length (touched view.now.plan pairs.now) }
     ensures asked { OnOk result (work.new.asked ≡ with_calls (judged_count view.now.plan (touched view.now.plan pairs.now)) work.old.asked) }
     ensures told { work.new.told ≡ work.old.told }
 {
-    let rows = judge_all(alloc, view, laid, pairs, work)?;
-    match entries_in(alloc, &view.at, &rows, pairs) {
-        Ok(answers) => Ok((rows, answers)),
+    judge_all(view, laid, pairs, rows, work)?;
+    match entries_in(alloc, &view.at, rows, pairs) {
+        Ok(answers) => Ok(answers),
         Err(_) => Err(Refusal::of_memory()),
     }
 }
 
-// Pairs, and others behind them.
-fn joined(alloc: Global, first: &[Pair], others: &[Pair]) -> Result<Vec<Pair>, AllocError>
-    ensures { IfOk result (λ pairs. pairs.items ≡ first.now ++ others.now) }
+// Puts pairs, and others behind them, in place of those that are there.
+fn join(all: &mut Vec<Pair>, first: &[Pair], others: &[Pair]) -> Result<(), AllocError>
+    ensures { OnOk result (all.new.items ≡ first.now ++ others.now) }
 {
-    let mut pairs = Vec::new(alloc);
-    pairs.extend_from_slice(first)?;
-    pairs.extend_from_slice(others)?;
-    Ok(pairs)
+    all.clear();
+    all.extend_from_slice(first)?;
+    all.extend_from_slice(others)
 }

@@ -1,6 +1,6 @@
 //! Which controls the entries of a list name.
 
-ghost use Rattle.std.specs.Prelude.{◌≡◌, ◌==◌, ◌<◌, ◌≤◌, ◌⊎◌, None, Some, length, IfOk, IfErr, IfSome};
+ghost use Rattle.std.specs.Prelude.{◌≡◌, ◌==◌, ◌<◌, ◌≤◌, ◌⊎◌, None, Some, length, IfErr, IfSome, OnOk};
 ghost use Rattle.std.specs.List.{All, list_any};
 ghost use Rattle.ctrl_types.specs.Classes.{class_of};
 ghost use Rattle.ctrl_handlers.specs.Plan.{control_in};
@@ -15,30 +15,30 @@ use ctrl_calls::Driver;
 use ctrl_handlers::Plan;
 use ctrl_settle::Ctrl;
 use ctrl_types::{Check, CtrlId, ExtControl, Flags, Pair, Which};
-use std::alloc::Global;
 
-/// The pairs of a list: each entry's control with the value as it was given; or the first entry that names no control.
+/// Puts the pairs of a list in place of those that are there: each entry's control with the value as it was given; or tells the first entry that names no control.
 pub(crate) fn pairs_of<D: Driver>(
-    alloc: Global,
     view: &View<D>,
     list: &[ExtControl],
-) -> Result<Vec<Pair>, Refusal>
+    pairs: &mut Vec<Pair>,
+) -> Result<(), Refusal>
     requires { length list.now ≤ MAX_ENTRIES }
-    ensures ok { IfOk result (λ pairs. (pairs.items ≡ pairs_of view.now.plan view.now.parts.handler view.now.parts.which list.now) × (at_first (naming_check view.now.plan view.now.parts) list.now ≡ None)) }
-    ensures few { IfOk result (λ pairs. length pairs.items ≡ length list.now) }
-    ensures known { IfOk result (λ pairs. All (λ p. p.control < length view.now.plan.controls) pairs.items) }
+    ensures ok { OnOk result ((pairs.new.items ≡ pairs_of view.now.plan view.now.parts.handler view.now.parts.which list.now) × (at_first (naming_check view.now.plan view.now.parts) list.now ≡ None)) }
+    ensures few { OnOk result (length pairs.new.items ≡ length list.now) }
+    ensures known { OnOk result (All (λ p. p.control < length view.now.plan.controls) pairs.new.items) }
     ensures err { IfErr result (λ refusal. (at_first (naming_check view.now.plan view.now.parts) list.now ≡ Some refusal) ⊎ (refusal ≡ memory_refusal)) }
 {
-    let Ok(mut pairs) = Vec::with_capacity(alloc, list.len()) else {
+    pairs.clear();
+    if pairs.reserve(list.len()).is_err() {
         return Err(Refusal::of_memory());
-    };
+    }
     for (place, entry) in list.iter().enumerate() {
         match pair_of(view, entry) {
             Some(pair) => pairs.push_reserved(pair),
             None => return Err(Refusal::at(Check::EntryNamesNone, place as u32)),
         }
     }
-    Ok(pairs)
+    Ok(())
 }
 
 // An entry's control with the value as it was given.

@@ -18,35 +18,34 @@ use ctrl_clusters::{Moment, NewRow, NewRows, member_value, validated_row};
 use ctrl_types::{Check, Errno, ExtControl, Pair};
 use std::alloc::{AllocError, Global};
 
-/// The rows of the clusters that pairs touch, in the order of their first pairs, where the pairs `laid` are laid over the values; or the first
-/// pair whose cluster is refused. Each cluster is judged once.
+/// Puts the rows of the clusters that pairs touch, in the order of their first pairs, where the pairs `laid` are laid over the values, in place of the rows
+/// that are there; or tells the first pair whose cluster is refused. Each cluster is judged once.
 pub(crate) fn judge_all<D: Driver>(
-    alloc: Global,
     view: &View<D>,
     laid: &[Pair],
     pairs: &[Pair],
+    rows: &mut NewRows,
     work: &mut Work,
-) -> Result<NewRows, Refusal>
+) -> Result<(), Refusal>
     requires few { length pairs.now ≤ MAX_ENTRIES }
     requires known { All (λ p. p.control < length view.now.plan.controls) pairs.now }
     requires among { All (λ p. IsTrue (is_among laid.now p.control)) pairs.now }
-    ensures ok { IfOk result (λ rows. at_first (judging_check D.verdict view.now.plan view.now.parts laid.now) pairs.now ≡ None) }
-    ensures rows { IfOk result (λ rows. AreJudged D.verdict view.now.plan view.now.parts.ranges view.now.parts.values laid.now pairs.now rows.rows) }
+    ensures ok { OnOk result (at_first (judging_check D.verdict view.now.plan view.now.parts laid.now) pairs.now ≡ None) }
+    ensures rows { OnOk result (AreJudged D.verdict view.now.plan view.now.parts.ranges view.now.parts.values laid.now pairs.now rows.new.rows) }
     ensures err { IfErr result (λ refusal. (at_first (judging_check D.verdict view.now.plan view.now.parts laid.now) pairs.now ≡ Some refusal) ⊎ (refusal ≡ memory_refusal)) }
     ensures at_most { work.new.asked ≤ work.old.asked + length (touched view.now.plan pairs.now) }
     ensures asked { OnOk result (work.new.asked ≡ with_calls (judged_count view.now.plan (touched view.now.plan pairs.now)) work.old.asked) }
     ensures told { work.new.told ≡ work.old.told }
 {
-    let Ok(mut rows) = NewRows::with_capacity(alloc, view.at.plan.cluster_count(), pairs.len())
-    else {
+    if rows.clear_for(pairs.len()).is_err() {
         return Err(Refusal::of_memory());
-    };
+    }
     for (place, pair) in pairs.iter().enumerate() {
-        if let Err(errno) = judge_next(view, laid, pair.control, &mut rows, work) {
+        if let Err(errno) = judge_next(view, laid, pair.control, rows, work) {
             return Err(Refusal::at(Check::RowRefused(errno), place as u32));
         }
     }
-    Ok(rows)
+    Ok(())
 }
 
 // Adds the row of a control's cluster, where it isn't among the rows yet.
@@ -60,7 +59,6 @@ fn judge_next<D: Driver>(
     requires known { control < length view.now.plan.controls }
     requires among { IsTrue (is_among laid.now control) }
     requires room { length rows.old.rows < rows.old.room }
-    requires all { rows.old.clusters ≡ length view.now.plan.clusters }
     requires rows { AreRows D.verdict view.now.plan view.now.parts.ranges view.now.parts.values laid.now rows.old.rows }
     requires within { All (λ r. r.cluster < length view.now.plan.clusters) rows.old.rows }
     requires long { All (λ r. length r.row ≡ length (members view.now.plan r.cluster)) rows.old.rows }
@@ -71,7 +69,6 @@ fn judge_next<D: Driver>(
     ensures within { OnOk result (All (λ r. r.cluster < length view.now.plan.clusters) rows.new.rows) }
     ensures long { OnOk result (All (λ r. length r.row ≡ length (members view.now.plan r.cluster)) rows.new.rows) }
     ensures more { length rows.new.rows ≤ length rows.old.rows + 1 }
-    ensures clusters { rows.new.clusters ≡ rows.old.clusters }
     ensures capacity { rows.new.room ≡ rows.old.room }
     ensures at_most { work.new.asked + length (clusters_of rows.old.rows) ≤ work.old.asked + length (with_cluster (clusters_of rows.old.rows) (cluster_of view.now.plan control)) }
     ensures asked { OnOk result ((n : ℕ) → work.old.asked ≡ with_calls (judged_count view.now.plan (clusters_of rows.old.rows)) n → work.new.asked ≡ with_calls (judged_count view.now.plan (clusters_of rows.new.rows)) n) }
@@ -121,10 +118,13 @@ fn entry_in<D: Driver>(at: &Moment<D>, rows: &NewRows, control: u32) -> ExtContr
 {
     let id = at.plan.control(control).id();
     let cluster = at.plan.cluster_of(control);
-    let before = at.values[control as usize];
-    let value = match rows.among(cluster) {
-        Some(row) => member_value(at.plan.members(cluster), row, control).unwrap_or(before),
-        None => before,
+    let given = match rows.among(cluster) {
+        Some(row) => member_value(at.plan.members(cluster), row, control),
+        None => None,
+    };
+    let value = match given {
+        Some(value) => value,
+        None => at.values[control as usize],
     };
     ExtControl { id, value }
 }

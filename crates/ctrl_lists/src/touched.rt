@@ -1,7 +1,8 @@
 ghost use Rattle.std.specs.Prelude.{◌≡◌, [], option_map};
-ghost use Rattle.ctrl_clusters.specs.NewRows.{row_among};
+ghost use Rattle.ctrl_clusters.specs.NewRows.{clusters_of, row_among};
 
 use crate::control_list::ControlList;
+use crate::room::Room;
 use ctrl_calls::RowValues;
 use ctrl_clusters::{NewRow, NewRows};
 use ctrl_types::{ExtControl, Pair};
@@ -27,11 +28,12 @@ impl Model for Touched {
 
 impl Touched {
     // What a list without entries touches. It takes no memory.
-    pub(crate) fn empty(alloc: Global) -> Touched
+    pub(crate) fn empty(alloc: Global, room: &mut Room) -> Touched
         ensures { result ≡ record { rows = []; answers = []; pairs = [] } }
     {
+        room.rows.clear();
         Touched {
-            rows: NewRows::new(alloc),
+            rows: room.take_rows(alloc),
             answers: ControlList::from_vec(Vec::new(alloc)),
             pairs: Vec::new(alloc),
         }
@@ -74,16 +76,37 @@ impl Touched {
         self.rows.among(cluster)
     }
 
-    /// What the entries are answered, and the pairs, with the memory that they lie in; the rows are dropped.
-    pub fn into_parts(self) -> (ControlList, Vec<Pair>)
+    /// The clusters that the list touches, in the order of their first entries.
+    pub fn clusters(&self) -> &[u32]
+        ensures { result.now ≡ clusters_of self.now.rows }
+    {
+        self.rows.clusters()
+    }
+
+    /// What the entries are answered, and the pairs, with the memory that they lie in.
+    ///
+    /// - `room`: where the memory of the rows is kept for the next list.
+    pub fn into_parts(self, room: &mut Room) -> (ControlList, Vec<Pair>)
         ensures answers { result.0 ≡ self.answers }
         ensures pairs { result.1.items ≡ self.pairs }
     {
         let Touched {
-            rows: _,
+            rows,
             answers,
             pairs,
         } = self;
+        room.rows = rows;
         (answers, pairs)
+    }
+
+    /// What the entries are answered, with the memory that it lies in.
+    ///
+    /// - `room`: where the memory of the rows and of the pairs is kept for the next list.
+    pub fn into_answers(self, room: &mut Room) -> ControlList
+        ensures { result ≡ self.answers }
+    {
+        let (answers, pairs) = self.into_parts(room);
+        room.keep_pairs(pairs);
+        answers
     }
 }

@@ -34,6 +34,7 @@ use ctrl_clusters::{Controls, Moment, first_words, flags_under};
 use ctrl_events::Events;
 use ctrl_forecast::Board;
 use ctrl_handlers::{MenuItem, Plan};
+use ctrl_lists::Room;
 use ctrl_settle::Ctrl;
 use ctrl_types::{Check, CtrlId, CtrlValue, Errno, Fault, FhId, Flags, RequestId};
 use device_history::{Ask, CtrlInfo, MAX_FILE_HANDLES, MAX_STEPS, Reply, Step, refused};
@@ -65,6 +66,8 @@ pub struct Device<D: Driver> {
     words: Vec<u64>,
     steps: Vec<Entry<Step>>,
     work: Work,
+    // where lists lie while they are judged
+    room: Room,
     alloc: Global,
 }
 
@@ -92,6 +95,7 @@ impl<D: Driver> Drop for Device<D> {
             words: _,
             steps: _,
             work: _,
+            room: _,
             alloc: _,
         } = self;
     }
@@ -129,6 +133,7 @@ impl<D: Driver> Device<D> {
             words,
             steps: Vec::new(alloc),
             work: Work::new(),
+            room: Room::new(alloc),
             alloc,
         })
     }

@@ -1,9 +1,7 @@
 //! Copies of what a step is about to change.
 
 ghost use Rattle.std.specs.Prelude.{◌≡◌, IfOk};
-ghost use Rattle.ctrl_clusters.specs.NewRows.{clusters_of};
 
-use ctrl_clusters::NewRow;
 use ctrl_types::CtrlValue;
 use std::alloc::{AllocError, Global};
 
@@ -32,21 +30,5 @@ pub fn copied_grabs(alloc: Global, grabs: &[bool]) -> Result<Vec<bool>, AllocErr
 {
     let mut all = Vec::with_capacity(alloc, grabs.len())?;
     all.extend_from_slice(grabs)?;
-    Ok(all)
-}
-
-/// The clusters that some rows are of, in the order of the rows (of this project).
-///
-/// - `alloc`: where they lie.
-/// - `rows`: any.
-///
-/// The error is that the growth was refused.
-pub fn clusters_of(alloc: Global, rows: &[NewRow]) -> Result<Vec<u32>, AllocError>
-    ensures { IfOk result (λ all. all.items ≡ clusters_of rows.now) }
-{
-    let mut all = Vec::new(alloc);
-    for row in rows {
-        all.push(row.cluster)?;
-    }
     Ok(all)
 }

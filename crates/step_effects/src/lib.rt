@@ -8,7 +8,7 @@ mod ranging;
 mod requests_and_events;
 mod with_forecasts;
 
-pub use copies::{clusters_of, copied_grabs, copied_values};
+pub use copies::{copied_grabs, copied_values};
 pub use raising::{raise_step, raise_touched};
 pub use ranging::change_range;
 pub use requests_and_events::change_requests_and_events;

@@ -16,6 +16,7 @@ ghost use Rattle.step_effects.specs.Sources.{IsSourceOf};
 use ctrl_calls::Driver;
 use ctrl_clusters::Change;
 use ctrl_events::Events;
+use ctrl_handlers::Plan;
 use ctrl_raises::{raise_between, raise_within};
 use ctrl_types::{FhId, Pair};
 
@@ -40,8 +41,8 @@ pub fn raise_step<D: Driver>(
     raise_between(change, pairs, from, events);
 }
 
-/// Raises what a set, the begin of a frame, or a grab changes, as `raise_step` does, but looks at the members of some clusters alone. It takes no memory and
-/// refuses nothing.
+/// Raises what a set, the begin of a frame, or a grab changes, as `raise_step` does, but looks at the members of some clusters alone, unless there are so many
+/// clusters that to look at all controls is less. It takes no memory and refuses nothing.
 ///
 /// - `change`, `pairs`, `from`, `events`: as of `raise_step`.
 /// - `clusters`: the numbers of some clusters, in any order; the caller owes that each is below `Plan::cluster_count`, and that nothing differs outside of these
@@ -59,5 +60,14 @@ pub fn raise_touched<D: Driver>(
     ensures { (verdicts : Verdicts) (e : EntryOf StepOf) (older : Past) → AreAround verdicts change.now.before.plan.now e older (parts change.now.before) (parts_after change.now) → IsSourceOf verdicts change.now.before.plan.now older e.step pairs.now from
         → (fh : FhIdOf) → events_of events.new fh.0 ≡ events_after verdicts change.now.before.plan.now e older fh (events_of events.old fh.0) }
 {
-    raise_within(change, pairs, from, clusters, events);
+    if are_many(clusters, change.before.plan) {
+        raise_step(change, pairs, from, events);
+    } else {
+        raise_within(change, pairs, from, clusters, events);
+    }
+}
+
+// Whether clusters are so many that to look at all controls is less: the next member in the order of numbers is looked for among all of them each time.
+fn are_many<D: Driver>(clusters: &[u32], plan: &Plan<D>) -> bool {
+    clusters.len().saturating_mul(clusters.len()) > plan.controls().len()
 }

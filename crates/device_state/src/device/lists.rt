@@ -6,7 +6,6 @@ ghost use Rattle.history.specs.Past.{past};
 ghost use Rattle.ctrl_types.specs.Checks.{errno_of};
 ghost use Rattle.ctrl_types.specs.Classes.{which_of};
 ghost use Rattle.ctrl_types.specs.declared.which.Which.TheVariants.{Defaults};
-ghost use Rattle.ctrl_clusters.specs.NewRows.{clusters_of};
 ghost use Rattle.req_book.specs.Requests.{RequestData};
 ghost use Rattle.ctrl_lists.specs.Checks.{first_refusal};
 ghost use Rattle.ctrl_lists.specs.Touched.{touched, judged_count, with_calls};
@@ -25,12 +24,13 @@ ghost use Rattle.device_state.specs.Setting.{CanBeSet, IsSettable, SetsAll, Sets
 use super::Device;
 use ctrl_calls::{Driver, Work};
 use ctrl_clusters::{Moment, notify_changed, write_rows};
-use ctrl_lists::{ControlList, Touched, View, plan_set, read_list, try_list};
+use ctrl_lists::{ControlList, Room, Touched, View, plan_set, read_list, try_list};
 use ctrl_types::{Check, CtrlValue, Fault, FhId, Pair, RequestId, Which};
 use device_history::{PairList, Reply, Step, meant, spoken, state_check, writes_defaults};
 use history::Entry;
 use std::alloc::AllocError;
-use step_effects::{clusters_of, raise_touched};
+use std::mem;
+use step_effects::raise_touched;
 
 impl<D: Driver> Device<D> {
     /// Gets controls, as `handle` on `Ask::GetCtrls` of these fields at any seat does (Linux userspace API, "ioctl
@@ -57,8 +57,11 @@ impl<D: Driver> Device<D> {
     ) -> Result<Reply, Fault>
         ensures { (seat : ℕ) → Handles D.verdict self.old self.new seat (asks.GetCtrls fh which request list.now) result }
     {
+        let mut room = mem::replace(&mut self.room, Room::new(self.alloc));
+        let answer = self.get_list(fh, which, request, list, &mut room);
         self.work = Work::new();
-        self.get_list(fh, which, request, list)
+        self.room = room;
+        answer
     }
 
     /// Sets controls to what their values become, all or none, as `handle` on `Ask::SetCtrls` of these fields does (Linux
@@ -124,9 +127,11 @@ impl<D: Driver> Device<D> {
     ) -> Result<Reply, Fault>
         ensures { (seat : ℕ) → Handles D.verdict self.old self.new seat (asks.TryCtrls fh which request list.now) result }
     {
+        let mut room = mem::replace(&mut self.room, Room::new(self.alloc));
         let mut work = Work::new();
-        let answer = self.try_list(fh, which, request, list, &mut work);
+        let answer = self.try_list(fh, which, request, list, &mut room, &mut work);
         self.work = work;
+        self.room = room;
         answer
     }
 
@@ -262,6 +267,7 @@ impl<D: Driver> Device<D> {
         which: u32,
         request: Option<RequestId>,
         list: &ControlList,
+        room: &mut Room,
     ) -> Result<Reply, Fault>
         ensures { MayAnswer D.verdict self.now.plan (past self.now.steps) self.now.words (asks.GetCtrls fh which request list.now) result }
     {
@@ -269,7 +275,7 @@ impl<D: Driver> Device<D> {
             Ok(view) => view,
             Err(check) => return Err(check.fault_at(list.len())),
         };
-        let controls = match read_list(self.alloc, &view, list) {
+        let controls = match read_list(self.alloc, &view, list, room) {
             Ok(controls) => controls,
             Err(refusal) => return Err(refusal.at_count(list.len())),
         };
@@ -283,6 +289,7 @@ impl<D: Driver> Device<D> {
         which: u32,
         request: Option<RequestId>,
         list: &ControlList,
+        room: &mut Room,
         work: &mut Work,
     ) -> Result<Reply, Fault>
         ensures answers { MayAnswer D.verdict self.now.plan (past self.now.steps) self.now.words (asks.TryCtrls fh which request list.now) result }
@@ -294,11 +301,11 @@ impl<D: Driver> Device<D> {
             Ok(view) => view,
             Err(check) => return Err(check.fault_at(list.len())),
         };
-        let touch = match try_list(self.alloc, &view, list, work) {
+        let touch = match try_list(self.alloc, &view, list, room, work) {
             Ok(touch) => touch,
             Err(refusal) => return Err(refusal.at_entry(list.len())),
         };
-        Ok(Reply::Controls(touch.into_parts().0))
+        Ok(Reply::Controls(touch.into_answers(room)))
     }
 
     // Sets the controls of a list.
@@ -312,9 +319,11 @@ impl<D: Driver> Device<D> {
     ) -> Result<Reply, Fault>
         ensures { Handles D.verdict self.old self.new seat (asks.SetCtrls fh which request list.now) result }
     {
+        let mut room = mem::replace(&mut self.room, Room::new(self.alloc));
         let mut work = Work::new();
-        let planned = self.plan_list(fh, which, request, list, &mut work);
+        let planned = self.plan_list(fh, which, request, list, &mut room, &mut work);
         self.work = work;
+        self.room = room;
         let touch = match planned {
             Ok(touch) => touch,
             Err(fault) => return Err(fault),
@@ -332,6 +341,7 @@ impl<D: Driver> Device<D> {
         which: u32,
         request: Option<RequestId>,
         list: &ControlList,
+        room: &mut Room,
         work: &mut Work,
     ) -> Result<Touched, Fault>
         ensures ok { IfOk result (λ touch. IsSettable D.verdict self.now.plan (past self.now.steps) fh which request list.now touch) }
@@ -344,11 +354,12 @@ impl<D: Driver> Device<D> {
             Ok(view) => view,
             Err(check) => return Err(check.fault_at(list.len())),
         };
-        let touch = match plan_set(self.alloc, &view, list, work) {
+        let touch = match plan_set(self.alloc, &view, list, room, work) {
             Ok(touch) => touch,
             Err(refused) => return Err(refused.at_count(list.len())),
         };
         if self.is_full() {
+            let _ = touch.into_answers(room);
             return Err(Check::ListHistoryFull.fault_at(list.len()));
         }
         Ok(touch)
@@ -388,7 +399,7 @@ impl<D: Driver> Device<D> {
         ensures ok { OnOk result (self.new ≡ with_step self.old seat (steps.Store request touch.pairs)) }
         ensures err { OnErr result (self.new ≡ self.old) }
     {
-        let (controls, pairs) = touch.into_parts();
+        let (controls, pairs) = touch.into_parts(&mut self.room);
         let pairs = PairList::from_vec(pairs);
         self.accept(seat, Step::Store { request, pairs })?;
         Ok(controls)
@@ -408,23 +419,20 @@ impl<D: Driver> Device<D> {
         ensures err { OnErr result (self.new ≡ self.old) }
     {
         let values = self.controls.lend_values(self.alloc)?;
-        let clusters = clusters_of(self.alloc, touch.rows())?;
-        self.write_list(seat, fh, touch, values, clusters)
+        self.write_list(seat, fh, touch, values)
     }
 
-    // The same, with the values once more, and the numbers of the clusters that the list touches.
+    // The same, with the values once more.
     fn write_list(
         &mut self,
         seat: u32,
         fh: FhId,
         touch: Touched,
         mut values: Vec<CtrlValue>,
-        clusters: Vec<u32>,
     ) -> Result<ControlList, AllocError>
         requires settable { CanBeSet D.verdict self.old.plan (past self.old.steps) fh None touch }
         requires fresh { self.old.work.told ≡ 0 }
         requires copied { values.items ≡ now D.verdict self.old.plan (past self.old.steps) }
-        requires clusters { clusters.items ≡ clusters_of touch.rows }
         ensures answers { IfOk result (λ controls. controls ≡ touch.answers) }
         ensures ok { OnOk result (SetsAll D.verdict D.told self.old self.new seat fh touch) }
         ensures err { OnErr result (self.new ≡ self.old) }
@@ -439,20 +447,13 @@ impl<D: Driver> Device<D> {
         );
         write_rows(&self.plan, &mut values, touch.rows());
         let change = self.controls.to_values(&self.plan, values.as_slice());
+        let clusters = touch.clusters();
         let mut work = Work::new();
-        self.board
-            .renew(&change.after(), clusters.as_slice(), &mut work);
+        self.board.renew(&change.after(), clusters, &mut work);
         self.work.asked = self.work.asked.saturating_add(work.asked);
-        raise_touched(
-            &change,
-            touch.pairs(),
-            Some(fh),
-            clusters.as_slice(),
-            &mut self.events,
-        );
-        self.controls
-            .replace_within(&self.plan, values, clusters.as_slice());
-        let (controls, pairs) = touch.into_parts();
+        raise_touched(&change, touch.pairs(), Some(fh), clusters, &mut self.events);
+        self.controls.replace_within(&self.plan, values, clusters);
+        let (controls, pairs) = touch.into_parts(&mut self.room);
         self.steps.push_reserved(Entry {
             seat,
             step: Step::Set {

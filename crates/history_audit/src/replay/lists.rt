@@ -20,7 +20,7 @@ use super::Replay;
 use bitflags::Flags as FlagSet;
 use ctrl_calls::{Driver, Work};
 use ctrl_clusters::write_rows;
-use ctrl_lists::{ControlList, MAX_ENTRIES, Touched, View, plan_set};
+use ctrl_lists::{ControlList, MAX_ENTRIES, Room, Touched, View, plan_set};
 use ctrl_types::{Check, ExtControl, FhId, Flags, Pair, RequestId, Which};
 use device_history::Step;
 use std::alloc::AllocError;
@@ -165,8 +165,9 @@ impl<'a, D: Driver> Replay<'a, D> {
             return Ok(None);
         };
         let view = View::new(handler, which, at, asked);
+        let mut room = Room::new(self.alloc);
         let mut work = Work::new();
-        match plan_set(self.alloc, &view, &list, &mut work) {
+        match plan_set(self.alloc, &view, &list, &mut room, &mut work) {
             Ok(touch) => {
                 if are_same(touch.pairs(), pairs) {
                     Ok(Some(touch))

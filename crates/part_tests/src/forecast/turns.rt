@@ -7,22 +7,44 @@ use ctrl_calls::Work;
 use std::alloc::{AllocError, Global};
 use std::test::Fail;
 
-// Draws a change and makes it. The answer is whether there are controls, and no more validators were asked than may be.
-fn turn(alloc: Global, scene: &mut Scene<'_>, dice: &mut Dice) -> Result<bool, AllocError> {
+const TURNS: u32 = 400;
+
+// How many kinds of turns are drawn, and the first, which has a frame come.
+const KINDS: u32 = 12;
+
+const PUSH: u32 = 0;
+
+// The seed of a run, how many of the controls its frames may name, how many frames wait at most, and how many at least: where fewer do, frames come until the most wait.
+#[derive(Drop)]
+struct Run {
+    seed: u64,
+    named: u32,
+    most: u32,
+    least: usize,
+}
+
+// Makes a change of a kind, and draws the rest. The answer is whether there are controls, and no more validators were asked than may be.
+fn turn(
+    alloc: Global,
+    scene: &mut Scene<'_>,
+    dice: &mut Dice,
+    run: &Run,
+    kind: u32,
+) -> Result<bool, AllocError> {
     let controls = scene.control_count();
-    if controls == 0 {
+    if controls == 0 || run.named == 0 || run.most == 0 {
         return Ok(false);
     }
     let mut work = Work::new();
     let mut bound = 0;
-    match dice.roll(12) {
-        0..=4 if scene.len() < 6 => {
+    match kind {
+        0..=4 if scene.len() < run.most as usize => {
             let number = dice.roll(1000);
-            let asked = dice.pairs(alloc, controls)?;
+            let asked = dice.pairs(alloc, run.named)?;
             bound = scene.push(number, asked, &mut work)?;
         }
         5 => scene.begin(),
-        6 | 7 => bound = scene.remove(dice.roll(6), &mut work),
+        6 | 7 => bound = scene.remove(dice.roll(run.most), &mut work),
         8 if dice.roll(4) == 0 => scene.clear(),
         9 => {
             let control = dice.roll(controls);
@@ -45,13 +67,35 @@ fn turn(alloc: Global, scene: &mut Scene<'_>, dice: &mut Dice) -> Result<bool, A
     Ok(work.asked <= bound)
 }
 
-// Whether so many turns from a seed each leave the board as it is computed anew.
-fn is_kept(alloc: Global, seed: u64, turns: u32) -> Result<bool, Fail> {
+// Has frames come until the most wait, where too few do. The answer is whether each leaves the board as it is computed anew.
+fn fill(
+    alloc: Global,
+    scene: &mut Scene<'_>,
+    dice: &mut Dice,
+    run: &Run,
+) -> Result<bool, AllocError> {
+    if scene.len() >= run.least {
+        return Ok(true);
+    }
+    for _ in scene.len()..run.most as usize {
+        if !turn(alloc, scene, dice, run, PUSH)? || !scene.is_twin(alloc)? {
+            return Ok(false);
+        }
+    }
+    Ok(true)
+}
+
+// Whether the turns of a run each leave the board as it is computed anew.
+fn is_kept(alloc: Global, run: &Run) -> Result<bool, Fail> {
     let plan = plan_of(alloc)?;
     let mut scene = Scene::new(alloc, &plan)?;
-    let mut dice = Dice(seed);
-    for _ in 0..turns {
-        if !turn(alloc, &mut scene, &mut dice)? || !scene.is_twin(alloc)? {
+    let mut dice = Dice(run.seed);
+    for _ in 0..TURNS {
+        if !fill(alloc, &mut scene, &mut dice, run)? {
+            return Ok(false);
+        }
+        let kind = dice.roll(KINDS);
+        if !turn(alloc, &mut scene, &mut dice, run, kind)? || !scene.is_twin(alloc)? {
             return Ok(false);
         }
     }
@@ -63,7 +107,40 @@ const SEEDS: &[u64] = &[1, 20, 300, 4000];
 #[test]
 fn kept_rows_are_those_computed_anew(rt: HostRuntime) -> Result<(), Fail> {
     for &seed in SEEDS {
-        let is_kept = is_kept(rt.alloc(), seed, 400)?;
+        let run = Run {
+            seed,
+            named: 8,
+            most: 6,
+            least: 0,
+        };
+        let is_kept = is_kept(rt.alloc(), &run)?;
+        assert!(rt; is_kept, "{seed}");
+    }
+    Ok(())
+}
+
+// The frames of the second run name the first three controls alone: so a set of another goes through all of them, and where it is the sixth, which stands in a cluster with
+// the third, those that name the third are judged anew.
+const FULL: &[Run] = &[
+    Run {
+        seed: 50_000,
+        named: 8,
+        most: 64,
+        least: 60,
+    },
+    Run {
+        seed: 600_000,
+        named: 3,
+        most: 64,
+        least: 60,
+    },
+];
+
+#[test]
+fn rows_of_64_frames_are_those_computed_anew(rt: HostRuntime) -> Result<(), Fail> {
+    for run in FULL {
+        let is_kept = is_kept(rt.alloc(), run)?;
+        let seed = run.seed;
         assert!(rt; is_kept, "{seed}");
     }
     Ok(())

@@ -28,7 +28,7 @@ returns-in-Err-clause-at_most g c =
 pub loop-place-preserved : goal.loop-place-preserved
 loop-place-preserved g c =
     let old = c.loop-place.invariant in
-    let does = c.in_default-judge_next.ensures in
+    let does = c.in_default.ensures in
     let refused = judging_check g.D.Validates.verdict c.args.view.now.plan c.args.view.now.parts c.args.laid.now in
     let d = c.index-pairs-place.result in
     let is = c.index-pairs-place.is in
@@ -40,7 +40,6 @@ loop-place-preserved g c =
       long = does.long;
       few = few_more (length c.loop-place.rows.rows) (length c.judge_next.new.rows.rows) c.loop-place.place old.few c.judge_next.ensures.more;
       room = rw c.judge_next.ensures.capacity old.room;
-      clusters = c.judge_next.ensures.clusters ∙ old.clusters;
       asked = asked_more (clusters_of c.loop-place.rows.rows) (clusters_of c.judge_next.new.rows.rows) _ c.args.work.now.asked c.loop-place.work.asked c.judge_next.new.work.asked does.each old.asked c.judge_next.ensures.at_most;
       counted = does.asked c.args.work.now.asked old.counted;
       told = c.judge_next.ensures.told ∙ old.told;

@@ -16,7 +16,6 @@ invariant-loop-place g l = record {
   long : All (λ r. length r.row ≡ length (members l.view.plan r.cluster)) l.rows.rows;
   few : length l.rows.rows ≤ l.place;
   room : length l.pairs ≤ l.rows.room;
-  clusters : l.rows.clusters ≡ length l.view.plan.clusters;
   asked : l.work.asked ≤ l.initial.work.asked + length (clusters_of l.rows.rows);
   counted : l.work.asked ≡ with_calls (judged_count l.view.plan (clusters_of l.rows.rows)) l.initial.work.asked;
   told : l.work.told ≡ l.initial.work.told;

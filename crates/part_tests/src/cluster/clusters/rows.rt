@@ -5,7 +5,7 @@ ghost use Rattle.ctrl_clusters.specs.NewRows.{AreNewRows};
 
 use crate::cluster::driver::Strict;
 use crate::values::{is_row, row_of};
-use ctrl_calls::Work;
+use ctrl_calls::{RowValues, Work};
 use ctrl_clusters::{NewRow, NewRows, member_value, next_number};
 use ctrl_handlers::Plan;
 use ctrl_types::CtrlValue;
@@ -36,16 +36,22 @@ pub fn rows_of(two: Two) -> Option<[NewRow; 2]> {
     Some([first, second])
 }
 
-/// The rows, each to be looked up under its cluster, which is one of so many.
+/// The rows, each to be looked up under its cluster, which is one of so many. They lie where a row lay before.
 pub fn kept_rows(alloc: Global, clusters: u32, two: Two) -> Result<Option<NewRows>, AllocError> {
     let Some(two) = rows_of(two) else {
         return Ok(None);
     };
     let [first, second] = two;
-    let mut rows = NewRows::with_capacity(alloc, clusters, 2)?;
     if first.cluster >= clusters || second.cluster >= clusters {
         return Ok(None);
     }
+    let mut rows = NewRows::new(alloc);
+    rows.clear_for(1)?;
+    rows.push_reserved(NewRow {
+        cluster: first.cluster,
+        row: RowValues::zeros(1),
+    });
+    rows.clear_for(2)?;
     rows.push_reserved(first);
     if rows.among(second.cluster).is_some() {
         return Ok(None);

@@ -3,6 +3,7 @@ use super::listing::{CAMERA, Call, Case, Entry, FIRST, GRABS, VALUES, holds, pla
 use crate::cluster::common::are_of;
 use crate::values::values_of;
 use ctrl_clusters::{Moment, Ranges};
+use ctrl_lists::Room;
 use ctrl_types::{Errno, Which};
 use std::test::Fail;
 
@@ -290,8 +291,9 @@ fn other_defaults(rt: HostRuntime) -> Result<(), Fail> {
         values: values.as_slice(),
         grabs: &GRABS[..2],
     };
+    let mut room = Room::new(alloc);
     for (row, &case) in DEFAULTS.iter().enumerate() {
-        let is_shown = shows(alloc, &at, case)?;
+        let is_shown = shows(alloc, &at, &mut room, case)?;
         assert!(rt; is_shown, "case {row}");
     }
     Ok(())

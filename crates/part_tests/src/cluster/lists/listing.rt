@@ -7,7 +7,7 @@ use bitflags::Flags as FlagSet;
 use ctrl_calls::{Calls, Validator, Work};
 use ctrl_clusters::{Moment, Ranges};
 use ctrl_handlers::{Plan, PlanBuilder};
-use ctrl_lists::{ControlList, View, plan_set, read_list, try_list};
+use ctrl_lists::{ControlList, Room, View, plan_set, read_list, try_list};
 use ctrl_settle::Ctrl;
 use ctrl_types::{CtrlId, CtrlValue, Errno, ExtControl, Fault, Flags, Kind, Which};
 use std::alloc::Global;
@@ -129,27 +129,25 @@ fn answer(
     which: Which,
     call: Call,
     list: &ControlList,
+    room: &mut Room,
     work: &mut Work,
 ) -> Result<ControlList, Fault>
     requires { view.now.parts.which ≡ which }
 {
     let count = list.len();
     if call == Call::Read || which == Which::Defaults {
-        return match read_list(alloc, view, list) {
+        return match read_list(alloc, view, list, room) {
             Ok(answers) => Ok(answers),
             Err(refusal) => Err(refusal.at_count(count)),
         };
     }
     let judged = if call == Call::Set {
-        plan_set(alloc, view, list, work)
+        plan_set(alloc, view, list, room, work)
     } else {
-        try_list(alloc, view, list, work)
+        try_list(alloc, view, list, room, work)
     };
     match judged {
-        Ok(touched) => {
-            let (answers, _) = touched.into_parts();
-            Ok(answers)
-        }
+        Ok(touched) => Ok(touched.into_answers(room)),
         Err(refusal) if call == Call::Set => Err(refusal.at_count(count)),
         Err(refusal) => Err(refusal.at_entry(count)),
     }
@@ -173,14 +171,19 @@ fn is_answer(answer: &Result<ControlList, Fault>, want: Answer) -> bool {
     }
 }
 
-/// Whether the call is answered so at a moment.
-pub fn shows(alloc: Global, at: &Moment<Strict>, case: Case) -> Result<bool, Fail> {
+/// Whether the call is answered so at a moment, whatever lists have left in the room.
+pub fn shows(
+    alloc: Global,
+    at: &Moment<Strict>,
+    room: &mut Room,
+    case: Case,
+) -> Result<bool, Fail> {
     let (call, which, before, entries, want, asked) = case;
     let pairs = pairs_of(alloc, before)?;
     let view = View::new(0, which, *at, pairs.as_slice());
     let list = list_of(alloc, entries)?;
     let mut work = Work::new();
-    let got = answer(alloc, &view, which, call, &list, &mut work);
+    let got = answer(alloc, &view, which, call, &list, room, &mut work);
     Ok(is_answer(&got, want) && work.asked == asked && work.told == 0)
 }
 
@@ -198,8 +201,9 @@ pub fn holds(rt: &impl Abort, alloc: Global, cases: &[Case]) -> Result<(), Fail>
         values: values.as_slice(),
         grabs: &GRABS,
     };
+    let mut room = Room::new(alloc);
     for (row, &case) in cases.iter().enumerate() {
-        let is_shown = shows(alloc, &at, case)?;
+        let is_shown = shows(alloc, &at, &mut room, case)?;
         assert!(rt; is_shown, "case {row}");
     }
     Ok(())

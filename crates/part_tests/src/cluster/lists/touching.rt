@@ -3,7 +3,7 @@ use super::listing::{FIRST, SIX, VALUES, are_entries, list_of, plan_of};
 use crate::cluster::common::controls_of;
 use crate::values::is_row;
 use ctrl_calls::Work;
-use ctrl_lists::{Touched, View, plan_set};
+use ctrl_lists::{Room, Touched, View, plan_set};
 use ctrl_types::{CtrlValue, Pair, Which};
 use std::test::Fail;
 
@@ -24,6 +24,16 @@ fn are_rows(touched: &Touched, rows: &[(u32, &[i64])]) -> bool {
     touched.rows().len() == rows.len() && touched.row_of(1).is_none()
 }
 
+// Whether the list touches these clusters, in this order.
+fn are_clusters(touched: &Touched, rows: &[(u32, &[i64])]) -> bool {
+    for (cluster, &(number, _)) in touched.clusters().iter().zip(rows) {
+        if *cluster != number {
+            return false;
+        }
+    }
+    touched.clusters().len() == rows.len()
+}
+
 fn are_pairs(pairs: &[Pair], want: &[(u32, i64)]) -> bool {
     for (pair, &(control, number)) in pairs.iter().zip(want) {
         if pair.control != control || pair.value != CtrlValue::Number(number) {
@@ -33,16 +43,18 @@ fn are_pairs(pairs: &[Pair], want: &[(u32, i64)]) -> bool {
     pairs.len() == want.len()
 }
 
-fn is_touched(touched: Touched) -> bool {
+fn is_touched(touched: Touched, room: &mut Room) -> bool {
     let answers = &[(FIRST + 4, 1), (FIRST + 1, 2)];
     let pairs = &[(4, 1), (1, 2)];
     let are_shown = are_rows(&touched, ROWS)
+        && are_clusters(&touched, ROWS)
         && are_entries(touched.answers(), answers)
         && are_pairs(touched.pairs(), pairs);
-    let (list, kept) = touched.into_parts();
+    let (list, kept) = touched.into_parts(room);
     are_shown && are_entries(list.as_slice(), answers) && are_pairs(kept.as_slice(), pairs)
 }
 
+// The second time the rows lie where those of the first lay.
 #[test]
 fn rows_of_a_set(rt: HostRuntime) -> Result<(), Fail> {
     let alloc = rt.alloc();
@@ -50,11 +62,15 @@ fn rows_of_a_set(rt: HostRuntime) -> Result<(), Fail> {
     let controls = controls_of(alloc, &plan, &VALUES)?;
     let view = View::new(0, Which::Current, controls.at(&plan), &[]);
     let list = list_of(alloc, &[(FIRST + 4, 1), (FIRST + 1, 2)])?;
-    match plan_set(alloc, &view, &list, &mut Work::new()) {
-        Ok(touched) => {
-            assert!(rt; is_touched(touched));
-            Ok(())
+    let mut room = Room::new(alloc);
+    for _ in 0..2 {
+        match plan_set(alloc, &view, &list, &mut room, &mut Work::new()) {
+            Ok(touched) => {
+                let is_so = is_touched(touched, &mut room);
+                assert!(rt; is_so);
+            }
+            Err(_) => return Err(Fail::new("a set")),
         }
-        Err(_) => Err(Fail::new("a set")),
     }
+    Ok(())
 }

@@ -4,6 +4,11 @@ use Rattle.ctrl_events.specs.Events.{events_of}
 use Rattle.step_effects.proofs.RaisedLemmas.{raised_step}
 use Rattle.step_effects.proofs.raising.raise_touched.Goals as goal
 
-pub returns : goal.returns
-returns g c verdicts e older around given fh =
+-- many clusters: all controls are looked at
+pub returns-then-are_many : goal.returns-then-are_many
+returns-then-are_many g c verdicts e older around given fh = c.raise_step.ensures verdicts e older around given fh
+
+-- few: their members alone
+pub returns-else-are_many : goal.returns-else-are_many
+returns-else-are_many g c verdicts e older around given fh =
     c.raise_within.ensures fh.0 ∙ raised_step verdicts c.args.change.now.before.plan.now e older (parts c.args.change.now.before) (parts_after c.args.change.now) c.args.pairs.now c.args.from fh (events_of c.args.events.now fh.0) around given

@@ -5,4 +5,4 @@ use Rattle.device_state.proofs.device.Device.get.Goals as goal
 pub returns : goal.returns
 returns g c = λ seat.
     rw (← c.self.view_is)
-    (handles_get g.D.Validates.verdict _ _ seat c.args.fh c.args.which c.args.request c.args.list.now _ c.new-self-inside.ensures c.get_list.ensures)
+    (handles_get g.D.Validates.verdict _ _ seat c.args.fh c.args.which c.args.request c.args.list.now _ c.new-self-inside.ensures c.get_list-answer.ensures)

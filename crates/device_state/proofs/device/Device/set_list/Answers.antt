@@ -1,6 +1,5 @@
-use Rattle.std.proofs.Common.{refl, ap, ◌∙◌, arith}
+use Rattle.std.proofs.Common.{refl, arith}
 use Rattle.history.specs.Past.{past}
-use Rattle.device_state.specs.Device.{DeviceData}
 use Rattle.device_state.proofs.BoundLemmas.{set_at_least}
 use Rattle.device_state.proofs.HandleLemmas.{handles_asked, asked_all}
 use Rattle.device_state.proofs.EnterLemmas.{handles_list}
@@ -10,32 +9,31 @@ use Rattle.device_state.proofs.device.Device.set_list.Goals as goal
 pub accept_set-requires-clause-settable : goal.accept_set-requires-clause-settable
 accept_set-requires-clause-settable g c =
     rw c.spoken.ensures
-    (can_be_set g.D.Validates.verdict c.self.inside.plan (past c.self.inside.steps.items) c.args.fh c.args.which c.args.request c.args.list.now c.in-Ok.touch (rw (← c.self.view_is) at c.in-Ok.ensures.ok))
+    (can_be_set g.D.Validates.verdict c.self.inside.plan (past c.self.inside.steps.items) c.args.fh c.args.which c.args.request c.args.list.now c.in-Ok.touch c.in-Ok.ensures.ok)
 
 pub returns-in-Err : goal.returns-in-Err
 returns-in-Err g c =
     let planned = c.plan_list-planned in
-    let device = c.args.self.now in
-    let at_least = set_at_least g.D.Validates.verdict device.plan (past device.steps) c.args.fh c.args.which c.args.request c.args.list.now in
-    handles_asked g.D.Validates.verdict c.args.self.now _ c.new-work.result planned.new.work c.args.seat _ _
-    (ap (λ (d : DeviceData). record d { work = planned.new.work }) c.self.view_is) c.new-work.ensures planned.ensures.told
-    (omega (arith, planned.ensures.at_most, at_least)) (λ e. cc) refl c.in-Err.ensures.err
+    let device = c.self.inside in
+    let at_least = set_at_least g.D.Validates.verdict device.plan (past device.steps.items) c.args.fh c.args.which c.args.request c.args.list.now in
+    rw (← c.self.view_is)
+    (handles_asked g.D.Validates.verdict _ _ c.new-work.result planned.new.work c.args.seat _ _ refl c.new-work.ensures planned.ensures.told
+    (omega (arith, planned.ensures.at_most, at_least)) (λ e. cc) refl c.in-Err.ensures.err)
 
 pub returns-in-Ok-accept_set : goal.returns-in-Ok-accept_set
 returns-in-Ok-accept_set g c =
     let planned = c.plan_list-planned in
     rw (← c.self.view_is)
     (handles_list g.D.Validates.verdict g.D.Notifies.told _ _ _ c.new-work.result planned.new.work c.args.seat c.args.fh c.args.which c.args.request c.args.list.now c.in-Ok.touch c.in-Ok-accept_set.controls
-    refl c.new-work.ensures planned.ensures.told (rw (← c.self.view_is) at planned.ensures.at_most) (rw (← c.self.view_is) at c.in-Ok.ensures.ok)
-    c.in-Ok-accept_set.ensures.answers (asked_all planned.new.work.asked _ c.new-work.result c.new-work.ensures (rw (← c.self.view_is) at c.in-Ok.ensures.asked)) (rw c.spoken.ensures at c.in-Ok-accept_set.ensures.ok))
+    refl c.new-work.ensures planned.ensures.told planned.ensures.at_most c.in-Ok.ensures.ok
+    c.in-Ok-accept_set.ensures.answers (asked_all planned.new.work.asked _ c.new-work.result c.new-work.ensures c.in-Ok.ensures.asked) (rw c.spoken.ensures at c.in-Ok-accept_set.ensures.ok))
 
 pub returns-in-Err-accept_set : goal.returns-in-Err-accept_set
 returns-in-Err-accept_set g c =
     let planned = c.plan_list-planned in
-    let device = c.args.self.now in
-    let at_least = set_at_least g.D.Validates.verdict device.plan (past device.steps) c.args.fh c.args.which c.args.request c.args.list.now in
-    rw (c.fault_at.ensures, c.len.ensures)
-    (handles_asked g.D.Validates.verdict c.args.self.now _ c.new-work.result planned.new.work c.args.seat _ _
-    (c.in-Err-accept_set.ensures.err ∙ ap (λ (d : DeviceData). record d { work = planned.new.work }) c.self.view_is) c.new-work.ensures planned.ensures.told
+    let device = c.self.inside in
+    let at_least = set_at_least g.D.Validates.verdict device.plan (past device.steps.items) c.args.fh c.args.which c.args.request c.args.list.now in
+    rw (c.fault_at.ensures, c.len.ensures, ← c.self.view_is)
+    (handles_asked g.D.Validates.verdict _ _ c.new-work.result planned.new.work c.args.seat _ _ c.in-Err-accept_set.ensures.err c.new-work.ensures planned.ensures.told
     (omega (arith, planned.ensures.at_most, at_least)) (λ e. cc) refl
-    (set_lacks g.D.Validates.verdict c.args.self.now.plan (past c.args.self.now.steps) c.args.self.now.words c.args.fh c.args.which c.args.request c.args.list.now c.in-Ok.touch c.in-Ok.ensures.ok))
+    (set_lacks g.D.Validates.verdict device.plan (past device.steps.items) device.words.items c.args.fh c.args.which c.args.request c.args.list.now c.in-Ok.touch c.in-Ok.ensures.ok))

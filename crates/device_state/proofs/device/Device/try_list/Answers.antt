@@ -9,7 +9,7 @@ pub returns-clause-answers : goal.returns-clause-answers
 returns-clause-answers g c =
     let device = c.self.inside in
     let plan : c.in-Ok.view.plan ≡ device.plan = rw (← c.self.view_is) at c.in-Ok.ensures.plan in
-    rw (← c.self.view_is, c.into_parts.ensures.answers)
+    rw (← c.self.view_is, c.into_answers.ensures)
     (try_judged g.D.Validates.verdict device.plan (past device.steps.items) device.words.items c.args.fh c.args.which c.args.request c.args.list.now c.in-Ok.view.parts _
     (rw (← c.self.view_is) at c.in-Ok.ensures.passed) (rw (← c.self.view_is) at c.in-Ok.ensures.view) (rw plan at c.in-Ok-try_list.ensures.ok) (rw plan at c.in-Ok-try_list.ensures.answers))
 

@@ -72,7 +72,7 @@ pub raise_touched-requires-clause-known : goal.raise_touched-requires-clause-kno
 raise_touched-requires-clause-known g c =
     let device = c.self.inside in
     let settable = rw (← c.self.view_is) at c.requires.settable in
-    rw (c.to_values-change.ensures.plan, c.as_slice-3.ensures.value, c.requires.clusters)
+    rw (c.to_values-change.ensures.plan, c.clusters-clusters.ensures)
     (All-map (λ k. k < length device.plan.clusters) (λ (r : NewRow). r.cluster) c.args.touch.rows settable.judged.within)
 
 pub raise_touched-requires-clause-within : goal.raise_touched-requires-clause-within
@@ -83,7 +83,7 @@ raise_touched-requires-clause-within g c =
     let copied : c.args.values.items ≡ device.controls.values = (rw (← c.self.view_is) at c.requires.copied) ∙ sym c.self.invariant.values in
     let laid : c.write_rows.new.values.items ≡ written device.plan device.controls.values c.args.touch.rows = rw (copied, c.rows.ensures) at c.write_rows.ensures in
     within_same _ device.plan _ (clusters_of c.args.touch.rows) _ device.controls _ (record device.controls { values = written device.plan device.controls.values c.args.touch.rows }) _ c.args.touch.pairs change.ensures.plan
-    (c.as_slice-3.ensures.value ∙ c.requires.clusters) change.ensures.before (change.ensures.after ∙ ap (λ (vs : Values). record device.controls { values = vs }) (c.as_slice.ensures.value ∙ laid)) c.pairs-2.ensures
+    (c.clusters-clusters.ensures) change.ensures.before (change.ensures.after ∙ ap (λ (vs : Values). record device.controls { values = vs }) (c.as_slice.ensures.value ∙ laid)) c.pairs-2.ensures
     (set_within device.plan device.controls c.args.touch.rows c.args.touch.pairs settable.plans settable.judged.each_once)
 
 -- so the values that are lent next are the same
@@ -101,14 +101,14 @@ pub replace_within-requires-clause-known : goal.replace_within-requires-clause-k
 replace_within-requires-clause-known g c =
     let device = c.self.inside in
     let settable = rw (← c.self.view_is) at c.requires.settable in
-    rw (c.as_slice-4.ensures.value, c.requires.clusters) (All-map (λ k. k < length device.plan.clusters) (λ (r : NewRow). r.cluster) c.args.touch.rows settable.judged.within)
+    rw (c.clusters-clusters.ensures) (All-map (λ k. k < length device.plan.clusters) (λ (r : NewRow). r.cluster) c.args.touch.rows settable.judged.within)
 
 pub replace_within-requires-clause-within : goal.replace_within-requires-clause-within
 replace_within-requires-clause-within g c =
     let device = c.self.inside in
     let copied : c.args.values.items ≡ device.controls.values = (rw (← c.self.view_is) at c.requires.copied) ∙ sym c.self.invariant.values in
     let laid : c.write_rows.new.values.items ≡ written device.plan device.controls.values c.args.touch.rows = rw (copied, c.rows.ensures) at c.write_rows.ensures in
-    rw (c.as_slice-4.ensures.value, c.requires.clusters, laid) (written_apart device.plan device.controls.values c.args.touch.rows)
+    rw (c.clusters-clusters.ensures, laid) (written_apart device.plan device.controls.values c.args.touch.rows)
 
 -- each touched cluster has its row, and those are told for whom something changed
 pub invariant_of-self-2 : goal.invariant_of-self-2
@@ -141,7 +141,7 @@ pub renew-requires-clause-clusters : goal.renew-requires-clause-clusters
 renew-requires-clause-clusters g c =
     let device = c.self.inside in
     let settable = rw (← c.self.view_is) at c.requires.settable in
-    rw (c.after.ensures.plan, c.to_values-change.ensures.plan, c.as_slice-2.ensures.value, c.requires.clusters)
+    rw (c.after.ensures.plan, c.to_values-change.ensures.plan, c.clusters-clusters.ensures)
     (All-map (λ k. k < length device.plan.clusters) (λ (r : NewRow). r.cluster) c.args.touch.rows settable.judged.within)
 
 -- the values differ in these clusters alone
@@ -154,7 +154,7 @@ renew-requires-clause-kept g c =
     let copied : c.args.values.items ≡ device.controls.values = (rw (← c.self.view_is) at c.requires.copied) ∙ sym c.self.invariant.values in
     let laid : c.write_rows.new.values.items ≡ written device.plan device.controls.values rows = rw (copied, c.rows.ensures) at c.write_rows.ensures in
     let values : change.result.values.now ≡ written device.plan device.controls.values rows = ap (λ (m : ControlsData). m.values) change.ensures.after ∙ c.as_slice.ensures.value ∙ laid in
-    rw (c.after.ensures.plan, change.ensures.plan, c.after.ensures.ranges, c.after.ensures.values, c.after.ensures.grabs, c.as_slice-2.ensures.value, c.requires.clusters, ap (λ (m : ControlsData). m.ranges) change.ensures.after, ap (λ (m : ControlsData). m.grabs) change.ensures.after)
+    rw (c.after.ensures.plan, change.ensures.plan, c.after.ensures.ranges, c.after.ensures.values, c.after.ensures.grabs, c.clusters-clusters.ensures, ap (λ (m : ControlsData). m.ranges) change.ensures.after, ap (λ (m : ControlsData). m.grabs) change.ensures.after)
     ((
       device.controls.values,
       board_own g.D.Validates.verdict device.plan (ranges_now device.plan P) device.controls.ranges (now g.D.Validates.verdict device.plan P) device.controls.values (grabbed device.plan P) device.controls.grabs (queued_frames device.plan P) device.board
@@ -170,13 +170,13 @@ pub returns-clause-ok : goal.returns-clause-ok
 returns-clause-ok g c =
     let device = c.self.inside in
     let queued : List QueuedData = queued_frames device.plan (past device.steps.items) in
-    let own : c.as_slice-2.result.now ≡ clusters_of c.args.touch.rows = c.as_slice-2.ensures.value ∙ c.requires.clusters in
+    let own : c.clusters-clusters.result.now ≡ clusters_of c.args.touch.rows = c.clusters-clusters.ensures in
     let renewed : c.renew.new.work.asked ≤ named_by_frames device.plan queued (clusters_of c.args.touch.rows) =
     omega (
       arith,
       rw (c.after.ensures.plan, c.to_values-change.ensures.plan) at c.renew.ensures.asked,
       ap (λ (w : Work). w.asked) c.new-work.ensures,
-      ap (λ (b : BoardData). named_by_frames device.plan b.queued c.as_slice-2.result.now) c.self.invariant.board,
+      ap (λ (b : BoardData). named_by_frames device.plan b.queued c.clusters-clusters.result.now) c.self.invariant.board,
       ap (named_by_frames device.plan queued) own,
     ) in
     let with : List Pair → Entry Step = λ pairs. record { seat = c.args.seat; step = Set c.args.fh pairs } in
