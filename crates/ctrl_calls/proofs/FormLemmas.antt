@@ -57,7 +57,7 @@ fits_few values h = leb-true (length values) 8 (by (nat_le (length values) 8) (n
     by false b e = cc
 
 -- a cell in use is a place of the row
-pub set_seen : (f : Form) (cells : List ℤ) (len i : ℕ) (v : ℤ) (row : List CtrlValue) → f ≡ Numbers cells len → IsClearedForm f → values_in f ≡ row → i < length row → as_values (take len (set cells i v)) ≡ set row i (Number v)
+pub set_seen : (f : Form) (cells : List ℤ) (len i : ℕ) (v : ℤ) (row : List CtrlValue) → f ≡ Numbers len cells → IsClearedForm f → values_in f ≡ row → i < length row → as_values (take len (set cells i v)) ≡ set row i (Number v)
 set_seen f cells len i v row form cleared seen within =
     let is : AreCleared cells len = subst IsClearedForm form cleared in
     let same : as_values (take len cells) ≡ row = sym (ap values_in form) ∙ seen in

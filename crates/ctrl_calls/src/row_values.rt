@@ -16,10 +16,10 @@ pub struct RowValues {
     form: Form,
 }
 
-// So many numbers, with zeros behind them; or one array.
+// So many numbers, with zeros behind them; or one array. How many stands first, where it takes no word of its own.
 #[derive(Clone, Copy, Debug)]
 enum Form {
-    Numbers([i64; MAX_MEMBERS], usize),
+    Numbers(u8, [i64; MAX_MEMBERS]),
     Array(ByteRow),
 }
 
@@ -71,7 +71,7 @@ impl RowValues {
         ensures { result ≡ replicate len zero_value }
     {
         RowValues {
-            form: Form::Numbers([0; MAX_MEMBERS], len),
+            form: Form::Numbers(len as u8, [0; MAX_MEMBERS]),
         }
     }
 
@@ -81,7 +81,7 @@ impl RowValues {
         ensures limit { result ≤ 8 }
     {
         match &self.form {
-            Form::Numbers(_, len) => *len,
+            Form::Numbers(len, _) => usize::from(*len),
             Form::Array(_) => 1,
         }
     }
@@ -92,7 +92,7 @@ impl RowValues {
         ensures { slice_get self.now index ≡ Some result }
     {
         match &self.form {
-            Form::Numbers(cells, _) => CtrlValue::Number(cells[index]),
+            Form::Numbers(_, cells) => CtrlValue::Number(cells[index]),
             Form::Array(bytes) => CtrlValue::Bytes(*bytes),
         }
     }
@@ -103,7 +103,7 @@ impl RowValues {
         ensures { result ≡ is_same value.now (slice_index_or self.now index zero_value) }
     {
         match &self.form {
-            Form::Numbers(cells, _) => match value {
+            Form::Numbers(_, cells) => match value {
                 CtrlValue::Number(number) => *number == cells[index],
                 CtrlValue::Bytes(_) => false,
             },
@@ -144,8 +144,8 @@ impl RowValues {
         ensures { self.new ≡ slice_set self.old index (Number number) }
     {
         match &mut self.form {
-            Form::Numbers(cells, _) => cells[index] = number,
-            Form::Array(_) => self.form = Form::Numbers([number, 0, 0, 0, 0, 0, 0, 0], 1),
+            Form::Numbers(_, cells) => cells[index] = number,
+            Form::Array(_) => self.form = Form::Numbers(1, [number, 0, 0, 0, 0, 0, 0, 0]),
         }
     }
 

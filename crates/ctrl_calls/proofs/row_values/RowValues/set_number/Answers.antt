@@ -6,5 +6,5 @@ use Rattle.ctrl_calls.proofs.row_values.RowValues.set_number.Goals as goal
 -- a cell in use is a place of the row
 pub returns-in-Numbers : goal.returns-in-Numbers
 returns-in-Numbers c =
-    ap (λ v. as_values (take c.in-Numbers.field-1 (set c.in-Numbers.cells c.args.index v))) (search rules)
-    ∙ set_seen c.self.inside.form c.in-Numbers.cells c.in-Numbers.field-1 c.args.index c.args.number c.args.self.now c.in-Numbers.is c.self.invariant c.self.view_is c.requires
+    ap (λ v. as_values (take c.in-Numbers.field-0 (set c.in-Numbers.cells c.args.index v))) (search rules)
+    ∙ set_seen c.self.inside.form c.in-Numbers.cells c.in-Numbers.field-0 c.args.index c.args.number c.args.self.now c.in-Numbers.is c.self.invariant c.self.view_is c.requires
