@@ -132,7 +132,7 @@ fn taken<D: Driver>(
     requires values { length values.now ≡ length device.now.plan.controls }
     ensures { result ≡ value_taken (ranges_in device.now) values.now pairs.now control }
 {
-    match settle_value(device.range(control), wanted(values, pairs, control)) {
+    match settle_value(device.range(control), &wanted(values, pairs, control)) {
         Ok(value) => Ok(value),
         Err(check) => Err(ClusterReason::ValueNotTaken {
             control,

@@ -39,17 +39,17 @@ pub fn inactive<D: Driver>(plan: &Plan<D>, values: &[CtrlValue], control: u32) -
 ///
 /// It takes no memory and refuses nothing.
 #[tactic(auto, unfolding(crate::specs::AutoClusters::inactive))]
-pub fn inactive_with<D: Driver>(at: &Moment<D>, other: u32, value: CtrlValue, control: u32) -> bool
+pub fn inactive_with<D: Driver>(at: &Moment<D>, other: u32, value: &CtrlValue, control: u32) -> bool
     requires known { control < length at.now.plan.now.controls }
     requires other { other < length at.now.plan.now.controls }
-    ensures { result ≡ inactive at.now.plan.now (slice_set at.now.values.now other value) control }
+    ensures { result ≡ inactive at.now.plan.now (slice_set at.now.values.now other value.now) control }
 {
     let cluster = at.plan.cluster_of(control);
     let master = at.plan.members(cluster)[0];
     master != control
         && is_automatic(
             at.plan.manual(cluster),
-            value_with(at.values, other, &value, master),
+            value_with(at.values, other, value, master),
         )
 }
 

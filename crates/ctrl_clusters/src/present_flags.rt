@@ -33,10 +33,10 @@ pub fn flags_under<D: Driver>(at: &Moment<D>, control: u32) -> Flags
 /// - `value`: this value.
 ///
 /// It takes no memory and refuses nothing.
-pub fn flags_with<D: Driver>(at: &Moment<D>, other: u32, value: CtrlValue, control: u32) -> Flags
+pub fn flags_with<D: Driver>(at: &Moment<D>, other: u32, value: &CtrlValue, control: u32) -> Flags
     requires known { control < length at.now.plan.now.controls }
     requires other { other < length at.now.plan.now.controls }
-    ensures { result ≡ flags_under at.now.plan.now (slice_set at.now.values.now other value) at.now.grabs.now control }
+    ensures { result ≡ flags_under at.now.plan.now (slice_set at.now.values.now other value.now) at.now.grabs.now control }
 {
     let is_inactive = inactive_with(at, other, value, control);
     flags_where(at.plan, at.grabs[control as usize], is_inactive, control)

@@ -57,7 +57,7 @@ fn settle_asked(
     ensures settled { with_errno result ≡ settle (control_in ranges.now control) (unwrap_or (last_value pairs.now control) (value_at values.now control)) }
     ensures well_formed { IsWellFormed (control_in ranges.now control) }
 {
-    settle_value(ranges.range(control), *asked_of(values, pairs, control))
+    settle_value(ranges.range(control), asked_of(values, pairs, control))
 }
 
 // The value that is asked of a control: its last pair's, or else its present one.
@@ -114,7 +114,7 @@ fn takes_at(ranges: &Ranges, member: u32, row: &[CtrlValue], place: usize) -> bo
     requires within { place < length row.now }
     ensures { result ≡ is_value (settle (control_in ranges.now member) (value_at row.now place)) (value_at row.now place) }
 {
-    match settle_value(ranges.range(member), row[place]) {
+    match settle_value(ranges.range(member), &row[place]) {
         Ok(taken) => taken.is_same(&row[place]),
         Err(_) => false,
     }

@@ -117,5 +117,5 @@ fn writing_check<D: Driver>(view: &View<D>, is_set: bool, pair: &Pair) -> Option
     if is_set && view.at.grabs[pair.control as usize] {
         return Some(Check::EntryGrabbed);
     }
-    settle_check(view.at.ranges.range(pair.control), pair.value)
+    settle_check(view.at.ranges.range(pair.control), &pair.value)
 }

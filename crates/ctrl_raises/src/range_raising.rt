@@ -124,7 +124,7 @@ fn flags_move<D: Driver>(
     requires member { member < length after.now.plan.now.controls }
     ensures { result ≡ differ (flags_under after.now.plan.now (slice_set after.now.values.now control old_value.now) after.now.grabs.now member) (flags_under after.now.plan.now after.now.values.now after.now.grabs.now member) }
 {
-    let old = flags_with(after, control, *old_value, member);
+    let old = flags_with(after, control, old_value, member);
     let new = flags_under(after, member);
     old.bits() != new.bits()
 }

@@ -266,8 +266,8 @@ pub(crate) fn flags_of(kind: Kind, flags: Flags) -> Flags
 /// Refused by the check 57 (EINVAL, 22) of docs/RULES.md where an array is given a number or another count of bytes, or another control bytes; and, of a menu alone, by the
 /// checks 51 (ERANGE, 34) and 52 (EINVAL), in this order.
 #[tactic(auto, unfolding(crate::specs::Settle::settle))]
-pub fn settle(control: &Ctrl, value: CtrlValue) -> Result<CtrlValue, Errno>
-    ensures settled { result ≡ settle control.now value }
+pub fn settle(control: &Ctrl, value: &CtrlValue) -> Result<CtrlValue, Errno>
+    ensures settled { result ≡ settle control.now value.now }
     ensures well_formed { IsWellFormed control.now }
 {
     match settle_value(control, value) {
@@ -281,8 +281,8 @@ pub fn settle(control: &Ctrl, value: CtrlValue) -> Result<CtrlValue, Errno>
 /// - `value`: any value.
 ///
 /// Refused as `settle` is.
-pub fn settle_value(control: &Ctrl, value: CtrlValue) -> Result<CtrlValue, Check>
-    ensures settled { result ≡ settle_value control.now.kind control.now value }
+pub fn settle_value(control: &Ctrl, value: &CtrlValue) -> Result<CtrlValue, Check>
+    ensures settled { result ≡ settle_value control.now.kind control.now value.now }
     ensures well_formed { IsWellFormed control.now }
 {
     control.description.settle(value)
@@ -295,8 +295,8 @@ pub fn settle_value(control: &Ctrl, value: CtrlValue) -> Result<CtrlValue, Check
 ///
 /// It takes no memory and refuses nothing.
 #[tactic(auto, unfolding(crate::specs::Settle::settle_check))]
-pub fn settle_check(control: &Ctrl, value: CtrlValue) -> Option<Check>
-    ensures { result ≡ settle_check control.now value }
+pub fn settle_check(control: &Ctrl, value: &CtrlValue) -> Option<Check>
+    ensures { result ≡ settle_check control.now value.now }
 {
     settle_value(control, value).err()
 }
@@ -307,8 +307,8 @@ pub fn settle_check(control: &Ctrl, value: CtrlValue) -> Option<Check>
 /// - `value`: any value; the one that the control had within its earlier range.
 ///
 /// The control takes the answer as it is (the law `settled_anew_stays`). It takes no memory and refuses nothing.
-pub fn settle_anew(control: &Ctrl, value: CtrlValue) -> CtrlValue
-    ensures value { result ≡ settled_anew control.now value }
+pub fn settle_anew(control: &Ctrl, value: &CtrlValue) -> CtrlValue
+    ensures value { result ≡ settled_anew control.now value.now }
     ensures well_formed { IsWellFormed control.now }
 {
     match settle(control, value) {

@@ -117,19 +117,19 @@ impl Description {
     }
 
     /// The value that the control takes for `value`, or why it takes none.
-    pub fn settle(&self, value: CtrlValue) -> Result<CtrlValue, Check>
+    pub fn settle(&self, value: &CtrlValue) -> Result<CtrlValue, Check>
         requires in_order { self.now.minimum ≤ℤ self.now.maximum }
         requires stepped { IsTrue (has_grid self.now.kind self.now.elems) → 0 < self.now.step }
         requires bounds { HasBounds self.now.kind self.now }
         requires elems { HasElems self.now.kind self.now.elems }
-        ensures { result ≡ settle_value self.now.kind self.now value }
+        ensures { result ≡ settle_value self.now.kind self.now value.now }
     {
         match (self.kind, value) {
             (Kind::U8, CtrlValue::Bytes(row)) => self.settle_bytes(row),
             (Kind::U8, CtrlValue::Number(_)) | (_, CtrlValue::Bytes(_)) => Err(
                 Check::ValueNotOfKind,
             ),
-            (_, CtrlValue::Number(number)) => match self.settle_number(number) {
+            (_, CtrlValue::Number(number)) => match self.settle_number(*number) {
                 Ok(taken) => Ok(CtrlValue::Number(taken)),
                 Err(check) => Err(check),
             },
@@ -144,17 +144,17 @@ impl Description {
     }
 
     /// What an array takes for bytes, element by element.
-    fn settle_bytes(&self, row: ByteRow) -> Result<CtrlValue, Check>
+    fn settle_bytes(&self, row: &ByteRow) -> Result<CtrlValue, Check>
         requires in_order { self.now.minimum ≤ℤ self.now.maximum }
         requires stepped { 0 < self.now.step }
         requires low { pos 0 ≤ℤ self.now.minimum }
         requires high { self.now.maximum ≤ℤ pos 255 }
-        ensures { result ≡ settle_bytes self.now row }
+        ensures { result ≡ settle_bytes self.now row.now }
     {
         if row.len() != self.elems_of() {
             return Err(Check::ValueNotOfKind);
         }
-        let mut settled = row;
+        let mut settled = *row;
         for place in 0..row.len() {
             settled.set(place, self.settled_byte(row.byte(place)));
         }

@@ -58,7 +58,7 @@ fn warn_of_manual(
     let Some(ctrl) = device.plan.controls().get(*master as usize) else {
         return Ok(());
     };
-    if settle(ctrl, CtrlValue::Number(manual)) == Ok(CtrlValue::Number(manual)) {
+    if settle(ctrl, &CtrlValue::Number(manual)) == Ok(CtrlValue::Number(manual)) {
         return Ok(());
     }
     let name = word_of(&device.words, *master);

@@ -30,5 +30,5 @@ pub fn takes_number(ctrl: &Ctrl, index: u32) -> bool
 fn is_taken(ctrl: &Ctrl, index: u32) -> bool
     ensures { result ≡ is_taken ctrl.now index }
 {
-    settle(ctrl, CtrlValue::Number(i64::from(index))).is_ok()
+    settle(ctrl, &CtrlValue::Number(i64::from(index))).is_ok()
 }

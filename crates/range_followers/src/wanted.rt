@@ -265,7 +265,7 @@ fn nearest(ctrl: &Ctrl, number: i64) -> i64
     requires { kind_follows ctrl.now.kind ≡ true }
     ensures { result ≡ nearest_of ctrl.now number }
 {
-    match settle_value(ctrl, CtrlValue::Number(number)) {
+    match settle_value(ctrl, &CtrlValue::Number(number)) {
         Ok(taken) => taken.number(),
         Err(_) => number,
     }

@@ -1,4 +1,4 @@
-ghost use Rattle.std.specs.Prelude.{◌≡◌, ◌≤◌, OnOk, Some, ◌++◌, ◌∷◌, codes, length};
+ghost use Rattle.std.specs.Prelude.{◌≡◌, OnOk, Some, ◌++◌, ◌∷◌, codes};
 ghost use Rattle.std.specs.Fmt.{decimal, signed_decimal};
 ghost use Rattle.std.specs.List.{flat_map};
 ghost use Rattle.hex.specs.Hex.{encode_lower};
@@ -13,7 +13,7 @@ use bitflags::Flags as FlagSet;
 use ctrl_events::Event;
 use ctrl_forecast::Forecast;
 use ctrl_handlers::MenuItem;
-use ctrl_types::{CtrlId, CtrlValue, Errno, ExtControl, Fault, Flags, Kind, MAX_ELEMENTS};
+use ctrl_types::{ByteRow, CtrlId, CtrlValue, Errno, ExtControl, Fault, Flags, Kind, MAX_ELEMENTS};
 use device_history::{Ask, CtrlInfo, Reply};
 use itoa::{Buffer, Integer};
 use req_book::RequestState;
@@ -58,18 +58,18 @@ fn print_values(line: &mut ReplyLine, list: &[ExtControl]) -> Result<(), LineFul
 {
     line.put(b"ok")?;
     for entry in list {
-        print_value(line, entry.value)?;
+        print_value(line, &entry.value)?;
     }
     line.put(b"\n")
 }
 
 // A value behind a space.
-fn print_value(line: &mut ReplyLine, value: CtrlValue) -> Result<(), LineFull>
-    ensures { OnOk result (line.new ≡ line.old ++ value_text value) }
+fn print_value(line: &mut ReplyLine, value: &CtrlValue) -> Result<(), LineFull>
+    ensures { OnOk result (line.new ≡ line.old ++ value_text value.now) }
 {
     match value {
-        CtrlValue::Number(number) => print_number(line, number),
-        CtrlValue::Bytes(row) => print_elements(line, row.bytes()),
+        CtrlValue::Number(number) => print_number(line, *number),
+        CtrlValue::Bytes(row) => print_elements(line, row),
     }
 }
 
@@ -105,13 +105,12 @@ fn print_counted<I: Integer>(line: &mut ReplyLine, word: &[u8], number: I) -> Re
 }
 
 // The elements of an array behind a space.
-fn print_elements(line: &mut ReplyLine, bytes: &[u8]) -> Result<(), LineFull>
-    requires { length bytes.now ≤ 32 }
-    ensures { OnOk result (line.new ≡ line.old ++ (codes " x" ++ encode_lower bytes.now)) }
+fn print_elements(line: &mut ReplyLine, row: &ByteRow) -> Result<(), LineFull>
+    ensures { OnOk result (line.new ≡ line.old ++ (codes " x" ++ encode_lower row.now)) }
 {
     let mut digits = [0; 2 * MAX_ELEMENTS];
-    let digits = &mut digits[..2 * bytes.len()];
-    let _ = hex::encode_to_slice(bytes, digits);
+    let digits = &mut digits[..2 * row.len()];
+    let _ = hex::encode_to_slice(row.bytes(), digits);
     line.put(b" x")?;
     line.put(digits)
 }
@@ -172,7 +171,7 @@ fn print_row(line: &mut ReplyLine, values: &[CtrlValue]) -> Result<(), LineFull>
 {
     line.put(b" values")?;
     for value in values {
-        print_value(line, *value)?;
+        print_value(line, value)?;
     }
     line.put(b"\n")
 }

@@ -54,6 +54,6 @@ pub fn change_range<D: Driver>(
 {
     let old = *controls.range(control);
     let value = controls.value(control);
-    controls.modify_range(control, changed, settle_anew(&changed, value));
+    controls.modify_range(control, changed, settle_anew(&changed, &value));
     raise_range(&controls.at(plan), control, &old, &value, events);
 }

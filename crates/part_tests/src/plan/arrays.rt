@@ -164,7 +164,7 @@ fn takes(given: Given, asked: &[u8], want: Option<&[u8]>) -> bool {
     let (Ok(control), Some(asked)) = (made(given), row(asked)) else {
         return false;
     };
-    match (settle(&control, asked), want) {
+    match (settle(&control, &asked), want) {
         (Ok(taken), Some(want)) => Some(taken) == row(want),
         (Err(errno), None) => errno == Errno::EINVAL,
         _ => false,
@@ -193,7 +193,7 @@ fn takes_numbers_alone(kind: Kind, maximum: i64, step: u64) -> bool {
     match config(kind, 0, maximum, step, None).build() {
         Ok(control) => {
             refuses_bytes(&control)
-                && settle(&control, CtrlValue::Number(0)) == Ok(CtrlValue::Number(0))
+                && settle(&control, &CtrlValue::Number(0)) == Ok(CtrlValue::Number(0))
                 && !control.is_array()
                 && control.elems() == 1
         }
@@ -204,8 +204,8 @@ fn takes_numbers_alone(kind: Kind, maximum: i64, step: u64) -> bool {
 // Bytes, which within another range become the default, a number.
 fn refuses_bytes(control: &Ctrl) -> bool {
     let byte = ByteRow::repeated(1, 0);
-    settle(control, CtrlValue::Bytes(byte)) == Err(Errno::EINVAL)
-        && settle_anew(control, CtrlValue::Bytes(ByteRow::repeated(1, 0))) == CtrlValue::Number(0)
+    settle(control, &CtrlValue::Bytes(byte)) == Err(Errno::EINVAL)
+        && settle_anew(control, &CtrlValue::Bytes(byte)) == CtrlValue::Number(0)
 }
 
 #[test]
@@ -220,8 +220,8 @@ fn forms_of_values(rt: HostRuntime) {
 fn takes_bytes_alone() -> bool {
     match made(WEIGHTS) {
         Ok(array) => {
-            settle(&array, CtrlValue::Number(5)) == Err(Errno::EINVAL)
-                && Some(settle_anew(&array, CtrlValue::Number(5))) == row(&[0; 4])
+            settle(&array, &CtrlValue::Number(5)) == Err(Errno::EINVAL)
+                && Some(settle_anew(&array, &CtrlValue::Number(5))) == row(&[0; 4])
         }
         Err(_) => false,
     }
@@ -245,7 +245,7 @@ fn becomes(maximum: i64, step: u64, want: Result<&[u8], CtrlFault>) -> bool {
         (Ok(other), Ok(bytes)) => {
             other.elems() == 4
                 && other.kind() == Kind::U8
-                && Some(settle_anew(&other, value)) == row(bytes)
+                && Some(settle_anew(&other, &value)) == row(bytes)
         }
         (Err(fault), Err(wanted)) => fault == wanted,
         _ => false,

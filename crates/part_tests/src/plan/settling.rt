@@ -210,7 +210,7 @@ fn made(given: Given, is_private: bool) -> Result<Ctrl, CtrlFault> {
 fn settles(case: Settled) -> bool {
     let (given, asked, want) = case;
     match made(given, false) {
-        Ok(control) => settle(&control, CtrlValue::Number(asked)) == want.map(CtrlValue::Number),
+        Ok(control) => settle(&control, &CtrlValue::Number(asked)) == want.map(CtrlValue::Number),
         Err(_) => false,
     }
 }
@@ -230,7 +230,7 @@ const ANEW: &[(Given, i64, i64)] = &[
 
 fn settles_anew(given: Given, value: i64, want: i64) -> bool {
     match made(given, false) {
-        Ok(control) => settle_anew(&control, CtrlValue::Number(value)) == CtrlValue::Number(want),
+        Ok(control) => settle_anew(&control, &CtrlValue::Number(value)) == CtrlValue::Number(want),
         Err(_) => false,
     }
 }

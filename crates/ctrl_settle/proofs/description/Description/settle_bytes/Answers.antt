@@ -6,6 +6,6 @@ use Rattle.ctrl_settle.proofs.description.Description.settle_bytes.Goals as goal
 -- one more byte is settled
 pub loop-place-preserved : goal.loop-place-preserved
 loop-place-preserved c = record {
-  so_far = bytes_more_set (settled_byte c.args.self.now) c.args.row c.loop-place.settled c.set.new.self c.loop-place.place c.byte.result c.settled_byte.result (search rules) c.loop-place.invariant.long (search rules) (search rules) (search rules) c.loop-place.invariant.so_far;
+  so_far = bytes_more_set (settled_byte c.args.self.now) c.args.row.now c.loop-place.settled c.set.new.self c.loop-place.place c.byte.result c.settled_byte.result (search rules) c.loop-place.invariant.long (search rules) (search rules) (search rules) c.loop-place.invariant.so_far;
   long = search rules;
 }
