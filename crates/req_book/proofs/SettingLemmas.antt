@@ -1,15 +1,16 @@
 -- What a request asks for, control by control.
-use Rattle.std.proofs.Common.{◌≡◌, ℕ, ◌+◌, ◌∙◌, ◌==◌, true, false, ◌<◌, List, [], ◌∷◌, ◌++◌, length, map, take, slice_set, filter_map, Option, None, Some, refl, sym, ap, zero, suc, inl, inr, ◌⊎◌, ◌≢◌, ◌≤◌, unwrap_or, slice_index_or, if◌then◌else◌, arith}
+use Rattle.std.proofs.Common.{◌≡◌, ℕ, ◌+◌, ◌-◌, ◌∙◌, ◌==◌, true, false, ◌<◌, List, [], ◌∷◌, ◌++◌, length, map, take, slice_set, get_or, subst, filter_map, Option, None, Some, refl, sym, ap, zero, suc, inl, inr, ◌⊎◌, ◌≢◌, ◌≤◌, unwrap_or, slice_index_or, if◌then◌else◌, arith}
 use Rattle.std.specs.List.{All, cons_option, range_with_len}
 use Rattle.std.specs.Option.{option_or}
 use Rattle.std.proofs.lemmas.Bool.Decides.{eqb_tells}
-use Rattle.std.proofs.lemmas.List.{map-id, take_more_set, take_all}
+use Rattle.std.proofs.lemmas.List.{append-nil, map-id, take_more_set, take_all, length-set, get_or-set_same, get_or-set_other}
 use Rattle.std.proofs.lemmas.List.Elements.{All-nil, All-cons, filter_map-append}
-use Rattle.std.proofs.lemmas.List.FromFn.{map-range_with_len_more, length-map-range_with_len}
+use Rattle.std.proofs.lemmas.List.FromFn.{map-range_with_len_more, length-map-range_with_len, get_or-map-range_with_len, fill_by_all}
 use Rattle.ctrl_types.specs.Values.{zero_value}
 use Rattle.ctrl_types.specs.declared.value.CtrlValue.{CtrlValue}
 use Rattle.ctrl_types.specs.Pairs.{last_value}
 use Rattle.ctrl_types.specs.declared.ids.Pair.{Pair}
+use Rattle.req_book.specs.Named.{IsNextNamed}
 use Rattle.req_book.specs.Requests.{pair_of, latest, snapshot_of}
 
 or_or : (a b d : Option CtrlValue) → option_or (option_or a b) d ≡ option_or a (option_or b d)
@@ -45,6 +46,85 @@ map_all xs k n f so_far long is = sym (take_all k xs (omega (arith, long))) ∙ 
 -- the pairs of the controls so far, and the next one's, where it has one
 pub pairs_more : (f : ℕ → Option Pair) (k : ℕ) (so_far all : List Pair) (next : Option Pair) → so_far ≡ filter_map f (range_with_len 0 k) → next ≡ f k → all ≡ so_far ++ cons_option next [] → all ≡ filter_map f (range_with_len 0 (k + 1))
 pairs_more f k so_far all next same is more = more ∙ ap (λ ps. ps ++ cons_option next []) same ∙ ap (λ (o : Option Pair). filter_map f (range_with_len 0 k) ++ cons_option o []) is ∙ sym (filter_more f k)
+
+-- controls that have nothing add none
+filter_skip : {X : Type 0} (f : ℕ → Option X) (k d : ℕ) → ((c : ℕ) → k ≤ c → c < k + d → f c ≡ None) → filter_map f (range_with_len 0 (k + d)) ≡ filter_map f (range_with_len 0 k)
+filter_skip f k zero none = ap (λ i. filter_map f (range_with_len 0 i)) (omega arith)
+filter_skip f k (suc d) none =
+    ap (λ i. filter_map f (range_with_len 0 i)) (omega arith)
+    ∙ filter_more f (k + d)
+    ∙ ap (λ o. filter_map f (range_with_len 0 (k + d)) ++ cons_option o []) (none (k + d) (omega arith) (omega arith))
+    ∙ append-nil (filter_map f (range_with_len 0 (k + d)))
+    ∙ filter_skip f k d (λ c no_less below. none c no_less (omega (arith, below)))
+
+-- the pairs of the controls below the next one that is given a value
+pub pairs_past : (pairs : List Pair) (from end next : ℕ) (so_far : List Pair) → IsNextNamed pairs from end next → so_far ≡ filter_map (λ c. pair_of c (last_value pairs c)) (range_with_len 0 from)
+    → so_far ≡ filter_map (λ c. pair_of c (last_value pairs c)) (range_with_len 0 next)
+pairs_past pairs from end next so_far is same =
+    let f : ℕ → Option Pair = λ c. pair_of c (last_value pairs c) in
+    same
+    ∙ sym (filter_skip f from (next - from) (λ c no_less below. ap (pair_of c) (is.first c no_less (omega (arith, below, is.starts)))))
+    ∙ ap (λ i. filter_map f (range_with_len 0 i)) (omega (arith, is.starts))
+
+-- the pairs of the controls below the last are those of all
+pub pairs_below : (f : ℕ → Option Pair) (k end : ℕ) (all : List Pair) → all ≡ filter_map f (range_with_len 0 k) → k ≡ end → all ≡ filter_map f (range_with_len 0 end)
+pairs_below f k end all same is = same ∙ ap (λ n. filter_map f (range_with_len 0 n)) is
+
+-- a pair of another control gives this one none
+still_none : (pairs : List Pair) (p : Pair) (c : ℕ) → p.control ≢ c → last_value pairs c ≡ None → last_value (pairs ++ p ∷ []) c ≡ None
+still_none pairs p c other none = last_append pairs (p ∷ []) c ∙ by (eqb_tells p.control c)
+  where
+    by : ((p.control == c) ≡ true × (p.control ≡ c)) ⊎ ((p.control == c) ≡ false × (p.control ≢ c)) → option_or (option_or None (if p.control == c then Some p.value else None)) (last_value pairs c) ≡ None
+    by (inl same) = absurd (other same.1)
+    by (inr others) = rw (others.0, none) refl
+
+-- one more pair names the next control
+pub next_here : (pairs : List Pair) (p : Pair) (from end next : ℕ) → IsNextNamed pairs from end next → from ≤ p.control → p.control < next → IsNextNamed (pairs ++ p ∷ []) from end p.control
+next_here pairs p from end next is no_less below = record {
+  starts = no_less;
+  ends = omega (arith, below, is.ends);
+  first = λ c lo hi. still_none pairs p c (λ e. absurd (omega (arith, hi, e))) (is.first c lo (omega (arith, hi, below)));
+}
+
+-- one more pair doesn't
+pub next_stays : (pairs : List Pair) (p : Pair) (from end next : ℕ) → IsNextNamed pairs from end next → (from ≤ p.control → p.control < next → ⊥) → IsNextNamed (pairs ++ p ∷ []) from end next
+next_stays pairs p from end next is out = record {
+  starts = is.starts;
+  ends = is.ends;
+  first = λ c lo hi. still_none pairs p c (λ e. out (omega (arith, lo, e)) (omega (arith, hi, e))) (is.first c lo hi);
+}
+
+-- the next control may be given a value by either of two lists
+pub next_of_both : (pairs more : List Pair) (from end first next : ℕ) → IsNextNamed more from end first → IsNextNamed pairs from first next → IsNextNamed (pairs ++ more) from end next
+next_of_both pairs more from end first next behind before = record {
+  starts = before.starts;
+  ends = omega (arith, before.ends, behind.ends);
+  first = λ c no_less below. last_append pairs more c ∙ ap (λ (o : Option CtrlValue). option_or o (last_value pairs c)) (behind.first c no_less (omega (arith, below, before.ends))) ∙ before.first c no_less below;
+}
+
+-- one more pair gives its control a value
+pub given_here : (applied : List (Option CtrlValue)) (pairs : List Pair) (p : Pair) (n : ℕ) → applied ≡ map (last_value pairs) (range_with_len 0 n) → p.control < n
+    → slice_set applied p.control (Some p.value) ≡ map (last_value (pairs ++ p ∷ [])) (range_with_len 0 n)
+given_here applied pairs p n is within =
+    fill_by_all (last_value (pairs ++ p ∷ [])) (slice_set applied p.control (Some p.value)) n None (length-set applied p.control (Some p.value) ∙ long) (λ k below. by k below (eqb_tells p.control k) ∙ sym (last_append pairs (p ∷ []) k))
+  where
+    long : length applied ≡ n
+    long = ap length is ∙ length-map-range_with_len (last_value pairs) 0 n
+
+    by : (k : ℕ) → k < n → ((p.control == k) ≡ true × (p.control ≡ k)) ⊎ ((p.control == k) ≡ false × (p.control ≢ k))
+        → get_or (slice_set applied p.control (Some p.value)) k None ≡ option_or (option_or None (if p.control == k then Some p.value else None)) (last_value pairs k)
+    by k below (inl same) = rw same.0 (subst (λ (i : ℕ). get_or (slice_set applied p.control (Some p.value)) i None ≡ Some p.value) same.1 (get_or-set_same applied p.control (Some p.value) None (omega (arith, within, long))))
+    by k below (inr other) = rw other.0 (get_or-set_other applied p.control k (Some p.value) None (λ e. other.1 (sym e)) ∙ ap (λ (os : List (Option CtrlValue)). get_or os k None) is ∙ get_or-map-range_with_len (last_value pairs) 0 n k k None below (omega arith))
+
+-- one more pair of a control that isn't among these gives none a value
+pub given_elsewhere : (applied : List (Option CtrlValue)) (pairs : List Pair) (p : Pair) (n : ℕ) → applied ≡ map (last_value pairs) (range_with_len 0 n) → n ≤ p.control → applied ≡ map (last_value (pairs ++ p ∷ [])) (range_with_len 0 n)
+given_elsewhere applied pairs p n is without =
+    fill_by_all (last_value (pairs ++ p ∷ [])) applied n None (ap length is ∙ length-map-range_with_len (last_value pairs) 0 n) (λ k below. by k below (eqb_tells p.control k) ∙ sym (last_append pairs (p ∷ []) k))
+  where
+    by : (k : ℕ) → k < n → ((p.control == k) ≡ true × (p.control ≡ k)) ⊎ ((p.control == k) ≡ false × (p.control ≢ k))
+        → get_or applied k None ≡ option_or (option_or None (if p.control == k then Some p.value else None)) (last_value pairs k)
+    by k below (inl same) = absurd (omega (arith, without, below, same.1))
+    by k below (inr other) = rw other.0 (ap (λ (os : List (Option CtrlValue)). get_or os k None) is ∙ get_or-map-range_with_len (last_value pairs) 0 n k k None below (omega arith))
 
 -- a frame has a value for each control
 pub snapshot_long : (applied : List (Option CtrlValue)) (values : List CtrlValue) → length (snapshot_of applied values) ≡ length values

@@ -1,9 +1,10 @@
 //! What a request asks for, what it got at its begin, and what its frame had.
 
-ghost use Rattle.std.specs.Prelude.{◌≡◌, ◌++◌, ◌<◌, ◌^◌, length, map, unwrap_or, slice_index, slice_index_or, IfOk, None};
+ghost use Rattle.std.specs.Prelude.{◌≡◌, ◌++◌, ◌<◌, ◌≤◌, length, map, unwrap_or, slice_index, slice_index_or, IfOk, None};
 ghost use Rattle.std.specs.List.{range_with_len};
 ghost use Rattle.std.specs.Option.{option_or};
 ghost use Rattle.ctrl_types.specs.Pairs.{last_value};
+ghost use Rattle.req_book.specs.Named.{IsNextNamed};
 ghost use Rattle.req_book.specs.Requests.{latest, pair_of, snapshot_of, value_of_control};
 
 use ctrl_types::{CtrlValue, Pair, last_value};
@@ -19,12 +20,36 @@ pub(crate) fn latest(
     ensures { IfOk result (λ all. all.items ≡ latest controls (pairs.now ++ more.now)) }
 {
     let mut all = Vec::new(alloc);
-    for control in 0..controls {
+    let mut control = next_named(pairs, more, 0, controls);
+    while control < controls {
         if let Some(pair) = latest_pair(pairs, more, control) {
             all.push(pair)?;
         }
+        control = next_named(pairs, more, control + 1, controls);
     }
     Ok(all)
+}
+
+// The next control from one on that some pairs or those behind them give a value, or the end, where none comes before it.
+fn next_named(pairs: &[Pair], more: &[Pair], from: u32, end: u32) -> u32
+    requires { from ≤ end }
+    ensures { IsNextNamed (pairs.now ++ more.now) from end result }
+{
+    next_of(pairs, from, next_of(more, from, end))
+}
+
+// The next control from one on that pairs give a value, or the end, where none comes before it.
+fn next_of(pairs: &[Pair], from: u32, end: u32) -> u32
+    requires { from ≤ end }
+    ensures { IsNextNamed pairs.now from end result }
+{
+    let mut next = end;
+    for pair in pairs {
+        if from <= pair.control && pair.control < next {
+            next = pair.control;
+        }
+    }
+    next
 }
 
 // The last pair of a control.
@@ -41,7 +66,12 @@ pub(crate) fn apply(applied: &mut Vec<Option<CtrlValue>>, controls: u32, pairs: 
     ensures { applied.new.items ≡ map (last_value pairs.now) (range_with_len 0 controls) }
 {
     for control in 0..controls {
-        applied[control as usize] = last_value(pairs, control);
+        applied[control as usize] = None;
+    }
+    for pair in pairs {
+        if pair.control < controls {
+            applied[pair.control as usize] = Some(pair.value);
+        }
     }
 }
 
