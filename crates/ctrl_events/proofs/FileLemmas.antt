@@ -1,6 +1,12 @@
 -- What is kept of file handles, by their entries: what is found, and what is left once an entry is put in, changed or taken out.
-use Rattle.std.proofs.Common.{◌≡◌, ℕ, ◌∙◌, false, cond, inl, inr, List, [], ◌∷◌, Option, None, Some, is_some, Result, Ok, Err, is_err, OnOk, unwrap_or, nat_eq, refl, sym, ap}
-use Rattle.std.specs.Map.{lookup, set_value}
+use Rattle.std.proofs.Common.{arith, ◌≡◌, ℕ, zero, suc, ◌+◌, ◌∙◌, Bool, true, false, cond, length, inl, inr, List, [], ◌∷◌, Option, None, Some, is_some, Result, Ok, Err, is_err, OnOk, unwrap_or, nat_eq, refl, sym, ap}
+use Rattle.std.specs.Prelude.{position, nat_lt}
+use Rattle.std.specs.List.{position_or_len}
+use Rattle.std.specs.Cmp.{nat_eq_equiv}
+use Rattle.std.specs.Map.{lookup, keys_of, set_value}
+use Rattle.std.proofs.lemmas.Bool.{eqb-true}
+use Rattle.std.proofs.lemmas.Map.{lookup-set_value}
+use Rattle.indexmap.specs.IndexMap.{set_value_at}
 use Rattle.std.proofs.lemmas.Bool.Decides.{eqb_tells}
 use Rattle.ctrl_events.specs.Events.{FileEvents, EventsData, no_events, events_of, only_at}
 use Rattle.ctrl_events.proofs.KeptLemmas.{Tells}
@@ -76,3 +82,27 @@ rewritten (e ∷ es) fh f g there same = by (eqb_tells fh e.0) (λ further. rewr
     by (inr other) rest =
         let further : Some f ≡ lookup (nat_eq fh) es = rw other.0 at there in
         rw other.0 (ap (λ (xs : List (ℕ × FileEvents)). e ∷ xs) (rest further))
+
+-- what is written at the place of a file handle is written for it
+put_at : (es : List (ℕ × FileEvents)) (fh i : ℕ) (g : FileEvents) → i ≡ position_or_len (nat_eq fh) (keys_of es) → set_value_at es i g ≡ set_value (nat_eq fh) es g
+put_at [] fh i g there = refl
+put_at (e ∷ es) fh i g there = by (eqb_tells fh e.0) i there (λ k further. put_at es fh k g further)
+  where
+    by : Tells fh e.0 → (k : ℕ) → k ≡ position_or_len (nat_eq fh) (keys_of (e ∷ es)) → ((m : ℕ) → m ≡ position_or_len (nat_eq fh) (keys_of es) → set_value_at es m g ≡ set_value (nat_eq fh) es g) → set_value_at (e ∷ es) k g ≡ set_value (nat_eq fh) (e ∷ es) g
+    by (inl here) zero at rest = rw here.0 refl
+    by (inl here) (suc k) at rest = let first : suc k ≡ 0 = rw here.0 at at in absurd (omega (arith, first))
+    by (inr other) zero at rest = let further : 0 ≡ 1 + position_or_len (nat_eq fh) (keys_of es) = rw other.0 at at in absurd (omega (arith, further))
+    by (inr other) (suc k) at rest =
+        let further : suc k ≡ 1 + position_or_len (nat_eq fh) (keys_of es) = rw other.0 at at in
+        rw other.0 (ap (λ (xs : List (ℕ × FileEvents)). e ∷ xs) (rest k (omega (arith, further))))
+
+pub put_for : (es : List (ℕ × FileEvents)) (fh i : ℕ) (g : FileEvents) → Some i ≡ position (nat_eq fh) (keys_of es) → set_value_at es i g ≡ set_value (nat_eq fh) es g
+put_for es fh i g there = put_at es fh i g (which (nat_lt (position_or_len (nat_eq fh) (keys_of es)) (length (keys_of es))) (position_or_len (nat_eq fh) (keys_of es)) there)
+  where
+    which : (b : Bool) (n : ℕ) → Some i ≡ cond b (Some n) None → i ≡ n
+    which true n h = cc
+    which false n h = cc
+
+-- the look-ups, once the value at the place of a file handle is written
+pub looked_up_put : (es : List (ℕ × FileEvents)) (fh i : ℕ) (f g : FileEvents) → Some i ≡ position (nat_eq fh) (keys_of es) → Some f ≡ lookup (nat_eq fh) es → (q : ℕ) → lookup (nat_eq q) (set_value_at es i g) ≡ cond (nat_eq fh q) (Some g) (lookup (nat_eq q) es)
+looked_up_put es fh i f g at there q = ap (lookup (nat_eq q)) (put_for es fh i g at) ∙ lookup-set_value nat_eq_equiv (nat_eq fh) (λ x y is. ap (λ (n : ℕ). nat_eq n y) (eqb-true fh x is)) q g es (sym (ap is_some there))

@@ -2,9 +2,9 @@ pub mod KeptLemmas
 pub mod OrderLemmas
 pub mod QueueLemmas
 pub mod FileLemmas
+pub mod MarkLemmas
 pub mod HeardLemmas
 pub mod RaiseLemmas
-pub mod GatherLemmas
 pub mod LikeLemmas
 pub mod AlikeLemmas
 pub mod PendingLemmas

@@ -13,9 +13,3 @@ abbrev pub changed_at : ℕ → (ℕ × FileEvents → ℕ × FileEvents) → Li
 changed_at i change [] = []
 changed_at zero change (e ∷ es) = change e ∷ es
 changed_at (suc i) change (e ∷ es) = e ∷ changed_at i change es
-
--- the entries, where those at the first places are changed
-abbrev pub changed_below : ℕ → (ℕ × FileEvents → ℕ × FileEvents) → List (ℕ × FileEvents) → List (ℕ × FileEvents)
-changed_below i change [] = []
-changed_below zero change (e ∷ es) = e ∷ es
-changed_below (suc i) change (e ∷ es) = change e ∷ changed_below i change es

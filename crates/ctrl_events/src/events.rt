@@ -1,14 +1,14 @@
-ghost use Rattle.std.specs.Prelude.{◌≡◌, ◌↔◌, ◌<◌, ◌%◌, ℕ, [], IsTrue, length, IfSome, OnErr, OnOk, None, true, false, is_some, get_or, slice_get, bit_or, nat_eq, if◌then◌else◌};
-ghost use Rattle.std.specs.Int.{bit_at};
+ghost use Rattle.std.specs.Prelude.{◌≡◌, ◌↔◌, ◌<◌, ◌%◌, ◌-◌, ℕ, [], IsTrue, length, IfSome, OnErr, OnOk, None, true, slice_get, nat_eq};
 ghost use Rattle.std.specs.Option.{option_map};
 ghost use Rattle.std.specs.List.{IsDistinct};
-ghost use Rattle.std.specs.Map.{keys_of};
+ghost use Rattle.std.specs.Map.{keys_of, lookup};
 ghost use Rattle.ctrl_types.specs.Checks.{with_errno};
 ghost use Rattle.ctrl_events.specs.Events.{events_of, only_at, no_events, flags_in, event_at, after_subscribe, after_unsubscribe, first_waiting, after_take, after_raise, is_from, WaitsForSubscribed, IsLike};
-ghost use Rattle.ctrl_events.specs.Heard.{IsHeard, HasBit};
+ghost use Rattle.ctrl_events.specs.Heard.{IsHeard, HaveBits, listens};
 ghost use Rattle.ctrl_events.specs.Files.{changed_at, raised_in_entry};
 
 use crate::event::{Event, Payload};
+use crate::marks::{hear, heard_by, lowest_bit, with_bit, without_bit};
 use crate::queue::Queue;
 use ctrl_types::{Changes, Check, Errno, FhId, SubFlags};
 use indexmap::IndexMap;
@@ -18,8 +18,9 @@ use std::marker::Model;
 /// The control events of file handles. Contracts see what is kept of each: its subscriptions, the events that wait, in the order of their last
 /// raises, and the number of the next. A file handle needs no call before its first subscription.
 ///
-/// A raise passes over the file handles that can't be subscribed: for each control there is a bit of each 64th file handle by number. A
-/// subscription sets it, and a raise clears it where none of these is subscribed any longer.
+/// A raise goes to the file handles alone that may be subscribed: for each control there is a bit of each 64th place at which a file handle is
+/// kept. A subscription sets it, and a raise clears it where none at these places is subscribed any longer. Where a file handle is forgotten, the
+/// last takes its place, so that its bits are set there first.
 #[derive(Drop)]
 pub struct Events {
     files: IndexMap<u32, Queue>,
@@ -146,19 +147,23 @@ impl Events {
         ensures ok { OnOk result ((j : ℕ) → events_of self.new j ≡ only_at fh.0 (after_subscribe control flags changes payload.now) j (events_of self.old j)) }
         ensures err { OnErr result (self.new ≡ self.old) }
     {
-        if hear(&mut self.heard, control, fh).is_err() {
+        let Some(place) = self.files.get_index_of(&fh.0) else {
+            return self.subscribe_first(fh, control, flags, changes, payload);
+        };
+        if hear(&mut self.heard, control, place).is_err() {
             return Err(AllocError);
         }
-        match self.files.get_mut(&fh.0) {
+        match self.files.get_index_mut(place) {
             Some(queue) => match queue.subscribe(control, flags, changes, payload) {
                 Ok(()) => Ok(()),
                 Err(error) => Err(error),
             },
-            None => self.subscribe_first(fh, control, flags, changes, payload),
+            // a place that was found has a file handle
+            None => Err(AllocError),
         }
     }
 
-    // Subscribes a file handle for which nothing is kept.
+    // Subscribes a file handle for which nothing is kept; its place is behind all others.
     fn subscribe_first(
         &mut self,
         fh: FhId,
@@ -167,11 +172,12 @@ impl Events {
         changes: Changes,
         payload: &Payload,
     ) -> Result<(), AllocError>
-        requires { events_of self.old fh.0 ≡ no_events }
+        requires { lookup (nat_eq fh.0) self.old.files ≡ None }
         ensures ok { OnOk result ((j : ℕ) → events_of self.new j ≡ only_at fh.0 (after_subscribe control flags changes payload.now) j (events_of self.old j)) }
         ensures err { OnErr result (self.new ≡ self.old) }
     {
-        if hear(&mut self.heard, control, fh).is_err() {
+        let place = self.files.len();
+        if hear(&mut self.heard, control, place).is_err() {
             return Err(AllocError);
         }
         let mut queue = Queue::new(self.alloc);
@@ -227,59 +233,92 @@ impl Events {
     /// - `changes`, `payload`: what the event says.
     /// - `from`: the file handle whose call raises it, if any; it gets the event where its subscription allows feedback.
     ///
+    /// With at most 64 file handles it costs a step for each that is subscribed, and once a step for each bit that is left of one that no longer
+    /// is; with more, such a step is one for each 64 of them.
+    ///
     /// The caller owes that the number of each file handle's next event is below 4294967295.
     pub fn raise(&mut self, control: u32, changes: Changes, payload: &Payload, from: Option<FhId>)
         requires { (j : ℕ) → (events_of self.old j).next < 4294967295 }
         ensures { (j : ℕ) → events_of self.new j ≡ after_raise control changes payload.now (option_map (λ fh. fh.0) from) j (events_of self.old j) }
     {
-        if !self.is_heard(control) {
-            return;
-        }
+        let mut rest = self.bits_of(control);
         let mut still = 0;
-        for place in 0..self.count() {
-            still = self.raise_at(place, still, control, changes, payload, from);
+        while rest > 0 {
+            let bit = lowest_bit(rest);
+            let is_heard = self.raise_in(bit, control, changes, payload, from);
+            still = with_bit(still, bit, is_heard);
+            rest = without_bit(rest, bit);
         }
         self.keep_heard(control, still);
+    }
+
+    // The bits of the places at which a file handle may be subscribed to a control. No file handle has two places.
+    fn bits_of(&self, control: u32) -> u64
+        ensures bits { HaveBits result control self.now.files }
+        ensures distinct { IsDistinct nat_eq (keys_of self.now.files) }
+    {
+        let _count = self.files.len();
+        heard_by(self.heard.as_slice(), control)
     }
 
     // For how many file handles something is kept.
     fn count(&self) -> usize
         ensures files { result ≡ length self.now.files }
-        ensures distinct { IsDistinct nat_eq (keys_of self.now.files) }
+        ensures small { result < 9223372036854775808 }
     {
         self.files.len()
     }
 
-    // Raises an event of a control for the file handle at a place, and adds its bit to those of the file handles that are still subscribed to the
-    // control, where it is one.
-    fn raise_at(
+    // Raises an event of a control for the file handles at the places of a bit, and answers whether one of them is subscribed to the control.
+    fn raise_in(
         &mut self,
-        place: usize,
-        still: u64,
+        bit: usize,
         control: u32,
         changes: Changes,
         payload: &Payload,
         from: Option<FhId>,
-    ) -> u64
+    ) -> bool
+        requires bit { bit < 64 }
+        requires next { (p : ℕ) → p % 64 ≡ bit → IfSome (slice_get self.old.files p) (λ e. e.1.next < 4294967295) }
+        ensures raised { (p : ℕ) → p % 64 ≡ bit → slice_get self.new.files p ≡ option_map (raised_in_entry control changes payload.now (option_map (λ fh. fh.0) from)) (slice_get self.old.files p) }
+        ensures others { (p : ℕ) → (p % 64 ≡ bit → ⊥) → slice_get self.new.files p ≡ slice_get self.old.files p }
+        ensures heard { (p : ℕ) → p % 64 ≡ bit → listens self.old.files p control ≡ true → result ≡ true }
+    {
+        let count = self.count();
+        let mut is_heard = false;
+        let mut place = bit;
+        while place < count {
+            is_heard = self.raise_at(place, is_heard, control, changes, payload, from);
+            place += 64;
+        }
+        is_heard
+    }
+
+    // Raises an event of a control for the file handle at a place, and answers whether that or one before is subscribed to the control.
+    fn raise_at(
+        &mut self,
+        place: usize,
+        is_heard: bool,
+        control: u32,
+        changes: Changes,
+        payload: &Payload,
+        from: Option<FhId>,
+    ) -> bool
         requires { IfSome (slice_get self.old.files place) (λ e. e.1.next < 4294967295) }
         ensures files { self.new.files ≡ changed_at place (raised_in_entry control changes payload.now (option_map (λ fh. fh.0) from)) self.old.files }
-        ensures own { IfSome (slice_get self.old.files place) (HasBit result control) }
-        ensures kept { (b : ℕ) → bit_at still b ≡ 1 → bit_at result b ≡ 1 }
+        ensures own { listens self.old.files place control ≡ true → result ≡ true }
+        ensures kept { is_heard ≡ true → result ≡ true }
     {
-        let bit = self.heard_at(place, control);
-        if bit == 0 {
-            return still;
-        }
         let is_own = self.is_at(place, from);
         match self.files.get_index_mut(place) {
-            Some(queue) => with_bit(still, bit, queue.raise(control, changes, payload, is_own)),
-            None => still,
+            Some(queue) => either(is_heard, queue.raise(control, changes, payload, is_own)),
+            None => is_heard,
         }
     }
 
-    // Keeps the bits of the file handles that are subscribed to a control, in place of those of which some may no longer be.
+    // Keeps the bits of the places at which a file handle is subscribed to a control, in place of those of which some may no longer be.
     fn keep_heard(&mut self, control: u32, bits: u64)
-        requires { (j : ℕ) → is_some (flags_in (events_of self.old j).subscribed control) ≡ true → bit_at bits (j % 64) ≡ 1 }
+        requires { HaveBits bits control self.old.files }
         ensures { self.new ≡ self.old }
     {
         let at = control as usize;
@@ -287,24 +326,6 @@ impl Events {
             return;
         }
         self.heard[at] = bits;
-    }
-
-    // Whether a file handle may be subscribed to a control; else none is.
-    fn is_heard(&self, control: u32) -> bool
-        ensures { result ≡ false → (j : ℕ) → flags_in (events_of self.now j).subscribed control ≡ None }
-    {
-        heard_by(self.heard.as_slice(), control) != 0
-    }
-
-    // The bit of the file handle at a place, where it may be subscribed to a control; else 0.
-    fn heard_at(&self, place: usize, control: u32) -> u64
-        ensures { IfSome (slice_get self.now.files place) (HasBit result control) }
-    {
-        let _count = self.files.len();
-        match self.files.get_index(place) {
-            Some((fh, _)) => heard_by(self.heard.as_slice(), control) & (1 << (*fh % 64)),
-            None => 0,
-        }
     }
 
     // Whether this file handle is at the place.
@@ -322,46 +343,28 @@ impl Events {
     pub fn drop_fh(&mut self, fh: FhId)
         ensures { (j : ℕ) → events_of self.new j ≡ only_at fh.0 (λ f. no_events) j (events_of self.old j) }
     {
+        let Some(place) = self.files.get_index_of(&fh.0) else {
+            return;
+        };
+        hear_last(&self.files, &mut self.heard, place);
         let _ = self.files.swap_remove(&fh.0);
     }
 }
 
-// The bits of the file handles that may be subscribed to a control.
-fn heard_by(heard: &[u64], control: u32) -> u64
-    ensures { result ≡ get_or heard.now control 0 }
+// Marks a place for each control to which the file handle at the last place is subscribed, where there are marks of the control.
+fn hear_last(files: &IndexMap<u32, Queue>, heard: &mut Vec<u64>, place: usize)
+    ensures last { (c : ℕ) → listens files.now.entries (length files.now.entries - 1) c ≡ true → c < length heard.old.items → IsHeard heard.new.items place c }
+    ensures kept { (p c : ℕ) → IsHeard heard.old.items p c → IsHeard heard.new.items p c }
 {
-    match heard.get(control as usize) {
-        Some(bits) => *bits,
-        None => 0,
+    if let Some((_, queue)) = files.last() {
+        queue.mark(heard, place);
     }
 }
 
-// Some bits with one more, where it is to be set.
-fn with_bit(bits: u64, bit: u64, is_set: bool) -> u64
-    ensures { result ≡ (if is_set then bit_or bits bit else bits) }
+// Whether one of two is so.
+fn either(one: bool, other: bool) -> bool
+    ensures one { one ≡ true → result ≡ true }
+    ensures other { other ≡ true → result ≡ true }
 {
-    if is_set { bits | bit } else { bits }
-}
-
-// Sets the bit of a file handle that may be subscribed to a control from now on. The error is that a growth was refused.
-fn hear(heard: &mut Vec<u64>, control: u32, fh: FhId) -> Result<(), AllocError>
-    ensures heard { OnOk result (IsHeard heard.new.items fh.0 control) }
-    ensures kept { (j c : ℕ) → IsHeard heard.old.items j c → IsHeard heard.new.items j c }
-{
-    make_marks(heard, control)?;
-    let bits = heard[control as usize];
-    heard[control as usize] = bits | (1 << (fh.0 % 64));
-    Ok(())
-}
-
-// Makes room for the bits of a control; those that are set stay.
-fn make_marks(heard: &mut Vec<u64>, control: u32) -> Result<(), AllocError>
-    ensures bound { OnOk result (control < length heard.new.items) }
-    ensures kept { (c : ℕ) → c < length heard.old.items → get_or heard.new.items c 0 ≡ get_or heard.old.items c 0 }
-{
-    let at = control as usize;
-    if at < heard.len() {
-        return Ok(());
-    }
-    heard.resize(at + 1, 0)
+    one || other
 }

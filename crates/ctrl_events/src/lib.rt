@@ -6,6 +6,7 @@
 mod event;
 mod events;
 pub mod laws;
+mod marks;
 mod order;
 mod queue;
 

@@ -2,9 +2,11 @@ ghost use Rattle.std.specs.Prelude.{◌≡◌, ◌↔◌, ◌<◌, ◌≤◌, �
 ghost use Rattle.std.specs.Option.{option_map};
 ghost use Rattle.ctrl_events.specs.Order.{has, logged, entry_number};
 ghost use Rattle.ctrl_events.specs.Queue.{no_flags, no_latest, waiting_from, event_to, events_to, changes_before, HasGrown};
+ghost use Rattle.ctrl_events.specs.Heard.{IsHeard};
 ghost use Rattle.ctrl_events.specs.Events.{no_events, flags_in, event_of, event_at, raised, with_subscription, after_subscribe, after_unsubscribe, first_waiting, after_take, reaches, WaitsForSubscribed};
 
 use crate::event::{Event, Latest, Payload};
+use crate::marks::mark_all;
 use crate::order::{Order, next_entry, number_at};
 use bitflags::Flags;
 use ctrl_types::{Changes, Check, SubFlags};
@@ -182,6 +184,14 @@ impl Queue {
             self.put(control, changes, payload);
         }
         flags.is_some()
+    }
+
+    /// Marks a place for each control that is subscribed and of which there are marks.
+    pub(crate) fn mark(&self, heard: &mut Vec<u64>, place: usize)
+        ensures marked { (c : ℕ) → is_some (flags_in self.now.subscribed c) ≡ true → c < length heard.old.items → IsHeard heard.new.items place c }
+        ensures kept { (p c : ℕ) → IsHeard heard.old.items p c → IsHeard heard.new.items p c }
+    {
+        mark_all(self.subscribed.entries(), heard, place);
     }
 
     // Has an event of a control that is subscribed wait as the last.

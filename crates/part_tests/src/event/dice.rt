@@ -8,13 +8,13 @@ use crate::forecast::dice::Dice;
 use std::alloc::{AllocError, Global};
 use std::test::Fail;
 
-// How many file handles there are; the last six have the same number modulo 64 as the first.
+// How many file handles there are: the last six share their bits with the first, as long as all are kept in the order of their numbers.
 const HANDLES: u32 = 70;
 
 const CONTROLS: u32 = 12;
 
-// How many calls are drawn from each seed.
-const CALLS: i64 = 400;
+// How many calls are made of each seed, the first subscriptions among them.
+const CALLS: u32 = 470;
 
 const SEEDS: &[u64] = &[1, 20, 300, 4000, 5, 60, 700, 8000, 9];
 
@@ -43,13 +43,22 @@ fn draw(dice: &mut Dice, value: i64) -> Call {
     }
 }
 
+// Each file handle subscribes to the first control, in the order of numbers; then calls are drawn.
+fn call_at(dice: &mut Dice, number: u32) -> Call {
+    if number < HANDLES {
+        Call::SubscribeSaying(number, 0, 0, 0, i64::from(number))
+    } else {
+        draw(dice, i64::from(number))
+    }
+}
+
 // The number of the first call, from 0, that isn't answered as the reading says, or leaves something else.
-fn first_other(alloc: Global, seed: u64) -> Result<Option<i64>, AllocError> {
+fn first_other(alloc: Global, seed: u64) -> Result<Option<u32>, AllocError> {
     let mut reading = Reading::new(alloc, HANDLES)?;
     let mut scene = Scene::new(alloc);
     let mut dice = Dice(seed);
     for number in 0..CALLS {
-        let call = draw(&mut dice, number);
+        let call = call_at(&mut dice, number);
         let want = reading.answer(call)?;
         if !is_answered(&mut scene, call, want) || !reading.is_told(&scene, CONTROLS) {
             return Ok(Some(number));

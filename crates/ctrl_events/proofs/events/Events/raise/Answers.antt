@@ -1,46 +1,45 @@
-use Rattle.std.proofs.Common.{arith, add-one, length, ◌∙◌, ◌≡◌, ◌<◌, sym, ap, subst, slice_get, IfSome, Option, List, ℕ}
+use Rattle.std.proofs.Common.{arith, ◌≡◌, ◌∙◌, ◌<◌, ◌%◌, ℕ, Option, IfSome, slice_get, refl, sym, ap, subst}
+use Rattle.std.specs.Int.{bit_at}
 use Rattle.std.specs.Option.{option_map}
+use Rattle.std.proofs.lemmas.Nat.Bits.{bit_at-zero}
 use Rattle.ctrl_events.specs.Events.{FileEvents, EventsData}
-use Rattle.ctrl_events.specs.Files.{raised_in_entry, changed_at}
-use Rattle.ctrl_events.specs.Heard.{HasBit}
-use Rattle.ctrl_events.proofs.GatherLemmas.{gathered_more, gathered}
-use Rattle.ctrl_events.proofs.HeardLemmas.{quiet_raise}
-use Rattle.ctrl_events.proofs.RaiseLemmas.{changed_none, changed_more, next_unchanged, at_entry, raised_for}
+use Rattle.ctrl_events.specs.Files.{raised_in_entry}
+use Rattle.ctrl_events.specs.Heard.{is_listening}
+use Rattle.ctrl_events.proofs.RaiseLemmas.{IsTakenOut, not_raised, raised_bit, left_bit, gathered_bit, raised_listening, raised_for, at_entry}
 use Rattle.ctrl_events.proofs.events.Events.raise.Goals as goal
 
-pub loop-place-init : goal.loop-place-init
-loop-place-init c = (
-  changed_none c.args.self.now.files (raised_in_entry c.args.control c.args.changes c.args.payload.now (option_map (λ fh. fh.0) c.args.from)),
-  λ i before. absurd (omega (arith, before)),
-)
+pub loop-rest-init : goal.loop-rest-init
+loop-rest-init c = record {
+  raised = λ p off. not_raised (slice_get c.args.self.now.files p) c.args.control c.args.changes c.args.payload.now (option_map (λ fh. fh.0) c.args.from) (λ there. absurd (omega (arith, sym off ∙ c.bits_of-rest.ensures.bits p there)));
+  left = λ p on. refl;
+  gathered = λ p off there. absurd (omega (arith, sym off ∙ c.bits_of-rest.ensures.bits p there));
+}
 
-pub raise_at-still-requires : goal.raise_at-still-requires
-raise_at-still-requires c =
-    let change : ℕ × FileEvents → ℕ × FileEvents = raised_in_entry c.args.control c.args.changes c.args.payload.now (option_map (λ fh. fh.0) c.args.from) in
-    subst (λ (o : Option (ℕ × FileEvents)). IfSome o (λ e. e.1.next < 4294967295)) (sym (ap (λ (es : List (ℕ × FileEvents)). slice_get es c.loop-place.place) c.loop-place.invariant.0 ∙ next_unchanged c.args.self.now.files c.loop-place.place change))
-    (at_entry c.args.self.now c.loop-place.place 4294967295 c.count-place-end.ensures.distinct c.requires)
+pub raise_in-is_heard-requires-clause-next : goal.raise_in-is_heard-requires-clause-next
+raise_in-is_heard-requires-clause-next c = λ p here.
+    subst (λ (o : Option (ℕ × FileEvents)). IfSome o (λ e. e.1.next < 4294967295)) (sym (c.loop-rest.invariant.left p (ap (bit_at c.loop-rest.rest) here ∙ c.lowest_bit-bit.ensures.set)))
+    (at_entry c.args.self.now p 4294967295 c.bits_of-rest.ensures.distinct c.requires)
 
-pub loop-place-preserved : goal.loop-place-preserved
-loop-place-preserved c =
+pub loop-rest-preserved : goal.loop-rest-preserved
+loop-rest-preserved c =
     let change : ℕ × FileEvents → ℕ × FileEvents = raised_in_entry c.args.control c.args.changes c.args.payload.now (option_map (λ fh. fh.0) c.args.from) in
-    let own : IfSome (slice_get c.args.self.now.files c.loop-place.place) (HasBit c.raise_at-still.result c.args.control) =
-    subst (λ (o : Option (ℕ × FileEvents)). IfSome o (HasBit c.raise_at-still.result c.args.control)) (ap (λ (es : List (ℕ × FileEvents)). slice_get es c.loop-place.place) c.loop-place.invariant.0 ∙ next_unchanged c.args.self.now.files c.loop-place.place change)
-    c.raise_at-still.ensures.own in
-    rw add-one (
-      c.raise_at-still.ensures.files ∙ ap (changed_at c.loop-place.place change) c.loop-place.invariant.0 ∙ changed_more c.args.self.now.files c.loop-place.place change,
-      gathered_more c.args.self.now.files c.loop-place.place c.args.control c.loop-place.still c.raise_at-still.result c.loop-place.invariant.1 c.raise_at-still.ensures.kept own,
-    )
+    let out : IsTakenOut c.loop-rest.rest c.without_bit-rest.result c.lowest_bit-bit.result = record { set = c.lowest_bit-bit.ensures.set; cleared = c.without_bit-rest.ensures.cleared; kept = c.without_bit-rest.ensures.kept } in
+    record {
+      raised = raised_bit c.args.self.now.files c.loop-rest.self.files c.raise_in-is_heard.new.self.files c.loop-rest.rest c.without_bit-rest.result c.lowest_bit-bit.result change out c.loop-rest.invariant.raised c.loop-rest.invariant.left c.raise_in-is_heard.ensures.raised c.raise_in-is_heard.ensures.others;
+      left = left_bit c.args.self.now.files c.loop-rest.self.files c.raise_in-is_heard.new.self.files c.loop-rest.rest c.without_bit-rest.result c.lowest_bit-bit.result out c.loop-rest.invariant.left c.raise_in-is_heard.ensures.others;
+      gathered = gathered_bit c.args.self.now.files c.loop-rest.self.files c.loop-rest.rest c.without_bit-rest.result c.lowest_bit-bit.result c.args.control c.loop-rest.still c.with_bit-still.result c.raise_in-is_heard.result out c.loop-rest.invariant.left c.loop-rest.invariant.gathered c.raise_in-is_heard.ensures.heard c.with_bit-still.ensures.set c.with_bit-still.ensures.kept;
+    }
 
 pub keep_heard-requires : goal.keep_heard-requires
-keep_heard-requires c =
-    let all : c.loop-place.place ≡ length c.args.self.now.files = omega (arith, c.loop-place-test.false, c.loop-place.auto.place-end, c.count-place-end.ensures.files) in
-    gathered c.args.self.now c.loop-place.self c.loop-place.place c.args.control c.loop-place.still c.args.changes c.args.payload.now (option_map (λ fh. fh.0) c.args.from) all c.loop-place.invariant.0 c.loop-place.invariant.1
+keep_heard-requires c = λ p there.
+    let none : c.loop-rest.rest ≡ 0 = omega (arith, c.loop-rest-test.false) in
+    let off : bit_at c.loop-rest.rest (p % 64) ≡ 0 = ap (λ (n : ℕ). bit_at n (p % 64)) none ∙ bit_at-zero (p % 64) in
+    c.loop-rest.invariant.gathered p off (
+    sym (ap (λ (o : Option (ℕ × FileEvents)). is_listening o c.args.control) (c.loop-rest.invariant.raised p off) ∙ raised_listening (slice_get c.args.self.now.files p) c.args.control c.args.changes c.args.payload.now (option_map (λ fh. fh.0) c.args.from) c.args.control) ∙ there
+    )
 
 pub returns : goal.returns
 returns c =
-    let all : c.loop-place.place ≡ length c.args.self.now.files = omega (arith, c.loop-place-test.false, c.loop-place.auto.place-end, c.count-place-end.ensures.files) in
-    raised_for c.args.self.now c.keep_heard.new.self c.loop-place.place c.args.control c.args.changes c.args.payload.now (option_map (λ fh. fh.0) c.args.from) all
-    (ap (λ (d : EventsData). d.files) c.keep_heard.ensures ∙ c.loop-place.invariant.0)
-
-pub returns-then-not-is_heard : goal.returns-then-not-is_heard
-returns-then-not-is_heard c = quiet_raise c.args.self.now c.args.control c.args.changes c.args.payload.now (option_map (λ fh. fh.0) c.args.from) (c.is_heard.ensures c.if-not-is_heard.true)
+    let none : c.loop-rest.rest ≡ 0 = omega (arith, c.loop-rest-test.false) in
+    raised_for c.args.self.now c.keep_heard.new.self c.args.control c.args.changes c.args.payload.now (option_map (λ fh. fh.0) c.args.from)
+    (λ p. ap (λ (d : EventsData). slice_get d.files p) c.keep_heard.ensures ∙ c.loop-rest.invariant.raised p (ap (λ (n : ℕ). bit_at n (p % 64)) none ∙ bit_at-zero (p % 64)))

@@ -1,11 +1,10 @@
-use Rattle.std.proofs.Common.{◌≡◌, ◌∙◌, ◌<◌, IfSome, slice_get, sym, ap, subst}
+use Rattle.std.proofs.Common.{◌≡◌, ◌∙◌, ◌<◌, IfSome, slice_get, true≢false, sym, ap, subst}
 use Rattle.std.specs.Option.{option_map}
 use Rattle.ctrl_events.specs.Events.{EventsData, is_from}
 use Rattle.ctrl_events.specs.Files.{raised_in_entry, changed_at}
-use Rattle.ctrl_events.specs.Heard.{HasBit}
-use Rattle.ctrl_events.proofs.GatherLemmas.{unset_at, gathered_at, none_gathered, gathered_stay}
-use Rattle.ctrl_events.proofs.HeardLemmas.{passed_over, next_there, raised_heard}
-use Rattle.ctrl_events.proofs.RaiseLemmas.{raised_at, none_at}
+use Rattle.ctrl_events.specs.Heard.{listens}
+use Rattle.ctrl_events.proofs.HeardLemmas.{value_listens, none_listens, raised_heard}
+use Rattle.ctrl_events.proofs.RaiseLemmas.{raised_at, none_at, next_there}
 use Rattle.ctrl_events.proofs.events.Events.raise_at.Goals as goal
 use Rattle.ctrl_events.proofs.events.Events.raise_at.Goals.{in-Some, in-None}
 
@@ -24,26 +23,13 @@ returns-clause-files c = elim c.match-get_index_mut.branch [
 
 pub returns-clause-own : goal.returns-clause-own
 returns-clause-own c = elim c.match-get_index_mut.branch [
-  | in-Some w ↦ rw w.result-is (
-      subst (λ (d : EventsData). IfSome (slice_get d.files c.args.place) (HasBit w.with_bit.result c.args.control)) c.self.view_is (
-      gathered_at c.self.inside.files.entries c.args.place c.args.control c.args.still c.heard_at-bit.result w.with_bit.result w.in-Some.queue.now w.raise.result w.in-Some.ensures.value
-      (subst (λ (d : EventsData). IfSome (slice_get d.files c.args.place) (HasBit c.heard_at-bit.result c.args.control)) (sym c.self.view_is) c.heard_at-bit.ensures) w.raise.ensures.answer w.with_bit.ensures
+  | in-Some w ↦ rw w.result-is (λ there. w.either.ensures.other (
+      w.raise.ensures.answer ∙ value_listens c.self.inside.files.entries c.args.place w.in-Some.queue.now c.args.control w.in-Some.ensures.value ∙ ap (λ (d : EventsData). listens d.files c.args.place c.args.control) c.self.view_is ∙ there
       ))
-  | in-None w ↦ rw w.result-is (
-      subst (λ (d : EventsData). IfSome (slice_get d.files c.args.place) (HasBit c.args.still c.args.control)) c.self.view_is (
-      none_gathered c.self.inside.files.entries c.args.place c.args.control c.args.still w.in-None.ensures.value
-      ))
+  | in-None w ↦ rw w.result-is (λ there. absurd (true≢false (
+      sym there ∙ ap (λ (d : EventsData). listens d.files c.args.place c.args.control) (sym c.self.view_is) ∙ none_listens c.self.inside.files.entries c.args.place c.args.control w.in-None.ensures.value
+      )))
 ]
-
-pub returns-clause-kept : goal.returns-clause-kept
-returns-clause-kept c = elim c.match-get_index_mut.branch [
-  | in-Some w ↦ rw w.result-is (gathered_stay c.args.still c.heard_at-bit.result w.with_bit.result w.raise.result w.with_bit.ensures)
-  | in-None w ↦ rw w.result-is (λ b is. is)
-]
-
-pub returns-then-bit-eq0-clause-files : goal.returns-then-bit-eq0-clause-files
-returns-then-bit-eq0-clause-files c = passed_over c.args.self.now.files c.args.place c.args.control c.args.changes c.args.payload.now (option_map (λ fh. fh.0) c.args.from)
-    (unset_at c.args.self.now.files c.args.place c.heard_at-bit.result c.args.control c.if-bit-eq0.true c.heard_at-bit.ensures)
 
 pub raise-requires : goal.raise-requires
 raise-requires c = next_there c.self.inside.files.entries c.args.place 4294967295 c.in-Some.queue.now c.in-Some.ensures.value (subst (λ (d : EventsData). IfSome (slice_get d.files c.args.place) (λ e. e.1.next < 4294967295)) (sym c.self.view_is) c.requires)

@@ -1,10 +1,8 @@
 use Rattle.std.proofs.Common.{◌∙◌, sym, ap, refl, is_some}
-use Rattle.ctrl_events.specs.Events.{FileEvents, first_waiting, after_take}
+use Rattle.ctrl_events.specs.Events.{FileEvents, flags_in, first_waiting, after_take}
 use Rattle.ctrl_events.proofs.FileLemmas.{found, missing, written, unwritten}
 use Rattle.ctrl_events.proofs.events.Events.take_first.Goals as goal
-use Rattle.std.proofs.Common.{inl}
-use Rattle.ctrl_events.proofs.FileLemmas.{seen}
-use Rattle.ctrl_events.proofs.HeardLemmas.{changed_heard}
+use Rattle.ctrl_events.proofs.HeardLemmas.{written_heard}
 use Rattle.ctrl_events.proofs.events.Events.take_first.Goals.{in-Some, in-None}
 
 pub returns-clause-events : goal.returns-clause-events
@@ -25,10 +23,9 @@ returns-clause-answer c = elim c.match-get_mut.branch [
 pub invariant_of-self : goal.invariant_of-self
 invariant_of-self c = elim c.match-get_mut.branch [
   | in-Some w ↦ rw w.self-inside-is (
-      changed_heard c.self.inside.files.entries (c.get_mut.follows.lender w.take.new.self).entries c.self.inside.heard.items c.self.inside.heard.items c.args.fh.0 after_take c.self.invariant (λ j d is. is)
-      (written c.self.inside.files.entries (c.get_mut.follows.lender w.take.new.self).entries (seen c.self.inside.files.entries) c.args.fh.0 w.in-Some.queue.now w.take.new.self after_take refl w.in-Some.ensures.value
-      ((c.get_mut.follows.holds w.take.new.self).3 (sym (ap is_some w.in-Some.ensures.value))).0 w.take.ensures.events)
-      (λ d f there. inl there)
+      written_heard c.self.inside.files.entries (c.get_mut.follows.lender w.take.new.self).entries c.self.inside.heard.items c.args.fh.0 w.in-Some.queue.now w.take.new.self c.self.invariant w.in-Some.ensures.value
+      (c.get_mut.follows.holds w.take.new.self).0
+      (λ d there. ap (λ (f : FileEvents). is_some (flags_in f.subscribed d)) (sym w.take.ensures.events) ∙ there)
       )
   | in-None w ↦ rw (w.self-inside-is, c.get_mut.follows.holds-at-none) c.self.invariant
 ]
