@@ -37,7 +37,7 @@ pub none_heard : (heard : List ℕ) → AreHeard heard []
 unfolding AreHeard
 none_heard heard p c there = absurd (true≢false (sym there))
 
--- the bits of a control are those of the file handles that are subscribed to it
+-- among the bits of a control are those of the places of the file handles that are subscribed to it
 pub heard_bits : (files : List (ℕ × FileEvents)) (heard : List ℕ) (c bits : ℕ) → bits ≡ get_or heard c 0 → AreHeard heard files → HaveBits bits c files
 unfolding AreHeard
 heard_bits files heard c bits are all p there = ap (λ (n : ℕ). bit_at n (p % 64)) are ∙ all p c there

@@ -65,7 +65,7 @@ pub fn read_list<D: Driver>(
 /// most once. Each entry is answered with its control's value of that row, so that an id that stands twice is answered one value. Nothing
 /// is changed here.
 ///
-/// - `alloc`: where the answers and the pairs lie, and what the room lacks.
+/// - `alloc`: where the answers and the pairs lie; what the room lacks it takes from its own.
 /// - `view`: what the list is checked against; the caller owes that it doesn't speak of the defaults, which can't be written.
 /// - `list`: the entries. It is lent, and never changed.
 /// - `room`: where things lie while the list is judged; what was in it counts for nothing. The memory of the rows is in the answer then, which hands it back.
@@ -97,7 +97,8 @@ pub fn plan_set<D: Driver>(
 /// Judges what a list that tries asks for, as `plan_set` does a list that sets, but that a grabbed control may be tried (Linux userspace
 /// API, "ioctl VIDIOC_G_EXT_CTRLS, VIDIOC_S_EXT_CTRLS, VIDIOC_TRY_EXT_CTRLS"; the order of the checks is of this project).
 ///
-/// - `alloc`, `view`, `list`, `room`, `work`: as of `plan_set`.
+/// - `alloc`: where the answers lie.
+/// - `view`, `list`, `room`, `work`: as of `plan_set`.
 ///
 /// Refused as by `plan_set`, but never because a control is grabbed. `Refusal::at_entry` makes the fault.
 pub fn try_list<D: Driver>(

@@ -1,8 +1,8 @@
 -- What a request asks for, control by control.
-use Rattle.std.proofs.Common.{◌≡◌, ℕ, ◌+◌, ◌-◌, ◌∙◌, ◌==◌, true, false, ◌<◌, List, [], ◌∷◌, ◌++◌, length, map, take, slice_set, get_or, subst, filter_map, Option, None, Some, refl, sym, ap, zero, suc, inl, inr, ◌⊎◌, ◌≢◌, ◌≤◌, unwrap_or, slice_index_or, if◌then◌else◌, arith}
+use Rattle.std.proofs.Common.{◌≡◌, ℕ, ◌+◌, ◌-◌, ◌∙◌, ◌==◌, true, false, ◌<◌, List, [], ◌∷◌, ◌++◌, length, map, take, slice_set, get_or, subst, filter_map, Option, None, Some, refl, sym, ap, zero, suc, inl, inr, ◌⊎◌, ◌≢◌, ◌≤◌, unwrap_or, slice_index_or, if◌then◌else◌, is_some, leb, true≢false, arith}
 use Rattle.std.specs.List.{All, cons_option, range_with_len}
 use Rattle.std.specs.Option.{option_or}
-use Rattle.std.proofs.lemmas.Bool.Decides.{eqb_tells}
+use Rattle.std.proofs.lemmas.Bool.Decides.{eqb_tells, leb_tells}
 use Rattle.std.proofs.lemmas.List.{append-nil, map-id, take_more_set, take_all, length-set, get_or-set_same, get_or-set_other}
 use Rattle.std.proofs.lemmas.List.Elements.{All-nil, All-cons, filter_map-append}
 use Rattle.std.proofs.lemmas.List.FromFn.{map-range_with_len_more, length-map-range_with_len, get_or-map-range_with_len, fill_by_all}
@@ -78,11 +78,29 @@ still_none pairs p c other none = last_append pairs (p ∷ []) c ∙ by (eqb_tel
     by (inl same) = absurd (other same.1)
     by (inr others) = rw (others.0, none) refl
 
+-- a pair gives its control a value
+gives_its_control : (pairs : List Pair) (p : Pair) (c : ℕ) → p.control ≡ c → is_some (last_value (pairs ++ p ∷ []) c) ≡ true
+gives_its_control pairs p c same = ap is_some (last_append pairs (p ∷ []) c) ∙ by (eqb_tells p.control c)
+  where
+    by : ((p.control == c) ≡ true × (p.control ≡ c)) ⊎ ((p.control == c) ≡ false × (p.control ≢ c)) → is_some (option_or (option_or None (if p.control == c then Some p.value else None)) (last_value pairs c)) ≡ true
+    by (inl here) = rw here.0 refl
+    by (inr other) = absurd (other.1 same)
+
+-- what either of two lists gives, both give
+either_gives : (pairs more : List Pair) (c : ℕ) → is_some (last_value more c) ≡ true ⊎ is_some (last_value pairs c) ≡ true → is_some (last_value (pairs ++ more) c) ≡ true
+either_gives pairs more c given = ap is_some (last_append pairs more c) ∙ by (last_value more c) (last_value pairs c) given
+  where
+    by : (a b : Option CtrlValue) → is_some a ≡ true ⊎ is_some b ≡ true → is_some (option_or a b) ≡ true
+    by (Some x) b given = refl
+    by None b (inl there) = absurd (true≢false (sym there))
+    by None b (inr there) = there
+
 -- one more pair names the next control
 pub next_here : (pairs : List Pair) (p : Pair) (from end next : ℕ) → IsNextNamed pairs from end next → from ≤ p.control → p.control < next → IsNextNamed (pairs ++ p ∷ []) from end p.control
 next_here pairs p from end next is no_less below = record {
   starts = no_less;
   ends = omega (arith, below, is.ends);
+  named = λ before. gives_its_control pairs p p.control refl;
   first = λ c lo hi. still_none pairs p c (λ e. absurd (omega (arith, hi, e))) (is.first c lo (omega (arith, hi, below)));
 }
 
@@ -91,6 +109,7 @@ pub next_stays : (pairs : List Pair) (p : Pair) (from end next : ℕ) → IsNext
 next_stays pairs p from end next is out = record {
   starts = is.starts;
   ends = is.ends;
+  named = λ before. either_gives pairs (p ∷ []) next (inr (is.named before));
   first = λ c lo hi. still_none pairs p c (λ e. out (omega (arith, lo, e)) (omega (arith, hi, e))) (is.first c lo hi);
 }
 
@@ -99,8 +118,13 @@ pub next_of_both : (pairs more : List Pair) (from end first next : ℕ) → IsNe
 next_of_both pairs more from end first next behind before = record {
   starts = before.starts;
   ends = omega (arith, before.ends, behind.ends);
+  named = λ below. either_gives pairs more next (by below (leb_tells first next));
   first = λ c no_less below. last_append pairs more c ∙ ap (λ (o : Option CtrlValue). option_or o (last_value pairs c)) (behind.first c no_less (omega (arith, below, before.ends))) ∙ before.first c no_less below;
 }
+  where
+    by : next < end → ((leb first next ≡ true) × (first ≤ next)) ⊎ ((leb first next ≡ false) × (next < first)) → is_some (last_value more next) ≡ true ⊎ is_some (last_value pairs next) ≡ true
+    by below (inl last) = let same : first ≡ next = omega (arith, last.1, before.ends) in inl (subst (λ (c : ℕ). is_some (last_value more c) ≡ true) same (behind.named (omega (arith, below, same))))
+    by below (inr sooner) = inr (before.named sooner.1)
 
 -- one more pair gives its control a value
 pub given_here : (applied : List (Option CtrlValue)) (pairs : List Pair) (p : Pair) (n : ℕ) → applied ≡ map (last_value pairs) (range_with_len 0 n) → p.control < n
