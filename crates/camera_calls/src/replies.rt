@@ -87,6 +87,7 @@ fn put_asked(page: &mut Page, message: &Message<'_>) {
         Message::Why => write!(page, "why"),
         Message::Renew => write!(page, "renew"),
         Message::Counts => write!(page, "counts"),
+        Message::Events { fh } => write!(page, "events fh={}", fh.0),
     };
 }
 
@@ -102,6 +103,7 @@ fn names_of(message: &Message<'_>) -> [&'static str; 3] {
         Message::Line { .. } => ["accepted", "", ""],
         Message::Renew => ["steps before", "steps", ""],
         Message::Counts => ["steps", "file handles", "requests"],
+        Message::Events { .. } => ["raised", "subscriptions", ""],
         _ => ["", "", ""],
     }
 }

@@ -16,12 +16,12 @@ use Rattle.device_history.specs.declared.ask.Reply.{Reply}
 use Rattle.device_history.specs.declared.ask.Reply.TheVariants as replies
 use Rattle.device_history.specs.declared.info.CtrlInfo.{CtrlInfo}
 use Rattle.device_history.specs.Refusals.{Answer}
-use Rattle.device_history.specs.Events.{pending}
+use Rattle.device_history.specs.Events.{next_sequence, pending}
 use Rattle.device_history.specs.Handles.{opened}
 use Rattle.device_history.specs.Values.{now}
 use Rattle.device_renewal.specs.Alike.{StandAlike}
 use Rattle.device_renewal.specs.Quiet.{IsQuiet}
-use Rattle.ctl_session.specs.Calls.{Calls, call_of, plan_in}
+use Rattle.ctl_session.specs.Calls.{Calls, call_of, plan_in, subscriptions}
 use Rattle.ctl_session.specs.Session.{Asked, SessionData}
 use Rattle.camera_messages.specs.declared.message.Message.{Message}
 use Rattle.camera_messages.specs.declared.message.Message.TheVariants as messages
@@ -91,14 +91,16 @@ IsRenewed old new reply =
     ((reply.head.errno ≡ 0) × StandAlike data_verdict old.device new.device × IsQuiet data_verdict old.device × (new.followers ≡ old.followers) × (new.owed ≡ old.owed))
     ⊎ ((0 < reply.head.errno) × (new ≡ old))
 
--- What a message is told that only reads: the present values; whether an event waits for a file handle; how many steps there are, and how many file handles are open. Of the
--- others nothing is said here.
+-- What a message is told that only reads: the present values; whether an event waits for a file handle; how many steps there are, and how many file handles are open; how many
+-- events were raised for a file handle, and how many controls it is subscribed to. Of the others nothing is said here.
 abbrev pub IsTold : SessionData → Message → ReplyData → Type 0
 IsTold session messages.Values reply = Says reply (errno_alone 0) (values_told (now data_verdict (plan_in session) (past session.device.steps)))
 IsTold session (messages.Waits fh) reply =
     reply.head ≡ accepted (if is_some (event_at (pending data_verdict (plan_in session) (past session.device.steps) fh) 0) then 1 else 0) 0 0
 IsTold session messages.Counts reply =
     (reply.head.x ≡ counted (length session.device.steps)) × (reply.head.y ≡ counted (length (opened (past session.device.steps))))
+IsTold session (messages.Events fh) reply =
+    reply.head ≡ accepted (next_sequence data_verdict (plan_in session) (past session.device.steps) fh) (counted (length (subscriptions session.device fh))) 0
 IsTold session _ reply = Unit {0}
 
 -- An ask is asked; a message that is none leaves the session as it is, and is told what it reads.

@@ -45,6 +45,7 @@ bare_message numbers =
     else if numbers.what == 18 then Some messages.Why
     else if numbers.what == 19 then Some messages.Renew
     else if numbers.what == 20 then Some messages.Counts
+    else if numbers.what == 21 then Some (messages.Events (fh_of numbers.a))
     else None
 
 -- a message with a payload, which only a control call and a line of a script take

@@ -150,6 +150,10 @@ impl Camera {
                 let handles = count(device.open_count());
                 reply.put_numbers(steps, handles, self.requests);
             }
+            Message::Events { fh } => {
+                let subscriptions = count(self.session.subscription_count(*fh));
+                reply.put_numbers(device.next_sequence(*fh), subscriptions, 0);
+            }
             _ => {}
         }
     }

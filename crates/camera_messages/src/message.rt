@@ -94,12 +94,17 @@ pub enum Message<'a> {
         /// The payload: the line without its line feed.
         line: &'a [u8],
     },
-    /// 18: reads why the last ask or control call was refused. The payload says it, and is empty where it was accepted, where the device wasn't asked, or where it isn't known.
+    /// 18: reads why the last ask or control call was refused. The payload says it, and is empty where it was accepted, where no check of the device refused it, or where it isn't known.
     Why,
     /// 19: begins the history anew, where nobody would notice. x is how many steps there were, and y how many there are.
     Renew,
     /// 20: x is how many steps there are, y how many file handles are open, and z how many requests are there.
     Counts,
+    /// 21: reads which events a file handle has had. x is how many were raised for it, which is the number of its next one, and y how many controls it is subscribed to; both are 0 where it isn't open.
+    Events {
+        /// a.
+        fh: FhId,
+    },
 }
 
 // The numbers of a message's head.
@@ -178,6 +183,7 @@ fn without_payload<'a>(numbers: Numbers) -> Option<Message<'a>>
         18 => Some(Message::Why),
         19 => Some(Message::Renew),
         20 => Some(Message::Counts),
+        21 => Some(Message::Events { fh }),
         _ => None,
     }
 }

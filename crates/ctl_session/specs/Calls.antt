@@ -1,6 +1,6 @@
 -- What a control call means: what is asked of the device, one ask after another until one is refused, and what is told then: an errno, 0 for none, and the struct of
 -- the call (Linux userspace API, "Function Reference").
-use Rattle.std.specs.Prelude.{◌≡◌, ◌⊎◌, ◌==◌, ℕ, Bool, true, false, if◌then◌else◌, min, nat_lt, bit_and, List, [], ◌∷◌, length, map, Option, None, Some, is_some, Result, Ok, Err}
+use Rattle.std.specs.Prelude.{◌≡◌, ◌⊎◌, ◌==◌, ◌-◌, ℕ, Bool, true, false, if◌then◌else◌, min, nat_lt, bit_and, List, [], ◌∷◌, length, map, Option, None, Some, is_some, Result, Ok, Err}
 use Rattle.std.specs.List.{filter, range_with_len}
 use Rattle.history.specs.Past.{past}
 use Rattle.ctrl_calls.specs.Meanings.{Verdicts}
@@ -42,7 +42,7 @@ use Rattle.call_structs.specs.declared.entries.PayloadFault.TheVariants.{TooSmal
 use Rattle.ctl_session.specs.declared.calls.TheConstants.{CUT, NO_CALL}
 use Rattle.ctl_session.specs.declared.list_calls.Access.{Access}
 use Rattle.ctl_session.specs.declared.list_calls.Access.TheVariants.{Get, Set, Try}
-use Rattle.ctl_session.specs.declared.lists.TheConstants.{MOST_ENTRIES}
+use Rattle.ctl_session.specs.declared.lists.TheConstants.{MOST_ENTRIES, V4L2_CID_MAX_CTRLS}
 use Rattle.ctl_session.specs.Ids.{form_of, is_narrow, is_old, queried, real_id, shown}
 use Rattle.ctl_session.specs.Lists.{Wrong, entries_in, first_of_control, stands_before, with_values, wrong_payload}
 use Rattle.ctl_session.specs.Session.{Asked, SessionData, errno_in, without_room}
@@ -173,9 +173,9 @@ abbrev pub index_told : List ℕ → Option ℕ → ℕ
 index_told bytes None = u32_in head.COUNT bytes
 index_told bytes (Some index) = if nat_lt index (read_count bytes) then index else u32_in head.COUNT bytes
 
--- what a list is told
+-- what a list is told; the index of an accepted one is its last entry, as a kernel leaves it, and 0 where it has none
 abbrev pub list_told : PlanData → ℕ → List ℕ → Answer → Told
-list_told plan h bytes (Ok (Controls list)) = (0, with_u32 head.ERROR_IDX (u32_in head.COUNT bytes) (with_values plan h (read_count bytes) 0 list bytes))
+list_told plan h bytes (Ok (Controls list)) = (0, with_u32 head.ERROR_IDX (u32_in head.COUNT bytes - 1) (with_values plan h (read_count bytes) 0 list bytes))
 list_told plan h bytes (Ok reply) = (NO_CALL, bytes)
 list_told plan h bytes (Err fault) = (errno_number fault.errno, with_u32 head.ERROR_IDX (index_told bytes fault.index) bytes)
 
@@ -229,9 +229,11 @@ whole_list verdicts session h fh request access bytes =
     let ask = whole_ask plan h fh request access bytes in
     list_by plan h access bytes ask (refusing verdicts session bytes ask (wrong_payload plan h (read_count bytes) (is_write access) bytes))
 
+-- A list that names more entries than any may have is refused before anything else of it is looked at; so its index stays as it was.
 abbrev pub list_call : Verdicts → SessionData → ℕ → FhId → Option RequestId → Access → List ℕ → Meaning
 list_call verdicts session h fh request access bytes =
     if nat_lt (length bytes) head.SIZE then refused CUT bytes
+    else if nat_lt V4L2_CID_MAX_CTRLS (u32_in head.COUNT bytes) then refused (errno_number EINVAL) bytes
     else sized (list_size (read_count bytes)) bytes (whole_list verdicts session h fh request access bytes)
 
 -- Events.

@@ -24,10 +24,12 @@ impl<D: Driver> Session<D> {
     /// - `request`: the request that the call's `request_fd` names, where it names one; only a list whose `which` speaks of a request looks at it.
     /// - `number`: the number of the call.
     /// - `arg`: the struct of the call; of a list its head, and behind it as many entries as its `count` says, but 65 at most, and behind these a slot of 32 bytes for the
-    ///   payload of each. `reserved2` of an entry says, on the way in, whether its payload was read into its slot, and on the way back whether the slot is to be copied to it, where the call was accepted.
+    ///   payload of each; where `count` is above 1,024 (`V4L2_CID_MAX_CTRLS`) the head alone will do. `reserved2` of an entry says, on the way in, whether its payload was read into its
+    ///   slot, and on the way back whether the slot is to be copied to it, where the call was accepted.
     ///
     /// Answered is the errno, 0 for none: EBADF (9) where the file handle isn't open, ENOTTY (25) where it is no control call, EFAULT (14) where the struct is shorter or longer than that
-    /// of the call, and else that of the call. ENOMEM (12) stands before what else may refuse a list, where there was no room for it in the session; then nothing was asked.
+    /// of the call, EINVAL (22) where a list has a `count` above 1,024, of which nothing else is looked at, and else that of the call. ENOMEM (12) stands before what else may refuse a list,
+    /// where there was no room for it in the session; then nothing was asked.
     pub fn call(&mut self, fh: FhId, request: Option<RequestId>, number: u32, arg: &mut [u8]) -> u32
         ensures { (name : CtrlInfo → List ℕ) × Calls D.verdict self.old (call_of D.verdict self.old name fh request number arg.old) self.new (result, arg.new) }
     {

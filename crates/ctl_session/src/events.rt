@@ -73,6 +73,16 @@ impl<D: Driver> Session<D> {
         }
     }
 
+    /// How many controls a file handle is subscribed to; none where it isn't open.
+    ///
+    /// - `fh`: any file handle, open or not.
+    pub fn subscription_count(&self, fh: FhId) -> usize
+        ensures { result ≡ length (subscribed_to self.now.device fh) }
+    {
+        let (_, count) = subscriptions(self.device(), fh);
+        count
+    }
+
     // VIDIOC_DQEVENT.
     pub(crate) fn take(&mut self, fh: FhId, arg: &mut [u8]) -> u32
         ensures { Calls D.verdict self.old (sized event_struct.SIZE arg.old (take_call fh arg.old)) self.new (result, arg.new) }

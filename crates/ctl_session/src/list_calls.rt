@@ -9,13 +9,13 @@ ghost use Rattle.ctl_session.specs.Lists.{is_below as below, is_up_to as up_to, 
 
 use crate::calls::{CUT, NO_CALL};
 use crate::ids::form_of;
-use crate::lists::{MOST_ENTRIES, first_of_control, first_with, read_list};
+use crate::lists::{MOST_ENTRIES, V4L2_CID_MAX_CTRLS, first_of_control, first_with, read_list};
 use crate::session::{Session, no_memory};
 use ask_reasons::{Reason, reason_of};
 use call_structs::{Form, PayloadFault, entry_id, list_size, put_size, put_value};
 use ctrl_calls::Driver;
 use ctrl_handlers::Plan;
-use ctrl_types::{Errno, ExtControl, Fault, FhId, RequestId};
+use ctrl_types::{Check, Errno, ExtControl, Fault, FhId, RequestId};
 use device_state::{Ask, ControlList, Reply};
 use ioctl_bytes::layout::v4l2_ext_controls;
 use ioctl_bytes::{put_u32, u32_at};
@@ -46,6 +46,9 @@ impl<D: Driver> Session<D> {
     {
         if arg.len() < v4l2_ext_controls::SIZE {
             return CUT;
+        }
+        if u32_at(arg, v4l2_ext_controls::COUNT) > V4L2_CID_MAX_CTRLS {
+            return self.refuse(Check::TooManyEntries);
         }
         if arg.len() != list_size(read_count(arg) as usize) {
             return CUT;
@@ -325,7 +328,7 @@ fn put_wanted_size(form: Form, place: u32, arg: &mut [u8])
     }
 }
 
-// What a list is told.
+// What a list is told. The index of an accepted one is its last entry: a kernel counts it along with the entries (Linux, v4l2-ctrls-api.c).
 fn tell_list<D: Driver>(
     plan: &Plan<D>,
     handler: u32,
@@ -340,7 +343,7 @@ fn tell_list<D: Driver>(
     match answer {
         Ok(Reply::Controls(list)) => {
             put_values(plan, handler, read_count(arg), 0, list.as_slice(), arg);
-            put_u32(arg, v4l2_ext_controls::ERROR_IDX, named);
+            put_u32(arg, v4l2_ext_controls::ERROR_IDX, named.saturating_sub(1));
             0
         }
         Ok(_) => NO_CALL,

@@ -16,6 +16,8 @@ use std::alloc::{AllocError, Global};
 
 /// As many entries of a list are read; a list that has more is refused by the device, whatever they are.
 pub const MOST_ENTRIES: u32 = 65;
+/// As many entries a list may name; of one that names more nothing is looked at.
+pub const V4L2_CID_MAX_CTRLS: u32 = 1024;
 
 // The list of these entries, at most 65. The error is that a growth was refused.
 pub(crate) fn list_of(alloc: Global, entries: &[ExtControl]) -> Result<ControlList, AllocError>

@@ -1,4 +1,6 @@
 ghost use Rattle.std.specs.Prelude.{◌≡◌, None, false};
+ghost use Rattle.ctrl_types.specs.Checks.{errno_of as errno_for};
+ghost use Rattle.ctrl_types.specs.Numbers.{errno_number};
 ghost use Rattle.ctrl_types.specs.declared.errno.Errno.TheVariants.{ENOMEM};
 ghost use Rattle.ctl_session.specs.Calls.{plan_in};
 ghost use Rattle.ctl_session.specs.Session.{Asked, errno_in};
@@ -7,7 +9,7 @@ use ask_reasons::{Reason, reason_of};
 use call_structs::is_heading;
 use ctrl_calls::Driver;
 use ctrl_handlers::Plan;
-use ctrl_types::{Errno, Fault};
+use ctrl_types::{Check, Errno, Fault};
 use device_file::ClassNames;
 use device_state::{Ask, CtrlInfo, Device, Reply};
 use following_ranges::{Follower, handle_and_follow};
@@ -101,7 +103,7 @@ impl<D: Driver> Session<D> {
         self.followers.as_slice()
     }
 
-    /// Why the last call, or the last ask, was refused; none where it was accepted, where the call asked nothing, or where it isn't known for want of memory.
+    /// Why the last call, or the last ask, was refused; none where it was accepted, where no check of the device refused it, or where it isn't known for want of memory.
     pub fn reason(&self) -> Option<Reason> {
         self.reason
     }
@@ -160,6 +162,15 @@ impl<D: Driver> Session<D> {
         ensures { self.new ≡ self.old }
     {
         self.reason = None;
+    }
+
+    // Refuses a list as a whole by a check, without asking the device.
+    pub(crate) fn refuse(&mut self, check: Check) -> u32
+        ensures session { self.new ≡ self.old }
+        ensures errno { result ≡ errno_number (errno_for check) }
+    {
+        self.reason = Some(Reason { check, entry: None });
+        check.errno().number()
     }
 
     pub(crate) fn alloc(&self) -> Global {
