@@ -1,5 +1,6 @@
 /* Asks a running camera a line of a script: vcamline DIR WORD ..   0: accepted, 1: refused, 2: wrong words, 3: there is no camera. */
 #define _GNU_SOURCE
+#include "peer.h"
 #include "wire.h"
 #include <stdio.h>
 #include <string.h>
@@ -21,8 +22,11 @@ static int connect_to(const char *directory) {
     struct sockaddr_un address = {.sun_family = AF_UNIX};
     int length = snprintf(address.sun_path, sizeof address.sun_path, "%s/calls", directory);
     int descriptor = socket(AF_UNIX, SOCK_SEQPACKET, 0);
+    struct timeval limit = {10, 0};
+    struct ucred peer;
+    setsockopt(descriptor, SOL_SOCKET, SO_RCVTIMEO, &limit, sizeof limit);
     if (descriptor < 0 || length >= (int)sizeof address.sun_path ||
-        connect(descriptor, (struct sockaddr *)&address, sizeof address))
+        connect(descriptor, (struct sockaddr *)&address, sizeof address) || !is_trusted(descriptor, &peer))
         return -1;
     return descriptor;
 }

@@ -4,13 +4,14 @@
 #include "daemon.h"
 #include "frames.h"
 #include <errno.h>
+#include <fcntl.h>
 #include <linux/videodev2.h>
 #include <string.h>
 #include <sys/mman.h>
 #include <unistd.h>
 
 #define MOST_BUFFERS 32
-#define MOST_SIZE 0x100000u /* of one buffer; also how far their offsets for mmap are apart */
+#define MOST_SIZE 0x2000000u /* of one buffer; also how far their offsets for mmap are apart */
 #define CAPABILITIES (V4L2_BUF_CAP_SUPPORTS_MMAP | V4L2_BUF_CAP_SUPPORTS_REQUESTS | V4L2_BUF_CAP_SUPPORTS_ORPHANED_BUFS)
 
 enum state { FREE, IN_REQUEST, QUEUED, DONE };
@@ -33,7 +34,7 @@ static struct handle *owner;
 static int is_streaming;
 /* Buffers without requests and with requests don't stand in one queue. */
 static enum { UNUSED, WITHOUT_REQUESTS, WITH_REQUESTS } mode;
-static uint32_t sequence;
+static uint32_t sequence; /* of the frame that is due next */
 
 /* The numbers of buffers that wait for a frame, and of those whose frame waits for the program, the first one first. */
 static struct line {
@@ -49,6 +50,10 @@ static uint32_t take_first(struct line *line) {
     line->length--;
     memmove(line->numbers, line->numbers + 1, line->length * sizeof *line->numbers);
     return first;
+}
+
+uint32_t frames_for(const struct handle *handle) {
+    return owner == handle ? done.length : 0;
 }
 
 int has_buffers(void) {
@@ -88,7 +93,6 @@ void unbind_buffer(uint32_t request) {
 /* Ends the stream: all buffers are the program's again, and all requests that are queued are complete. */
 static void end_stream(struct asked *asked) {
     int has_requests = mode == WITH_REQUESTS;
-    uint32_t frames = done.length;
     run_frames(0);
     is_streaming = 0;
     mode = UNUSED;
@@ -101,7 +105,7 @@ static void end_stream(struct asked *asked) {
     if (has_requests)
         end_requests();
     if (asked)
-        take_frames(asked, frames);
+        take_out(asked);
     news |= NEW_FRAMES | NEW_EVENTS;
 }
 
@@ -116,10 +120,11 @@ static void free_buffers(void) {
 
 static int add_buffer(uint32_t size) {
     struct buffer *buffer = &buffers[count];
-    *buffer = (struct buffer){.file = memfd_create("buffer", MFD_CLOEXEC), .size = size, .request = NONE};
+    *buffer = (struct buffer){.file = memfd_create("buffer", MFD_CLOEXEC | MFD_ALLOW_SEALING), .size = size, .request = NONE};
     if (buffer->file < 0)
         return ENOMEM;
-    if (!ftruncate(buffer->file, size))
+    /* sealed, so that who maps it need not fear for what it maps */
+    if (!ftruncate(buffer->file, size) && !fcntl(buffer->file, F_ADD_SEALS, F_SEAL_SHRINK | F_SEAL_GROW | F_SEAL_SEAL))
         buffer->bytes = mmap(0, size, PROT_READ | PROT_WRITE, MAP_SHARED, buffer->file, 0);
     if (!buffer->bytes || buffer->bytes == MAP_FAILED) {
         close(buffer->file);
@@ -286,13 +291,14 @@ static uint32_t take_buffer(struct asked *asked) {
         return EBUSY;
     if (it->type != V4L2_BUF_TYPE_VIDEO_CAPTURE || !is_streaming)
         return EINVAL;
+    asked->answer.is_stale = !done.length && asked->handle->frames; /* what a call had to leave whose descriptor was closed */
     if (!done.length)
         return EAGAIN;
     uint32_t number = take_first(&done);
     buffers[number].state = FREE;
     tell_buffer(it, number);
     buffers[number].request = NONE;
-    take_frames(asked, 1);
+    take_out(asked);
     return 0;
 }
 
@@ -315,6 +321,18 @@ static uint32_t start_or_stop(struct asked *asked) {
     return 0;
 }
 
+/* A buffer's memory goes to the program as a descriptor, which the shim writes into the struct. */
+static uint32_t export_buffer(struct asked *asked) {
+    struct v4l2_exportbuffer *it = asked->argument;
+    if (it->type != V4L2_BUF_TYPE_VIDEO_CAPTURE || it->index >= count || it->plane || it->flags & ~(O_CLOEXEC | O_ACCMODE))
+        return EINVAL;
+    if (is_of_another(asked))
+        return EBUSY;
+    memset(it->reserved, 0, sizeof it->reserved);
+    asked->passed = buffers[it->index].file;
+    return 0;
+}
+
 uint32_t buffer_call(struct asked *asked) {
     switch (asked->number) {
     case VIDIOC_REQBUFS:
@@ -328,6 +346,8 @@ uint32_t buffer_call(struct asked *asked) {
         return queue_or_prepare(asked);
     case VIDIOC_DQBUF:
         return take_buffer(asked);
+    case VIDIOC_EXPBUF:
+        return export_buffer(asked);
     case VIDIOC_STREAMON:
     case VIDIOC_STREAMOFF:
         return start_or_stop(asked);
@@ -368,7 +388,7 @@ int is_queued_in(uint32_t number, uint32_t request) {
 
 void fill_buffer(uint32_t number, struct frame *frame) {
     struct buffer *buffer = &buffers[number];
-    frame->sequence = sequence++;
+    frame->sequence = sequence;
     paint(buffer->bytes, frame);
     buffer->frame = *frame;
     buffer->has_frame = 1;
@@ -378,6 +398,6 @@ void fill_buffer(uint32_t number, struct frame *frame) {
     tell_frame(owner);
 }
 
-void skip_frame(void) {
-    sequence++;
+void pass_frames(uint32_t count) {
+    sequence += count;
 }

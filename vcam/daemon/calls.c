@@ -8,6 +8,7 @@
 #include <string.h>
 #include <sys/ioctl.h>
 #include <sys/socket.h>
+#include <unistd.h>
 
 enum {
     CHANGES = 1,    /* refused to a handle whose priority isn't the highest */
@@ -41,6 +42,7 @@ static const struct ioctl_call {
     {VIDIOC_PREPARE_BUF, VIDEO, 0, "PREPARE_BUF", buffer_call},
     {VIDIOC_QBUF, VIDEO, 0, "QBUF", buffer_call},
     {VIDIOC_DQBUF, VIDEO, 0, "DQBUF", buffer_call},
+    {VIDIOC_EXPBUF, VIDEO, 0, "EXPBUF", buffer_call},
     {VIDIOC_STREAMON, VIDEO, CHANGES, "STREAMON", buffer_call},
     {VIDIOC_STREAMOFF, VIDEO, CHANGES, "STREAMOFF", buffer_call},
     {VIDIOC_QUERYCTRL, VIDEO, 0, "QUERYCTRL", control_call},
@@ -65,6 +67,7 @@ static struct {
     struct call call;
     _Alignas(16) unsigned char payload[MOST_PAYLOAD];
 } packet;
+_Static_assert(offsetof(__typeof__(packet), payload) == sizeof packet.call, "the payload follows its head");
 
 static const struct ioctl_call *call_of(int kind, uint32_t number) {
     for (size_t i = 0; i < sizeof table / sizeof *table; i++)
@@ -121,12 +124,23 @@ static void send_answer(struct caller *caller, struct asked *asked, uint32_t bac
         *part = (struct cmsghdr){.cmsg_len = CMSG_LEN(sizeof(int)), .cmsg_level = SOL_SOCKET, .cmsg_type = SCM_RIGHTS};
         memcpy(CMSG_DATA(part), &asked->passed, sizeof(int));
     }
-    if (asked->answer.urgent == URGENT_TAKEN) {
+    if (asked->answer.is_stale) {
         asked->handle->takers++;
         caller->taking = asked->handle;
     }
     if (sendmsg(caller->descriptor, &message, MSG_NOSIGNAL | MSG_DONTWAIT) < 0)
         forget_caller(caller);
+    if (asked->is_given)
+        close(asked->passed);
+}
+
+/* Does what a call on a handle wants, whose struct has come or is to come back; its errno. */
+static uint32_t answer_handle(struct asked *asked, const struct call *call, uint32_t *back) {
+    if (!asked->handle)
+        return ENODEV; /* it is one of another camera */
+    if (call->what == CALL_MAP)
+        return asked->size == sizeof(struct map) ? map_call(asked, asked->argument) : EPROTO;
+    return call->what == CALL_IOCTL ? answer_ioctl(asked, call, back) : EPROTO;
 }
 
 /* Answers a call, or says that it waits. */
@@ -134,22 +148,21 @@ static int answer(struct caller *caller, const struct call *call, unsigned char 
     struct asked asked = {.number = call->number, .argument = payload, .size = size, .passed = -1};
     uint32_t error = 0, back = 0;
     asked.handle = handle_named(call->handle);
-    asked.request = *call->request ? handle_named(call->request) : 0;
+    asked.request = handle_named(call->request);
     if (asked.request && asked.request->kind != REQUEST)
         asked.request = 0;
-    if (call->what == CALL_LINE) {
+    if (call->what == CALL_TAKEN && asked.handle && !caller->taking) { /* the connection is gone over which its answer went */
+        caller->taking = asked.handle;
+        asked.handle->takers++;
+    }
+    taken(caller, call->what != CALL_TAKEN || call->number);
+    if (call->what == CALL_OPEN)
+        error = open_call(&asked, call->number, caller->process);
+    else if (call->what == CALL_LINE) {
         error = line_call(&asked);
         back = asked.size;
-    } else if (call->what == CALL_TAKEN)
-        taken(caller);
-    else if (!asked.handle)
-        error = EBADF;
-    else if (call->what == CALL_MAP)
-        error = size == sizeof(struct map) ? map_call(&asked, (struct map *)payload) : EPROTO;
-    else if (call->what == CALL_IOCTL)
-        error = answer_ioctl(&asked, call, &back);
-    else
-        error = EPROTO;
+    } else if (call->what != CALL_TAKEN)
+        error = answer_handle(&asked, call, &back);
     if (call->may_wait && is_early(call->number, error))
         return 1;
     if (news & NEW_EVENTS)
@@ -195,7 +208,6 @@ void hear(struct caller *caller) {
         forget_caller(caller);
         return;
     }
-    packet.call.handle[NAME - 1] = packet.call.request[NAME - 1] = 0;
     uint32_t size = got - sizeof packet.call;
     if (answer(caller, &packet.call, packet.payload, size))
         keep_waiting(caller, size);

@@ -1,16 +1,19 @@
 /* File handles and connections of programs, and the bytes by which a handle is ready for poll. No program is trusted: whatever it
  * sends, and whether it reads or ends, nothing here waits for it. */
 #define _GNU_SOURCE
+#include "../peer.h"
 #include "daemon.h"
 #include <errno.h>
 #include <linux/videodev2.h>
 #include <stdio.h>
 #include <string.h>
+#include <sys/random.h>
 #include <sys/socket.h>
-#include <sys/un.h>
 #include <unistd.h>
 
-#define NAME_AT offsetof(struct sockaddr_un, sun_path)
+/* So many bytes of frames lie in a handle at most: each makes an edge for who waits for edges, and more would wait for the kernel to
+ * acknowledge them, an urgent one behind them too. */
+#define MOST_FRAME_BYTES 4
 
 struct handle handles[MOST_HANDLES];
 struct caller callers[MOST_CALLERS];
@@ -22,14 +25,12 @@ static int orphan_count;
 
 void clients_start(void) {
     for (int i = 0; i < MOST_HANDLES; i++)
-        handles[i].descriptor = -1;
-    for (int i = 0; i < MOST_CALLERS; i++)
-        callers[i].descriptor = -1;
+        handles[i].descriptor = callers[i].descriptor = -1;
 }
 
-struct handle *handle_named(const char *name) {
+struct handle *handle_named(uint32_t id) {
     EACH(it, handles)
-        if (!strncmp(it->name, name, NAME))
+        if (it->id == id)
             return it;
     return 0;
 }
@@ -44,31 +45,10 @@ struct handle *request_numbered(uint32_t number) {
 const char *not_quiet(void) {
     if (orphan_count)
         return "a request that was closed is queued";
-    EACH(it, handles) {
+    EACH(it, handles)
         if (it->kind == REQUEST)
             return "a request is there";
-        if (it->kind == VIDEO && it->number != NONE)
-            return "a program has subscribed to events";
-    }
     return 0;
-}
-
-/* The kind of handle that a connection's name says; 0 where it is no name of a handle. */
-static int read_name(int descriptor, char name[NAME]) {
-    struct sockaddr_un address;
-    socklen_t length = sizeof address;
-    if (getpeername(descriptor, (struct sockaddr *)&address, &length) || length <= NAME_AT + 1 + 7)
-        return 0;
-    size_t size = length - NAME_AT - 1;
-    if (size >= NAME || memcmp(address.sun_path, "\0vcam/", 6) || address.sun_path[7] != '/')
-        return 0;
-    for (size_t i = 7; i < size; i++)
-        if (!strchr("0123456789abcdef.", address.sun_path[1 + i]))
-            return 0;
-    memset(name, 0, NAME);
-    memcpy(name, address.sun_path + 1, size);
-    int kind = name[5];
-    return kind == VIDEO || kind == MEDIA || kind == REQUEST ? kind : 0;
 }
 
 static struct handle *free_handle(void) {
@@ -78,34 +58,46 @@ static struct handle *free_handle(void) {
     return 0;
 }
 
-/* Takes a connection as a handle; the errno of the open. */
-static unsigned char take_handle(int descriptor, int kind, const char *name) {
-    struct handle *handle = free_handle();
-    if (!handle || handle_named(name)) {
-        log_line("%s is refused: %d file handles are open", name, MOST_HANDLES);
-        return ENFILE;
-    }
-    uint32_t error = kind == REQUEST ? ask(ASK_ALLOC, 0, 0, 0, 0, 0) : 0;
-    if (kind == REQUEST)
-        log_line("%s MEDIA_IOC_REQUEST_ALLOC -> %s", name + 7, error ? strerrorname_np(error) : "ok");
-    if (error)
-        return error;
-    *handle = (struct handle){.descriptor = descriptor, .kind = kind, .number = kind == REQUEST ? reply.x : NONE};
-    handle->priority = V4L2_PRIORITY_DEFAULT;
-    memcpy(handle->name, name, NAME);
-    return 0;
+/* A number that no handle has, of this camera and, by all chance, of any other one. */
+static uint32_t new_id(void) {
+    uint32_t id;
+    do
+        while (getrandom(&id, sizeof id, 0) != sizeof id)
+            ;
+    while (!id || handle_named(id));
+    return id;
 }
 
-void greet(int listener) {
-    char name[NAME];
-    int descriptor = accept4(listener, 0, 0, SOCK_CLOEXEC | SOCK_NONBLOCK);
-    if (descriptor < 0)
-        return;
-    int kind = read_name(descriptor, name);
-    unsigned char error = kind ? take_handle(descriptor, kind, name) : EPROTO;
-    send(descriptor, &error, 1, MSG_NOSIGNAL | MSG_DONTWAIT);
+uint32_t open_call(struct asked *asked, int kind, int process) {
+    static unsigned opened;
+    struct handle *handle = free_handle(), it = {.kind = kind, .number = NONE, .priority = V4L2_PRIORITY_DEFAULT};
+    int pair[2];
+    if (kind != VIDEO && kind != MEDIA && kind != REQUEST)
+        return EPROTO;
+    snprintf(it.name, sizeof it.name, "%x.%x", process, opened++);
+    if (!handle) {
+        log_line("%s is refused: %d file handles are open", it.name, MOST_HANDLES);
+        return ENFILE;
+    }
+    it.id = new_id();
+    uint32_t error = make_pair(pair, MARK(kind, it.id));
     if (error)
-        close(descriptor);
+        return error;
+    if (kind == REQUEST) {
+        error = ask(ASK_ALLOC, 0, 0, 0, 0, 0);
+        it.number = reply.x;
+        log_line("%s MEDIA_IOC_REQUEST_ALLOC -> %s", it.name, error ? strerrorname_np(error) : "ok");
+    }
+    if (error) {
+        close(pair[0]);
+        close(pair[1]);
+        return error;
+    }
+    it.descriptor = pair[0];
+    *handle = it;
+    asked->passed = pair[1];
+    asked->is_given = 1;
+    return 0;
 }
 
 /* An answer gets lost where a connection is closed over a packet that wasn't read. */
@@ -119,13 +111,24 @@ static void refuse_caller(int descriptor) {
     close(descriptor);
 }
 
-void greet_caller(int listener) {
+/* Accepts a connection of this user or root; what another one wants is said on the log. */
+static int accept_own(int listener, struct ucred *peer) {
     int descriptor = accept4(listener, 0, 0, SOCK_CLOEXEC | SOCK_NONBLOCK);
+    if (descriptor < 0 || is_trusted(descriptor, peer))
+        return descriptor;
+    log_line("process %d of user %u is refused: the camera is of user %u", peer->pid, peer->uid, geteuid());
+    close(descriptor);
+    return -1;
+}
+
+void greet(int listener) {
+    struct ucred peer = {0};
+    int descriptor = accept_own(listener, &peer);
     if (descriptor < 0)
         return;
     for (int i = 0; i < MOST_CALLERS; i++)
         if (callers[i].descriptor < 0) {
-            callers[i] = (struct caller){.descriptor = descriptor};
+            callers[i] = (struct caller){.descriptor = descriptor, .process = peer.pid};
             return;
         }
     refuse_caller(descriptor);
@@ -162,59 +165,62 @@ void forget(struct handle *handle) {
     news |= NEW_FRAMES | NEW_EVENTS; /* who waits on it is to hear that it is gone */
 }
 
-void taken(struct caller *caller) {
-    struct handle *handle = caller->taking;
-    caller->taking = 0;
-    if (!handle || --handle->takers)
-        return;
-    handle->is_told = 0;
-    news |= NEW_EVENTS;
-}
-
-void forget_caller(struct caller *caller) {
-    taken(caller);
-    close(caller->descriptor);
-    caller->descriptor = -1;
-}
-
 static void put_byte(struct handle *handle, int flags) {
     send(handle->descriptor, "", 1, flags | MSG_NOSIGNAL | MSG_DONTWAIT);
 }
 
-void announce(void) {
-    EACH(it, handles) {
-        if (it->kind != VIDEO || it->number == NONE || it->is_told || it->takers)
-            continue;
-        ask_number(ASK_WAITS, it->number);
-        if (!reply.error && reply.x) {
-            put_byte(it, MSG_OOB);
-            it->is_told = 1;
-        }
-    }
-}
-
 void tell_frame(struct handle *handle) {
-    put_byte(handle, 0);
+    if (!handle->takers && handle->frames < MOST_FRAME_BYTES) {
+        put_byte(handle, 0);
+        handle->frames++;
+    }
     news |= NEW_FRAMES;
 }
 
 void tell_request(struct handle *handle) {
-    if (!handle->is_told)
-        put_byte(handle, MSG_OOB);
+    if (handle->is_told || handle->takers)
+        return;
+    put_byte(handle, MSG_OOB);
     handle->is_told = 1;
 }
 
-void take_frames(struct asked *asked, uint32_t frames) {
-    asked->answer.frames = frames;
-    if (frames && asked->handle->number != NONE)
-        asked->answer.urgent = URGENT_TAKEN;
+static int has_event(const struct handle *handle) {
+    return handle->kind == VIDEO && handle->number != NONE && !ask_number(ASK_WAITS, handle->number) && reply.x;
+}
+
+void announce(void) {
+    EACH(it, handles)
+        if (!it->is_told && !it->takers && has_event(it)) {
+            put_byte(it, MSG_OOB);
+            it->is_told = 1;
+        }
+}
+
+void take_out(struct asked *asked) {
+    asked->answer.is_stale = asked->handle->frames || asked->handle->is_told;
 }
 
 void take_event(struct asked *asked) {
-    struct handle *handle = asked->handle;
-    if (!handle->is_told)
+    if (asked->handle->is_told && !has_event(asked->handle))
+        take_out(asked);
+}
+
+void taken(struct caller *caller, int is_out) {
+    struct handle *handle = caller->taking;
+    caller->taking = 0;
+    if (handle && is_out)
+        handle->is_told = handle->frames = 0;
+    if (!handle || --handle->takers)
         return;
-    uint32_t error = handle->number == NONE ? ENOENT : ask_number(ASK_WAITS, handle->number);
-    if (error || !reply.x)
-        asked->answer.urgent = URGENT_TAKEN;
+    if (frames_for(handle))
+        tell_frame(handle);
+    if (handle->kind == REQUEST && !ask_number(ASK_STATE, handle->number) && reply.x == 3)
+        tell_request(handle);
+    news |= NEW_EVENTS;
+}
+
+void forget_caller(struct caller *caller) {
+    taken(caller, 1);
+    close(caller->descriptor);
+    caller->descriptor = -1;
 }

@@ -57,25 +57,45 @@ uint32_t control_call(struct asked *asked) {
     return error;
 }
 
-/* A video handle has a file handle of the device from its first subscription on, until it is rid of all. */
-static void close_own(struct handle *handle) {
-    uint32_t error = reply.error; /* the one that this call is answered */
+/* A video handle has a file handle of the device from its first subscription on, which counts its events. Where that one goes before
+ * it, the count goes on from there. */
+static void give_up(struct handle *handle) {
+    if (!ask_number(ASK_EVENTS, handle->number))
+        handle->counted += reply.x;
     ask_number(ASK_CLOSE, handle->number);
     handle->number = NONE;
-    reply.error = error;
+}
+
+/* Gives one up that has no subscription; whether there was one. */
+static int give_up_idle(void) {
+    EACH(it, handles)
+        if (it->kind == VIDEO && it->number != NONE && !ask_number(ASK_EVENTS, it->number) && !reply.y) {
+            give_up(it);
+            return 1;
+        }
+    return 0;
+}
+
+/* A device has at most 64 file handles. */
+static uint32_t take_up(struct handle *handle) {
+    uint32_t error = ask_number(ASK_OPEN, NONE);
+    if (error && give_up_idle())
+        error = ask_number(ASK_OPEN, NONE);
+    if (!error)
+        handle->number = reply.x;
+    return error;
 }
 
 static uint32_t subscribe(struct asked *asked) {
     struct handle *handle = asked->handle;
     int is_first = handle->number == NONE;
-    if (is_first && ask_number(ASK_OPEN, NONE))
-        return reply.error;
-    if (is_first)
-        handle->number = reply.x;
-    uint32_t error = device_call(asked);
+    uint32_t error = is_first ? take_up(handle) : 0;
+    if (error)
+        return error;
+    error = device_call(asked);
     if (error && is_first) {
         log_reason(); /* while it is known */
-        close_own(handle);
+        give_up(handle);
     }
     return error;
 }
@@ -85,24 +105,18 @@ static uint32_t take_one_event(struct asked *asked) {
     uint32_t error = device_call(asked);
     if (!error) {
         clock_gettime(CLOCK_MONOTONIC, &event->timestamp);
-        take_event(asked);
+        event->sequence += asked->handle->counted;
     }
+    take_event(asked);
     return error;
 }
 
 uint32_t event_call(struct asked *asked) {
-    uint32_t error, is_all = 0;
-    if (asked->number == VIDIOC_SUBSCRIBE_EVENT)
-        error = subscribe(asked);
-    else if (asked->number == VIDIOC_DQEVENT)
+    if (asked->number == VIDIOC_DQEVENT)
         return take_one_event(asked);
-    else {
-        is_all = ((struct v4l2_event_subscription *)asked->argument)->type == V4L2_EVENT_ALL;
-        error = device_call(asked);
-        if (!error && is_all && asked->handle->number != NONE)
-            close_own(asked->handle);
+    uint32_t error = asked->number == VIDIOC_SUBSCRIBE_EVENT ? subscribe(asked) : device_call(asked);
+    if (asked->number == VIDIOC_UNSUBSCRIBE_EVENT)
         take_event(asked);
-    }
     news |= NEW_EVENTS;
     return error;
 }
@@ -144,9 +158,7 @@ uint32_t request_call(struct asked *asked) {
         return error;
     unbind_buffer(request->number);
     request->has_buffer = 0;
-    if (request->is_told)
-        asked->answer.urgent = URGENT_SILENT;
-    request->is_told = 0;
+    take_out(asked);
     return 0;
 }
 
@@ -177,15 +189,17 @@ static void begin_anew(uint32_t steps) {
     static uint32_t try_at, say_at; /* after a failure a while goes by */
     const char *hindrance = not_quiet();
     if (!hindrance && steps >= try_at) {
+        while (give_up_idle()) /* a fresh device has none of the file handles of the one before it */
+            ;
         uint32_t error = ask(ASK_RENEW, 0, 0, 0, 0, 0);
         if (!error) {
             log_line("the device is begun anew: %u steps became %u", reply.x, reply.y);
             try_at = say_at = 0;
-            open_common(); /* the fresh device has none of the old file handles */
+            open_common();
             return;
         }
         try_at = steps + 10000;
-        hindrance = strerrorname_np(error);
+        hindrance = error == EBUSY ? "somebody has subscribed to events" : strerrorname_np(error);
     }
     if (hindrance && steps >= say_at) {
         log_line("the device has taken %u steps of 1000000, and isn't begun anew: %s", steps, hindrance);

@@ -1,64 +1,49 @@
-/* The daemon's life: its words, its directory, and the loop in which it waits for whoever wants something. */
+/* The daemon's life: its words, and the loop in which it waits for whoever wants something. */
 #define _GNU_SOURCE
 #include "daemon.h"
 #include <errno.h>
 #include <fcntl.h>
+#include <limits.h>
 #include <poll.h>
 #include <signal.h>
 #include <stdio.h>
 #include <stdlib.h>
 #include <string.h>
-#include <sys/file.h>
 #include <sys/resource.h>
 #include <sys/signalfd.h>
-#include <sys/socket.h>
 #include <sys/stat.h>
 #include <sys/syscall.h>
-#include <sys/un.h>
 #include <sys/wait.h>
 #include <unistd.h>
 
 static const char usage[] =
-    "usage: vcamd --serve PROGRAM --device FILE [--dir DIR] [--log FILE] [--until PROCESS]\n"
+    "usage: vcamd --serve PROGRAM --device FILE [--dir DIR] [--log FILE] [--until PROCESS] [--size WIDTHxHEIGHT] [--rate N]\n"
     "Serves the camera of a device file at DIR, by the program that answers for the device. With --until it goes into the background\n"
     "once it is ready, prints its directory, which it makes where none is named, and ends with that process.\n";
 
 static struct {
-    const char *serve, *device, *dir, *log, *until;
-} words = {"", "", "", "", ""};
+    const char *serve, *device, *dir, *log, *until, *size, *rate;
+} words = {"", "", "", "", "", "", ""};
 
-static char directory[sizeof((struct sockaddr_un *)0)->sun_path];
-static int is_made;      /* by this daemon */
-static int is_here;      /* this daemon's camera is at the directory */
-static int files, calls; /* the sockets at which it listens */
+static int calls; /* the socket at which it listens */
 static int signals, end_of_process = -1;
-
-/* What lies in the directory; what stands behind another is removed first. */
-static const char *const parts[] = {"files", "calls", "lock", "sys/uevent", "sys/device/media0", "sys/device", "sys"};
-
-static const char *in_directory(const char *name) {
-    static char path[sizeof directory + 32];
-    snprintf(path, sizeof path, "%s/%s", directory, name);
-    return path;
-}
-
-static void clean_up(void) {
-    for (size_t i = 0; is_here && i < sizeof parts / sizeof *parts; i++)
-        remove(in_directory(parts[i]));
-    if (is_made)
-        rmdir(directory);
-}
 
 void fail(const char *why) {
     if (why)
         fprintf(stderr, "vcamd: %s\n", why);
-    clean_up();
+    place_leave();
     exit(1);
 }
 
-static void fail_at(const char *path) {
+void refuse(const char *why) {
+    fprintf(stderr, "vcamd: %s\n", why);
+    place_leave();
+    exit(2);
+}
+
+void fail_at(const char *path) {
     fprintf(stderr, "vcamd: %s: %s\n", path, strerror(errno));
-    clean_up();
+    place_leave();
     exit(1);
 }
 
@@ -69,7 +54,9 @@ static void read_words(int count, char **given) {
                  {"--device", &words.device},
                  {"--dir", &words.dir},
                  {"--log", &words.log},
-                 {"--until", &words.until}};
+                 {"--until", &words.until},
+                 {"--size", &words.size},
+                 {"--rate", &words.rate}};
     size_t i = 0, known = sizeof table / sizeof *table;
     for (int at = 1; at < count; at += 2) {
         for (i = 0; i < known && strcmp(table[i].word, given[at]); i++)
@@ -82,45 +69,7 @@ static void read_words(int count, char **given) {
         fputs(usage, stderr);
         exit(2);
     }
-}
-
-/* The directory, with what v4l-utils reads of the node in sysfs. One camera at a time is at it. */
-static void make_directory(void) {
-    const char *temporary = getenv("TMPDIR");
-    int length = *words.dir ? snprintf(directory, sizeof directory, "%s", words.dir)
-                            : snprintf(directory, sizeof directory, "%s/vcam.XXXXXX", temporary && *temporary ? temporary : "/tmp");
-    if (length + 8 >= (int)sizeof directory)
-        fail("the directory's path is too long: that of a socket in it has at most 107 bytes");
-    if (!*words.dir && !mkdtemp(directory))
-        fail_at(directory);
-    int is_new = !*words.dir || !mkdir(directory, 0700);
-    if (!is_new && errno != EEXIST)
-        fail_at(directory);
-    is_made = is_new;
-    int lock = open(in_directory("lock"), O_CREAT | O_RDWR | O_CLOEXEC, 0600);
-    if (lock < 0)
-        fail_at(directory);
-    if (flock(lock, LOCK_EX | LOCK_NB))
-        fail("there is a camera at the directory already");
-    is_here = 1;
-    static const char *const made[] = {"sys", "sys/device", "sys/device/media0"};
-    for (size_t i = 0; i < sizeof made / sizeof *made; i++)
-        mkdir(in_directory(made[i]), 0700);
-    FILE *event = fopen(in_directory("sys/uevent"), "we");
-    if (!event)
-        fail_at(in_directory("sys/uevent"));
-    fputs("MAJOR=81\nMINOR=0\nDEVNAME=video0\n", event);
-    fclose(event);
-}
-
-static int listening(const char *name, int type) {
-    struct sockaddr_un address = {.sun_family = AF_UNIX};
-    strcpy(address.sun_path, in_directory(name));
-    unlink(address.sun_path); /* of a daemon that was killed */
-    int descriptor = socket(AF_UNIX, type | SOCK_CLOEXEC | SOCK_NONBLOCK, 0);
-    if (descriptor < 0 || bind(descriptor, (struct sockaddr *)&address, sizeof address) || listen(descriptor, 64))
-        fail_at(address.sun_path);
-    return descriptor;
+    formats_start(words.size, words.rate);
 }
 
 /* As many descriptors as the system lets it have. */
@@ -150,14 +99,19 @@ static int is_over(void) {
     return *words.until && end_of_process < 0 && kill(atoi(words.until), 0) && errno == ESRCH;
 }
 
-enum { SIGNALS, PROCESS, FILES, CALLS, TIMER, FIXED };
+void end_if_over(void) {
+    struct pollfd ends[] = {{signals, POLLIN, 0}, {end_of_process, POLLIN, 0}};
+    if (poll(ends, 2, 0) > 0 || is_over())
+        fail(0);
+}
+
+enum { SIGNALS, PROCESS, CALLS, TIMER, FIXED };
 
 /* Whom the loop waits for. Handles stand last: where a call is seen, each close that came before it is seen, too. */
 static int collect(struct pollfd *polled) {
     int count = FIXED;
     polled[SIGNALS] = (struct pollfd){signals, POLLIN, 0};
     polled[PROCESS] = (struct pollfd){end_of_process, POLLIN, 0};
-    polled[FILES] = (struct pollfd){files, POLLIN, 0};
     polled[CALLS] = (struct pollfd){calls, POLLIN, 0};
     polled[TIMER] = (struct pollfd){frame_timer(), POLLIN, 0};
     EACH(it, callers)
@@ -189,10 +143,8 @@ static void serve(void) {
         if (polled[SIGNALS].revents || polled[PROCESS].revents || is_over())
             return;
         serve_connections(polled);
-        if (polled[FILES].revents)
-            greet(files);
         if (polled[CALLS].revents)
-            greet_caller(calls);
+            greet(calls);
         if (polled[TIMER].revents)
             frame_due();
         answer_waiting();
@@ -206,7 +158,7 @@ static void serve(void) {
 /* Goes into the background; the process that stays there says when it is ready, and this one prints where. */
 static int start_background(void) {
     int pair[2], status = 0;
-    char said[sizeof directory];
+    char said[PATH_MAX];
     if (pipe2(pair, O_CLOEXEC))
         fail("no pipe");
     pid_t child = fork();
@@ -224,7 +176,7 @@ static int start_background(void) {
         exit(0);
     }
     waitpid(child, &status, 0);
-    exit(1);
+    exit(WIFEXITED(status) && WEXITSTATUS(status) ? WEXITSTATUS(status) : 1);
 }
 
 /* Nothing is read, and said on standard error alone. */
@@ -244,21 +196,20 @@ int main(int count, char **given) {
     watch_signals();
     raise_limit();
     clients_start();
-    make_directory();
+    place_take(words.dir);
     log_open(words.log);
     device_start(words.serve, words.device);
     controls_start();
     picture_start();
     frames_start();
-    files = listening("files", SOCK_STREAM);
-    calls = listening("calls", SOCK_SEQPACKET);
-    if (ready >= 0 && write(ready, directory, strlen(directory)) < 0)
+    calls = place_listen();
+    if (ready >= 0 && write(ready, place_path(), strlen(place_path())) < 0)
         fail("whoever started it is gone");
     if (ready >= 0)
         close(ready);
     else
-        fprintf(stderr, "vcam: the camera is at %s\n", directory);
+        fprintf(stderr, "vcam: the camera is at %s\n", place_path());
     serve();
-    clean_up();
+    place_leave();
     return 0;
 }

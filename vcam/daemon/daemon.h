@@ -8,26 +8,31 @@
 #include <stdint.h>
 #include <sys/time.h>
 
-#define WIDTH 320
-#define HEIGHT 240
-#define ROW_BYTES (WIDTH * 2)
-#define PICTURE_BYTES (HEIGHT * ROW_BYTES)
+#define CARD "Tugosier virtual camera"
+#define MOST_WIDTH 4096
+#define MOST_HEIGHT 2160
+#define ROW_BYTES (format.width * 2)
+#define PICTURE_BYTES (format.height * ROW_BYTES)
 
-/* A file handle of a program; `descriptor` is -1 where the slot is free. */
+/* A file handle of a program; `descriptor`, this end of it, is -1 where the slot is free. */
 struct handle {
     int descriptor, kind;
-    char name[NAME];
-    uint32_t number; /* of a request; of a video handle that is subscribed its file handle of the device, else NONE */
-    int priority;    /* of a video handle */
-    int is_told;     /* the urgent byte lies in it */
-    int takers;      /* calls that are taking bytes out of it; meanwhile none is put in */
-    int has_buffer;  /* a request was given a buffer */
+    uint32_t id;      /* by which calls name it */
+    char name[24];    /* by which the log names it: the process that opened it, and the how manieth it was */
+    uint32_t number;  /* of a request; of a video handle that has subscribed to events its file handle of the device, else NONE */
+    uint32_t counted; /* events of those that it had of devices before */
+    int priority;     /* of a video handle */
+    int frames;       /* bytes of frames that lie in it */
+    int is_told;      /* the urgent byte lies in it */
+    int takers;       /* calls that are taking all out of it; meanwhile nothing is put in */
+    int has_buffer;   /* a request was given a buffer */
 };
 
 /* A connection of calls; `descriptor` is -1 where the slot is free. */
 struct caller {
     int descriptor;
-    struct handle *taking; /* the handle out of which its last answer takes bytes */
+    int process;           /* that made it */
+    struct handle *taking; /* the handle out of which its last answer takes all */
     int waits;             /* whether a call of it waits */
     struct call waiting;
     uint32_t size;
@@ -42,12 +47,13 @@ struct asked {
     uint32_t size;
     struct answer answer;
     int passed;       /* a descriptor that goes with the answer, or -1 */
+    int is_given;     /* and is the program's alone from then on */
     int is_of_device; /* the device was asked */
 };
 
 /* Both fit into the 1,024 descriptors that a process has at least. */
 #define MOST_HANDLES 400
-#define MOST_CALLERS 400
+#define MOST_CALLERS MOST_HANDLES
 extern struct handle handles[MOST_HANDLES];
 extern struct caller callers[MOST_CALLERS];
 #define EACH(it, slots)                                                                                                          \
@@ -57,6 +63,26 @@ extern struct caller callers[MOST_CALLERS];
 /* daemon.c */
 /* Ends the daemon, and says why where it is known. */
 void fail(const char *why) __attribute__((noreturn));
+/* The same, by errno. */
+void fail_at(const char *path) __attribute__((noreturn));
+/* Ends it because of a word that it was begun with. */
+void refuse(const char *why) __attribute__((noreturn));
+/* Ends it where it is to end by now. */
+void end_if_over(void);
+
+/* place.c */
+/* Takes a directory for the camera, which it makes where it isn't there, or where none is named. */
+void place_take(const char *given);
+/* Listens there for programs. */
+int place_listen(void);
+const char *place_path(void);
+/* Removes what it made. */
+void place_leave(void);
+
+/* tree.c: what is found of the camera by its paths, in an entry of this name in the camera's open directory */
+#define TREE "root"
+void tree_make(int place);
+void tree_remove(int place);
 
 /* What changed since the calls that wait were looked at. */
 enum { NEW_FRAMES = 1, NEW_EVENTS = 2 };
@@ -64,12 +90,13 @@ extern int news;
 
 /* clients.c */
 void clients_start(void);
-struct handle *handle_named(const char *name);
+struct handle *handle_named(uint32_t id);
 struct handle *request_numbered(uint32_t number);
-/* Why the device can't be begun anew just now: who has subscribed, or which request is there; null where nothing hinders it. */
+/* Which request keeps the device from being begun anew just now; null where none does. */
 const char *not_quiet(void);
 void greet(int listener);
-void greet_caller(int listener);
+/* Opens a handle of a kind for a process. */
+uint32_t open_call(struct asked *asked, int kind, int process);
 void forget(struct handle *handle);
 void forget_caller(struct caller *caller);
 void free_orphans(void);
@@ -77,13 +104,16 @@ void free_orphans(void);
 void announce(void);
 void tell_frame(struct handle *handle);
 void tell_request(struct handle *handle);
-/* Has the answer say that bytes of frames be taken out of its handle. A read takes an urgent byte away, too, so the handle has none
- * put in until it is said that they are taken; then `announce` looks anew. */
-void take_frames(struct asked *asked, uint32_t frames);
-/* The same of an urgent byte, which stands for events, where none waits any more. */
+/* Has the answer say that what lies in its handle is to be taken out, since it isn't so any more. Meanwhile nothing is put in; then
+ * it is looked anew at what is so. */
+void take_out(struct asked *asked);
+/* The same where urgent bytes stand for events, and none waits any more. */
 void take_event(struct asked *asked);
-/* What an answer has taken out of a handle is out, or its program is gone. */
-void taken(struct caller *caller);
+/* What an answer wanted taken out of a handle is out, or its program is gone; or it couldn't be taken out. */
+void taken(struct caller *caller, int is_out);
+
+/* pair.c: two sockets that are connected, the second one for a program, with its mark; the errno where they can't be had */
+int make_pair(int pair[2], uint64_t mark);
 
 /* calls.c */
 void hear(struct caller *caller);
@@ -105,6 +135,11 @@ void controls_start(void);
 void renew(void);
 
 /* formats.c */
+extern struct format {
+    uint32_t width, height, rate; /* frames a second */
+} format;
+/* Takes the words for it, each of which may be empty. */
+void formats_start(const char *size, const char *rate);
 uint32_t format_call(struct asked *asked);
 uint32_t priority_call(struct asked *asked);
 uint32_t media_call(struct asked *asked);
@@ -119,6 +154,8 @@ void queue_buffer(uint32_t request);
 void unbind_buffer(uint32_t request);
 /* What is left where a handle ends. */
 void release_buffers(const struct handle *handle);
+/* How many frames wait for a handle. */
+uint32_t frames_for(const struct handle *handle);
 
 /* frames.c */
 void frames_start(void);

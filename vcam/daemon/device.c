@@ -9,6 +9,7 @@
 #include <string.h>
 #include <sys/prctl.h>
 #include <sys/socket.h>
+#include <sys/time.h>
 #include <sys/uio.h>
 #include <unistd.h>
 
@@ -36,6 +37,8 @@ void device_start(const char *program, const char *device_file) {
     }
     close(pair[1]);
     device = pair[0];
+    struct timeval often = {0, 200000};
+    setsockopt(device, SOL_SOCKET, SO_RCVTIMEO, &often, sizeof often);
 }
 
 /* A device that ends before its first reply has said itself what is wrong with its file. */
@@ -59,8 +62,10 @@ static void receive_reply(void) {
     size_t done = 0, size = head;
     while (done < size) {
         ssize_t got = read(device, (char *)&reply + done, sizeof reply - done);
-        if (got == 0 || (got < 0 && errno != EINTR))
+        if (got == 0 || (got < 0 && errno != EINTR && errno != EAGAIN))
             fail_gone();
+        if (got < 0)
+            end_if_over(); /* the device's file may be one that never ends */
         done += got < 0 ? 0 : got;
         if (done >= head)
             size = sizeof reply.length + reply.length;

@@ -23,7 +23,8 @@ enum {
     ASK_LINE,
     ASK_WHY,
     ASK_RENEW,
-    ASK_COUNTS
+    ASK_COUNTS,
+    ASK_EVENTS
 };
 
 /* The number of no request, and of the last handler. */

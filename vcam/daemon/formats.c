@@ -4,13 +4,36 @@
 #include <linux/media.h>
 #include <linux/videodev2.h>
 #include <stdio.h>
+#include <stdlib.h>
 #include <string.h>
 
 #define DRIVER "tugosier"
-#define CARD "Tugosier virtual camera"
 #define BUS "platform:tugosier-000"
 #define VERSION 0x060100
-#define FRAMES_A_SECOND 30
+#define MOST_RATE 1000
+
+struct format format = {320, 240, 30};
+
+void formats_start(const char *size, const char *rate) {
+    char first[5] = "", second[5] = "", more;
+    const char *nanoseconds = getenv("VCAM_FRAME_NANOSECONDS");
+    if (*size) {
+        int parts = sscanf(size, "%4[0-9]x%4[0-9]%c", first, second, &more);
+        format.width = atoi(first);
+        format.height = atoi(second);
+        int is_wrong = format.width < 64 || format.width > MOST_WIDTH || format.width % 2 || format.height > MOST_HEIGHT;
+        if (parts != 2 || is_wrong || !format.height)
+            refuse("--size is WIDTHxHEIGHT: an even width from 64 to 4096, and at most 2160 rows");
+    }
+    if (*rate) {
+        int parts = sscanf(rate, "%4[0-9]%c", first, &more);
+        format.rate = atoi(first);
+        if (parts != 1 || !format.rate || format.rate > MOST_RATE)
+            refuse("--rate is a number of frames a second, from 1 to 1000");
+        if (nanoseconds && *nanoseconds)
+            refuse("--rate doesn't stand beside VCAM_FRAME_NANOSECONDS");
+    }
+}
 
 static uint32_t query_capability(struct v4l2_capability *it) {
     *it = (struct v4l2_capability){.driver = DRIVER, .card = CARD, .bus_info = BUS, .version = VERSION};
@@ -38,8 +61,8 @@ static uint32_t get_format(struct v4l2_format *it) {
     if (it->type != V4L2_BUF_TYPE_VIDEO_CAPTURE)
         return EINVAL;
     it->fmt.pix = (struct v4l2_pix_format){
-        .width = WIDTH,
-        .height = HEIGHT,
+        .width = format.width,
+        .height = format.height,
         .pixelformat = V4L2_PIX_FMT_YUYV,
         .field = V4L2_FIELD_NONE,
         .bytesperline = ROW_BYTES,
@@ -57,17 +80,17 @@ static uint32_t enumerate_size(struct v4l2_frmsizeenum *it) {
     if (it->index || it->pixel_format != V4L2_PIX_FMT_YUYV)
         return EINVAL;
     it->type = V4L2_FRMSIZE_TYPE_DISCRETE;
-    it->discrete.width = WIDTH;
-    it->discrete.height = HEIGHT;
+    it->discrete.width = format.width;
+    it->discrete.height = format.height;
     memset(it->reserved, 0, sizeof it->reserved);
     return 0;
 }
 
 static uint32_t enumerate_interval(struct v4l2_frmivalenum *it) {
-    if (it->index || it->pixel_format != V4L2_PIX_FMT_YUYV || it->width != WIDTH || it->height != HEIGHT)
+    if (it->index || it->pixel_format != V4L2_PIX_FMT_YUYV || it->width != format.width || it->height != format.height)
         return EINVAL;
     it->type = V4L2_FRMIVAL_TYPE_DISCRETE;
-    it->discrete = (struct v4l2_fract){1, FRAMES_A_SECOND};
+    it->discrete = (struct v4l2_fract){1, format.rate};
     memset(it->reserved, 0, sizeof it->reserved);
     return 0;
 }
@@ -77,7 +100,7 @@ static uint32_t get_parameters(struct v4l2_streamparm *it) {
         return EINVAL;
     memset(&it->parm, 0, sizeof it->parm);
     it->parm.capture.capability = V4L2_CAP_TIMEPERFRAME;
-    it->parm.capture.timeperframe = (struct v4l2_fract){1, FRAMES_A_SECOND};
+    it->parm.capture.timeperframe = (struct v4l2_fract){1, format.rate};
     return 0;
 }
 

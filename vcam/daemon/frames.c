@@ -1,4 +1,4 @@
-/* The making of frames: one each time that the timer goes off while the stream runs. */
+/* The making of frames: one is due each time that the timer goes off while the stream runs. */
 #define _GNU_SOURCE
 #include "frames.h"
 #include <stdlib.h>
@@ -7,10 +7,11 @@
 #include <unistd.h>
 
 static int timer = -1;
-static uint64_t interval = 33333333; /* nanoseconds */
+static uint64_t interval; /* nanoseconds */
 
 void frames_start(void) {
     const char *given = getenv("VCAM_FRAME_NANOSECONDS");
+    interval = 1000000000 / format.rate;
     if (given && strtoull(given, 0, 10))
         interval = strtoull(given, 0, 10);
     timer = timerfd_create(CLOCK_MONOTONIC, TFD_CLOEXEC | TFD_NONBLOCK);
@@ -41,12 +42,10 @@ static void make_request_frame(void) {
         return;
     uint32_t request = reply.x, buffer = reply.y, refused = reply.z;
     struct handle *handle = request_numbered(request);
-    log_line("%s frame in buffer %u, refused clusters: %u", handle ? handle->name + 7 : "a closed request", buffer, refused);
+    log_line("%s frame in buffer %u, refused clusters: %u", handle ? handle->name : "a closed request", buffer, refused);
     struct frame frame = frame_now(request, refused);
     if (is_queued_in(buffer, request))
         fill_buffer(buffer, &frame);
-    else
-        skip_frame();
     ask(ASK_COMPLETE, 0, 0, 0, 0, 0);
     if (handle)
         tell_request(handle);
@@ -54,19 +53,20 @@ static void make_request_frame(void) {
     news |= NEW_EVENTS;
 }
 
+/* A frame that finds no buffer is lost, and so are those that were due while this process was busy, as with the painting of one. They
+ * are counted behind the frame that is made now, so that the first one of a stream is 0 however late it is. */
 void frame_due(void) {
     uint64_t times;
     uint32_t buffer;
     /* the stream may have ended in the same turn */
     if (read(timer, &times, sizeof times) != sizeof times || !is_running())
         return;
-    if (!first_waiting(&buffer)) {
-        if (holds_requests())
-            make_request_frame();
-        return;
-    }
-    struct frame frame = frame_now(NONE, 0);
-    fill_buffer(buffer, &frame);
+    if (first_waiting(&buffer)) {
+        struct frame frame = frame_now(NONE, 0);
+        fill_buffer(buffer, &frame);
+    } else if (holds_requests())
+        make_request_frame();
+    pass_frames(times);
 }
 
 void end_requests(void) {

@@ -56,7 +56,7 @@ static char *add_list(char *at, char *end, const struct asked *asked, const void
     const struct v4l2_ext_control *entries = (const void *)(list + 1);
     uint32_t there = (asked->size - sizeof *list) / (sizeof *entries + SLOT);
     if (!is_answer && list->which == V4L2_CTRL_WHICH_REQUEST_VAL)
-        ADD(" request %s", asked->request ? asked->request->name + 7 : "none");
+        ADD(" request %s", asked->request ? asked->request->name : "none");
     else if (!is_answer && list->which)
         ADD(" which 0x%08x", list->which);
     for (uint32_t i = 0; i < list->count && i < there; i++) {
@@ -91,7 +91,7 @@ static char *add_asked(char *at, char *end, const struct asked *asked, const voi
         ADD(" place %u", numbers[0]);
         break;
     case VIDIOC_QBUF:
-        ADD(" buffer %u request %s", numbers[0], asked->request ? asked->request->name + 7 : "none");
+        ADD(" buffer %u request %s", numbers[0], asked->request ? asked->request->name : "none");
         break;
     case VIDIOC_G_EXT_CTRLS:
     case VIDIOC_S_EXT_CTRLS:
@@ -147,7 +147,7 @@ void log_call(const struct asked *asked, const void *before, uint32_t error) {
     char line[2048], *at = line, *end = line + sizeof line - 1;
     if (!log_file || !is_of_interest(asked))
         return;
-    ADD("%s %s", asked->handle->name + 7, call_name(asked->handle->kind, asked->number));
+    ADD("%s %s", asked->handle->name, call_name(asked->handle->kind, asked->number));
     at = add_asked(at, end, asked, before);
     if (error) {
         if (asked->is_of_device)

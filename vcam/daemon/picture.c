@@ -9,11 +9,12 @@
 #include <stdlib.h>
 #include <string.h>
 #include <time.h>
+#include <wchar.h>
 
 #define CELL_WIDTH (GLYPH_COLUMNS + 1)
 #define CELL_HEIGHT (GLYPH_ROWS + 2)
-#define ROOM (WIDTH / CELL_WIDTH) /* letters in a row of text */
-#define SECOND 30                 /* frames */
+#define ROOM ((int)format.width / CELL_WIDTH) /* letters in a row of text */
+#define LETTERS 128                           /* more than any text has */
 enum { DARK = 16, BRIGHT = 235, GREY = 128 };
 
 static struct device_control controls[VCAM_MOST_CONTROLS];
@@ -24,6 +25,11 @@ static struct vcam_value last[VCAM_MOST_CONTROLS];
 static uint32_t changed_at[VCAM_MOST_CONTROLS];
 static uint32_t painted;
 
+/* How many rows of pixels the part for programs takes. */
+static uint32_t rows_of(uint32_t count) {
+    return (sizeof(struct vcam_picture) + count * sizeof(struct vcam_value) + ROW_BYTES - 1) / ROW_BYTES;
+}
+
 void picture_start(void) {
     if (ask(ASK_CONTROLS, 0, 0, 0, 0, 0))
         fail("the device tells no controls");
@@ -33,6 +39,12 @@ void picture_start(void) {
     memcpy(controls, reply.payload, control_count * sizeof *controls);
     for (uint32_t i = 0; i < control_count; i++)
         controls[i].name[sizeof controls[i].name - 1] = 0;
+    if (format.height < rows_of(control_count)) {
+        char why[128];
+        snprintf(why, sizeof why, "--size: at a width of %u a picture of this device has %u rows at least, which hold its values",
+                 format.width, rows_of(control_count));
+        refuse(why);
+    }
 }
 
 uint32_t put_values(struct vcam_value *values) {
@@ -56,7 +68,7 @@ static void put_letter(unsigned char *picture, int x, int y, char letter, int is
         for (int column = 0; column < CELL_WIDTH; column++) {
             int is_in = row >= 0 && row < GLYPH_ROWS && column < GLYPH_COLUMNS;
             int is_ink = is_in && font[glyph][column] >> row & 1;
-            if (x + column < WIDTH && y + row >= 0 && y + row < HEIGHT)
+            if (x + column < (int)format.width && y + row >= 0 && y + row < (int)format.height)
                 picture[(y + row) * ROW_BYTES + (x + column) * 2] = is_ink != is_marked ? BRIGHT : DARK;
         }
 }
@@ -66,18 +78,20 @@ static void put_text(unsigned char *picture, int x, int y, const char *text, int
         put_letter(picture, x, y, *text, is_marked);
 }
 
-/* A control and its value in words, with its mark. */
-static int label(char text[ROOM + 1], uint32_t number, int is_marked) {
+/* A control and its value in words, with its mark; how many letters of it a row shows. */
+static int label(char text[LETTERS], uint32_t number, int is_marked) {
     const struct vcam_value *value = &last[number];
-    int length = snprintf(text, ROOM + 1, "%c%s=", is_marked ? '*' : ' ', controls[number].name);
+    int length = snprintf(text, LETTERS, "%c%s=", is_marked ? '*' : ' ', controls[number].name);
     if (!controls[number].elements) {
         long long it;
         memcpy(&it, value->bytes, sizeof it);
-        length += snprintf(text + length, ROOM + 1 - length, "%lld", it);
+        length += snprintf(text + length, LETTERS - length, "%lld", it);
     }
-    for (uint32_t i = 0; controls[number].elements && i < value->length && i < sizeof value->bytes && length < ROOM; i++)
-        length += snprintf(text + length, ROOM + 1 - length, "%02x", value->bytes[i]);
-    return length < ROOM ? length : ROOM;
+    for (uint32_t i = 0; controls[number].elements && i < value->length && i < sizeof value->bytes; i++)
+        length += snprintf(text + length, LETTERS - length, "%02x", value->bytes[i]);
+    length = length < ROOM ? length : ROOM;
+    text[length] = 0;
+    return length;
 }
 
 /* Takes the values, and counts which changed. */
@@ -90,12 +104,12 @@ static void take_values(const struct vcam_value *values, uint32_t count) {
 }
 
 static int is_marked(uint32_t number) {
-    return changed_at[number] && painted - changed_at[number] < SECOND;
+    return changed_at[number] && painted - changed_at[number] < format.rate;
 }
 
 /* The head: the frame's number, the time of day, its request. */
 static void put_head(unsigned char *picture, int y, const struct frame *frame) {
-    char text[2 * ROOM], *end = text + sizeof text, *at = text;
+    char text[LETTERS], *end = text + sizeof text, *at = text;
     struct timespec now;
     struct tm day;
     clock_gettime(CLOCK_REALTIME, &now);
@@ -113,7 +127,7 @@ static void put_head(unsigned char *picture, int y, const struct frame *frame) {
 static void put_controls(unsigned char *picture, int y) {
     static int widest = 1;
     static uint32_t shown[VCAM_MOST_CONTROLS];
-    char text[ROOM + 1];
+    char text[LETTERS];
     uint32_t count = 0;
     for (uint32_t i = 0; i < control_count; i++) {
         if (controls[i].type == V4L2_CTRL_TYPE_CTRL_CLASS)
@@ -122,11 +136,13 @@ static void put_controls(unsigned char *picture, int y) {
         int length = label(text, i, 0);
         widest = length > widest ? length : widest;
     }
-    uint32_t columns = (ROOM + 1) / (widest + 1), rows = (HEIGHT - y) / CELL_HEIGHT;
+    uint32_t columns = (ROOM + 1) / (widest + 1), rows = y < (int)format.height ? (format.height - y) / CELL_HEIGHT : 0;
     columns = columns ? columns : 1;
     if (columns * rows < count) {
+        if (rows < 2)
+            return;
         rows--;
-        uint32_t first = painted / SECOND % ((count + columns * rows - 1) / (columns * rows)) * columns * rows;
+        uint32_t first = painted / format.rate % ((count + columns * rows - 1) / (columns * rows)) * columns * rows;
         uint32_t left = count - first < columns * rows ? count - first : columns * rows;
         snprintf(text, sizeof text, "controls %u to %u of %u", first + 1, first + left, count);
         put_text(picture, 0, y, text, 0);
@@ -140,8 +156,8 @@ static void put_controls(unsigned char *picture, int y) {
     }
 }
 
-/* The part for programs; how many rows of pixels it takes. */
-static int put_data(unsigned char *picture, const struct frame *frame, const struct vcam_value *values, uint32_t count) {
+/* The part for programs. */
+static void put_data(unsigned char *picture, const struct frame *frame, const struct vcam_value *values, uint32_t count) {
     struct vcam_picture head = {
         .magic = VCAM_MAGIC,
         .size = sizeof head + count * sizeof *values,
@@ -154,18 +170,15 @@ static int put_data(unsigned char *picture, const struct frame *frame, const str
     };
     memcpy(picture, &head, sizeof head);
     memcpy(picture + sizeof head, values, count * sizeof *values);
-    return (head.size + ROW_BYTES - 1) / ROW_BYTES;
 }
 
 void paint(unsigned char *picture, const struct frame *frame) {
     static struct vcam_value values[VCAM_MOST_CONTROLS];
-    for (int i = 0; i < PICTURE_BYTES; i += 2) {
-        picture[i] = DARK;
-        picture[i + 1] = GREY;
-    }
+    wmemset((wchar_t *)picture, 0x10001u * (GREY << 8 | DARK), PICTURE_BYTES / sizeof(wchar_t)); /* two pixels at once */
     uint32_t count = ask(ASK_VALUES, 0, 0, 0, 0, 0) ? 0 : put_values(values);
     take_values(values, count);
-    int y = put_data(picture, frame, values, count) + 2;
+    put_data(picture, frame, values, count);
+    int y = rows_of(count) + 2;
     put_head(picture, y, frame);
     put_controls(picture, y + CELL_HEIGHT);
 }

@@ -6,6 +6,7 @@
 #include <sys/stat.h>
 #include <sys/syscall.h>
 #include <sys/time.h>
+#include <sys/wait.h>
 
 static int video, other;
 static const struct v4l2_query_ext_ctrl *control;
@@ -32,6 +33,32 @@ static void check_pointers(void) {
             CHECK(!list_call(video, VIDIOC_S_EXT_CTRLS, -1, &array));
         }
     REFUSED(list_call(video, VIDIOC_S_EXT_CTRLS, 0, &entry), EINVAL); /* standard input is no request */
+}
+
+/* The index of a list that is taken is that of its last entry; where a list has more entries than any may have, nothing of it is looked
+ * at. */
+static void check_indexes(void) {
+    static const unsigned long numbers[] = {VIDIOC_G_EXT_CTRLS, VIDIOC_S_EXT_CTRLS, VIDIOC_TRY_EXT_CTRLS};
+    struct v4l2_ext_control entries[2000] = {{.id = control->id}, {.id = control->id}};
+    for (int i = 0; i < 3; i++) {
+        struct v4l2_ext_controls list = {.count = 2, .error_idx = 77, .controls = entries};
+        CHECK(!ioctl(video, numbers[i], &list) && list.error_idx == 1);
+        list.count = 1;
+        CHECK(!ioctl(video, numbers[i], &list) && list.error_idx == 0);
+        list.count = 0;
+        list.error_idx = 77;
+        CHECK(!ioctl(video, numbers[i], &list) && list.error_idx == 0);
+        list.count = 1024;
+        list.error_idx = 77;
+        REFUSED(ioctl(video, numbers[i], &list), EINVAL);
+        CHECK(list.error_idx == 1024);
+        list.count = 1025;
+        list.error_idx = 77;
+        REFUSED(ioctl(video, numbers[i], &list), EINVAL);
+        CHECK(list.error_idx == 77);
+        list.controls = nowhere;
+        REFUSED(ioctl(video, numbers[i], &list), EINVAL);
+    }
 }
 
 static void check_nodes(void) {
@@ -151,6 +178,22 @@ static void on_alarm(int number) {
     (void)number;
 }
 
+/* A call that waits goes on behind a signal with SA_RESTART. */
+static void check_restart(void) {
+    struct sigaction action = {.sa_handler = on_alarm, .sa_flags = SA_RESTART}, before;
+    struct itimerval soon = {.it_value = {0, 50000}};
+    struct v4l2_event event;
+    CHECK(!sigaction(SIGALRM, &action, &before) && !setitimer(ITIMER_REAL, &soon, 0));
+    pid_t child = fork();
+    if (child == 0) {
+        usleep(400000);
+        change_control();
+        _exit(failed != 0);
+    }
+    CHECK(!ioctl(video, VIDIOC_DQEVENT, &event) && event.id == control->id);
+    CHECK(waitpid(child, 0, 0) == child && !sigaction(SIGALRM, &before, 0));
+}
+
 /* A stream and events on one handle: frames that are taken take no event away. */
 static void check_frames(void) {
     struct v4l2_buffer buffer;
@@ -193,11 +236,13 @@ int main(void) {
     find_controls(video);
     control = plain_control();
     check_pointers();
+    check_indexes();
     check_nodes();
     check_many_handles();
     check_priorities();
     check_owner();
     check_events();
+    check_restart();
     check_frames();
     return report();
 }

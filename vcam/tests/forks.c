@@ -19,12 +19,13 @@ static int behind_exec(int descriptor, unsigned id, int value) {
     return failed;
 }
 
-/* Calls in a child and in its parent at the same time. */
-static void call_in_both(int descriptor) {
+/* Calls in a child and in its parent at the same time, each of which has its own answers. */
+static void call_in_both(int descriptor, unsigned id) {
     struct v4l2_capability capability;
+    struct v4l2_control control = {.id = id};
     pid_t child = fork();
-    for (int i = 0; i < 200; i++)
-        CHECK(!ioctl(descriptor, VIDIOC_QUERYCAP, &capability));
+    for (int i = 0; i < 2000; i++)
+        CHECK(child ? !ioctl(descriptor, VIDIOC_QUERYCAP, &capability) : !ioctl(descriptor, VIDIOC_G_CTRL, &control));
     if (child == 0)
         _exit(failed != 0);
     CHECK(ended(child) == 0);
@@ -55,7 +56,7 @@ int main(int count, char **given) {
     }
     CHECK(ended(child) == 0);
     CHECK(!polled(copy, POLLPRI, 0)); /* the child took it */
-    call_in_both(copy);
+    call_in_both(copy, control->id);
     CHECK(!set_control(other, control->id, control->minimum));
     CHECK(!ioctl(copy, VIDIOC_DQEVENT, &event) && event.u.ctrl.value == control->minimum);
     struct v4l2_capability capability;

@@ -138,6 +138,21 @@ static void call_request(void) {
     }
 }
 
+/* The graph, into arrays by chance. */
+static void call_graph(void) {
+    struct media_v2_topology all = {.num_entities = dice(4), .num_interfaces = dice(3), .num_pads = dice(4), .num_links = dice(4)};
+    struct media_links_enum links = {.entity = dice(5) | (dice(2) ? MEDIA_ENT_ID_FLAG_NEXT : 0)};
+    all.ptr_entities = (uintptr_t)some_pointer();
+    all.ptr_interfaces = (uintptr_t)some_pointer();
+    all.ptr_pads = (uintptr_t)some_pointer();
+    all.ptr_links = (uintptr_t)some_pointer();
+    links.pads = some_pointer();
+    links.links = some_pointer();
+    ioctl(media, MEDIA_IOC_G_TOPOLOGY, &all);
+    ioctl(media, MEDIA_IOC_ENUM_LINKS, &links);
+    ioctl(media, MEDIA_IOC_ENUM_ENTITIES, some_pointer());
+}
+
 /* Maps and unmaps, closes and opens, and calls of any number on any bytes. */
 static void call_other(void) {
     int *video = &videos[dice(HANDLES)];
@@ -145,7 +160,7 @@ static void call_other(void) {
     case 0:
         if (mapped != MAP_FAILED)
             munmap(mapped, 4096);
-        mapped = mmap(0, 4096, dice(4) ? PROT_READ : PROT_WRITE, dice(4) ? MAP_SHARED : MAP_PRIVATE, *video, dice(6) * 0x80000);
+        mapped = mmap(0, 4096, dice(4) ? PROT_READ : PROT_WRITE, dice(4) ? MAP_SHARED : MAP_PRIVATE, *video, dice(6) * 0x1000000);
         break;
     case 1:
         close(*video);
@@ -159,6 +174,9 @@ static void call_other(void) {
     }
     case 3:
         polled(*video, POLLIN | POLLPRI | POLLOUT, 0);
+        break;
+    case 5:
+        call_graph();
         break;
     case 4: { /* the number of a call that there is, or nearly */
         unsigned size = dice(4) ? dice(300) : dice(1 << 14);

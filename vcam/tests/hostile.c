@@ -1,4 +1,4 @@
-/* Messages of every wrong kind at the camera's sockets: bytes by chance, halves of packets, answers that nobody reads, connections
+/* Messages of every wrong kind at the camera's socket: bytes by chance, halves of packets, answers that nobody reads, connections
  * that do nothing, processes killed in mid call. Meanwhile a program goes on with its calls, and each of them has to return soon.
  * usage: hostile SEED MESSAGES */
 #include "client.h"
@@ -15,15 +15,10 @@ static struct {
     unsigned char payload[MOST_PAYLOAD + 4096];
 } packet;
 
-static int connection(const char *file, int type, const char *name) {
+static int call_connection(void) {
     struct sockaddr_un address = {.sun_family = AF_UNIX};
-    int descriptor = socket(AF_UNIX, type | SOCK_CLOEXEC, 0);
-    if (name) {
-        memcpy(address.sun_path + 1, name, strlen(name));
-        bind(descriptor, (struct sockaddr *)&address, offsetof(struct sockaddr_un, sun_path) + 1 + strlen(name));
-        memset(&address.sun_path, 0, sizeof address.sun_path);
-    }
-    snprintf(address.sun_path, sizeof address.sun_path, "%s/%s", getenv("VCAM_DIR"), file);
+    int descriptor = socket(AF_UNIX, SOCK_SEQPACKET | SOCK_CLOEXEC, 0);
+    snprintf(address.sun_path, sizeof address.sun_path, "%s/calls", getenv("VCAM_DIR"));
     if (connect(descriptor, (struct sockaddr *)&address, sizeof address)) {
         close(descriptor);
         return -1;
@@ -34,30 +29,43 @@ static int connection(const char *file, int type, const char *name) {
     return descriptor;
 }
 
-static int call_connection(void) {
-    return connection("calls", SOCK_SEQPACKET, 0);
+/* Opens a handle of a kind over a connection: its descriptor and its number, or -1 and the errno. */
+static int raw_open(int calls, uint32_t kind, uint32_t *number) {
+    char room[CMSG_SPACE(sizeof(int))];
+    struct call call = {.what = CALL_OPEN, .number = kind};
+    struct answer answer = {0};
+    struct iovec part = {&answer, sizeof answer};
+    struct msghdr message = {.msg_iov = &part, .msg_iovlen = 1, .msg_control = room, .msg_controllen = sizeof room};
+    uint64_t mark = 0;
+    socklen_t size = sizeof mark;
+    int descriptor = -1;
+    send(calls, &call, sizeof call, MSG_NOSIGNAL);
+    CHECK(recvmsg(calls, &message, MSG_CMSG_CLOEXEC) == sizeof answer);
+    *number = answer.error;
+    if (answer.error || !CMSG_FIRSTHDR(&message))
+        return -1;
+    memcpy(&descriptor, CMSG_DATA(CMSG_FIRSTHDR(&message)), sizeof descriptor);
+    CHECK(!getsockopt(descriptor, SOL_SOCKET, SO_MAX_PACING_RATE, &mark, &size) && IS_MARK(mark) && KIND_OF_MARK(mark) == (int)kind);
+    *number = mark;
+    return descriptor;
 }
 
-/* Another handle, with a name by the rules or against them. */
-static int some_handle(char name[NAME]) {
-    static unsigned number;
-    static const char *const forms[] = {"vcam/v/%x.%x", "vcam/r/%x.%x", "vcam/m/%x.%x",   "vcam/q/%x.%x",
-                                        "vcam/v/%x %x", "other/%x.%x",  "vcam/v/\n%x.%x"};
-    snprintf(name, NAME, forms[dice(4) ? 0 : dice(7)], getpid(), 0x100000 + number++);
-    return connection("files", SOCK_STREAM, name);
+/* Another handle, of a kind that there is or of another one. */
+static int some_handle(int calls, uint32_t *number) {
+    static const uint32_t kinds[] = {VIDEO, MEDIA, REQUEST, 0, 'q', ~0u};
+    return raw_open(calls, dice(4) ? VIDEO : kinds[dice(6)], number);
 }
 
-static void fill_packet(const char *name) {
+static void fill_packet(uint32_t handle) {
     static const uint32_t numbers[] = {
         VIDIOC_QUERYCAP, VIDIOC_S_CTRL,  VIDIOC_G_EXT_CTRLS,     VIDIOC_S_EXT_CTRLS, VIDIOC_QBUF,      VIDIOC_DQBUF,
-        VIDIOC_REQBUFS,  VIDIOC_DQEVENT, VIDIOC_SUBSCRIBE_EVENT, VIDIOC_STREAMON,    VIDIOC_STREAMOFF, VIDIOC_VCAM_FORECAST};
-    packet.call = (struct call){.what = dice(5) ? CALL_IOCTL : dice(8), .number = numbers[dice(12)], .may_wait = dice(2)};
+        VIDIOC_REQBUFS,  VIDIOC_DQEVENT, VIDIOC_SUBSCRIBE_EVENT, VIDIOC_STREAMON,    VIDIOC_STREAMOFF, VIDIOC_VCAM_FORECAST,
+        VIDIOC_EXPBUF};
+    packet.call = (struct call){.what = dice(5) ? CALL_IOCTL : dice(8), .number = numbers[dice(13)], .may_wait = dice(2)};
     if (!dice(6))
         packet.call.number = dice(~0u);
-    if (dice(8))
-        snprintf(packet.call.handle, NAME, "%s", name);
-    else
-        memset(packet.call.handle, 'x', NAME); /* without an end */
+    packet.call.handle = dice(8) ? handle : dice(~0u);
+    packet.call.request = dice(3) ? 0 : dice(2) ? handle : dice(~0u);
     for (int i = 0; i < 400; i++)
         packet.payload[i] = dice(4) ? 0 : dice(256);
 }
@@ -74,11 +82,11 @@ static unsigned some_size(void) {
 }
 
 /* Packets over one connection, some of whose answers are read; how many were sent. */
-static int send_packets(int calls, const char *name) {
+static int send_packets(int calls, uint32_t handle) {
     static unsigned char answer[MOST_PAYLOAD + 64];
     int sent = 0, count = 1 + dice(8), reads = dice(3);
     for (int i = 0; i < count; i++, sent++) {
-        fill_packet(name);
+        fill_packet(handle);
         if (send(calls, &packet, some_size(), MSG_NOSIGNAL) < 0)
             break; /* the daemon has closed it */
         int is_answered = packet.call.what != CALL_STOP && !(packet.call.may_wait && packet.call.what == CALL_IOCTL);
@@ -101,13 +109,13 @@ static void send_descriptor(int calls) {
 
 /* A round of wrong doings; how many messages it was. */
 static int attack(void) {
-    char name[NAME] = "";
-    int handle = some_handle(name), calls = call_connection(), sent = 0;
+    uint32_t number;
+    int calls = call_connection(), handle = some_handle(calls, &number), sent = 0;
     if (dice(3) == 0)
         sent += send(handle, packet.payload, dice(5000), MSG_NOSIGNAL | MSG_DONTWAIT) >= 0;
     if (dice(6) == 0)
         shutdown(dice(2) ? handle : calls, dice(3));
-    sent += send_packets(calls, name);
+    sent += send_packets(calls, number);
     if (dice(10) == 0)
         send_descriptor(calls);
     if (dice(2)) { /* the handle goes first, or the connection */
@@ -123,15 +131,12 @@ static int attack(void) {
 /* More connections than the daemon takes: those above its limit are told so, and the others stand. */
 static void check_limits(void) {
     static int many[1100];
-    char name[NAME];
-    unsigned char error = 0;
     struct answer refused = {0};
-    int handles = 0, calls = 0;
+    uint32_t number;
+    int handles = 0, calls = 0, opener = call_connection();
     for (int i = 0; i < 550; i++) {
-        snprintf(name, sizeof name, "vcam/v/%x.f%x", getpid(), i);
-        many[i] = connection("files", SOCK_STREAM, name);
-        if (recv(many[i], &error, 1, 0) == 1 && error == ENFILE)
-            handles++;
+        many[i] = raw_open(opener, VIDEO, &number);
+        handles += many[i] < 0 && number == ENFILE;
     }
     for (int i = 550; i < 1100; i++) {
         many[i] = call_connection();
@@ -143,6 +148,7 @@ static void check_limits(void) {
     CHECK(handles > 0 && calls > 0);
     for (int i = 0; i < 1100; i++)
         close(many[i]);
+    close(opener);
 }
 
 /* A process that is killed while it waits. */

@@ -62,7 +62,9 @@ static int same_in_request(int frame, const struct vcam_value *values, unsigned 
 static void take_frame(int frame) {
     struct v4l2_buffer buffer;
     CHECK(polled(requests[frame], POLLPRI, 10000) & POLLPRI);
-    CHECK(!take_buffer(video, &buffer) && buffer.index == (unsigned)frame && buffer.sequence == (unsigned)frame);
+    static unsigned next; /* those between are lost where the camera is late */
+    CHECK(!take_buffer(video, &buffer) && buffer.index == (unsigned)frame && buffer.sequence >= next);
+    next = buffer.sequence + 1;
     struct vcam_picture *picture = (struct vcam_picture *)pictures[frame];
     const struct vcam_value *values = (struct vcam_value *)(picture + 1);
     const struct vcam_forecast *forecast = &forecasts[frame];
