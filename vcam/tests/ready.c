@@ -94,8 +94,7 @@ static void check_closed(int video) {
     CHECK(!queue_all(video) && !stream(video, 1) && !pthread_create(&thread, 0, wait_on_closed, &result));
     usleep(5000);
     CHECK(!close(closed) && !pthread_join(thread, 0));
-    if (result) /* it was closed before the call began */
-        CHECK(!take_buffer(video, &buffer));
+    CHECK(!result || !take_buffer(video, &buffer)); /* it may have been closed before the call began */
     CHECK(!take_buffer(video, &buffer));
     fcntl(video, F_SETFL, O_RDWR | O_NONBLOCK);
     REFUSED(take_buffer(video, &buffer), EAGAIN);
