@@ -20,7 +20,6 @@ FOLDERS = ("must-fail", "bodies")
 PARTS = ("src", "specs", "proofs")
 HEAD = re.compile(r"# (\w+): (\S+) at (\S+)$")
 ELSEWHERE = "# elsewhere: "
-COLUMNS = ("crate", "pack", "body", "function", "goal", "found", "elsewhere", "sum", "below")
 # What a line that is only a comment begins with.
 COMMENTS = {".rt": "//", ".antt": "--"}
 
