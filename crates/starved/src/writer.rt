@@ -96,7 +96,8 @@ impl<'a> Kept<'a> {
         self.calls.push(Work {
             asked: if is_audit { 0 } else { asked },
             told,
-        })
+        })?;
+        Ok(())
     }
 
     fn end_line(&mut self) {
