@@ -3,6 +3,9 @@
 /// What a growth is rounded up to, in bytes.
 pub const STEP: usize = 16;
 
+/// No case needs more budgets, nor one of its lines.
+pub const MOST_RUNS: u32 = 10_000;
+
 /// A budget that rises from nothing: by steps of 16 bytes at first, which double while the same comes of it. Where something else comes of it
 /// behind a wider step, it goes back and looks with steps of half the width, down to 16 bytes, where that began.
 #[derive(Clone, Copy)]

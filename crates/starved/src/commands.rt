@@ -6,7 +6,7 @@ use script_lines::VERB_WORDS;
 // The commands that take none.
 const TAKE_NONE: [&[u8]; 4] = [b"query", b"next", b"told", b"state"];
 
-/// Which commands found no memory.
+/// Which commands found no memory on the device of a file, another than the sample device, that has a notifier.
 #[derive(Drop)]
 pub struct Wanting {
     refused: [bool; VERB_WORDS.len()],
@@ -21,14 +21,16 @@ impl Wanting {
     }
 
     /// The command of this line found none. Whether it is one that may take memory.
-    pub fn add(&mut self, line: &[u8]) -> bool {
+    ///
+    /// - `is_other_told`: whether it was asked of such a device.
+    pub fn add(&mut self, line: &[u8], is_other_told: bool) -> bool {
         let Some(verb) = word(line, 0) else {
             return false;
         };
         match VERB_WORDS.iter().position(|one| *one == verb) {
             Some(place) if takes_memory(verb) => {
                 if let Some(refused) = self.refused.get_mut(place) {
-                    *refused = true;
+                    *refused = *refused || is_other_told;
                 }
                 true
             }

@@ -1,27 +1,26 @@
-//! The sample device with notifiers that count how often they are told.
+//! A driver whose closures count how often they are called.
 
-ghost use Rattle.std.specs.Prelude.{⊤, ◌≡◌, [], IfOk};
+ghost use Rattle.std.specs.Prelude.{⊤, ◌≡◌};
 ghost use Rattle.data_driver.specs.Data.{data_told, data_verdict};
 ghost use Rattle.data_driver.specs.Limits.{verdict_of};
 ghost use Rattle.data_driver.specs.Words.{word_of};
 
-use ctl_script::sample_builder;
 use ctrl_calls::{
-    Calls, ClusterRow, Judging, Notifier, Notifies, Telling, Validates, Validator, Verdict,
+    ClusterRow, Judging, Notifier, Notifies, Telling, Validates, Validator, Verdict, Work,
 };
-use data_driver::{Excess, Limit, Word};
-use device_state::Device;
+use data_driver::{Data, Limit, Word};
 use std::alloc::{AllocError, Global};
 use std::sync::Arc;
 use std::sync::atomic::{AtomicU64, Ordering};
 
-/// The driver: validators judge by limits, and notifiers say words and count.
+/// The driver: as that of a device's file, whose validators judge by limits and whose notifiers say words; and they count.
 pub enum Counting {}
 
-/// A validator.
+/// A validator, and how often those of its device were asked.
 #[derive(Drop)]
 pub struct Judge {
     limit: Limit,
+    asked: Arc<AtomicU64>,
 }
 
 impl Judging for Judge {
@@ -30,6 +29,7 @@ impl Judging for Judge {
     ghost answers = { λ judge row verdict. verdict ≡ verdict_of judge.limit row };
 
     fn judge(&self, row: ClusterRow) -> Verdict {
+        self.asked.fetch_add(1, Ordering::SeqCst);
         self.limit.verdict(&row)
     }
 }
@@ -64,55 +64,57 @@ impl Notifies for Counting {
     ghost told = { data_told };
 }
 
-// The gain is at most 200, and lowered to that.
-const LOWERED: Limit = Limit::AtMost {
-    member: 1,
-    most: 200,
-    excess: Excess::Lowered,
-};
-
-// Red and blue are at most 384 together.
-const SUM: Limit = Limit::Sum { most: 384 };
-
-const JOINED: Word = Word::Joined {
-    first: 0,
-    second: 1,
-};
-
-const PRESSED: Word = Word::Constant(1);
-
-const PLUS: Word = Word::Plus {
-    member: 0,
-    more: 64,
-};
-
-/// A fresh sample device whose notifiers count there.
-pub fn counted_sample(alloc: Global, told: &Arc<AtomicU64>) -> Result<Device<Counting>, AllocError>
-    ensures { IfOk result (λ device. device.steps ≡ []) }
-{
-    let of_gain = calls(Some(LOWERED), JOINED, told.clone()?);
-    let of_balance = calls(Some(SUM), JOINED, told.clone()?);
-    let of_button = calls(None, PRESSED, told.clone()?);
-    let of_brightness = calls(None, PLUS, told.clone()?);
-    let Ok(builder) = sample_builder(alloc, of_gain, of_balance, of_button, of_brightness) else {
-        return Err(AllocError);
-    };
-    let Ok(plan) = builder.finish() else {
-        return Err(AllocError);
-    };
-    match Device::new(alloc, plan) {
-        Ok(device) => Ok(device),
-        Err(_) => Err(AllocError),
-    }
+/// How often the closures of one device were called.
+#[derive(Drop)]
+pub struct Counts {
+    asked: Arc<AtomicU64>,
+    told: Arc<AtomicU64>,
 }
 
-fn calls(limit: Option<Limit>, word: Word, told: Arc<AtomicU64>) -> Calls<Counting> {
-    let validator = match limit {
-        Some(limit) => Some(Validator::new(limit.relation(), Judge { limit })),
-        None => None,
-    };
-    Calls {
-        validator,
-        notifier: Some(Notifier::new(word.relation(), Teller { word, told })),
+impl Counts {
+    /// Never.
+    pub fn new(alloc: Global) -> Result<Counts, AllocError> {
+        Ok(Counts {
+            asked: Arc::new(alloc, AtomicU64::new(0))?,
+            told: Arc::new(alloc, AtomicU64::new(0))?,
+        })
+    }
+
+    /// So often until now.
+    pub fn calls(&self) -> Work {
+        Work {
+            asked: self.asked.load(Ordering::SeqCst),
+            told: self.told.load(Ordering::SeqCst),
+        }
+    }
+
+    /// The same validator, but that it counts here.
+    pub fn validator(
+        &self,
+        of: Option<&Validator<Data>>,
+    ) -> Result<Option<Validator<Counting>>, AllocError> {
+        let Some(validator) = of else {
+            return Ok(None);
+        };
+        let Some(limit) = Limit::of(&validator.relation()) else {
+            return Ok(None);
+        };
+        let asked = self.asked.clone()?;
+        Ok(Some(Validator::new(limit.relation(), Judge { limit, asked })))
+    }
+
+    /// The same notifier, but that it counts here.
+    pub fn notifier(
+        &self,
+        of: Option<&Notifier<Data>>,
+    ) -> Result<Option<Notifier<Counting>>, AllocError> {
+        let Some(notifier) = of else {
+            return Ok(None);
+        };
+        let Some(word) = Word::of(&notifier.relation()) else {
+            return Ok(None);
+        };
+        let told = self.told.clone()?;
+        Ok(Some(Notifier::new(word.relation(), Teller { word, told })))
     }
 }

@@ -1,20 +1,18 @@
 //! A case is run, and what it left is looked at.
 
-ghost use Rattle.std.specs.Prelude.{◌≡◌, []};
-
-use crate::counting::counted_sample;
+use crate::counting::{Counting, Counts};
 use crate::ground::Ground;
+use crate::rebuilt::rebuilt;
 use crate::writer::{Kept, Short};
 use case_files::Program;
 use ctl_pair::{Gate, Remains, run_pair};
-use ctl_script::{ControlWords, Outcome, run_board, run_script};
-use ctrl_calls::Driver;
-use device_file::read_device;
+use ctl_script::{Outcome, run_board, run_script};
+use ctrl_calls::Work;
 use device_state::Device;
 use hoard::Hoard;
-use std::alloc::AllocError;
-use std::sync::atomic::AtomicU64;
-use std::sync::{Arc, Wait};
+use script_lines::ControlWords;
+use std::alloc::{AllocError, Global};
+use std::sync::Wait;
 use std::thread::Threads;
 
 /// What came of a run.
@@ -24,12 +22,29 @@ pub struct Ran {
     pub printed: Vec<u8>,
     /// How it ended.
     pub outcome: Outcome,
-    /// How often notifiers were told while memory was short behind some lines, where they count.
-    pub told: u64,
-    /// What an audit prints of the device behind it, with ample memory; nothing where none came back, or memory was short behind some lines.
+    /// How often closures were called at each line that a script printed, but for validators at an audit; nothing of a board, which prints behind all commands, and of two scripts,
+    /// whose commands have no order.
+    pub calls: Vec<Work>,
+    /// What an audit prints of the device behind it, with ample memory; nothing where none came back.
     pub audited: Vec<u8>,
     /// What a board prints of it.
     pub board: Vec<u8>,
+}
+
+impl Ran {
+    /// Whether the same came of both.
+    pub fn is_same(&self, other: &Ran) -> bool {
+        self.printed.as_slice() == other.printed.as_slice()
+            && self.calls.as_slice() == other.calls.as_slice()
+            && self.is_left_alike(other)
+            && self.outcome == other.outcome
+    }
+
+    /// Whether both left the same.
+    pub fn is_left_alike(&self, other: &Ran) -> bool {
+        self.audited.as_slice() == other.audited.as_slice()
+            && self.board.as_slice() == other.board.as_slice()
+    }
 }
 
 // Lets each command of two scripts pass at once.
@@ -43,7 +58,7 @@ impl Gate for OpenGate {
 pub fn run<R: AllocGlobal + Threads + Wait + Sync>(
     rt: &R,
     hoard: &mut Hoard,
-    ground: Ground<'_>,
+    ground: &Ground,
     program: Program,
     text: &[u8],
     short: Short,
@@ -58,56 +73,18 @@ pub fn run<R: AllocGlobal + Threads + Wait + Sync>(
 fn run_fresh<R: AllocGlobal + Threads + Wait + Sync>(
     rt: &R,
     hoard: &mut Hoard,
-    ground: Ground<'_>,
+    ground: &Ground,
     program: Program,
     text: &[u8],
     short: Short,
 ) -> Result<Ran, AllocError> {
     let alloc = rt.alloc();
-    let count = Arc::new(alloc, AtomicU64::new(0))?;
-    match ground {
-        Ground::Sample(known) => {
-            let device = counted_sample(alloc, &count)?;
-            run_on(rt, hoard, known, device, &*count, program, text, short)
-        }
-        Ground::File(file) => {
-            let Ok(read) = read_device(alloc, file) else {
-                return Err(AllocError);
-            };
-            let Ok(device) = Device::new(alloc, read.plan) else {
-                return Err(AllocError);
-            };
-            run_on(
-                rt,
-                hoard,
-                &read.words,
-                device,
-                &*count,
-                program,
-                text,
-                short,
-            )
-        }
-    }
-}
-
-fn run_on<D: Driver + Send, R: AllocGlobal + Threads + Wait + Sync>(
-    rt: &R,
-    hoard: &mut Hoard,
-    known: &ControlWords,
-    device: Device<D>,
-    count: &AtomicU64,
-    program: Program,
-    text: &[u8],
-    short: Short,
-) -> Result<Ran, AllocError>
-where
-    D::Judge: Send,
-    D::Teller: Send,
-    requires { device.steps ≡ [] }
-{
-    let alloc = rt.alloc();
-    let mut writer = Kept::new(alloc, hoard, count, short)?;
+    let counts = Counts::new(alloc)?;
+    let Ok(device) = Device::new(alloc, rebuilt(alloc, &ground.plan, &counts)?) else {
+        return Err(AllocError);
+    };
+    let known = &ground.words;
+    let mut writer = Kept::new(alloc, hoard, &counts, short)?;
     let mut reader = text;
     let (remains, outcome) = match program {
         Program::Run => whole(run_script(alloc, known, device, &mut reader, &mut writer)),
@@ -123,37 +100,31 @@ where
         ),
         Program::File | Program::Camera | Program::Check => (Ok(device), Outcome::Finished),
     };
-    let (printed, told) = writer.end();
+    let (printed, mut calls) = writer.end();
+    if !matches!(program, Program::Run) {
+        calls.clear();
+    }
     let mut ran = Ran {
         printed,
         outcome,
-        told,
+        calls,
         audited: Vec::new(alloc),
         board: Vec::new(alloc),
     };
-    if let Short::Behind { .. } = short {
-        return Ok(ran);
-    }
     if let Ok(device) = remains {
-        look_at(rt, known, device, &mut ran);
+        look_at(alloc, known, device, &mut ran);
     }
     Ok(ran)
 }
 
 // What is left of a run of one script.
-fn whole<D: Driver>(ran: (Device<D>, Outcome)) -> (Remains<Device<D>>, Outcome) {
+fn whole(ran: (Device<Counting>, Outcome)) -> (Remains<Device<Counting>>, Outcome) {
     let (device, outcome) = ran;
     (Ok(device), outcome)
 }
 
 // Prints what an audit and a board say of a device.
-fn look_at<D: Driver, R: AllocGlobal>(
-    rt: &R,
-    known: &ControlWords,
-    device: Device<D>,
-    ran: &mut Ran,
-) {
-    let alloc = rt.alloc();
+fn look_at(alloc: Global, known: &ControlWords, device: Device<Counting>, ran: &mut Ran) {
     let mut reader: &[u8] = b"audit\n";
     let (device, _) = run_script(alloc, known, device, &mut reader, &mut ran.audited);
     let mut reader: &[u8] = b"";

@@ -1,13 +1,17 @@
 //! Where scripts print, and when they lack memory.
 
-use hoard::{Hoard, MOST_BUDGET};
+use crate::counting::Counts;
+use case_files::Program;
+use ctrl_calls::Work;
+use hoard::{Hoard, MOST_BUDGET, MOST_PAGES};
 use std::alloc::{AllocError, Global};
 use std::io;
 use std::io::Write;
-use std::sync::atomic::{AtomicU64, Ordering};
 
 // More than any case prints.
 const ROOM: usize = 16_384;
+
+const MOST_LINES: usize = 256;
 
 /// When memory is short.
 #[derive(Clone, Copy)]
@@ -22,16 +26,23 @@ pub enum Short {
     Behind { lines: usize, budget: usize },
 }
 
-/// Keeps what is printed, and takes memory and gives it back where it is to be short.
+/// Ample memory for a case.
+pub fn ample(program: Program) -> Short {
+    match program {
+        Program::Pair => Short::Threads(MOST_PAGES),
+        _ => Short::Never,
+    }
+}
+
+/// Keeps what is printed and how often closures were called, and takes memory and gives it back where it is to be short.
 #[derive(Drop)]
 pub struct Kept<'a> {
     hoard: &'a mut Hoard,
-    // how often notifiers were told; how often before memory was short, and while it was
-    count: &'a AtomicU64,
-    before: u64,
-    told: u64,
+    counts: &'a Counts,
+    // how often they were called before the line that is printed next, and at each before
+    before: Work,
+    calls: Vec<Work>,
     short: Short,
-    lines: usize,
     printed: Vec<u8>,
 }
 
@@ -40,10 +51,11 @@ impl<'a> Kept<'a> {
     pub fn new(
         alloc: Global,
         hoard: &'a mut Hoard,
-        count: &'a AtomicU64,
+        counts: &'a Counts,
         short: Short,
     ) -> Result<Kept<'a>, AllocError> {
         let printed = Vec::with_capacity(alloc, ROOM)?;
+        let calls = Vec::with_capacity(alloc, MOST_LINES)?;
         match short {
             Short::Always(budget) => hoard.starve(budget),
             Short::Threads(pages) => {
@@ -54,39 +66,49 @@ impl<'a> Kept<'a> {
         }
         Ok(Kept {
             hoard,
-            count,
-            before: 0,
-            told: 0,
+            counts,
+            before: counts.calls(),
+            calls,
             short,
-            lines: 0,
             printed,
         })
     }
 
-    /// What was printed, and how often notifiers were told while memory was short behind some lines. There is memory again.
-    pub fn end(self) -> (Vec<u8>, u64) {
+    /// What was printed, and how often closures were called at each line of it, but for validators at an audit. There is memory again.
+    pub fn end(self) -> (Vec<u8>, Vec<Work>) {
         let Kept {
             hoard,
-            told,
+            calls,
             printed,
             ..
         } = self;
         hoard.feed();
-        (printed, told)
+        (printed, calls)
+    }
+
+    // Counts what was called at a line. An audit goes on from the one before, and so asks as often as that left it to do.
+    fn count(&mut self, line: &[u8]) -> Result<(), AllocError> {
+        let now = self.counts.calls();
+        let asked = now.asked.saturating_sub(self.before.asked);
+        let told = now.told.saturating_sub(self.before.told);
+        let is_audit = line.starts_with(b"audit ");
+        self.before = now;
+        self.calls.push(Work {
+            asked: if is_audit { 0 } else { asked },
+            told,
+        })?;
+        Ok(())
     }
 
     fn end_line(&mut self) {
         let Short::Behind { lines, budget } = self.short else {
             return;
         };
-        if self.lines == lines {
-            self.before = self.count.load(Ordering::SeqCst);
+        if self.calls.len() == lines {
             self.hoard.starve(budget);
         }
-        if self.lines == lines.saturating_add(1) {
+        if self.calls.len() == lines.saturating_add(1) {
             self.hoard.feed();
-            let behind = self.count.load(Ordering::SeqCst);
-            self.told = behind.saturating_sub(self.before);
         }
     }
 }
@@ -96,7 +118,7 @@ impl Write for Kept<'_> {
         // its room is there
         self.printed.extend_from_slice(buf)?;
         if buf.ends_with(b"\n") {
-            self.lines = self.lines.saturating_add(1);
+            self.count(buf)?;
             self.end_line();
         }
         Ok(buf.len())
