@@ -1,19 +1,28 @@
-//! Measures the loads that are asked of a device directly: so many rounds of each on a sample device at the start, and again behind so many
-//! steps, since no ask is to take longer for the steps that are kept. How long they took it says on standard error, and on standard
-//! output how many asks were refused, which is none. By seven numbers it makes asks of one kind instead, at a device as large as they say.
+//! Measures what is asked of a device directly, and calls at the desk. Of a device the loads: so many rounds of each on a sample device at the start, and
+//! again behind so many steps, since no ask is to take longer for the steps that are kept; or, by seven numbers, asks of one kind, at a device as
+//! large as they say. How long they took it says on standard error, and on standard output how many asks were refused, which is none. Of the desk
+//! calls of an object at a desk and of the same object behind a `Mutex`: how long a call took it says on standard error, and on standard output what
+//! came of the calls, which is the same whatever the order of the threads.
 #![tactic(auto)]
 
 mod asked;
 mod asks;
+mod calls;
+mod counter;
+mod desk;
+mod desk_wanted;
 mod loads;
 mod wanted;
+mod ways;
 
 ghost use Rattle.ctrl_calls.specs.Meanings.{JudgesBy, TellsBy};
 
 use crate::asked::Asked;
 use crate::asks::Asks;
+use crate::desk::measure_load;
+use crate::desk_wanted::DeskLoad;
 use crate::loads::{LOADS, Load, fill, play, prepare};
-use crate::wanted::{Loads, Wanted};
+use crate::wanted::{AtDevice, Loads, Wanted};
 use ctrl_calls::{Calls, ClusterRow, Driver, Notifier, Validator, Verdict};
 use ctrl_handlers::PlanFault;
 use device_state::Device;
@@ -34,30 +43,45 @@ fn main(rt: HostRuntime) -> io::Result<ExitCode> {
     let words = env::args(&rt)?.collect::<Vec<String>>(rt.alloc())?;
     let Some(wanted) = Wanted::read(words.as_slice()) else {
         eprintln!(rt;
-            "usage: device_loads STEPS ROUNDS [LOAD ..], a LOAD is sets, lists, frames or events\n       device_loads MODE CONTROLS HANDLERS FILE_HANDLES SUBSCRIPTIONS QUEUED ROUNDS, a MODE is 0 to 12"
+            "usage: device_loads STEPS ROUNDS [LOAD ..] [CALL ..], a LOAD is sets, lists, frames or events\n       device_loads MODE CONTROLS HANDLERS FILE_HANDLES SUBSCRIPTIONS QUEUED ROUNDS [CALL ..], a MODE is 0 to 12\n       device_loads CALL [CALL ..], a CALL is WAY ASK CALLS THREADS: a WAY is desk or mutex, an ASK is add, read or front, CALLS is how many each thread makes, THREADS 1 to 64"
         )?;
         return Ok(ExitCode::from(2));
     };
+    if let Some(wanted) = &wanted.device {
+        measure_device(&rt, wanted)?;
+    }
+    for words in wanted.calls.chunks(4) {
+        if let Some(load) = DeskLoad::read(words) {
+            measure_load(&rt, &load)?;
+        }
+    }
+    Ok(ExitCode::from(0))
+}
+
+// Makes the closures of the sample device, and measures with them.
+fn measure_device<R: AllocGlobal + Print + Eprint + Clock>(
+    rt: &R,
+    wanted: &AtDevice<'_>,
+) -> io::Result<()> {
     let limit: Judge = Box::new(rt.alloc(), |row: ClusterRow| gain_verdict(&row))?;
     let sum: Judge = Box::new(rt.alloc(), |row: ClusterRow| balance_verdict(&row))?;
     let gain: Teller = Box::new(rt.alloc(), |row: ClusterRow| pair_word(&row))?;
     let balance: Teller = Box::new(rt.alloc(), |row: ClusterRow| pair_word(&row))?;
     let button: Teller = Box::new(rt.alloc(), |row: ClusterRow| button_word(&row))?;
     let brightness: Teller = Box::new(rt.alloc(), |row: ClusterRow| brightness_word(&row))?;
-    run::<Sample, HostRuntime>(
-        &rt,
-        &wanted,
+    run::<Sample, R>(
+        rt,
+        wanted,
         (limit, sum),
         (gain, balance, button, brightness),
-    )?;
-    Ok(ExitCode::from(0))
+    )
 }
 
 // Makes the device and the loads. The device's clusters have these closures: of autogain and gain the first validator and the first notifier, of red
 // and blue the second ones, of the button and of brightness the last notifiers.
 fn run<D: Driver, R: AllocGlobal + Print + Eprint + Clock>(
     rt: &R,
-    wanted: &Wanted<'_>,
+    wanted: &AtDevice<'_>,
     judges: (D::Judge, D::Judge),
     tellers: (D::Teller, D::Teller, D::Teller, D::Teller),
 ) -> io::Result<()>
@@ -93,7 +117,7 @@ fn run<D: Driver, R: AllocGlobal + Print + Eprint + Clock>(
         notifier: Some(Notifier::new(BRIGHTNESS_WORDS, brightness)),
     };
     let made = match wanted {
-        Wanted::Asks(asks) if !asks.is_sample() => asks.plan(rt.alloc()),
+        AtDevice::Asks(asks) if !asks.is_sample() => asks.plan(rt.alloc()),
         _ => sample_plan(rt.alloc(), of_gain, of_balance, of_button, of_brightness),
     };
     let plan = match made {
@@ -105,8 +129,8 @@ fn run<D: Driver, R: AllocGlobal + Print + Eprint + Clock>(
         return Err(io::Error::from(io::ErrorKind::OutOfMemory));
     };
     match wanted {
-        Wanted::Loads(loads) => measure_loads(rt, &mut device, loads),
-        Wanted::Asks(asks) => measure_asks(rt, &mut device, asks),
+        AtDevice::Loads(loads) => measure_loads(rt, &mut device, loads),
+        AtDevice::Asks(asks) => measure_asks(rt, &mut device, asks),
     }
 }
 

@@ -1,4 +1,4 @@
-//! Closures that are limits and words as data, and count their calls, each for itself.
+//! Closures that are limits and words as data, and count their calls, each for itself; notifiers write down in which order they are told, too.
 
 ghost use Rattle.std.specs.Prelude.{⊤, ◌≡◌};
 ghost use Rattle.data_driver.specs.Data.{data_told, data_verdict};
@@ -34,11 +34,13 @@ impl Judging for Judge {
     }
 }
 
-/// A notifier, and how often it was told.
+/// A notifier, and how often it was told; its digit, and the digits of all that were told, in their order.
 #[derive(Drop)]
 pub struct Teller {
     word: Word,
     told: Arc<AtomicU64>,
+    digit: u64,
+    order: Arc<AtomicU64>,
 }
 
 impl Telling for Teller {
@@ -48,6 +50,9 @@ impl Telling for Teller {
 
     fn tell(&self, row: ClusterRow) -> u64 {
         self.told.fetch_add(1, Ordering::SeqCst);
+        let before = self.order.load(Ordering::SeqCst).wrapping_mul(10);
+        self.order
+            .store(before.wrapping_add(self.digit), Ordering::SeqCst);
         self.word.told(&row)
     }
 }
@@ -64,20 +69,29 @@ impl Notifies for Counting {
     ghost told = { data_told };
 }
 
-/// How often the two closures of a cluster were called.
+/// How often the two closures of a cluster were called, the digit of its notifier, and the digits of all notifiers that were told.
 #[derive(Drop)]
 pub struct Counter {
     asked: Arc<AtomicU64>,
     told: Arc<AtomicU64>,
+    digit: u64,
+    order: Arc<AtomicU64>,
 }
 
 impl Counter {
-    /// Zeros.
-    pub fn new(alloc: Global) -> Result<Counter, AllocError> {
+    /// Zeros, of the cluster whose notifier writes this digit there.
+    pub fn new(alloc: Global, digit: u64, order: &Arc<AtomicU64>) -> Result<Counter, AllocError> {
         Ok(Counter {
             asked: Arc::new(alloc, AtomicU64::new(0))?,
             told: Arc::new(alloc, AtomicU64::new(0))?,
+            digit,
+            order: order.clone()?,
         })
+    }
+
+    /// The digits of all notifiers that were told since the last look, those of the other clusters among them, in their order.
+    pub fn take_order(&self) -> u64 {
+        self.order.swap(0, Ordering::SeqCst)
     }
 
     /// How often the validator was asked and the notifier told.
@@ -100,15 +114,21 @@ impl Counter {
         };
         Ok(Calls {
             validator,
-            notifier: Some(notifier(word, self.told.clone()?)),
+            notifier: Some(self.notifier(word)?),
         })
+    }
+
+    fn notifier(&self, word: Word) -> Result<Notifier<Counting>, AllocError> {
+        let teller = Teller {
+            word,
+            told: self.told.clone()?,
+            digit: self.digit,
+            order: self.order.clone()?,
+        };
+        Ok(Notifier::new(word.relation(), teller))
     }
 }
 
 fn validator(limit: Limit, asked: Arc<AtomicU64>) -> Validator<Counting> {
     Validator::new(limit.relation(), Judge { limit, asked })
-}
-
-fn notifier(word: Word, told: Arc<AtomicU64>) -> Notifier<Counting> {
-    Notifier::new(word.relation(), Teller { word, told })
 }

@@ -243,6 +243,31 @@ row 0 ->
 row 1 ->
 ";
 
+// A set goes through the frames that name its cluster up to the first whose row and refusal stay as they were, and asks about none behind it: so of two frames the second
+// isn't asked about, and of the three behind them the last isn't.
+const ENDED: &str = "\
+open f 1 ->
+alloc r ->
+alloc s ->
+alloc t ->
+alloc u ->
+set f req:r red=100 blue=100 -> 1:1/0
+set f req:s blue=200 -> 1:1/0
+set f req:t red=30 -> 1:1/0
+set f req:u blue=10 -> 1:1/0
+buffer r 1 ->
+buffer s 2 ->
+buffer t 3 ->
+buffer u 4 ->
+queue r -> 1:1/0
+queue s -> 1:1/0
+set f cur red=90 -> 1:2/1
+queue t -> 1:1/0
+queue u -> 1:1/0
+begin -> 1:0/1
+set f cur red=80 -> 1:3/1
+";
+
 // An audit asks about each step behind the audit before, once, and about each frame that waits, for its forecast; it tells nobody.
 const AUDITED: &str = "\
 open f 1 ->
@@ -268,7 +293,8 @@ audit ->
 
 // Scripts. Behind each command stand the clusters whose closures it calls: how often the validator is asked, and the notifier told.
 const SCRIPTS: &[&str] = &[
-    SETS, LISTS, REFUSED, RANGED, STORED, BEGUN, PRESSED, GRABBED, OFF, ROWS, DIRECT, AUDITED,
+    SETS, LISTS, REFUSED, RANGED, STORED, BEGUN, PRESSED, GRABBED, OFF, ROWS, DIRECT, ENDED,
+    AUDITED,
 ];
 
 // How often the validator and the notifier of each cluster were called.

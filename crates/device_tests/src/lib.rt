@@ -1,4 +1,4 @@
-//! Tests of the device that no script with its replies can show: how often closures are called, each by a count of its own; a device with as many
+//! Tests of the device that no script with its replies can show: how often closures are called, each by a count of its own, and in which order; a device with as many
 //! steps as are kept; what a driver's readers tell; what sets answer whose validators answer what clusters can't take; with which other devices an audit agrees; and, in `replay`, what an audit makes of histories
 //! that no device has.
 #![tactic(auto)]
@@ -17,6 +17,8 @@ mod data;
 mod following;
 #[cfg(test)]
 mod limits;
+#[cfg(test)]
+mod order;
 #[cfg(test)]
 mod readers;
 #[cfg(test)]

@@ -8,6 +8,8 @@ use ctrl_types::{CtrlId, CtrlValue};
 use data_driver::{Excess, Limit, Word};
 use device_state::{Device, Plan};
 use std::alloc::{AllocError, Global};
+use std::sync::Arc;
+use std::sync::atomic::AtomicU64;
 
 // The gain is at most 200, and lowered to that.
 const LOWERED: Limit = Limit::AtMost {
@@ -34,13 +36,14 @@ const PLUS: Word = Word::Plus {
 /// Counters of the clusters 0 to 3 of the sample: of autogain and gain, of red and blue, of the button, and of brightness.
 pub type Counters = [Counter; 4];
 
-/// Zeros.
+/// Zeros. The digit of a cluster is its number and 1.
 pub fn counters(alloc: Global) -> Result<Counters, AllocError> {
+    let order = Arc::new(alloc, AtomicU64::new(0))?;
     Ok([
-        Counter::new(alloc)?,
-        Counter::new(alloc)?,
-        Counter::new(alloc)?,
-        Counter::new(alloc)?,
+        Counter::new(alloc, 1, &order)?,
+        Counter::new(alloc, 2, &order)?,
+        Counter::new(alloc, 3, &order)?,
+        Counter::new(alloc, 4, &order)?,
     ])
 }
 

@@ -2,7 +2,7 @@
 //! compared with those that are computed anew, and the validators that were asked are counted; of tables of frames, exactly.
 
 mod counts;
-pub(crate) mod dice;
+mod dice;
 mod driver;
 mod planning;
 mod scene;

@@ -4,5 +4,4 @@
 //! then has its answer.
 
 mod calls;
-mod likeness;
 mod runs;

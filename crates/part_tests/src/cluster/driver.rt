@@ -9,8 +9,8 @@ use ctrl_types::{ByteRow, CtrlValue, Errno};
 use std::sync::Arc;
 use std::sync::atomic::{AtomicU64, Ordering};
 
-/// Relation 0 takes each row as it is; 1 to 6 take another row in its place, and so do 11 to 14, of which only the last isn't one of an array; 7, 8 and 9 refuse with EBUSY,
-/// EACCES and ERANGE, and every other with ENOENT.
+/// Relation 0 takes each row as it is; 2 takes another in its place, and so do 11 to 14, of which only the last isn't one of an array; 7, 8 and 9 refuse with EBUSY, EACCES
+/// and ERANGE, and every other with ENOENT.
 pub enum Strict {}
 
 #[derive(Drop)]
@@ -23,12 +23,7 @@ impl Judging for Judge {
 
     ghost answers = { λ judge row verdict. verdict ≡ (
         if judge.number == 0 then Accept row
-        else if judge.number == 1 then Accept (Number (pos 60) ∷ [])
         else if judge.number == 2 then Accept (Number (pos 7) ∷ Number (pos 8) ∷ [])
-        else if judge.number == 3 then Accept (Number (pos 50) ∷ Number (pos 3) ∷ [])
-        else if judge.number == 4 then Accept (Number (pos 55) ∷ Number (pos 3) ∷ [])
-        else if judge.number == 5 then Accept (Number (pos 50) ∷ Number (pos 2) ∷ [])
-        else if judge.number == 6 then Accept (Number (pos 50) ∷ Number (pos 3) ∷ Number (pos 0) ∷ [])
         else if judge.number == 7 then Refuse EBUSY
         else if judge.number == 8 then Refuse EACCES
         else if judge.number == 9 then Refuse ERANGE
@@ -41,16 +36,7 @@ impl Judging for Judge {
     fn judge(&self, row: ClusterRow) -> Verdict {
         match self.number {
             0 => Verdict::Accept(row),
-            1 => accept(&[CtrlValue::Number(60)]),
-            2 => accept(&two(7, 8)),
-            3 => accept(&two(50, 3)),
-            4 => accept(&two(55, 3)),
-            5 => accept(&two(50, 2)),
-            6 => accept(&[
-                CtrlValue::Number(50),
-                CtrlValue::Number(3),
-                CtrlValue::Number(0),
-            ]),
+            2 => accept(&[CtrlValue::Number(7), CtrlValue::Number(8)]),
             7 => Verdict::Refuse(Errno::EBUSY),
             8 => Verdict::Refuse(Errno::EACCES),
             9 => Verdict::Refuse(Errno::ERANGE),
@@ -77,13 +63,6 @@ fn accept_bytes(bytes: &[u8]) -> Verdict
     ensures { result ≡ Accept (Bytes bytes.now ∷ []) }
 {
     accept(&[CtrlValue::Bytes(ByteRow::from_slice(bytes).unwrap())])
-}
-
-// The values that are these two numbers.
-fn two(first: i64, second: i64) -> [CtrlValue; 2]
-    ensures { result ≡ Number first ∷ Number second ∷ [] }
-{
-    [CtrlValue::Number(first), CtrlValue::Number(second)]
 }
 
 /// A notifier counts its own calls. The word has how many calls of all notifiers came before, and the row.
@@ -114,12 +93,7 @@ impl Validates for Strict {
 
     ghost verdict = { λ relation row.
         if relation.number == 0 then Accept row
-        else if relation.number == 1 then Accept (Number (pos 60) ∷ [])
         else if relation.number == 2 then Accept (Number (pos 7) ∷ Number (pos 8) ∷ [])
-        else if relation.number == 3 then Accept (Number (pos 50) ∷ Number (pos 3) ∷ [])
-        else if relation.number == 4 then Accept (Number (pos 55) ∷ Number (pos 3) ∷ [])
-        else if relation.number == 5 then Accept (Number (pos 50) ∷ Number (pos 2) ∷ [])
-        else if relation.number == 6 then Accept (Number (pos 50) ∷ Number (pos 3) ∷ Number (pos 0) ∷ [])
         else if relation.number == 7 then Refuse EBUSY
         else if relation.number == 8 then Refuse EACCES
         else if relation.number == 9 then Refuse ERANGE

@@ -105,8 +105,8 @@ pub(crate) fn shows(scene: &Scene, look: Look) -> bool {
     }
 }
 
-/// Whether just these events wait for a file handle, in this order.
-pub(crate) fn waits(scene: &Scene, fh: u32, all: &[Told]) -> bool {
+// Whether just these events wait for a file handle, in this order.
+fn waits(scene: &Scene, fh: u32, all: &[Told]) -> bool {
     for (place, told) in all.iter().enumerate() {
         if scene.waiting(fh, place) != Some((told.control, event(*told))) {
             return false;

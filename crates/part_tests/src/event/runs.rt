@@ -522,12 +522,8 @@ fn seen(scene: &Scene, call: Call) -> (usize, u32, Option<SubFlags>) {
     }
 }
 
-/// Whether a call has its answer. One that is refused for want of memory changes nothing, and is made again.
-pub(crate) fn is_answered(
-    scene: &mut Scene,
-    call: Call,
-    want: Result<Option<Told>, Errno>,
-) -> bool {
+// Whether a call has its answer. One that is refused for want of memory changes nothing, and is made again.
+fn is_answered(scene: &mut Scene, call: Call, want: Result<Option<Told>, Errno>) -> bool {
     let before = seen(scene, call);
     let first = scene.answer(call);
     if first != Err(Errno::ENOMEM) {
@@ -537,10 +533,12 @@ pub(crate) fn is_answered(
     is_wanted(scene.answer(call), want) && is_unchanged
 }
 
+// What the calls leave is alike where they are made twice.
 fn plays(alloc: Global, run: &Run) -> bool {
     let mut scene = Scene::new(alloc);
+    let mut other = Scene::new(alloc);
     for (call, want) in run.0 {
-        if !is_answered(&mut scene, *call, *want) {
+        if !is_answered(&mut scene, *call, *want) || !is_answered(&mut other, *call, *want) {
             return false;
         }
     }
@@ -549,7 +547,7 @@ fn plays(alloc: Global, run: &Run) -> bool {
             return false;
         }
     }
-    true
+    scene.is_like(&other, 0) && scene.is_like(&other, 1)
 }
 
 #[test]
@@ -559,12 +557,14 @@ fn runs(rt: HostRuntime) {
     }
 }
 
-// How many file handles and controls there are at most.
+// How many file handles there are, of which the last six share their bits with the first, and how many controls.
+const HANDLES: u32 = 70;
+
 const MOST: u32 = 64;
 
 // Each file handle subscribes to each control, and then an event of each control is raised, the last first.
 fn fills(scene: &mut Scene) -> bool {
-    for fh in 0..MOST {
+    for fh in 0..HANDLES {
         for control in 0..MOST {
             if !is_answered(scene, Call::Subscribe(fh, control, 1, 5), Ok(None)) {
                 return false;
@@ -602,7 +602,7 @@ fn fills_and_empties(alloc: Global) -> bool {
     if !fills(&mut scene) {
         return false;
     }
-    for fh in 0..MOST {
+    for fh in 0..HANDLES {
         if !empties(&mut scene, fh) {
             return false;
         }

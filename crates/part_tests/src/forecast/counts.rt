@@ -2,8 +2,9 @@
 
 use crate::forecast::planning::plan_of;
 use crate::forecast::scene::Scene;
+use crate::values::pairs_of;
 use ctrl_calls::Work;
-use ctrl_types::{CtrlValue, Pair};
+use ctrl_types::CtrlValue;
 use std::alloc::{AllocError, Global};
 use std::test::Fail;
 
@@ -120,13 +121,4 @@ fn queue(alloc: Global, scene: &mut Scene<'_>, frames: &[&[(u32, i64)]]) -> Resu
         scene.push(1, pairs_of(alloc, frame)?, &mut Work::new())?;
     }
     Ok(())
-}
-
-fn pairs_of(alloc: Global, asked: &[(u32, i64)]) -> Result<Vec<Pair>, AllocError> {
-    let mut pairs = Vec::new(alloc);
-    for &(control, value) in asked {
-        let value = CtrlValue::Number(value);
-        pairs.push(Pair { control, value })?;
-    }
-    Ok(pairs)
 }

@@ -102,26 +102,33 @@ fn is_kept(alloc: Global, run: &Run) -> Result<bool, Fail> {
     Ok(true)
 }
 
-const SEEDS: &[u64] = &[1, 20, 300, 4000];
-
-#[test]
-fn kept_rows_are_those_computed_anew(rt: HostRuntime) -> Result<(), Fail> {
-    for &seed in SEEDS {
-        let run = Run {
-            seed,
-            named: 8,
-            most: 6,
-            least: 0,
-        };
-        let is_kept = is_kept(rt.alloc(), &run)?;
-        assert!(rt; is_kept, "{seed}");
-    }
-    Ok(())
-}
-
-// The frames of the second run name the first three controls alone: so a set of another goes through all of them, and where it is the sixth, which stands in a cluster with
-// the third, those that name the third are judged anew.
-const FULL: &[Run] = &[
+// Those of the last two have 64 frames. The frames of the last name the first three controls alone: so a set of another goes through all of them, and
+// where it is the sixth, which stands in a cluster with the third, those that name the third are judged anew.
+const RUNS: &[Run] = &[
+    Run {
+        seed: 1,
+        named: 8,
+        most: 6,
+        least: 0,
+    },
+    Run {
+        seed: 20,
+        named: 8,
+        most: 6,
+        least: 0,
+    },
+    Run {
+        seed: 300,
+        named: 8,
+        most: 6,
+        least: 0,
+    },
+    Run {
+        seed: 4000,
+        named: 8,
+        most: 6,
+        least: 0,
+    },
     Run {
         seed: 50_000,
         named: 8,
@@ -137,8 +144,8 @@ const FULL: &[Run] = &[
 ];
 
 #[test]
-fn rows_of_64_frames_are_those_computed_anew(rt: HostRuntime) -> Result<(), Fail> {
-    for run in FULL {
+fn kept_rows_are_those_computed_anew(rt: HostRuntime) -> Result<(), Fail> {
+    for run in RUNS {
         let is_kept = is_kept(rt.alloc(), run)?;
         let seed = run.seed;
         assert!(rt; is_kept, "{seed}");

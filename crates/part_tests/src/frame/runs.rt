@@ -220,9 +220,16 @@ fn empty(alloc: Global) -> Result<Frames, Errno> {
     }
 }
 
+// What the calls leave is alike where they are made twice.
 fn plays(alloc: Global, run: &Run) -> Result<bool, Errno> {
     let mut frames = empty(alloc)?;
-    Ok(are_answered(alloc, &mut frames, run.0) && all_show(&frames, run.1))
+    let mut others = empty(alloc)?;
+    Ok(
+        are_answered(alloc, &mut frames, run.0)
+            && are_answered(alloc, &mut others, run.0)
+            && all_show(&frames, run.1)
+            && frames.is_like(&others),
+    )
 }
 
 fn are_answered(alloc: Global, frames: &mut Frames, calls: &[(Call, Result<u32, Errno>)]) -> bool {

@@ -91,26 +91,16 @@ fn descriptions(rt: HostRuntime) {
     for &(given, fault) in FAULTY {
         assert!(rt; made(given) == Err(fault), "{given:?}");
     }
+    let array = config(Kind::U8, 250, 10, Some(4)).build();
+    let bare = config(Kind::U8, 250, 10, None).build();
+    assert!(rt; array == made(WEIGHTS) && bare == Err(CtrlFault::KindBounds));
 }
 
-// The step and the bounds of a control without elements, of the kind of arrays.
-const BARE: &[(i64, i64, u64, CtrlFault)] = &[
-    (0, 250, 10, CtrlFault::KindBounds),
-    (0, 250, 0, CtrlFault::KindBounds),
-    (1, 0, 0, CtrlFault::BadRange),
-];
-
-fn is_refused(minimum: i64, maximum: i64, step: u64, fault: CtrlFault) -> bool {
-    let none = Flags::empty();
-    let plain = Ctrl::new(ID, Kind::U8, minimum, maximum, step, 0, 0, none, false);
-    plain == Err(fault) && config(Kind::U8, minimum, maximum, step, None).build() == Err(fault)
-}
-
-fn config(kind: Kind, minimum: i64, maximum: i64, step: u64, elems: Option<u32>) -> CtrlConfig {
+fn config(kind: Kind, maximum: i64, step: u64, elems: Option<u32>) -> CtrlConfig {
     CtrlConfig {
         id: ID,
         kind,
-        minimum,
+        minimum: 0,
         maximum,
         step,
         default_value: 0,
@@ -119,19 +109,6 @@ fn config(kind: Kind, minimum: i64, maximum: i64, step: u64, elems: Option<u32>)
         is_private: false,
         elems,
     }
-}
-
-#[test]
-fn elements_are_of_arrays(rt: HostRuntime) {
-    for &(minimum, maximum, step, fault) in BARE {
-        assert!(rt;
-            is_refused(minimum, maximum, step, fault),
-            "{minimum} {maximum} {step}"
-        );
-    }
-    let number = config(Kind::Integer, 0, 250, 10, Some(4)).build();
-    let array = config(Kind::U8, 0, 250, 10, Some(4)).build();
-    assert!(rt; number == Err(CtrlFault::KindBounds) && array == made(WEIGHTS));
 }
 
 fn row(bytes: &[u8]) -> Option<CtrlValue> {
@@ -190,7 +167,7 @@ const NUMBERS: &[(Kind, i64, u64)] = &[
 ];
 
 fn takes_numbers_alone(kind: Kind, maximum: i64, step: u64) -> bool {
-    match config(kind, 0, maximum, step, None).build() {
+    match config(kind, maximum, step, None).build() {
         Ok(control) => {
             refuses_bytes(&control)
                 && settle(&control, &CtrlValue::Number(0)) == Ok(CtrlValue::Number(0))

@@ -1,28 +1,27 @@
 //! Rows of values, and closures that are called with them.
 
-ghost use Rattle.std.specs.Prelude.{◌≡◌, ◌==◌, ⊤, if◌then◌else◌, length};
-ghost use Rattle.ctrl_types.specs.declared.errno.Errno.TheVariants.{ERANGE};
+ghost use Rattle.std.specs.Prelude.{◌≡◌, length};
 ghost use Rattle.ctrl_calls.specs.Meanings.{JudgesBy, TellsBy};
-ghost use Rattle.ctrl_calls.specs.declared.verdict.Verdict.TheVariants.{Accept, Refuse};
+ghost use Rattle.ctrl_calls.specs.declared.verdict.Verdict.TheVariants.{Accept};
 
 use crate::values::{are_numbers, is_row, row_of, values_of};
 use ctrl_calls::{
-    Calls, ClusterRow, Driver, Judging, Notifier, Notifies, Relation, Relations, RowValues,
-    Telling, Validates, Validator, Verdict, Work, ask, tell, tell_row,
+    Calls, ClusterRow, Driver, Notifier, Notifies, Relation, Relations, RowValues, Validates,
+    Validator, Verdict, Work, ask, tell, tell_row,
 };
-use ctrl_types::{ByteRow, CtrlValue, Errno};
-use std::alloc::{AllocError, Global};
+use ctrl_types::{ByteRow, CtrlValue};
+use std::alloc::Global;
 use std::sync::Arc;
 use std::sync::atomic::{AtomicU64, Ordering};
 use std::test::Fail;
 
-// Relation 0 accepts every row and every other refuses; the word told is the length of the row.
+// Each relation accepts every row; the word told is the length of the row.
 enum Boxed {}
 
 impl Validates for Boxed {
     type Judge = Box<dyn Fn(ClusterRow) -> Verdict + Send>;
 
-    ghost verdict = { λ relation row. if relation.number == 0 then Accept row else Refuse ERANGE };
+    ghost verdict = { λ relation row. Accept row };
 }
 
 impl Notifies for Boxed {
@@ -35,25 +34,6 @@ const ACCEPTS: Relation = Relation {
     number: 0,
     bounds: [0; 4],
 };
-
-const REFUSES: Relation = Relation {
-    number: 1,
-    bounds: [0; 4],
-};
-
-// A list of values, and whether it is a row.
-const ROWS: &[(&[i64], bool)] = &[
-    (&[], true),
-    (&[i64::MIN], true),
-    (&[i64::MIN, -1], true),
-    (&[i64::MIN, -1, 0], true),
-    (&[i64::MIN, -1, 0, 1], true),
-    (&[i64::MIN, -1, 0, 1, i64::MAX], true),
-    (&[i64::MIN, -1, 0, 1, i64::MAX, 5], true),
-    (&[i64::MIN, -1, 0, 1, i64::MAX, 5, 6], true),
-    (&[i64::MIN, -1, 0, 1, i64::MAX, 5, 6, 7], true),
-    (&[i64::MIN, -1, 0, 1, i64::MAX, 5, 6, 7, 8], false),
-];
 
 // How often a row is asked, and told twice, with what was counted before and what is counted then.
 const COUNTS: &[(u64, Work, Work)] = &[
@@ -70,52 +50,6 @@ const COUNTS: &[(u64, Work, Work)] = &[
         },
     ),
 ];
-
-// The values of the row are these.
-fn shows(row: &ClusterRow, numbers: &[i64]) -> bool {
-    for (i, number) in numbers.iter().enumerate() {
-        if i >= row.len() || row.value(i) != CtrlValue::Number(*number) {
-            return false;
-        }
-    }
-    row.len() == numbers.len() && are_numbers(row.values(), numbers)
-}
-
-fn holds(alloc: Global, numbers: &[i64], is_row: bool) -> Result<bool, AllocError> {
-    let values = values_of(alloc, numbers)?;
-    Ok(match ClusterRow::from_slice(values.as_slice()) {
-        Some(row) => is_row && shows(&row, numbers),
-        None => !is_row,
-    })
-}
-
-#[test]
-fn rows_hold_up_to_eight_values(rt: HostRuntime) -> Result<(), Fail> {
-    for (numbers, is_row) in ROWS {
-        assert!(rt; holds(rt.alloc(), numbers, *is_row)?, "{numbers:?}");
-    }
-    Ok(())
-}
-
-#[test]
-fn a_row_with_another_value(rt: HostRuntime) -> Result<(), Fail> {
-    let row = row_of(&[1, 2, 3]).ok_or("three")?.to_cluster_row();
-    let is_written = row.len() == 3 && shows(&row.with(1, CtrlValue::Number(-9)), &[1, -9, 3]);
-    assert!(rt; is_written && shows(&row, &[1, 2, 3]));
-    Ok(())
-}
-
-#[test]
-fn rows_of_zeros(rt: HostRuntime) {
-    let mut row = ClusterRow::zeros(3);
-    row.set(1, CtrlValue::Number(7));
-    assert!(rt; shows(&row, &[0, 7, 0]));
-    assert!(rt; shows(&ClusterRow::zeros(0), &[]) && shows(&ClusterRow::zeros(8), &[0; 8]));
-    let mut inside = RowValues::zeros(3);
-    inside.set(1, CtrlValue::Number(7));
-    assert!(rt; is_row(&inside, &[0, 7, 0]));
-    assert!(rt; is_row(&RowValues::zeros(0), &[]) && is_row(&RowValues::zeros(8), &[0; 8]));
-}
 
 // Numbers with arrays behind them, and whether they are a row inside.
 const INSIDE: &[(&[i64], &[&[u8]], bool)] = &[
@@ -187,15 +121,20 @@ fn rows_inside_are_numbers_or_one_array(rt: HostRuntime) -> Result<(), Fail> {
     Ok(())
 }
 
-// A row of one takes an array in place of a number, and a number in place of an array.
+// A row with another value at one place, and a row of one that takes an array in place of a number, and a number in place of that.
 #[test]
-fn another_form_in_a_row_of_one(rt: HostRuntime) -> Result<(), Fail> {
+fn values_that_are_written(rt: HostRuntime) -> Result<(), Fail> {
+    let mut row = ClusterRow::zeros(3);
+    let other = row.with(2, CtrlValue::Number(-9));
+    row.set(1, CtrlValue::Number(7));
+    let is_set = row.len() == 3 && row.value(1) == CtrlValue::Number(7);
+    assert!(rt; is_set && are_numbers(other.values(), &[0, 0, -9]));
     let bytes = array(&[9, 8])?;
-    let mut row = RowValues::zeros(1);
-    row.set(0, bytes);
-    assert!(rt; row.has(0, &bytes) && row.value(0) == bytes);
-    row.set(0, CtrlValue::Number(-7));
-    assert!(rt; is_row(&row, &[-7]));
+    let mut inside = RowValues::zeros(1);
+    inside.set(0, bytes);
+    assert!(rt; inside.has(0, &bytes) && inside.value(0) == bytes);
+    inside.set(0, CtrlValue::Number(-7));
+    assert!(rt; is_row(&inside, &[-7]));
     Ok(())
 }
 
@@ -282,80 +221,5 @@ fn boxes_are_called_as_often_as_counted(rt: HostRuntime) -> Result<(), Fail> {
     let answers = drives::<Boxed>(ACCEPTS, judge, teller, &row, &want);
     let (asked, told) = (asked.load(Ordering::SeqCst), told.load(Ordering::SeqCst));
     assert!(rt; answers && asked == 5 && told == 10, "{asked} {told}");
-    Ok(())
-}
-
-#[test]
-fn a_relation_that_refuses(rt: HostRuntime) -> Result<(), Fail> {
-    let row = row_of(&[3, -4]).ok_or("two")?;
-    let judge: Box<dyn Fn(ClusterRow) -> Verdict + Send> = Box::new(
-        rt.alloc(),
-        |_row: ClusterRow| Verdict::Refuse(Errno::ERANGE),
-    )?;
-    let teller: Box<dyn Fn(ClusterRow) -> u64 + Send> = Box::new(
-        rt.alloc(),
-        |row: ClusterRow| row.len() as u64,
-    )?;
-    let want = Verdict::Refuse(Errno::ERANGE);
-    assert!(rt; drives::<Boxed>(REFUSES, judge, teller, &row, &want));
-    Ok(())
-}
-
-// A driver whose closures are structs: it refuses each row, and tells its own word.
-enum Structs {}
-
-#[derive(Drop)]
-struct Refuser {
-    errno: Errno,
-}
-
-#[derive(Drop)]
-struct Word(u64);
-
-impl Judging for Refuser {
-    ghost callable = { λ _. ⊤ };
-
-    ghost answers = { λ judge _ verdict. verdict ≡ Refuse judge.errno };
-
-    fn judge(&self, _row: ClusterRow) -> Verdict {
-        Verdict::Refuse(self.errno)
-    }
-}
-
-impl Telling for Word {
-    ghost callable = { λ _. ⊤ };
-
-    ghost answers = { λ teller _ word. word ≡ teller.0 };
-
-    fn tell(&self, _row: ClusterRow) -> u64 {
-        self.0
-    }
-}
-
-impl Validates for Structs {
-    type Judge = Refuser;
-
-    ghost verdict = { λ _ _. Refuse ERANGE };
-}
-
-impl Notifies for Structs {
-    type Teller = Word;
-
-    ghost told = { λ _ _ word. word ≡ 2 };
-}
-
-#[test]
-fn closures_as_structs(rt: HostRuntime) -> Result<(), Fail> {
-    let row = row_of(&[3, -4]).ok_or("two")?;
-    let judge = Refuser {
-        errno: Errno::ERANGE,
-    };
-    let want = Verdict::Refuse(Errno::ERANGE);
-    let none: Calls<Structs> = Calls {
-        validator: None,
-        notifier: None,
-    };
-    let uncalled = call(&none, &row, &want, 3, Work::default()) == Some(Work::new());
-    assert!(rt; uncalled && drives::<Structs>(REFUSES, judge, Word(2), &row, &want));
     Ok(())
 }

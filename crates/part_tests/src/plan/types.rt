@@ -1,9 +1,10 @@
 //! The numbers of errors, checks, kinds, flags and classes, and how values are shown.
 
 use bitflags::Flags as FlagSet;
+use ctrl_handlers::PlanFault;
+use ctrl_settle::CtrlFault;
 use ctrl_types::{ByteRow, Check, CtrlId, CtrlValue, Errno, Flags, Kind, Which};
 use std::alloc::{AllocError, Global};
-use std::process::Abort;
 
 #[derive(Clone, Copy)]
 enum Case {
@@ -11,6 +12,9 @@ enum Case {
     Error(Errno, u32),
     // The check has this number and this part, and an ask that it refuses this errno.
     Check(Check, u32, Option<u32>, Errno),
+    // The fault of a control, or of a builder's call, has this number.
+    Control(CtrlFault, u32),
+    Plan(PlanFault, u32),
     // The kind has this number.
     Kind(Kind, u32),
     // The number is read as this.
@@ -23,7 +27,8 @@ enum Case {
     Named(usize),
 }
 
-const NUMBERS: &[Case] = &[
+// The numbers of Linux, and of each other call one that is accepted; of checks those that no command of a script meets.
+const CASES: &[Case] = &[
     Case::Error(Errno::ENOENT, 2),
     Case::Error(Errno::EBADF, 9),
     Case::Error(Errno::ENOMEM, 12),
@@ -40,33 +45,18 @@ const NUMBERS: &[Case] = &[
     Case::Kind(Kind::Bitmask, 8),
     Case::Kind(Kind::IntegerMenu, 9),
     Case::Kind(Kind::U8, 256),
-];
-
-// those that no command of a script meets, and one of each kind that has parts
-const CHECKS: &[Case] = &[
-    Case::Check(Check::ListHistoryFull, 9, None, Errno::ENOSPC),
     Case::Check(Check::ControlMissing, 13, None, Errno::EINVAL),
     Case::Check(Check::NotComplete, 30, None, Errno::EACCES),
     Case::Check(Check::HistoryFull, 33, None, Errno::ENOSPC),
     Case::Check(Check::MemoryRefused, 34, None, Errno::ENOMEM),
-    Case::Check(Check::ValueNotOfKind, 7, Some(57), Errno::EINVAL),
     Case::Check(Check::RangeStepZero, 55, Some(36), Errno::ERANGE),
-    Case::Check(Check::RowRefused(Errno::EBUSY), 8, None, Errno::EBUSY),
-];
-
-const CLASSES: &[Case] = &[
+    Case::Control(CtrlFault::KindBounds, 4),
+    Case::Plan(PlanFault::ArrayAlone, 8),
     Case::Which(0, Ok(Which::Current)),
     Case::Which(0x0f00_0000, Ok(Which::Defaults)),
     Case::Which(0x0f01_0000, Ok(Which::Request)),
     Case::Which(0x0098_0000, Ok(Which::Class(0x0098_0000))),
-    Case::Which(0x0f02_0000, Ok(Which::Class(0x0f02_0000))),
-    Case::Which(1, Err(Errno::EINVAL)),
-    Case::Which(0x0098_0900, Err(Errno::EINVAL)),
-    Case::Which(0x1098_0000, Err(Errno::EINVAL)),
     Case::Class(0xf098_0900, 0x0098_0000),
-];
-
-const FLAGS: &[Case] = &[
     Case::Flags(
         0x8000_0240,
         Flags::WRITE_ONLY,
@@ -74,7 +64,6 @@ const FLAGS: &[Case] = &[
         true,
         true,
     ),
-    Case::Flags(0x8000_0240, Flags::GRABBED, Flags::INACTIVE, false, false),
     Case::Named(7),
 ];
 
@@ -84,6 +73,8 @@ fn holds(case: Case) -> bool {
         Case::Check(check, number, part, errno) => {
             check.number() == number && check.part() == part && check.errno() == errno
         }
+        Case::Control(fault, number) => fault.number() == number,
+        Case::Plan(fault, number) => fault.number() == number,
         Case::Kind(kind, number) => kind.number() == number,
         Case::Which(number, which) => Which::read(number) == which,
         Case::Class(id, class) => CtrlId(id).class() == class,
@@ -96,30 +87,11 @@ fn holds(case: Case) -> bool {
     }
 }
 
-fn check(rt: &impl Abort, cases: &[Case]) {
-    for (row, case) in cases.iter().enumerate() {
+#[test]
+fn numbers_and_classes(rt: HostRuntime) {
+    for (row, case) in CASES.iter().enumerate() {
         assert!(rt; holds(*case), "case {row}");
     }
-}
-
-#[test]
-fn numbers_are_those_of_linux(rt: HostRuntime) {
-    check(&rt, NUMBERS);
-}
-
-#[test]
-fn checks_are_those_of_the_rules(rt: HostRuntime) {
-    check(&rt, CHECKS);
-}
-
-#[test]
-fn which_reads(rt: HostRuntime) {
-    check(&rt, CLASSES);
-}
-
-#[test]
-fn flags_keep_their_bits(rt: HostRuntime) {
-    check(&rt, FLAGS);
 }
 
 // Whether a number is shown as it is, and each byte of an array by two digits.

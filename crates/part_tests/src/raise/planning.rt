@@ -84,11 +84,6 @@ fn control(
 }
 
 pub(crate) fn plan(alloc: Global) -> Result<Plan<Silent>, Fail> {
-    plan_with(alloc, &[0, 1], MANUAL)
-}
-
-/// A plan of these controls with another auto cluster.
-pub(crate) fn plan_with(alloc: Global, members: &[u32], manual: i64) -> Result<Plan<Silent>, Fail> {
     let mut builder = PlanBuilder::new(alloc);
     let handler = builder.handler()?;
     let mut id = FIRST;
@@ -100,7 +95,7 @@ pub(crate) fn plan_with(alloc: Global, members: &[u32], manual: i64) -> Result<P
         validator: None,
         notifier: None,
     };
-    if builder.auto_cluster(members, manual, none).is_err() {
+    if builder.auto_cluster(&[0, 1], MANUAL, none).is_err() {
         return Err(Fail::new("an auto cluster"));
     }
     match builder.finish() {

@@ -28,252 +28,73 @@ struct Case {
 
 const FREE: &[bool] = &[false; 5];
 
-const FOLLOWER_HELD: &[bool] = &[false, true, false, false, false];
-
 const PLAIN_HELD: &[bool] = &[false, false, false, true, false];
 
 // The menu is manual.
 const MANUAL: &[i64] = &[1, 50, 0, 30, 9];
 
-// It is automatic, in two ways.
-const AUTO: &[i64] = &[0, 50, 0, 30, 9];
-
-const OTHER_AUTO: &[i64] = &[2, 50, 0, 30, 9];
-
 // The plain number differs.
 const PLAIN: &[i64] = &[1, 50, 0, 32, 9];
-
-const WITHOUT_SET: &[Case] = &[
-    // a value alone
-    Case {
-        before: (MANUAL, FREE),
-        after: (PLAIN, FREE),
-        pairs: &[(3, 32)],
-        from: None,
-        taken: [&[(3, 1, 32, 0)], &[(3, 1, 32, 0)], &[(3, 1, 32, 0)]],
-    },
-    // flags change where they differ: of the follower, and not of the master
-    Case {
-        before: (MANUAL, FREE),
-        after: (AUTO, FREE),
-        pairs: &[(0, 0)],
-        from: None,
-        taken: [
-            &[(0, 1, 0, 0x8), (1, 2, 50, 0x10)],
-            &[(0, 1, 0, 0x8), (1, 2, 50, 0x10)],
-            &[],
-        ],
-    },
-    // from one automatic value to another the follower stays inactive
-    Case {
-        before: (AUTO, FREE),
-        after: (OTHER_AUTO, FREE),
-        pairs: &[(0, 2)],
-        from: None,
-        taken: [&[(0, 1, 2, 0x8)], &[(0, 1, 2, 0x8)], &[]],
-    },
-    // both of one control
-    Case {
-        before: (AUTO, FREE),
-        after: (&[1, 60, 0, 30, 9], FREE),
-        pairs: &[(0, 1), (1, 60)],
-        from: None,
-        taken: [
-            &[(0, 1, 1, 0x8), (1, 3, 60, 0)],
-            &[(0, 1, 1, 0x8), (1, 3, 60, 0)],
-            &[],
-        ],
-    },
-    // a button that is among the pairs, whose value stays
-    Case {
-        before: (MANUAL, FREE),
-        after: (MANUAL, FREE),
-        pairs: &[(2, 0)],
-        from: None,
-        taken: [&[(2, 1, 0, 0x240)], &[(2, 1, 0, 0x240)], &[]],
-    },
-    // a value that can't be read
-    Case {
-        before: (MANUAL, FREE),
-        after: (&[1, 50, 0, 30, 8], FREE),
-        pairs: &[(4, 8)],
-        from: None,
-        taken: [&[(4, 1, 0, 0x40)], &[(4, 1, 0, 0x40)], &[]],
-    },
-    // nothing changes, also where it is set to what it is
-    Case {
-        before: (AUTO, FREE),
-        after: (AUTO, FREE),
-        pairs: &[(3, 30), (1, 50), (0, 0), (4, 9)],
-        from: None,
-        taken: [&[], &[], &[]],
-    },
-    // a grab, and its end
-    Case {
-        before: (MANUAL, FREE),
-        after: (MANUAL, PLAIN_HELD),
-        pairs: &[],
-        from: None,
-        taken: [&[(3, 2, 30, 0x2)], &[(3, 2, 30, 0x2)], &[(3, 2, 30, 0x2)]],
-    },
-    Case {
-        before: (MANUAL, PLAIN_HELD),
-        after: (MANUAL, FREE),
-        pairs: &[],
-        from: None,
-        taken: [&[(3, 2, 30, 0)], &[(3, 2, 30, 0)], &[(3, 2, 30, 0)]],
-    },
-    // a grab of a control that is inactive
-    Case {
-        before: (AUTO, FREE),
-        after: (AUTO, FOLLOWER_HELD),
-        pairs: &[],
-        from: None,
-        taken: [&[(1, 2, 50, 0x12)], &[(1, 2, 50, 0x12)], &[]],
-    },
-    // in the order of control numbers, whatever that of the pairs
-    Case {
-        before: (AUTO, FREE),
-        after: (&[2, 50, 0, 32, 8], FREE),
-        pairs: &[(4, 8), (3, 32), (2, 0), (0, 2)],
-        from: None,
-        taken: [
-            &[
-                (0, 1, 2, 0x8),
-                (2, 1, 0, 0x240),
-                (3, 1, 32, 0),
-                (4, 1, 0, 0x40),
-            ],
-            &[
-                (0, 1, 2, 0x8),
-                (2, 1, 0, 0x240),
-                (3, 1, 32, 0),
-                (4, 1, 0, 0x40),
-            ],
-            &[(3, 1, 32, 0)],
-        ],
-    },
-];
-
-const OF_A_SET: &[Case] = &[
-    // without feedback the one that sets it doesn't hear of a control in its pairs, and every other does
-    Case {
-        before: (MANUAL, FREE),
-        after: (PLAIN, FREE),
-        pairs: &[(3, 32)],
-        from: Some(0),
-        taken: [&[], &[(3, 1, 32, 0)], &[(3, 1, 32, 0)]],
-    },
-    Case {
-        before: (MANUAL, FREE),
-        after: (PLAIN, FREE),
-        pairs: &[(3, 32)],
-        from: Some(2),
-        taken: [&[(3, 1, 32, 0)], &[(3, 1, 32, 0)], &[]],
-    },
-    // with feedback it does
-    Case {
-        before: (MANUAL, FREE),
-        after: (PLAIN, FREE),
-        pairs: &[(3, 32)],
-        from: Some(1),
-        taken: [&[(3, 1, 32, 0)], &[(3, 1, 32, 0)], &[(3, 1, 32, 0)]],
-    },
-    // one that isn't subscribed
-    Case {
-        before: (MANUAL, FREE),
-        after: (PLAIN, FREE),
-        pairs: &[(3, 32)],
-        from: Some(9),
-        taken: [&[(3, 1, 32, 0)], &[(3, 1, 32, 0)], &[(3, 1, 32, 0)]],
-    },
-    // a button
-    Case {
-        before: (MANUAL, FREE),
-        after: (MANUAL, FREE),
-        pairs: &[(2, 0)],
-        from: Some(0),
-        taken: [&[], &[(2, 1, 0, 0x240)], &[]],
-    },
-    // a member that isn't among the pairs is heard of
-    Case {
-        before: (AUTO, FREE),
-        after: (&[2, 60, 0, 30, 9], FREE),
-        pairs: &[(1, 60)],
-        from: Some(0),
-        taken: [&[(0, 1, 2, 0x8)], &[(0, 1, 2, 0x8), (1, 1, 60, 0x10)], &[]],
-    },
-    // changed flags are, also of a control among the pairs
-    Case {
-        before: (MANUAL, FREE),
-        after: (&[0, 60, 0, 30, 9], FREE),
-        pairs: &[(0, 0), (1, 60)],
-        from: Some(0),
-        taken: [
-            &[(1, 3, 60, 0x10)],
-            &[(0, 1, 0, 0x8), (1, 3, 60, 0x10)],
-            &[],
-        ],
-    },
-    // and of one that isn't
-    Case {
-        before: (MANUAL, FREE),
-        after: (AUTO, FREE),
-        pairs: &[(0, 0)],
-        from: Some(0),
-        taken: [
-            &[(1, 2, 50, 0x10)],
-            &[(0, 1, 0, 0x8), (1, 2, 50, 0x10)],
-            &[],
-        ],
-    },
-];
 
 // Minimum, maximum, step and default that control 3 gets in place of its own, 0 to 90 in steps of 2 with 30.
 type Range = (i64, i64, u64, i64);
 
 const OWN: Range = (0, 90, 2, 30);
 
-// Where each of the four differs, a range is heard of by all that are subscribed, with the value that the control has by then.
-const OF_A_RANGE: &[(Range, Case)] = &[
+// The range that control 3 gets, and what is heard.
+const CASES: &[(Range, Case)] = &[
+    // in the order of control numbers, whatever that of the pairs; flags change where they differ, a button is told that is among the pairs, and a value
+    // that can't be read is told as 0
     (
-        (2, 90, 2, 30),
+        OWN,
         Case {
             before: (MANUAL, FREE),
-            after: (MANUAL, FREE),
-            pairs: &[],
+            after: (&[0, 50, 0, 32, 8], FREE),
+            pairs: &[(4, 8), (3, 32), (2, 0), (0, 0)],
             from: None,
-            taken: [&[(3, 4, 30, 0)], &[(3, 4, 30, 0)], &[(3, 4, 30, 0)]],
+            taken: [
+                &[
+                    (0, 1, 0, 0x8),
+                    (1, 2, 50, 0x10),
+                    (2, 1, 0, 0x240),
+                    (3, 1, 32, 0),
+                    (4, 1, 0, 0x40),
+                ],
+                &[
+                    (0, 1, 0, 0x8),
+                    (1, 2, 50, 0x10),
+                    (2, 1, 0, 0x240),
+                    (3, 1, 32, 0),
+                    (4, 1, 0, 0x40),
+                ],
+                &[(3, 1, 32, 0)],
+            ],
         },
     ),
+    // without feedback the one that sets it doesn't hear of a control in its pairs but by its flags, and every other does
+    (
+        OWN,
+        Case {
+            before: (MANUAL, FREE),
+            after: (&[0, 60, 0, 30, 9], FREE),
+            pairs: &[(0, 0), (1, 60)],
+            from: Some(0),
+            taken: [
+                &[(1, 3, 60, 0x10)],
+                &[(0, 1, 0, 0x8), (1, 3, 60, 0x10)],
+                &[],
+            ],
+        },
+    ),
+    // a range is heard of by all that are subscribed, with the value that the control has by then, and so is a grab
     (
         (0, 92, 2, 30),
         Case {
             before: (MANUAL, FREE),
-            after: (PLAIN, FREE),
+            after: (PLAIN, PLAIN_HELD),
             pairs: &[],
             from: None,
-            taken: [&[(3, 5, 32, 0)], &[(3, 5, 32, 0)], &[(3, 5, 32, 0)]],
-        },
-    ),
-    (
-        (0, 90, 1, 30),
-        Case {
-            before: (MANUAL, FREE),
-            after: (MANUAL, PLAIN_HELD),
-            pairs: &[],
-            from: None,
-            taken: [&[(3, 6, 30, 0x2)], &[(3, 6, 30, 0x2)], &[(3, 6, 30, 0x2)]],
-        },
-    ),
-    (
-        (0, 90, 2, 32),
-        Case {
-            before: (AUTO, FREE),
-            after: (AUTO, FREE),
-            pairs: &[],
-            from: None,
-            taken: [&[(3, 4, 30, 0)], &[(3, 4, 30, 0)], &[(3, 4, 30, 0)]],
+            taken: [&[(3, 7, 32, 0x2)], &[(3, 7, 32, 0x2)], &[(3, 7, 32, 0x2)]],
         },
     ),
 ];
@@ -338,29 +159,7 @@ fn is_heard(alloc: Global, plan: &Plan<Silent>, range: Range, case: &Case) -> Re
 fn changes_are_raised(rt: HostRuntime) -> Result<(), Fail> {
     let alloc = rt.alloc();
     let plan = plan(alloc)?;
-    for (row, case) in WITHOUT_SET.iter().enumerate() {
-        let is_heard = is_heard(alloc, &plan, OWN, case)?;
-        assert!(rt; is_heard, "case {row}");
-    }
-    Ok(())
-}
-
-#[test]
-fn a_set_is_heard_by_others(rt: HostRuntime) -> Result<(), Fail> {
-    let alloc = rt.alloc();
-    let plan = plan(alloc)?;
-    for (row, case) in OF_A_SET.iter().enumerate() {
-        let is_heard = is_heard(alloc, &plan, OWN, case)?;
-        assert!(rt; is_heard, "case {row}");
-    }
-    Ok(())
-}
-
-#[test]
-fn a_range_is_heard_by_all(rt: HostRuntime) -> Result<(), Fail> {
-    let alloc = rt.alloc();
-    let plan = plan(alloc)?;
-    for (row, (range, case)) in OF_A_RANGE.iter().enumerate() {
+    for (row, (range, case)) in CASES.iter().enumerate() {
         let is_heard = is_heard(alloc, &plan, *range, case)?;
         assert!(rt; is_heard, "case {row}");
     }

@@ -4,10 +4,10 @@ ghost use Rattle.std.specs.Prelude.{◌<◌, length, IfOk};
 ghost use Rattle.ctrl_handlers.specs.Plan.{control_in};
 ghost use Rattle.ctrl_clusters.specs.Ranges.{HasRangeFor};
 
-use crate::raise::listeners::{Listeners, Told, are_alike, takes};
-use crate::raise::planning::{FIRST, Silent, plan, plan_with};
+use crate::raise::listeners::{Listeners, Told, takes};
+use crate::raise::planning::{FIRST, Silent, plan};
 use crate::values::values_of;
-use ctrl_clusters::{Change, Controls, Moment, Ranges};
+use ctrl_clusters::{Moment, Ranges};
 use ctrl_events::Events;
 use ctrl_handlers::Plan;
 use ctrl_settle::Ctrl;
@@ -36,23 +36,13 @@ const FREE: &[bool] = &[false; 5];
 
 const PLAIN_HELD: &[bool] = &[false, false, false, true, false];
 
-// The ranges that the plan gives the menu, the two numbers, and the one that can't be read.
-const MENU: Range = (0, 3, 1, 1);
-
-const FOLLOWER: Range = (0, 255, 1, 50);
-
-const PLAIN: Range = (0, 90, 2, 30);
-
-const HIDDEN: Range = (0, 255, 1, 9);
-
 // The menu is manual.
 const MANUAL: &[i64] = &[1, 50, 0, 30, 9];
 
 // It is automatic.
 const AUTO: &[i64] = &[3, 50, 0, 30, 9];
 
-// The menu is the master of an auto cluster, and a number follows it.
-const MENU_LEADS: &[Case] = &[
+const CASES: &[Case] = &[
     // both of a control that is alone
     Case {
         control: 3,
@@ -62,41 +52,14 @@ const MENU_LEADS: &[Case] = &[
         grabs: FREE,
         taken: [&[(3, 5, 30, 0)], &[(3, 5, 30, 0)], &[(3, 5, 30, 0)]],
     },
-    // its value alone
-    Case {
-        control: 3,
-        had: PLAIN,
-        value: 24,
-        after: MANUAL,
-        grabs: FREE,
-        taken: [&[(3, 1, 30, 0)], &[(3, 1, 30, 0)], &[(3, 1, 30, 0)]],
-    },
-    // its default alone, while it is grabbed
-    Case {
-        control: 3,
-        had: (0, 90, 2, 32),
-        value: 30,
-        after: AUTO,
-        grabs: PLAIN_HELD,
-        taken: [&[(3, 4, 30, 0x2)], &[(3, 4, 30, 0x2)], &[(3, 4, 30, 0x2)]],
-    },
     // nothing
     Case {
         control: 3,
-        had: PLAIN,
+        had: (0, 90, 2, 30),
         value: 30,
         after: AUTO,
         grabs: PLAIN_HELD,
         taken: [&[], &[], &[]],
-    },
-    // a value that can't be read
-    Case {
-        control: 4,
-        had: (0, 8, 1, 8),
-        value: 8,
-        after: MANUAL,
-        grabs: FREE,
-        taken: [&[(4, 5, 0, 0x40)], &[(4, 5, 0, 0x40)], &[]],
     },
     // the menu becomes automatic: so the number becomes inactive, and who is subscribed to another control alone hears nothing
     Case {
@@ -110,81 +73,6 @@ const MENU_LEADS: &[Case] = &[
             &[(0, 5, 3, 0x8), (1, 2, 50, 0x10)],
             &[],
         ],
-    },
-    // and manual
-    Case {
-        control: 0,
-        had: MENU,
-        value: 2,
-        after: MANUAL,
-        grabs: FREE,
-        taken: [
-            &[(0, 1, 1, 0x8), (1, 2, 50, 0)],
-            &[(0, 1, 1, 0x8), (1, 2, 50, 0)],
-            &[],
-        ],
-    },
-    // from one automatic value to another the number stays inactive
-    Case {
-        control: 0,
-        had: MENU,
-        value: 0,
-        after: AUTO,
-        grabs: FREE,
-        taken: [&[(0, 1, 3, 0x8)], &[(0, 1, 3, 0x8)], &[]],
-    },
-    // of the number the menu isn't touched
-    Case {
-        control: 1,
-        had: (0, 40, 1, 40),
-        value: 40,
-        after: AUTO,
-        grabs: FREE,
-        taken: [&[(1, 5, 50, 0x10)], &[(1, 5, 50, 0x10)], &[]],
-    },
-    Case {
-        control: 1,
-        had: FOLLOWER,
-        value: 40,
-        after: MANUAL,
-        grabs: FREE,
-        taken: [&[(1, 1, 50, 0)], &[(1, 1, 50, 0)], &[]],
-    },
-];
-
-// The members of this auto cluster are named out of order; it is manual where the master has 24.
-const OUT_OF_ORDER: &[u32] = &[3, 4, 0];
-
-const PLAIN_LEADS: &[Case] = &[
-    // what is raised is in the order of control numbers all the same
-    Case {
-        control: 3,
-        had: (0, 24, 2, 20),
-        value: 24,
-        after: MANUAL,
-        grabs: FREE,
-        taken: [
-            &[(0, 2, 1, 0x10), (3, 5, 30, 0x8), (4, 2, 0, 0x50)],
-            &[(0, 2, 1, 0x10), (3, 5, 30, 0x8), (4, 2, 0, 0x50)],
-            &[(3, 5, 30, 0x8)],
-        ],
-    },
-    // the first and the last of its controls by number
-    Case {
-        control: 0,
-        had: (0, 2, 1, 1),
-        value: 0,
-        after: MANUAL,
-        grabs: FREE,
-        taken: [&[(0, 5, 1, 0x10)], &[(0, 5, 1, 0x10)], &[]],
-    },
-    Case {
-        control: 4,
-        had: HIDDEN,
-        value: 8,
-        after: MANUAL,
-        grabs: PLAIN_HELD,
-        taken: [&[(4, 1, 0, 0x50)], &[(4, 1, 0, 0x50)], &[]],
     },
 ];
 
@@ -213,31 +101,7 @@ fn heard(alloc: Global, after: &Moment<Silent>, case: &Case) -> Result<Events, F
     listeners.range_raised(after, case.control, &old, &old_value)
 }
 
-// The same, between the moments before and after.
-fn heard_between(alloc: Global, after: &Moment<Silent>, case: &Case) -> Result<Events, Fail>
-    requires { case.now.control < length after.now.plan.now.controls }
-{
-    let mut earlier = Controls::of_plan(alloc, after.plan)?;
-    earlier.replace_values(Vec::from_slice(alloc, after.values)?);
-    let old = control_before(earlier.ranges(), case)?;
-    earlier.modify_range(case.control, old, CtrlValue::Number(case.value));
-    let before = Moment {
-        plan: after.plan,
-        ranges: earlier.ranges(),
-        values: earlier.values(),
-        grabs: after.grabs,
-    };
-    let change = Change {
-        before,
-        ranges: after.ranges,
-        values: after.values,
-        grabs: after.grabs,
-    };
-    let listeners = Listeners::subscribed(alloc)?;
-    listeners.raised(&change, &[], None)
-}
-
-// Whether the file handles take what they should, which is also what is raised between the two moments.
+// Whether the file handles take what they should.
 fn is_heard(alloc: Global, plan: &Plan<Silent>, case: &Case) -> Result<bool, Fail> {
     let values = values_of(alloc, case.after)?;
     let count = plan.controls().len();
@@ -252,11 +116,9 @@ fn is_heard(alloc: Global, plan: &Plan<Silent>, case: &Case) -> Result<bool, Fai
         grabs: case.grabs,
     };
     let mut events = heard(alloc, &after, case)?;
-    let others = heard_between(alloc, &after, case)?;
     let [first, second, third] = case.taken;
     Ok(
-        are_alike(&events, &others)
-            && takes(&mut events, 0, FIRST, first)
+        takes(&mut events, 0, FIRST, first)
             && takes(&mut events, 1, FIRST, second)
             && takes(&mut events, 2, FIRST, third),
     )
@@ -266,18 +128,7 @@ fn is_heard(alloc: Global, plan: &Plan<Silent>, case: &Case) -> Result<bool, Fai
 fn a_range_of_one_control(rt: HostRuntime) -> Result<(), Fail> {
     let alloc = rt.alloc();
     let plan = plan(alloc)?;
-    for (row, case) in MENU_LEADS.iter().enumerate() {
-        let is_heard = is_heard(alloc, &plan, case)?;
-        assert!(rt; is_heard, "case {row}");
-    }
-    Ok(())
-}
-
-#[test]
-fn members_out_of_order(rt: HostRuntime) -> Result<(), Fail> {
-    let alloc = rt.alloc();
-    let plan = plan_with(alloc, OUT_OF_ORDER, 24)?;
-    for (row, case) in PLAIN_LEADS.iter().enumerate() {
+    for (row, case) in CASES.iter().enumerate() {
         let is_heard = is_heard(alloc, &plan, case)?;
         assert!(rt; is_heard, "case {row}");
     }

@@ -1,7 +1,7 @@
 // Rows that are written, and notifiers that hear of them.
 ghost use Rattle.std.specs.Prelude.{◌≡◌};
 
-use super::planning::{BYTE, Made, Named, plan_of};
+use super::planning::{Made, Named, plan_of};
 use super::rows::{Two, are_rows, is_work, kept_rows, rows_of};
 use crate::cluster::common::controls_of;
 use crate::cluster::driver::Strict;
@@ -19,7 +19,13 @@ use std::sync::atomic::{AtomicU64, Ordering};
 use std::test::Fail;
 
 // A plan whose clusters but the last have notifiers, and what its values are.
-const NOTIFIED: &[Made] = &[BYTE, BYTE, Made::Button, Made::Acting, BYTE];
+const NOTIFIED: &[Made] = &[
+    Made::Byte,
+    Made::Byte,
+    Made::Button,
+    Made::Acting,
+    Made::Byte,
+];
 
 const HEARD: &[Named] = &[
     Named::Heard(&[1, 0]),
@@ -30,25 +36,6 @@ const HEARD: &[Named] = &[
 
 const VALUES: &[i64] = &[10, 11, 0, 13, 14];
 
-// Rows that are written, and the values then.
-const WRITTEN: &[(Two, &[i64])] = &[
-    (&[(0, &[21, 20]), (2, &[23])], &[20, 21, 0, 23, 14]),
-    (&[(2, &[23]), (0, &[21, 20])], &[20, 21, 0, 23, 14]),
-    (&[(3, &[24]), (1, &[0])], &[10, 11, 0, 13, 24]),
-    (&[(0, &[21, 10]), (3, &[14])], &[10, 21, 0, 13, 14]),
-];
-
-fn is_written(plan: &Plan<Strict>, values: &mut Vec<CtrlValue>, two: Two, want: &[i64]) -> bool {
-    let Some(rows) = rows_of(two) else {
-        return false;
-    };
-    if values.len() != plan.controls().len() || !are_rows(plan, &rows) {
-        return false;
-    }
-    write_rows(plan, values, &rows);
-    are_numbers(values.as_slice(), want)
-}
-
 // The same row, as a closure is told it.
 fn copied(row: &RowValues) -> ClusterRow
     ensures { result ≡ row.now }
@@ -58,50 +45,52 @@ fn copied(row: &RowValues) -> ClusterRow
     copy
 }
 
-// The same, one row at a time, and one row's values.
-fn is_written_singly(
+// Writes the rows of two clusters, and to others one row after another, as a row and as values.
+fn are_written(
     plan: &Plan<Strict>,
     values: &mut Vec<CtrlValue>,
     others: &mut Vec<CtrlValue>,
     two: Two,
-    want: &[i64],
 ) -> bool {
     let Some(rows) = rows_of(two) else {
         return false;
     };
+    if values.len() != plan.controls().len() || !are_rows(plan, &rows) {
+        return false;
+    }
+    write_rows(plan, values, &rows);
     for new in &rows {
-        if values.len() != plan.controls().len()
-            || others.len() != plan.controls().len()
+        if others.len() != plan.controls().len()
             || new.cluster >= plan.cluster_count()
             || new.row.len() != plan.members(new.cluster).len()
         {
             return false;
         }
-        write_row(plan, values, new.cluster, &new.row);
+        write_row(plan, others, new.cluster, &new.row);
+        if others.len() != plan.controls().len() {
+            return false;
+        }
         write_values(plan, others, new.cluster, copied(&new.row).values());
     }
-    are_numbers(values.as_slice(), want) && are_numbers(others.as_slice(), want)
+    true
 }
 
-// Whether the values are these, whichever way the rows are written.
-fn are_written(alloc: Global, plan: &Plan<Strict>, two: Two, want: &[i64]) -> Result<bool, Fail> {
-    let mut values = values_of(alloc, VALUES)?;
-    let mut singly = values_of(alloc, VALUES)?;
-    let mut others = values_of(alloc, VALUES)?;
-    Ok(
-        is_written(plan, &mut values, two, want)
-            && is_written_singly(plan, &mut singly, &mut others, two, want),
-    )
-}
+const TWO: Two = &[(2, &[23]), (0, &[21, 20])];
+
+const WRITTEN: &[i64] = &[20, 21, 0, 23, 14];
 
 #[test]
 fn rows_are_written(rt: HostRuntime) -> Result<(), Fail> {
     let alloc = rt.alloc();
     let plan = plan_of(alloc, NOTIFIED, HEARD, &mut Vec::new(alloc))?;
-    for &(two, want) in WRITTEN {
-        let are_written = are_written(alloc, &plan, two, want)?;
-        assert!(rt; are_written, "{two:?}");
-    }
+    let mut values = values_of(alloc, VALUES)?;
+    let mut others = values_of(alloc, VALUES)?;
+    let are_written = are_written(&plan, &mut values, &mut others, TWO);
+    assert!(rt;
+        are_written
+            && are_numbers(values.as_slice(), WRITTEN)
+            && are_numbers(others.as_slice(), WRITTEN)
+    );
     Ok(())
 }
 

@@ -1,7 +1,7 @@
 // Values and grabs that are lent, and come back.
 ghost use Rattle.ctrl_clusters.specs.Rows.{AreControlsOf};
 
-use super::planning::{BYTE, Named, plan_of};
+use super::planning::{Made, Named, plan_of};
 use crate::cluster::common::controls_of;
 use crate::cluster::driver::Strict;
 use crate::values::are_numbers;
@@ -20,46 +20,24 @@ struct Kept<'a> {
 }
 
 impl<'a> Kept<'a> {
-    // A control gets a value, by what is lent or in place; whether what is lent was as it is now.
+    // A control gets a value by what is lent; whether that was as it is now.
     #[tactic(auto, using(crate::proofs::WithinLemmas::set_apart))]
-    fn give(
-        &mut self,
-        alloc: Global,
-        control: u32,
-        value: i64,
-        is_lent: bool,
-    ) -> Result<bool, AllocError> {
+    fn give(&mut self, alloc: Global, control: u32, value: i64) -> Result<bool, AllocError> {
         if control >= self.plan.control_count() {
             return Ok(false);
         }
-        let value = CtrlValue::Number(value);
-        if !is_lent {
-            let range = *self.controls.range(control);
-            self.controls.modify_range(control, range, value);
-            return Ok(true);
-        }
         let mut values = self.controls.lend_values(alloc)?;
         let is_same = values.as_slice() == self.controls.values();
-        values[control as usize] = value;
+        values[control as usize] = CtrlValue::Number(value);
         let cluster = self.plan.cluster_of(control);
         self.controls.replace_within(self.plan, values, &[cluster]);
         Ok(is_same)
     }
 
     // The same of a grab.
-    fn grab(
-        &mut self,
-        alloc: Global,
-        control: u32,
-        grabbed: bool,
-        is_lent: bool,
-    ) -> Result<bool, AllocError> {
+    fn grab(&mut self, alloc: Global, control: u32, grabbed: bool) -> Result<bool, AllocError> {
         if control >= self.plan.control_count() {
             return Ok(false);
-        }
-        if !is_lent {
-            self.controls.grab(control, grabbed);
-            return Ok(true);
         }
         let mut grabs = self.controls.lend_grabs(alloc)?;
         let is_same = grabs.as_slice() == self.controls.grabs();
@@ -69,31 +47,25 @@ impl<'a> Kept<'a> {
     }
 }
 
-// A control, its value and whether it is grabbed from now on, whether by what is lent; the values and grabs then.
-const TURNS: &[(u32, i64, bool, bool, [i64; 3], [bool; 3])] = &[
-    (1, 21, true, true, [10, 21, 12], [false, true, false]),
-    (0, 20, true, true, [20, 21, 12], [true, true, false]),
-    (1, 11, false, true, [20, 11, 12], [true, false, false]),
-    // in place, while some are kept to be lent
-    (2, 32, true, false, [20, 11, 32], [true, false, true]),
-    (0, 30, false, false, [30, 11, 32], [false, false, true]),
-    (2, 32, true, true, [30, 11, 32], [false, false, true]),
-    (0, 10, true, true, [10, 11, 32], [true, false, true]),
+// A control, its value and whether it is grabbed from now on; the values and grabs then.
+const TURNS: &[(u32, i64, bool, [i64; 3], [bool; 3])] = &[
+    (1, 21, true, [10, 21, 12], [false, true, false]),
+    (0, 20, true, [20, 21, 12], [true, true, false]),
+    (1, 11, false, [20, 11, 12], [true, false, false]),
 ];
 
 #[test]
 fn values_and_grabs_are_lent_as_they_are(rt: HostRuntime) -> Result<(), Fail> {
     let alloc = rt.alloc();
     let named = &[Named::Plain(&[2, 0])];
-    let plan = plan_of(alloc, &[BYTE; 3], named, &mut Vec::new(alloc))?;
+    let plan = plan_of(alloc, &[Made::Byte; 3], named, &mut Vec::new(alloc))?;
     let controls = controls_of(alloc, &plan, &[10, 11, 12])?;
     let mut kept = Kept {
         plan: &plan,
         controls,
     };
-    for (control, value, grabbed, is_lent, values, grabs) in TURNS {
-        let are_lent = kept.give(alloc, *control, *value, *is_lent)?
-            && kept.grab(alloc, *control, *grabbed, *is_lent)?;
+    for (control, value, grabbed, values, grabs) in TURNS {
+        let are_lent = kept.give(alloc, *control, *value)? && kept.grab(alloc, *control, *grabbed)?;
         assert!(rt;
             are_lent
                 && are_numbers(kept.controls.values(), values)

@@ -136,20 +136,6 @@ fn shows(alloc: Global, at: &Moment<Strict>, look: Look) -> Result<bool, Fail> {
     })
 }
 
-/// All this is seen at a moment.
-pub fn holds_at(
-    rt: &impl Abort,
-    alloc: Global,
-    at: &Moment<Strict>,
-    looks: &[Look],
-) -> Result<(), Fail> {
-    for (row, &look) in looks.iter().enumerate() {
-        let is_shown = shows(alloc, at, look)?;
-        assert!(rt; is_shown, "look {row}");
-    }
-    Ok(())
-}
-
 /// A plan of these controls and clusters shows this at these values.
 pub fn holds(
     rt: &impl Abort,
@@ -161,5 +147,10 @@ pub fn holds(
 ) -> Result<(), Fail> {
     let plan = plan_of(alloc, made, named, &mut Vec::new(alloc))?;
     let controls = controls_of(alloc, &plan, numbers)?;
-    holds_at(rt, alloc, &controls.at(&plan), looks)
+    let at = controls.at(&plan);
+    for (row, &look) in looks.iter().enumerate() {
+        let is_shown = shows(alloc, &at, look)?;
+        assert!(rt; is_shown, "look {row}");
+    }
+    Ok(())
 }

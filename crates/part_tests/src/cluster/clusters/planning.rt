@@ -13,10 +13,8 @@ use std::test::Fail;
 /// Controls that a plan has.
 #[derive(Clone, Copy)]
 pub enum Made {
-    // a number from 0 to a maximum, in steps
-    Number(i64, u64),
-    // a menu of 0 to 3 that skips 2
-    Menu,
+    // a number of 0 to 255
+    Byte,
     Button,
     // a number of 0 to 255 that acts on each write
     Acting,
@@ -43,13 +41,12 @@ fn control(id: u32, made: Made) -> Result<Ctrl, Fail> {
             Err(_) => Err(Fail::new("an array")),
         };
     }
-    let (kind, maximum, step, skip, flags) = match made {
-        Made::Number(maximum, step) => (Kind::Integer, maximum, step, 0, none),
-        Made::Menu => (Kind::Menu, 3, 1, 4, none),
-        Made::Button | Made::Array => (Kind::Button, 0, 0, 0, none),
-        Made::Acting => (Kind::Integer, 255, 1, 0, Flags::EXECUTE_ON_WRITE),
+    let (kind, maximum, step, flags) = match made {
+        Made::Byte => (Kind::Integer, 255, 1, none),
+        Made::Button | Made::Array => (Kind::Button, 0, 0, none),
+        Made::Acting => (Kind::Integer, 255, 1, Flags::EXECUTE_ON_WRITE),
     };
-    match Ctrl::new(CtrlId(id), kind, 0, maximum, step, 0, skip, flags, false) {
+    match Ctrl::new(CtrlId(id), kind, 0, maximum, step, 0, 0, flags, false) {
         Ok(ctrl) => Ok(ctrl),
         Err(_) => Err(Fail::new("a control")),
     }
@@ -121,5 +118,3 @@ pub fn plan_of(
         Err(_) => Err(Fail::new("the plan")),
     }
 }
-
-pub const BYTE: Made = Made::Number(255, 1);

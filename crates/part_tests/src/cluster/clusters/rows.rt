@@ -10,7 +10,6 @@ use ctrl_clusters::{NewRow, NewRows, member_value, next_number};
 use ctrl_handlers::Plan;
 use ctrl_types::CtrlValue;
 use std::alloc::{AllocError, Global};
-use std::test::Fail;
 
 /// Whether so many validators were asked, and so many notifiers told.
 pub fn is_work(work: &Work, asked: u64, told: u64) -> bool {
@@ -76,94 +75,24 @@ fn fits(plan: &Plan<Strict>, new: &NewRow) -> bool
     new.cluster < plan.cluster_count() && new.row.len() == plan.members(new.cluster).len()
 }
 
-// Members, a value for each of them, a control, and the value that the row gives it.
-const GIVEN: &[(&[u32], &[i64], u32, Option<i64>)] = &[
-    (&[4, 2], &[40, 20], 4, Some(40)),
-    (&[4, 2], &[40, 20], 2, Some(20)),
-    (&[4, 2], &[40, 20], 0, None),
-];
+const TWO: Two = &[(7, &[1, 2]), (3, &[5])];
 
-fn gives(members: &[u32], row: &[i64], control: u32, want: Option<i64>) -> bool {
-    match row_of(row) {
-        Some(row) if row.len() == members.len() => {
-            member_value(members, &row, control) == want.map(CtrlValue::Number)
-        }
-        _ => false,
-    }
-}
-
-#[test]
-fn values_of_a_row(rt: HostRuntime) {
-    for &(members, row, control, want) in GIVEN {
-        assert!(rt; gives(members, row, control, want), "{control}");
-    }
-}
-
-// Rows of clusters below 8, a cluster, and the row that it gets among them.
-const AMONG: &[(Two, u32, Option<&[i64]>)] = &[
-    (&[(7, &[1, 2]), (3, &[5])], 7, Some(&[1, 2])),
-    (&[(7, &[1, 2]), (3, &[5])], 3, Some(&[5])),
-    (&[(7, &[1, 2]), (3, &[5])], 0, None),
-    (&[(7, &[1, 2]), (3, &[5])], 8, None),
-    (&[(7, &[1, 2]), (3, &[5])], u32::MAX, None),
-];
-
-fn is_among(
-    alloc: Global,
-    two: Two,
-    cluster: u32,
-    want: Option<&[i64]>,
-) -> Result<bool, AllocError> {
-    let Some(rows) = kept_rows(alloc, 8, two)? else {
+// What a row gives a member, the row of a cluster, and which cluster comes next from a number on.
+fn are_found(alloc: Global) -> Result<bool, AllocError> {
+    let Some(rows) = kept_rows(alloc, 8, TWO)? else {
         return Ok(false);
     };
-    Ok(match (rows.among(cluster), want) {
-        (Some(row), Some(values)) => is_row(row, values),
-        (None, None) => true,
-        _ => false,
-    })
-}
-
-#[test]
-fn rows_among_others(rt: HostRuntime) -> Result<(), Fail> {
-    for &(two, cluster, want) in AMONG {
-        assert!(rt; is_among(rt.alloc(), two, cluster, want)?, "{cluster}");
-    }
-    Ok(())
-}
-
-// Rows of two clusters, a number from which on one is looked for, the end, and the cluster that comes next.
-const NEXT: &[(Two, u32, u32, u32)] = &[
-    (&[(7, &[1, 2]), (3, &[5])], 0, 8, 3),
-    (&[(7, &[1, 2]), (3, &[5])], 3, 8, 3),
-    (&[(7, &[1, 2]), (3, &[5])], 4, 8, 7),
-    (&[(7, &[1, 2]), (3, &[5])], 8, 8, 8),
-    // the end comes before them
-    (&[(7, &[1, 2]), (3, &[5])], 0, 2, 2),
-    (&[(7, &[1, 2]), (3, &[5])], 4, 7, 7),
-    (&[(0, &[1]), (7, &[5])], 0, u32::MAX, 0),
-    (&[(0, &[1]), (7, &[5])], 8, u32::MAX, u32::MAX),
-];
-
-// Whether this one comes next, among the rows and among the numbers of their clusters.
-fn is_next(alloc: Global, two: Two, from: u32, end: u32, want: u32) -> Result<bool, AllocError> {
-    let Some(rows) = kept_rows(alloc, 8, two)? else {
+    let Some(row) = rows.among(7) else {
         return Ok(false);
     };
-    if from > end {
-        return Ok(false);
-    }
-    let mut clusters = Vec::new(alloc);
-    for (cluster, _) in two {
-        clusters.push(*cluster)?;
-    }
-    Ok(rows.next_cluster(from, end) == want && next_number(clusters.as_slice(), from, end) == want)
+    let is_given = is_row(row, &[1, 2])
+        && row.len() == 2
+        && member_value(&[4, 2], row, 2) == Some(CtrlValue::Number(2));
+    Ok(is_given && rows.next_cluster(4, 8) == 7 && next_number(&[7, 3], 0, 8) == 3)
 }
 
 #[test]
-fn clusters_in_rising_order(rt: HostRuntime) -> Result<(), Fail> {
-    for &(two, from, end, want) in NEXT {
-        assert!(rt; is_next(rt.alloc(), two, from, end, want)?, "{from}, {end}");
-    }
+fn rows_among_others(rt: HostRuntime) -> Result<(), AllocError> {
+    assert!(rt; are_found(rt.alloc())?);
     Ok(())
 }

@@ -1,10 +1,10 @@
 // What a set makes of the clusters that it touches.
 use super::listing::{FIRST, SIX, VALUES, are_entries, list_of, plan_of};
 use crate::cluster::common::controls_of;
-use crate::values::is_row;
+use crate::values::{are_pairs, is_row};
 use ctrl_calls::Work;
 use ctrl_lists::{Room, Touched, View, plan_set};
-use ctrl_types::{CtrlValue, Pair, Which};
+use ctrl_types::Which;
 use std::test::Fail;
 
 // The clusters that a set gives rows, each with its row; its answers and its pairs.
@@ -21,33 +21,15 @@ fn are_rows(touched: &Touched, rows: &[(u32, &[i64])]) -> bool {
             return false;
         }
     }
-    touched.rows().len() == rows.len() && touched.row_of(1).is_none()
-}
-
-// Whether the list touches these clusters, in this order.
-fn are_clusters(touched: &Touched, rows: &[(u32, &[i64])]) -> bool {
-    for (cluster, &(number, _)) in touched.clusters().iter().zip(rows) {
-        if *cluster != number {
-            return false;
-        }
-    }
-    touched.clusters().len() == rows.len()
-}
-
-fn are_pairs(pairs: &[Pair], want: &[(u32, i64)]) -> bool {
-    for (pair, &(control, number)) in pairs.iter().zip(want) {
-        if pair.control != control || pair.value != CtrlValue::Number(number) {
-            return false;
-        }
-    }
-    pairs.len() == want.len()
+    touched.rows().len() == rows.len()
+        && touched.row_of(1).is_none()
+        && touched.clusters() == [3, 0].as_slice()
 }
 
 fn is_touched(touched: Touched, room: &mut Room) -> bool {
     let answers = &[(FIRST + 4, 1), (FIRST + 1, 2)];
     let pairs = &[(4, 1), (1, 2)];
     let are_shown = are_rows(&touched, ROWS)
-        && are_clusters(&touched, ROWS)
         && are_entries(touched.answers(), answers)
         && are_pairs(touched.pairs(), pairs);
     let (list, kept) = touched.into_parts(room);

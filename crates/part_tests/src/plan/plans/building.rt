@@ -15,8 +15,6 @@ pub enum Call {
     Handler,
     // a control of 0 to 9: its handler and its id, and whether it is private
     Control(u32, u32, bool),
-    // one that is READ_ONLY and DISABLED
-    Marked(u32, u32),
     // a menu of the items 0 to 3, of which 2 is skipped
     Menu(u32, u32, Kind),
     // an array of 4 bytes
@@ -29,10 +27,8 @@ pub enum Call {
     Auto(&'static [u32], i64),
 }
 
-pub const MARKED: u32 = 0x5;
-
-fn number(rt: &impl Abort, id: u32, bits: u32, is_private: bool) -> Ctrl {
-    let flags = Flags::from_bits_retain(bits);
+fn number(rt: &impl Abort, id: u32, is_private: bool) -> Ctrl {
+    let flags = Flags::empty();
     let made = Ctrl::new(CtrlId(id), Kind::Integer, 0, 9, 1, 0, 0, flags, is_private);
     made.expect(rt, "a control")
 }
@@ -57,9 +53,8 @@ pub fn answer(
     match call {
         Call::Handler => builder.handler(),
         Call::Control(handler, id, is_private) => {
-            builder.control(handler, number(rt, id, 0, is_private))
+            builder.control(handler, number(rt, id, is_private))
         }
-        Call::Marked(handler, id) => builder.control(handler, number(rt, id, MARKED, false)),
         Call::Menu(handler, id, kind) => builder.control(handler, menu(rt, id, kind)),
         Call::Array(handler, id) => builder.control(handler, array(rt, id)),
         Call::Add(to, added) => done(builder.add_handler(to, added)),
@@ -101,8 +96,8 @@ fn cluster(
     }
 }
 
-/// Makes a call, once more where it was refused memory.
-pub fn make(
+// Makes a call, once more where it was refused memory.
+fn make(
     rt: &impl Abort,
     builder: &mut PlanBuilder<Alike>,
     called: &Arc<AtomicU64>,
@@ -116,38 +111,14 @@ pub fn make(
     assert!(rt; got == want, "{call:?}");
 }
 
-/// Declares so many controls, the first of the plan.
-pub fn declare(
-    rt: &impl Abort,
-    builder: &mut PlanBuilder<Alike>,
-    called: &Arc<AtomicU64>,
-    handler: u32,
-    count: u32,
-) {
-    for id in 0..count {
-        make(
-            rt,
-            builder,
-            called,
-            Call::Control(handler, id, false),
-            Ok(id),
-        );
-    }
-}
-
-/// A builder after these calls; before them it has a handler of so many controls, where there are any.
+/// A builder after these calls.
 pub fn built(
     rt: &impl Abort,
     alloc: Global,
     called: &Arc<AtomicU64>,
-    count: u32,
     calls: &[(Call, Result<u32, PlanFault>)],
 ) -> PlanBuilder<Alike> {
     let mut builder = PlanBuilder::new(alloc);
-    if count > 0 {
-        make(rt, &mut builder, called, Call::Handler, Ok(0));
-        declare(rt, &mut builder, called, 0, count);
-    }
     for &(call, want) in calls {
         make(rt, &mut builder, called, call, want);
     }

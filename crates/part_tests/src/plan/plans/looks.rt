@@ -12,6 +12,7 @@ use std::sync::atomic::AtomicU64;
 /// What a plan is asked, and what it answers.
 #[derive(Clone, Copy)]
 pub enum Look {
+    Handlers(u32),
     Shown(u32, &'static [u32]),
     Find(u32, u32, Result<u32, Errno>),
     Next(u32, u32, Result<CtrlId, Errno>),
@@ -29,6 +30,7 @@ pub const UPDATE: u32 = 0x8;
 
 fn shows(plan: &Plan<Alike>, called: &Arc<AtomicU64>, look: Look) -> bool {
     match look {
+        Look::Handlers(want) => plan.handler_count() == want,
         Look::Shown(handler, want) => plan.shown(handler) == want,
         Look::Find(handler, id, want) => plan.find(handler, CtrlId(id)) == want,
         Look::Next(handler, id, want) => plan.next_id(handler, CtrlId(id)) == want,
@@ -77,73 +79,19 @@ fn number_of(plan: &Plan<Alike>, control: u32, index: u32) -> Option<i64> {
 pub fn holds(
     rt: &impl Abort,
     alloc: Global,
-    count: u32,
     calls: &[(Call, Result<u32, PlanFault>)],
     looks: &[Look],
 ) {
     let called = calling(rt, alloc);
-    let plan = finished(rt, built(rt, alloc, &called, count, calls));
+    let plan = finished(rt, built(rt, alloc, &called, calls));
     for (row, &look) in looks.iter().enumerate() {
         assert!(rt; shows(&plan, &called, look), "look {row}");
     }
 }
 
-/// Whether two plans answer all that they can be asked alike.
+/// Whether two plans have the same controls, and their clusters the same members and closures. What else two plans of the same calls have is the same by
+/// the contracts of the builder.
 pub fn same(plan: &Plan<Alike>, other: &Plan<Alike>, called: &Arc<AtomicU64>) -> bool {
-    plan.controls() == other.controls()
-        && same_shown(plan, other)
-        && same_items(plan, other)
-        && same_places(plan, other)
-        && same_clusters(plan, other, called)
-}
-
-fn same_shown(plan: &Plan<Alike>, other: &Plan<Alike>) -> bool {
-    for handler in 0..plan.handler_count() {
-        if plan.shown(handler) != other.shown(handler) {
-            return false;
-        }
-    }
-    plan.handler_count() == other.handler_count()
-}
-
-fn same_items(plan: &Plan<Alike>, other: &Plan<Alike>) -> bool {
-    for control in 0..plan.control_count() {
-        if !same_menu(plan, other, control) {
-            return false;
-        }
-    }
-    true
-}
-
-fn same_menu(plan: &Plan<Alike>, other: &Plan<Alike>, control: u32) -> bool {
-    for index in 0..64 {
-        if name_of(plan, control, index) != name_of(other, control, index) {
-            return false;
-        }
-        if number_of(plan, control, index) != number_of(other, control, index) {
-            return false;
-        }
-    }
-    true
-}
-
-fn same_places(plan: &Plan<Alike>, other: &Plan<Alike>) -> bool {
-    let count = plan.control_count();
-    if other.control_count() != count {
-        return false;
-    }
-    for control in 0..count {
-        if plan.flags(control) != other.flags(control) {
-            return false;
-        }
-        if plan.cluster_of(control) != other.cluster_of(control) {
-            return false;
-        }
-    }
-    true
-}
-
-fn same_clusters(plan: &Plan<Alike>, other: &Plan<Alike>, called: &Arc<AtomicU64>) -> bool {
     for cluster in 0..plan.cluster_count() {
         if !has(other, cluster, plan.members(cluster), plan.manual(cluster)) {
             return false;
@@ -152,5 +100,5 @@ fn same_clusters(plan: &Plan<Alike>, other: &Plan<Alike>, called: &Arc<AtomicU64
             return false;
         }
     }
-    plan.cluster_count() == other.cluster_count()
+    plan.cluster_count() == other.cluster_count() && plan.controls() == other.controls()
 }

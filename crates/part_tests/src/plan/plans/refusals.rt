@@ -1,32 +1,14 @@
-// The numbers of the refusals, a builder that is full, and one whose growths are refused in turn.
-use super::building::{Call, answer, built, declare, finished, make};
+// All calls of a builder, arrays, and a builder whose growths are refused in turn.
+use super::building::{Call, answer, built, finished};
 use super::closures::{Alike, calling};
-use super::looks::{Look, holds, same};
+use super::looks::{Look, UPDATE, holds, same};
 use ctrl_handlers::PlanFault;
-use ctrl_types::Kind;
+use ctrl_types::{CtrlId, Errno, Kind};
 use hoard::Hoard;
 use std::alloc::{AllocError, Global};
 use std::process::Abort;
 use std::sync::Arc;
 use std::sync::atomic::AtomicU64;
-
-const NUMBERS: &[(PlanFault, u32)] = &[
-    (PlanFault::DuplicateId, 1),
-    (PlanFault::InCluster, 2),
-    (PlanFault::ClusterSize, 3),
-    (PlanFault::LaterHandler, 4),
-    (PlanFault::UnknownNumber, 5),
-    (PlanFault::Limit, 6),
-    (PlanFault::Memory, 7),
-    (PlanFault::ArrayAlone, 8),
-];
-
-#[test]
-fn faults_have_their_numbers(rt: HostRuntime) {
-    for &(fault, number) in NUMBERS {
-        assert!(rt; fault.number() == number, "{fault:?}");
-    }
-}
 
 // An array has no other member beside it, and no manual value. That it is in a cluster already comes first.
 const ARRAYS: &[(Call, Result<u32, PlanFault>)] = &[
@@ -60,40 +42,10 @@ const ARRAYS_FOUND: &[Look] = &[
 
 #[test]
 fn arrays_alone(rt: HostRuntime) {
-    holds(&rt, rt.alloc(), 0, ARRAYS, ARRAYS_FOUND);
+    holds(&rt, rt.alloc(), ARRAYS, ARRAYS_FOUND);
 }
 
-// A builder of so many handlers, one of which has so many controls, refuses further ones.
-fn fill(rt: &impl Abort, alloc: Global, handlers: u32, controls: u32) {
-    let called = calling(rt, alloc);
-    let mut builder = built(rt, alloc, &called, 0, NO_HANDLER);
-    for handler in 0..handlers {
-        make(rt, &mut builder, &called, Call::Handler, Ok(handler));
-    }
-    declare(rt, &mut builder, &called, 3, controls);
-    for &(call, want) in FULL {
-        make(rt, &mut builder, &called, call, want);
-    }
-}
-
-#[test]
-fn as_many_as_there_can_be(rt: HostRuntime) {
-    fill(&rt, rt.alloc(), 16, 256);
-}
-
-const NO_HANDLER: &[(Call, Result<u32, PlanFault>)] = &[(
-    Call::Control(0, 1, false),
-    Err(PlanFault::UnknownNumber),
-)];
-
-// the limit comes before the id
-const FULL: &[(Call, Result<u32, PlanFault>)] = &[
-    (Call::Handler, Err(PlanFault::Limit)),
-    (Call::Control(3, 1, false), Err(PlanFault::Limit)),
-    (Call::Control(16, 1, false), Err(PlanFault::UnknownNumber)),
-];
-
-// the first item makes room for others, and a name needs memory of its own
+// the first item makes room for others, and a name needs memory of its own; two clusters are refused, and their closures handed back
 const ALL: &[(Call, Result<u32, PlanFault>)] = &[
     (Call::Handler, Ok(0)),
     (Call::Handler, Ok(1)),
@@ -109,15 +61,19 @@ const ALL: &[(Call, Result<u32, PlanFault>)] = &[
     (Call::Number(7, 1, -7), Ok(0)),
     (Call::Name(6, 1, "50 Hz"), Ok(0)),
     (Call::Cluster(&[5, 4]), Ok(0)),
-    (Call::Auto(&[2, 3], 1), Ok(1)),
+    (Call::Cluster(&[1, 5]), Err(PlanFault::InCluster)),
+    (Call::Auto(&[2, 3], 12), Ok(1)),
+    (Call::Auto(&[1, 99], 0), Err(PlanFault::UnknownNumber)),
 ];
 
+// a manual value may be one that the master can't take
 const ALL_FOUND: &[Look] = &[
+    Look::Handlers(2),
     Look::Shown(0, &[0, 1, 2, 3, 4, 5]),
     Look::Shown(1, &[6, 7, 0, 1, 2, 3, 4, 5]),
     Look::Clusters(6),
     Look::Cluster(0, &[5, 4], None),
-    Look::Cluster(1, &[2, 3], Some(1)),
+    Look::Cluster(1, &[2, 3], Some(12)),
     Look::Cluster(2, &[0], None),
     Look::Cluster(3, &[1], None),
     Look::Cluster(4, &[6], None),
@@ -125,6 +81,11 @@ const ALL_FOUND: &[Look] = &[
     Look::Closures(0, Some(6)),
     Look::Closures(1, Some(3)),
     Look::Closures(2, None),
+    Look::Flags(2, UPDATE),
+    Look::Flags(3, 0),
+    Look::Find(1, 4, Ok(4)),
+    Look::Find(0, 6, Err(Errno::EINVAL)),
+    Look::Next(1, 5, Ok(CtrlId(6))),
     Look::Name(6, 1, Some("50 Hz")),
     Look::Number(7, 1, Some(-7)),
 ];
@@ -132,7 +93,7 @@ const ALL_FOUND: &[Look] = &[
 // The plan has these looks where nothing is refused.
 #[test]
 fn all_calls(rt: HostRuntime) {
-    holds(&rt, rt.alloc(), 0, ALL, ALL_FOUND);
+    holds(&rt, rt.alloc(), ALL, ALL_FOUND);
 }
 
 // So often a call is made, each time with so many bytes more than before, until it isn't refused memory.
@@ -152,7 +113,7 @@ fn refusals_at(
     let (before, behind) = ALL.split_at_checked(place)?;
     let &(call, want) = behind.first()?;
     for times in 0..MOST {
-        let mut builder = built(rt, alloc, called, 0, before);
+        let mut builder = built(rt, alloc, called, before);
         hoard.starve(MORE * times);
         let got = answer(rt, &mut builder, called, call);
         hoard.feed();
@@ -161,7 +122,7 @@ fn refusals_at(
         }
         let is_as_before = same(
             &finished(rt, builder),
-            &finished(rt, built(rt, alloc, called, 0, before)),
+            &finished(rt, built(rt, alloc, called, before)),
             called,
         );
         if got != Err(PlanFault::Memory) || !is_as_before {
@@ -178,14 +139,14 @@ fn refusals_at_the_end(
     hoard: &mut Hoard,
     called: &Arc<AtomicU64>,
 ) -> Option<usize> {
-    let mut builder = built(rt, alloc, called, 0, ALL);
+    let mut builder = built(rt, alloc, called, ALL);
     for times in 0..MOST {
         hoard.starve(MORE * times);
         let done = builder.finish();
         hoard.feed();
         builder = match done {
             Ok(plan) => {
-                let other = finished(rt, built(rt, alloc, called, 0, ALL));
+                let other = finished(rt, built(rt, alloc, called, ALL));
                 return same(&plan, &other, called).then_some(times);
             }
             Err((builder, PlanFault::Memory)) => builder,

@@ -71,8 +71,8 @@ impl<A: Allocator> Served for Counter<A> {
     type Answer = Answer;
 
     ghost use Rattle.std.specs.Prelude.{◌≡◌, ◌+◌, length, Some, None};
-    ghost use Rattle.desk_loads.specs.declared.counter.Ask.TheVariants.{Add, Read};
-    ghost use Rattle.desk_loads.specs.declared.counter.Answer.TheVariants.{At, NoMemory};
+    ghost use Rattle.device_loads.specs.declared.counter.Ask.TheVariants.{Add, Read};
+    ghost use Rattle.device_loads.specs.declared.counter.Answer.TheVariants.{At, NoMemory};
 
     ghost plan = { λ c. c.start };
 

@@ -1,5 +1,5 @@
 use Rattle.turn_desk.specs.Views.{IsSeatOf}
-use Rattle.desk_loads.proofs.calls.call_seated.Given as goal
+use Rattle.device_loads.proofs.calls.look_seated.Given as goal
 
 abbrev pub invariant-loop : goal.invariant-loop
 invariant-loop g l = IsSeatOf l.desk l.seat

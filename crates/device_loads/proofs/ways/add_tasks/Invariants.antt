@@ -1,6 +1,6 @@
 use Rattle.std.proofs.Common.{All}
 use Rattle.turn_desk.specs.Views.{IsSeatOf}
-use Rattle.desk_loads.proofs.ways.add_tasks.Given as goal
+use Rattle.device_loads.proofs.ways.add_tasks.Given as goal
 
 abbrev pub invariant-loop : goal.invariant-loop
 invariant-loop g l = record {

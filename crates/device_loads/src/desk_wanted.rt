@@ -1,4 +1,4 @@
-//! What the command line asks for.
+//! What the words for calls at the desk ask for.
 
 use crate::counter::Ask;
 
@@ -11,9 +11,20 @@ pub enum Way {
     Mutex,
 }
 
+impl Way {
+    /// The way that a word says.
+    pub fn read(word: &str) -> Option<Way> {
+        match word {
+            "desk" => Some(Way::Desk),
+            "mutex" => Some(Way::Mutex),
+            _ => None,
+        }
+    }
+}
+
 /// What is called, and how often.
 #[derive(Clone, Copy)]
-pub struct Load<'a> {
+pub struct DeskLoad<'a> {
     /// The words for the way and the ask.
     pub words: (&'a str, &'a str),
     /// How the object is called.
@@ -26,27 +37,22 @@ pub struct Load<'a> {
     pub threads: u32,
 }
 
-impl<'a> Load<'a> {
+impl<'a> DeskLoad<'a> {
     /// What four words say: a way, an ask, how many calls, and of how many threads, 1 to 64. None where they say anything else.
-    pub fn read(words: &'a [String]) -> Option<Load<'a>> {
+    pub fn read(words: &'a [String]) -> Option<DeskLoad<'a>> {
         let [way, ask, calls, threads] = words else {
             return None;
         };
         let words = (way.as_str(), ask.as_str());
-        let way = match words.0 {
-            "desk" => Way::Desk,
-            "mutex" => Way::Mutex,
-            _ => return None,
-        };
         let ask = match words.1 {
             "add" => Some(Ask::Add),
             "read" => Some(Ask::Read),
             "front" => None,
             _ => return None,
         };
-        let load = Load {
+        let load = DeskLoad {
             words,
-            way,
+            way: Way::read(words.0)?,
             ask,
             calls: calls.parse::<u32>().ok()?,
             threads: threads.parse::<u32>().ok()?,
