@@ -15,6 +15,9 @@ use std::io;
 use std::sync::Wait;
 use std::thread::Threads;
 
+// Room for steps grows at each of these counts of them.
+const GROWTHS: [usize; 5] = [8, 16, 32, 64, 128];
+
 /// At how many lines of a script all is well where memory is short at each in turn; nothing where it isn't.
 pub fn is_well_at_lines<R: AllocGlobal + Threads + Wait + Print + Sync>(
     rt: &R,
@@ -23,38 +26,112 @@ pub fn is_well_at_lines<R: AllocGlobal + Threads + Wait + Print + Sync>(
     case: &Case<'_>,
     wanting: &mut Wanting,
 ) -> io::Result<Option<usize>> {
-    let alloc = rt.alloc();
-    let lines = lines_of(alloc, case.text.as_slice())?;
-    let lines = lines.as_slice();
-    let script = audited(script_of(alloc, lines, None)?)?;
-    let usual = run_ample(rt, hoard, ground, script.as_slice())?;
+    let lines = lines_of(rt.alloc(), case.text.as_slice())?;
     let mut count = 0usize;
-    for (place, line) in lines.iter().enumerate() {
+    for (place, line) in lines.as_slice().iter().enumerate() {
         if !is_answered(line) {
             continue;
         }
-        count = count.saturating_add(1);
-        let script = audited(script_of(alloc, lines, Some(place))?)?;
-        let twice = run_ample(rt, hoard, ground, script.as_slice())?;
-        let before = match lines.split_at_checked(place) {
-            Some((before, _)) => before,
-            None => lines,
-        };
-        let before = script_of(alloc, before, None)?;
-        let cut = run_ample(rt, hoard, ground, before.as_slice())?;
-        let at = Line {
-            script: script.as_slice(),
+        let at = Place {
+            lines: lines.as_slice(),
+            place,
             line,
-            before: count,
-            usual: &usual,
-            twice: &twice,
-            cut: &cut,
+            answered: count,
         };
-        if !is_well_at(rt, hoard, ground, case, &at, wanting)? {
+        count = count.saturating_add(1);
+        if !is_well_at_place(rt, hoard, ground, case, &at, wanting)? {
             return Ok(None);
         }
     }
     Ok(Some(count))
+}
+
+// A line of a script, and how many are answered before it.
+#[derive(Clone, Copy)]
+struct Place<'a> {
+    lines: &'a [&'a [u8]],
+    place: usize,
+    line: &'a [u8],
+    answered: usize,
+}
+
+// Whether all is well where memory is short at a line; and where so many steps stand before the script that the line's own step finds no room kept for it.
+fn is_well_at_place<R: AllocGlobal + Threads + Wait + Print + Sync>(
+    rt: &R,
+    hoard: &mut Hoard,
+    ground: &Ground,
+    case: &Case<'_>,
+    at: &Place<'_>,
+    wanting: &mut Wanting,
+) -> io::Result<bool> {
+    let script = script_of(rt.alloc(), 0, lines_before(at), None)?;
+    let cut = run_ample(rt, hoard, ground, script.as_slice())?;
+    let more = until_growth(steps_in(cut.audited.as_slice()));
+    if !is_well_behind(rt, hoard, ground, case, at, 0, wanting)? {
+        return Ok(false);
+    }
+    if more == 0 {
+        return Ok(true);
+    }
+    is_well_behind(rt, hoard, ground, case, at, more, wanting)
+}
+
+// The lines before one.
+fn lines_before<'a>(at: &Place<'a>) -> &'a [&'a [u8]] {
+    match at.lines.split_at_checked(at.place) {
+        Some((before, _)) => before,
+        None => at.lines,
+    }
+}
+
+// How many steps an audit counts.
+fn steps_in(audited: &[u8]) -> usize {
+    let mut count = 0usize;
+    for byte in audited {
+        if *byte >= b'0' && *byte <= b'9' {
+            let digit = usize::from((*byte).saturating_sub(b'0'));
+            count = count.saturating_mul(10).saturating_add(digit);
+        }
+    }
+    count
+}
+
+// How many steps more have the next one find no room.
+fn until_growth(steps: usize) -> usize {
+    for room in GROWTHS.iter() {
+        if *room >= steps {
+            return (*room).saturating_sub(steps);
+        }
+    }
+    0
+}
+
+// Whether all is well where memory is short at a line, with so many steps before the script.
+fn is_well_behind<R: AllocGlobal + Threads + Wait + Print + Sync>(
+    rt: &R,
+    hoard: &mut Hoard,
+    ground: &Ground,
+    case: &Case<'_>,
+    at: &Place<'_>,
+    steps: usize,
+    wanting: &mut Wanting,
+) -> io::Result<bool> {
+    let alloc = rt.alloc();
+    let script = audited(script_of(alloc, steps, at.lines, None)?)?;
+    let usual = run_ample(rt, hoard, ground, script.as_slice())?;
+    let script = audited(script_of(alloc, steps, at.lines, Some(at.place))?)?;
+    let twice = run_ample(rt, hoard, ground, script.as_slice())?;
+    let before = script_of(alloc, steps, lines_before(at), None)?;
+    let cut = run_ample(rt, hoard, ground, before.as_slice())?;
+    let at = Line {
+        script: script.as_slice(),
+        line: at.line,
+        before: at.answered.saturating_add(steps).saturating_add(1),
+        usual: &usual,
+        twice: &twice,
+        cut: &cut,
+    };
+    is_well_at(rt, hoard, ground, case, &at, wanting)
 }
 
 fn run_ample<R: AllocGlobal + Threads + Wait + Sync>(
@@ -72,9 +149,17 @@ fn audited(mut script: Vec<u8>) -> Result<Vec<u8>, AllocError> {
     Ok(script)
 }
 
-// Some lines, with a command before them that takes no memory; the line at a place twice.
-fn script_of(alloc: Global, lines: &[&[u8]], twice: Option<usize>) -> Result<Vec<u8>, AllocError> {
+// Some lines, with so many steps before them and a command that takes no memory; the line at a place twice.
+fn script_of(
+    alloc: Global,
+    steps: usize,
+    lines: &[&[u8]],
+    twice: Option<usize>,
+) -> Result<Vec<u8>, AllocError> {
     let mut script = Vec::new(alloc);
+    for _ in 0..steps {
+        script.extend_from_slice(b"open filling 0\n")?;
+    }
     script.extend_from_slice(b"told 0\n")?;
     for (place, line) in lines.iter().enumerate() {
         script.extend_from_slice(line)?;
