@@ -78,10 +78,8 @@ fn is_well_at_place<R: AllocGlobal + Threads + Wait + Print + Sync>(
 
 // The lines before one.
 fn lines_before<'a>(at: &Place<'a>) -> &'a [&'a [u8]] {
-    match at.lines.split_at_checked(at.place) {
-        Some((before, _)) => before,
-        None => at.lines,
-    }
+    let count = at.place.min(at.lines.len());
+    &at.lines[..count]
 }
 
 // How many steps an audit counts.
