@@ -1,4 +1,5 @@
 ghost use Rattle.std.specs.Prelude.{◌≡◌, ◌≤◌, ◌<◌, ◌+◌, ℕ, length};
+ghost use Rattle.ctrl_types.specs.declared.bytes.TheConstants.{MAX_ELEMENTS};
 ghost use Rattle.call_structs.specs.Entries.{array_at, entry_start, id_at, list_size, slot_start, value_at, with_number, with_size, with_told};
 ghost use Rattle.call_structs.specs.declared.entries.Form.TheVariants.{Array};
 
@@ -71,7 +72,7 @@ pub fn value_at(
     requires count { count ≤ 65 }
     requires place { place < count }
     requires whole { list_size count ≤ length bytes.now }
-    requires few { (elems : ℕ) → form ≡ Array elems → elems ≤ 32 }
+    requires few { (elems : ℕ) → form ≡ Array elems → elems ≤ MAX_ELEMENTS }
     ensures { result ≡ value_at form count place bytes.now }
 {
     let at = entry_start(place);
@@ -89,7 +90,7 @@ fn array_at(bytes: &[u8], count: usize, place: usize, elems: u32) -> Result<Ctrl
     requires count { count ≤ 65 }
     requires place { place < count }
     requires whole { list_size count ≤ length bytes.now }
-    requires few { elems ≤ 32 }
+    requires few { elems ≤ MAX_ELEMENTS }
     ensures { result ≡ array_at count elems place bytes.now }
 {
     let at = entry_start(place);

@@ -7,8 +7,7 @@ use crate::camera::Camera;
 use crate::device_parts::{put_controls, put_values};
 use crate::message::Message;
 use crate::reply_buffer::{Head, ReplyBuffer, count};
-use ask_reasons::{Reason, text_of};
-use ctrl_types::{Fault, FhId, RequestId};
+use ctrl_types::{Fault, FhId, Refusal, RequestId};
 use device_state::{Ask, Reply, RequestState};
 use std::alloc::Global;
 use std::io::Write;
@@ -141,8 +140,8 @@ impl Camera {
                 reply.put_numbers(u32::from(waits), 0, 0);
             }
             Message::Why => {
-                if let Some(reason) = self.session.reason() {
-                    put_reason(self.alloc, reply, reason);
+                if let Some(refusal) = self.session.refusal() {
+                    put_refusal(self.alloc, reply, refusal);
                 }
             }
             Message::Counts => {
@@ -216,11 +215,11 @@ fn state_number(state: RequestState) -> u32
 }
 
 // Puts why a call was refused behind a payload: the check, what didn't hold, and the entry of a list that it is about.
-fn put_reason(alloc: Global, reply: &mut ReplyBuffer, reason: Reason) {
+fn put_refusal(alloc: Global, reply: &mut ReplyBuffer, refusal: Refusal) {
     let mut page = Page::new(alloc);
-    let (number, text) = (reason.check.number(), text_of(reason.check));
+    let (number, text) = (refusal.check.number(), refusal.check.text());
     let _ = write!(page, "check {number}, {text}");
-    if let Some(entry) = reason.entry {
+    if let Some(entry) = refusal.entry {
         let _ = write!(page, ", at entry {entry}");
     }
     if page.is_whole() {

@@ -4,11 +4,9 @@ ghost use Rattle.std.specs.Prelude.{◌≡◌, true, OnOk};
 ghost use Rattle.ctl_script.specs.Bindings.{is_entered};
 
 use crate::message::MAX_PAYLOAD;
-use ask_reasons::reason_of;
 use ctl_script::{Binding, Bindings, ask_of};
 use ctl_session::Session;
 use ctrl_calls::Driver;
-use ctrl_types::Fault;
 use device_state::{Ask, Device};
 use line_reasons::{Complaint, Names, reason_of as reason_of_line};
 use script_lines::{Command, LineFault, Name, read_line};
@@ -129,8 +127,8 @@ impl Lines {
                 let _ = write_answer(&mut self.page, &mut self.reply, &ask, &answer);
                 true
             }
-            Err(fault) => {
-                self.put_refusal(alloc, session, line, &ask, fault);
+            Err(_) => {
+                self.put_refusal(session, line, &ask);
                 false
             }
         }
@@ -149,28 +147,17 @@ impl Lines {
     }
 
     // Says that a line is refused, and why.
-    fn put_refusal<D: Driver>(
-        &mut self,
-        alloc: Global,
-        session: &Session<D>,
-        line: &[u8],
-        ask: &Ask,
-        fault: Fault,
-    ) {
+    fn put_refusal<D: Driver>(&mut self, session: &Session<D>, line: &[u8], ask: &Ask) {
         let asked = Asked {
             known: session.words(),
             device: session.device(),
             line,
             ask,
         };
-        let reason = match reason_of(alloc, session.device(), ask) {
-            Ok(reason) => reason,
-            Err(_) => None,
-        };
-        put_refusal(&mut self.page, &mut self.reply, asked, fault, reason);
-        if let Some(reason) = reason {
+        if let Some(refusal) = session.refusal() {
+            put_refusal(&mut self.page, &mut self.reply, asked, refusal);
             self.page.put(": ");
-            put_check(&mut self.page, asked, reason);
+            put_check(&mut self.page, asked, refusal);
         }
         self.page.put("\n");
     }

@@ -9,18 +9,13 @@ mod differing;
 mod why;
 
 ghost use Rattle.std.specs.Prelude.{◌≡◌, []};
-ghost use Rattle.ctrl_calls.specs.Meanings.{JudgesBy, TellsBy};
 
 use crate::differing::{show_difference, show_why};
 use crate::why::{Ran, why_of};
 use case_files::{Case, Program, cases_of, read_files};
 use ctl_pair::{Gate, Remains, run_pair};
-use ctl_script::{
-    BALANCE_LIMIT, BRIGHTNESS_WORDS, BUTTON_WORDS, ControlWords, GAIN_LIMIT, Outcome, PAIR_WORDS,
-    Sample, balance_verdict, brightness_word, button_word, gain_verdict, pair_word, run_board,
-    run_script, sample_plan, sample_words,
-};
-use ctrl_calls::{Calls, ClusterRow, Driver, Notifier, Validator, Verdict};
+use ctl_script::{ControlWords, Outcome, own_sample_plan, run_board, run_script, sample_words};
+use ctrl_calls::Driver;
 use device_file::{DeviceFile, explain, read_camera, read_device};
 use device_state::Device;
 use file_check::check_file;
@@ -33,10 +28,6 @@ use std::io;
 use std::process::ExitCode;
 use std::sync::Wait;
 use std::thread::Threads;
-
-type Judge = Box<dyn Fn(ClusterRow) -> Verdict + Send>;
-
-type Teller = Box<dyn Fn(ClusterRow) -> u64 + Send>;
 
 // Lets each command of two scripts pass at once.
 struct OpenGate;
@@ -179,67 +170,18 @@ fn is_same_on_sample<R: AllocGlobal + Threads + Wait + Print + Sync>(
     known: &ControlWords,
     case: &Case<'_>,
 ) -> io::Result<bool> {
-    let limit: Judge = Box::new(rt.alloc(), |row: ClusterRow| gain_verdict(&row))?;
-    let sum: Judge = Box::new(rt.alloc(), |row: ClusterRow| balance_verdict(&row))?;
-    let gain: Teller = Box::new(rt.alloc(), |row: ClusterRow| pair_word(&row))?;
-    let balance: Teller = Box::new(rt.alloc(), |row: ClusterRow| pair_word(&row))?;
-    let button: Teller = Box::new(rt.alloc(), |row: ClusterRow| button_word(&row))?;
-    let brightness: Teller = Box::new(rt.alloc(), |row: ClusterRow| brightness_word(&row))?;
-    let ran = run_on_sample::<Sample, R>(
-        rt,
-        known,
-        case,
-        (limit, sum),
-        (gain, balance, button, brightness),
-    )?;
+    let ran = run_on_sample(rt, known, case)?;
     is_wanted(rt, "the sample device", case, &ran)
 }
 
-// What a case prints on the sample device, and how it ends. The device's clusters have these closures: of autogain and gain the
-// first validator and the first notifier, of red and blue the second ones, of the button and of brightness the last notifiers.
-fn run_on_sample<D: Driver + Send, R: AllocGlobal + Threads + Wait + Sync>(
+// What a case prints on the sample device, and how it ends.
+fn run_on_sample<R: AllocGlobal + Threads + Wait + Sync>(
     rt: &R,
     known: &ControlWords,
     case: &Case<'_>,
-    judges: (D::Judge, D::Judge),
-    tellers: (D::Teller, D::Teller, D::Teller, D::Teller),
-) -> Result<Ran, AllocError>
-where
-    D::Judge: Send,
-    D::Teller: Send,
-    requires limit { D.Judge.callable judges.0 }
-    requires limit_judges { JudgesBy (D.Judge.answers judges.0) (D.verdict GAIN_LIMIT) }
-    requires sum { D.Judge.callable judges.1 }
-    requires sum_judges { JudgesBy (D.Judge.answers judges.1) (D.verdict BALANCE_LIMIT) }
-    requires gain { D.Teller.callable tellers.0 }
-    requires gain_tells { TellsBy (D.Teller.answers tellers.0) (D.told PAIR_WORDS) }
-    requires balance { D.Teller.callable tellers.1 }
-    requires balance_tells { TellsBy (D.Teller.answers tellers.1) (D.told PAIR_WORDS) }
-    requires button { D.Teller.callable tellers.2 }
-    requires button_tells { TellsBy (D.Teller.answers tellers.2) (D.told BUTTON_WORDS) }
-    requires brightness { D.Teller.callable tellers.3 }
-    requires brightness_tells { TellsBy (D.Teller.answers tellers.3) (D.told BRIGHTNESS_WORDS) }
-{
+) -> Result<Ran, AllocError> {
     let alloc = rt.alloc();
-    let (limit, sum) = judges;
-    let (gain, balance, button, brightness) = tellers;
-    let of_gain: Calls<D> = Calls {
-        validator: Some(Validator::new(GAIN_LIMIT, limit)),
-        notifier: Some(Notifier::new(PAIR_WORDS, gain)),
-    };
-    let of_balance: Calls<D> = Calls {
-        validator: Some(Validator::new(BALANCE_LIMIT, sum)),
-        notifier: Some(Notifier::new(PAIR_WORDS, balance)),
-    };
-    let of_button: Calls<D> = Calls {
-        validator: None,
-        notifier: Some(Notifier::new(BUTTON_WORDS, button)),
-    };
-    let of_brightness: Calls<D> = Calls {
-        validator: None,
-        notifier: Some(Notifier::new(BRIGHTNESS_WORDS, brightness)),
-    };
-    let Ok(plan) = sample_plan(alloc, of_gain, of_balance, of_button, of_brightness) else {
+    let Ok(plan) = own_sample_plan(alloc) else {
         return Err(AllocError);
     };
     let Ok(device) = Device::new(alloc, plan) else {

@@ -21,8 +21,8 @@ pub use names::Bindings;
 pub use run::{first_line, run_script, with_line, without_line};
 pub use sample_device::{
     BALANCE_LIMIT, BRIGHTNESS_WORDS, BUTTON_WORDS, GAIN_LIMIT, PAIR_WORDS, Sample, array_builder,
-    balance_verdict, brightness_word, button_word, gain_verdict, pair_word, sample_builder,
-    sample_plan, sample_words,
+    balance_verdict, brightness_word, button_word, gain_verdict, own_sample_plan, pair_word,
+    sample_builder, sample_plan, sample_words,
 };
 pub use script_lines::ControlWords;
 pub use script_replies::{Audited, Outcome};

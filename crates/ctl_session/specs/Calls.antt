@@ -23,7 +23,6 @@ use Rattle.device_history.specs.Handles.{handler_of}
 use Rattle.device_history.specs.Refusals.{Answer}
 use Rattle.device_history.specs.Subscriptions.{subscribed}
 use Rattle.device_state.specs.Device.{DeviceData}
-use Rattle.ask_reasons.specs.Reasons.{reason_of}
 use Rattle.ioctl_bytes.specs.Fields.{i32_in, u32_in, with_low, with_u32}
 use Rattle.ioctl_bytes.specs.declared.calls.TheConstants as calls
 use Rattle.ioctl_bytes.specs.declared.layout.v4l2_control.TheConstants as one
@@ -45,7 +44,7 @@ use Rattle.ctl_session.specs.declared.list_calls.Access.TheVariants.{Get, Set, T
 use Rattle.ctl_session.specs.declared.lists.TheConstants.{MOST_ENTRIES, V4L2_CID_MAX_CTRLS}
 use Rattle.ctl_session.specs.Ids.{form_of, is_narrow, is_old, queried, real_id, shown}
 use Rattle.ctl_session.specs.Lists.{Wrong, entries_in, first_of_control, stands_before, with_values, wrong_payload}
-use Rattle.ctl_session.specs.Session.{Asked, SessionData, errno_in, without_room}
+use Rattle.ctl_session.specs.Session.{Asked, SessionData, Stays, errno_in, refusal_in, without_room}
 
 -- an errno, 0 for none, and the struct of the call as it is then
 abbrev pub Told : Type 0
@@ -207,7 +206,7 @@ wrong_told plan h access bytes wrong =
 abbrev pub refusing : Verdicts → SessionData → List ℕ → Ask → Option Wrong → Option Wrong
 refusing verdicts session bytes ask None = None
 refusing verdicts session bytes ask (Some wrong) =
-    if stands_before (reason_of verdicts (plan_in session) (past session.device.steps) ask) wrong (first_of_control (read_count bytes) bytes wrong.0) then None else Some wrong
+    if stands_before (refusal_in verdicts session ask) wrong (first_of_control (read_count bytes) bytes wrong.0) then None else Some wrong
 
 -- A list is asked of the device, unless a payload refuses it.
 abbrev pub list_by : PlanData → ℕ → Access → List ℕ → Ask → Option Wrong → Meaning
@@ -321,7 +320,7 @@ call_of verdicts session name fh request number bytes = call_by verdicts session
 
 -- Asks are asked one after another, until one is refused; each has its answer.
 abbrev pub AskedInTurn : Verdicts → SessionData → List Ask → List Answer → SessionData → Type 0
-AskedInTurn verdicts old [] [] new = new ≡ old
+AskedInTurn verdicts old [] [] new = Stays old new
 AskedInTurn verdicts old (ask ∷ rest) (Ok reply ∷ answers) new =
     (between : SessionData) × Asked verdicts old between ask (Ok reply) × AskedInTurn verdicts between rest answers new
 AskedInTurn verdicts old (ask ∷ rest) (Err fault ∷ []) new = Asked verdicts old new ask (Err fault)
@@ -336,4 +335,4 @@ EndedInTurn verdicts old fh controls new errno =
 abbrev pub Calls : Verdicts → SessionData → Meaning → SessionData → Told → Type 0
 Calls verdicts old meaning new told =
     ((answers : List Answer) × AskedInTurn verdicts old meaning.asks answers new × (told ≡ meaning.told answers))
-    ⊎ ((new ≡ old) × (meaning.short ≡ Some told))
+    ⊎ (Stays old new × (meaning.short ≡ Some told))

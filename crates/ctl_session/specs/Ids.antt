@@ -3,6 +3,7 @@ use Rattle.std.specs.Prelude.{◌==◌, ◌&&◌, ◌||◌, ℕ, ◌-◌, Bool, 
 use Rattle.std.specs.List.{filter, find as first_that}
 use Rattle.std.specs.Option.{option_map}
 use Rattle.ctrl_types.specs.Classes.{class_of}
+use Rattle.ctrl_types.specs.declared.bytes.TheConstants.{MAX_ELEMENTS}
 use Rattle.ctrl_types.specs.declared.ids.CtrlId.{CtrlId}
 use Rattle.ctrl_types.specs.declared.kind.Kind.{Kind}
 use Rattle.ctrl_types.specs.declared.kind.Kind.TheVariants.{Integer64, U8}
@@ -20,7 +21,7 @@ shown plan h id = option_map (control plan) (find plan h id)
 -- what the entry of a control has its value in: a number of 64 bits its wide field, an array a payload of its elements, every other number the narrow field
 abbrev pub form_of_kind : Kind → ℕ → Form
 form_of_kind Integer64 elems = Wide
-form_of_kind U8 elems = Array (min elems 32)
+form_of_kind U8 elems = Array (min elems MAX_ELEMENTS)
 form_of_kind _ elems = Narrow
 
 -- the same of a control that is shown; where none is, the narrow field

@@ -8,7 +8,7 @@ use Rattle.ctrl_types.specs.declared.ids.ExtControl.{ExtControl}
 use Rattle.ctrl_types.specs.declared.value.CtrlValue.{CtrlValue}
 use Rattle.ctrl_types.specs.declared.value.CtrlValue.TheVariants.{Bytes, Number}
 use Rattle.ctrl_handlers.specs.Plan.{PlanData}
-use Rattle.ask_reasons.specs.declared.reason.Reason.{Reason}
+use Rattle.ctrl_types.specs.declared.refusal.Refusal.{Refusal}
 use Rattle.call_structs.specs.Entries.{id_at, value_at, with_told}
 use Rattle.call_structs.specs.declared.entries.Form.{Form}
 use Rattle.call_structs.specs.declared.entries.Form.TheVariants.{Array}
@@ -92,12 +92,12 @@ first_of_control count bytes place = unwrap_or (first_that (names_same bytes pla
 
 -- Whether a check refuses a list before a payload does. Entries are named one after another, and each then has its room looked at; payloads are read behind the checks of all
 -- entries, when the clusters are judged in the order of their first entries, of which `first` is that of the payload's.
-abbrev pub stands_before : Option Reason → Wrong → ℕ → Bool
+abbrev pub stands_before : Option Refusal → Wrong → ℕ → Bool
 stands_before None wrong first = false
-stands_before (Some reason) (place, TooSmall) first =
-    nat_lt (check_number reason.check) 6 || (check_number reason.check == 6 && is_up_to reason.entry place)
-stands_before (Some reason) (place, Unreadable) first =
-    nat_lt (check_number reason.check) 8 || (check_number reason.check == 8 && is_below reason.entry first)
+stands_before (Some refusal) (place, TooSmall) first =
+    nat_lt (check_number refusal.check) 6 || (check_number refusal.check == 6 && is_up_to refusal.entry place)
+stands_before (Some refusal) (place, Unreadable) first =
+    nat_lt (check_number refusal.check) 8 || (check_number refusal.check == 8 && is_below refusal.entry first)
 
 -- the bytes of a list with values in its entries and slots, from a place on, as far as there are entries
 abbrev pub with_values : PlanData → ℕ → ℕ → ℕ → List ExtControl → List ℕ → List ℕ

@@ -10,7 +10,7 @@ use call_structs::Form;
 use ctrl_calls::Driver;
 use ctrl_handlers::Plan;
 use ctrl_settle::Ctrl;
-use ctrl_types::{CtrlId, Kind};
+use ctrl_types::{CtrlId, Kind, MAX_ELEMENTS};
 use ioctl_bytes::calls::{
     V4L2_CID_PRIVATE_BASE, V4L2_CTRL_CLASS_USER, V4L2_CTRL_FLAG_NEXT_COMPOUND,
     V4L2_CTRL_FLAG_NEXT_CTRL, V4L2_CTRL_ID_MASK,
@@ -30,7 +30,7 @@ fn form_of_kind(kind: Kind, elems: u32) -> Form
     ensures { result ≡ form_by kind elems }
 {
     match kind {
-        Kind::U8 => Form::Array(elems.min(32)),
+        Kind::U8 => Form::Array(elems.min(MAX_ELEMENTS as u32)),
         Kind::Integer64 => Form::Wide,
         _ => Form::Narrow,
     }

@@ -1,21 +1,19 @@
 ghost use Rattle.std.specs.Prelude.{◌≡◌, ◌≤◌, ◌<◌, ◌+◌, IfOk, IfSome, length};
-ghost use Rattle.history.specs.Past.{past};
-ghost use Rattle.ask_reasons.specs.Reasons.{reason_of as reason_for};
 ghost use Rattle.call_structs.specs.Entries.{entry_start, list_size as size_for};
 ghost use Rattle.ioctl_bytes.specs.declared.layout.v4l2_ext_controls.TheConstants as head;
 ghost use Rattle.ctl_session.specs.declared.lists.TheConstants.{MOST_ENTRIES};
 ghost use Rattle.ctl_session.specs.Calls.{Calls, index_told as index_for, is_write as writes, list_ask as ask_for_list, list_by as list_for, list_call, list_told, plan_in, read_count as count_read, refusing as refusing_list, whole_ask as ask_for_whole, whole_list as whole, with_wanted_size as with_size_wanted, with_wrong_size as with_size_told, wrong_errno as errno_of_wrong, wrong_index as index_of_wrong, wrong_told};
+ghost use Rattle.ctl_session.specs.Session.{Stays, refusal_in};
 ghost use Rattle.ctl_session.specs.Lists.{is_below as below, is_up_to as up_to, stands_before as is_earlier, with_values, wrong_payload as payload_wrong};
 
 use crate::calls::{CUT, NO_CALL};
 use crate::ids::form_of;
 use crate::lists::{MOST_ENTRIES, V4L2_CID_MAX_CTRLS, first_of_control, first_with, read_list};
 use crate::session::{Session, no_memory};
-use ask_reasons::{Reason, reason_of};
 use call_structs::{Form, PayloadFault, entry_id, list_size, put_size, put_value};
 use ctrl_calls::Driver;
 use ctrl_handlers::Plan;
-use ctrl_types::{Check, Errno, ExtControl, Fault, FhId, RequestId};
+use ctrl_types::{Check, Errno, ExtControl, Fault, FhId, Refusal, RequestId};
 use device_state::{Ask, ControlList, Reply};
 use ioctl_bytes::layout::v4l2_ext_controls;
 use ioctl_bytes::{put_u32, u32_at};
@@ -99,7 +97,7 @@ impl<D: Driver> Session<D> {
 
     // The payload that refuses a list: none where something else refuses it before. The error is that a growth was refused.
     fn refusing(
-        &self,
+        &mut self,
         arg: &[u8],
         ask: &Ask,
         wrong: Option<(u32, PayloadFault)>,
@@ -107,19 +105,34 @@ impl<D: Driver> Session<D> {
         requires head { head.SIZE ≤ length arg.now }
         requires whole { size_for (count_read arg.now) ≤ length arg.now }
         requires place { IfSome wrong (λ w. w.0 < count_read arg.now) }
-        ensures refusing { IfOk result (λ found. found ≡ refusing_list D.verdict self.now arg.now ask.now wrong) }
+        ensures refusing { IfOk result (λ found. found ≡ refusing_list D.verdict self.old arg.now ask.now wrong) }
         ensures place { IfOk result (λ found. IfSome found (λ w. w.0 < count_read arg.now)) }
+        ensures stays { Stays self.old self.new }
     {
         let Some(wrong) = wrong else {
             return Ok(None);
         };
-        let reason = reason_of(self.alloc(), self.device(), ask)?;
+        let refusal = self.refusal_of(ask)?;
         let first = first_of_control(arg, read_count(arg), wrong.0);
-        Ok(if stands_before(reason, wrong, first) {
+        Ok(if stands_before(refusal, wrong, first) {
             None
         } else {
             Some(wrong)
         })
+    }
+
+    // What would refuse an ask. The error is that a growth was refused.
+    fn refusal_of(&mut self, ask: &Ask) -> Result<Option<Refusal>, AllocError>
+        ensures refusal { IfOk result (λ refusal. refusal ≡ refusal_in D.verdict self.old ask.now) }
+        ensures stays { Stays self.old self.new }
+    {
+        match self.find_refusal(ask) {
+            Some(refusal) => match refusal.check {
+                Check::MemoryRefused => Err(AllocError),
+                _ => Ok(Some(refusal)),
+            },
+            None => Ok(None),
+        }
     }
 
     // A list is asked of the device, unless a payload refuses it.
@@ -223,17 +236,17 @@ fn wrong_payload<D: Driver>(
 
 // Whether a check refuses a list before a payload does: the entries are named, and have their room looked at, one after another (check 6), and payloads are read behind
 // the checks of all entries (7), when the clusters are judged in the order of their first entries (8); `first` is the first entry of the payload's control.
-fn stands_before(reason: Option<Reason>, wrong: (u32, PayloadFault), first: u32) -> bool
-    ensures { result ≡ is_earlier reason wrong first }
+fn stands_before(refusal: Option<Refusal>, wrong: (u32, PayloadFault), first: u32) -> bool
+    ensures { result ≡ is_earlier refusal wrong first }
 {
-    let Some(reason) = reason else {
+    let Some(refusal) = refusal else {
         return false;
     };
-    let check = reason.check.number();
+    let check = refusal.check.number();
     let (place, fault) = wrong;
     match fault {
-        PayloadFault::TooSmall => check < 6 || check == 6 && is_up_to(reason.entry, place),
-        PayloadFault::Unreadable => check < 8 || check == 8 && is_below(reason.entry, first),
+        PayloadFault::TooSmall => check < 6 || check == 6 && is_up_to(refusal.entry, place),
+        PayloadFault::Unreadable => check < 8 || check == 8 && is_below(refusal.entry, first),
     }
 }
 

@@ -1,6 +1,7 @@
 //! The entries of a list, as the device takes them.
 
 ghost use Rattle.std.specs.Prelude.{◌≡◌, ◌≤◌, ◌<◌, ◌+◌, IfOk, IfSome, ℕ, length};
+ghost use Rattle.ctrl_types.specs.declared.bytes.TheConstants.{MAX_ELEMENTS};
 ghost use Rattle.call_structs.specs.Entries.{entry_start, list_size};
 ghost use Rattle.call_structs.specs.declared.entries.Form.TheVariants.{Array};
 ghost use Rattle.ctl_session.specs.declared.lists.TheConstants.{MOST_ENTRIES};
@@ -10,7 +11,7 @@ use crate::ids::form_of;
 use call_structs::{Form, PayloadFault, entry_id, value_at};
 use ctrl_calls::Driver;
 use ctrl_handlers::Plan;
-use ctrl_types::{ByteRow, CtrlId, CtrlValue, ExtControl};
+use ctrl_types::{ByteRow, CtrlValue, ExtControl};
 use device_state::ControlList;
 use std::alloc::{AllocError, Global};
 
@@ -40,14 +41,11 @@ pub(crate) fn read_list<D: Driver>(
     requires whole { list_size count ≤ length arg.now }
     ensures { IfOk result (λ list. list ≡ entries_in plan.now handler count arg.now) }
 {
-    let mut entries = [ExtControl {
-        id: CtrlId(0),
-        value: CtrlValue::Number(0),
-    }; MOST_ENTRIES as usize];
+    let mut entries = Vec::with_capacity(alloc, count as usize)?;
     for place in 0..count {
-        entries[place as usize] = entry_at(plan, handler, arg, count, place);
+        entries.push_reserved(entry_at(plan, handler, arg, count, place));
     }
-    list_of(alloc, &entries[..count as usize])
+    Ok(ControlList::from_vec(entries))
 }
 
 fn entry_at<D: Driver>(
@@ -94,7 +92,7 @@ fn read_at<D: Driver>(
 
 // What stands in for a payload that can't be taken.
 fn stand_in(form: Form) -> CtrlValue
-    requires { (elems : ℕ) → form ≡ Array elems → elems ≤ 32 }
+    requires { (elems : ℕ) → form ≡ Array elems → elems ≤ MAX_ELEMENTS }
     ensures { result ≡ stands_in form }
 {
     match form {

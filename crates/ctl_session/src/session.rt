@@ -1,15 +1,16 @@
-ghost use Rattle.std.specs.Prelude.{◌≡◌, None, false};
+ghost use Rattle.std.specs.Prelude.{◌≡◌, ◌⊎◌, None, Some, false, MatchOption};
 ghost use Rattle.ctrl_types.specs.Checks.{errno_of as errno_for};
 ghost use Rattle.ctrl_types.specs.Numbers.{errno_number};
 ghost use Rattle.ctrl_types.specs.declared.errno.Errno.TheVariants.{ENOMEM};
 ghost use Rattle.ctl_session.specs.Calls.{plan_in};
-ghost use Rattle.ctl_session.specs.Session.{Asked, errno_in};
+ghost use Rattle.ctrl_types.specs.Refusals.{memory_refusal};
+ghost use Rattle.device_history.specs.AskChecks.{published};
+ghost use Rattle.ctl_session.specs.Session.{Asked, Stays, errno_in, refusal_in};
 
-use ask_reasons::{Reason, reason_of};
 use call_structs::is_heading;
 use ctrl_calls::Driver;
 use ctrl_handlers::Plan;
-use ctrl_types::{Check, Errno, Fault};
+use ctrl_types::{Check, Errno, Fault, Refusal};
 use device_file::ClassNames;
 use device_state::{Ask, CtrlInfo, Device, Reply};
 use following_ranges::{Follower, handle_and_follow};
@@ -34,8 +35,8 @@ pub struct Session<D: Driver> {
     followers: Vec<Follower>,
     owed: bool,
     names: Names,
-    // why the last ask was refused
-    reason: Option<Reason>,
+    // what refused the last ask
+    refusal: Option<Refusal>,
     alloc: Global,
 }
 
@@ -67,7 +68,7 @@ impl<D: Driver> Session<D> {
             followers,
             owed: false,
             names,
-            reason: None,
+            refusal: None,
             alloc,
         }
     }
@@ -103,9 +104,9 @@ impl<D: Driver> Session<D> {
         self.followers.as_slice()
     }
 
-    /// Why the last call, or the last ask, was refused; none where it was accepted, where no check of the device refused it, or where it isn't known for want of memory.
-    pub fn reason(&self) -> Option<Reason> {
-        self.reason
+    /// What refused the last call, or the last ask; none where it was accepted, or where nothing was asked of the device.
+    pub fn refusal(&self) -> Option<Refusal> {
+        self.refusal
     }
 
     /// Takes another device in place of this one. Where a range was owed, one is owed still.
@@ -115,23 +116,30 @@ impl<D: Driver> Session<D> {
         ensures { self.new ≡ record self.old { device = device } }
     {
         self.device = device;
-        self.reason = None;
+        self.refusal = None;
     }
 
     /// Asks the device as `handle_and_follow` of `following_ranges` does, at seat 0: an accepted change has the ranges follow that are to.
     ///
-    /// Refused as `Device::handle` refuses it; and with ENOMEM (12) where there was no room for the answers of ranges: then nothing was asked.
+    /// Refused as `Device::handle` refuses it; and with ENOMEM (12) where there was no room for the answers of ranges: then nothing was asked. `refusal` has then what refused it.
     pub fn ask(&mut self, ask: &Ask) -> Result<Reply, Fault>
         ensures { Asked D.verdict self.old self.new ask.now result }
     {
-        let answer = self.answer(ask);
-        self.reason = self.why(ask, &answer);
-        answer
+        match self.answer(ask) {
+            Ok(reply) => {
+                self.refusal = None;
+                Ok(reply)
+            }
+            Err(refusal) => {
+                self.refusal = Some(refusal);
+                Err(ask.fault(refusal))
+            }
+        }
     }
 
-    // The same, but for why.
-    fn answer(&mut self, ask: &Ask) -> Result<Reply, Fault>
-        ensures { Asked D.verdict self.old self.new ask.now result }
+    // The same, with what refuses it.
+    fn answer(&mut self, ask: &Ask) -> Result<Reply, Refusal>
+        ensures { Asked D.verdict self.old self.new ask.now (published ask.now result) }
     {
         match handle_and_follow(
             self.alloc,
@@ -142,26 +150,23 @@ impl<D: Driver> Session<D> {
             ask,
         ) {
             Ok((answer, _)) => answer,
-            Err(_) => Err(no_memory()),
+            Err(_) => Err(Refusal::of_memory()),
         }
     }
 
-    // Why an ask was refused.
-    fn why(&self, ask: &Ask, answer: &Result<Reply, Fault>) -> Option<Reason> {
-        match answer {
-            Ok(_) => None,
-            Err(_) => match reason_of(self.alloc, &self.device, ask) {
-                Ok(reason) => reason,
-                Err(_) => None,
-            },
-        }
+    // What would refuse an ask; nothing is asked but validators.
+    pub(crate) fn find_refusal(&mut self, ask: &Ask) -> Option<Refusal>
+        ensures why { MatchOption result (refusal_in D.verdict self.old ask.now ≡ None) (λ refusal. (refusal_in D.verdict self.old ask.now ≡ Some refusal) ⊎ (refusal ≡ memory_refusal)) }
+        ensures stays { Stays self.old self.new }
+    {
+        self.device.refusal(ask)
     }
 
-    // Forgets why the last ask was refused.
+    // Forgets what refused the last ask.
     pub(crate) fn begin_call(&mut self)
         ensures { self.new ≡ self.old }
     {
-        self.reason = None;
+        self.refusal = None;
     }
 
     // Refuses a list as a whole by a check, without asking the device.
@@ -169,7 +174,7 @@ impl<D: Driver> Session<D> {
         ensures session { self.new ≡ self.old }
         ensures errno { result ≡ errno_number (errno_for check) }
     {
-        self.reason = Some(Reason { check, entry: None });
+        self.refusal = Some(Refusal::whole(check));
         check.errno().number()
     }
 

@@ -5,18 +5,12 @@
 
 mod kept;
 
-ghost use Rattle.ctrl_calls.specs.Meanings.{JudgesBy, TellsBy};
-
 use crate::kept::Kept;
 use command_line::{Mode, ModeFault, mode_of, words_fault};
 use ctl_pair::{Gate, Remains, run_pair};
-use ctl_script::{
-    BALANCE_LIMIT, BRIGHTNESS_WORDS, BUTTON_WORDS, GAIN_LIMIT, Outcome, PAIR_WORDS, Sample,
-    balance_verdict, brightness_word, button_word, gain_verdict, pair_word, run_board, run_script,
-    sample_plan, sample_words,
-};
-use ctrl_calls::{Calls, ClusterRow, Driver, Notifier, Validator, Verdict};
-use device_state::Device;
+use ctl_script::{Outcome, Sample, own_sample_plan, run_board, run_script, sample_words};
+use ctrl_calls::Driver;
+use device_state::{Device, Plan};
 use line_reasons::{Complaint, Names, reason_in_pair, reason_of};
 use std::io::Read;
 use std::process::ExitCode;
@@ -28,10 +22,6 @@ const USAGE: &str = "usage: ctl_tool run | pair | board
   run    answers a script, which is read from standard input: a line for each command
   pair   answers two scripts, divided by a line ==, each on a thread of its own
   board  runs a script, and prints what each queued frame will have";
-
-type Judge = Box<dyn Fn(ClusterRow) -> Verdict + Send>;
-
-type Teller = Box<dyn Fn(ClusterRow) -> u64 + Send>;
 
 // Lets each command pass at once.
 struct OpenGate;
@@ -57,74 +47,22 @@ fn main(rt: HostRuntime) -> ExitCode {
         Err(ModeFault::Usage) => return wrong_words(&rt, words.as_slice()),
         Err(ModeFault::Memory) => return no_memory(&rt),
     };
-    let limit = Box::new(rt.alloc(), |row: ClusterRow| gain_verdict(&row));
-    let sum = Box::new(rt.alloc(), |row: ClusterRow| balance_verdict(&row));
-    let gain = Box::new(rt.alloc(), |row: ClusterRow| pair_word(&row));
-    let balance = Box::new(rt.alloc(), |row: ClusterRow| pair_word(&row));
-    let button = Box::new(rt.alloc(), |row: ClusterRow| button_word(&row));
-    let brightness = Box::new(rt.alloc(), |row: ClusterRow| brightness_word(&row));
-    let (Ok(limit), Ok(sum)) = (limit, sum) else {
+    let Ok(plan) = own_sample_plan(rt.alloc()) else {
         return no_memory(&rt);
     };
-    let (Ok(gain), Ok(balance)) = (gain, balance) else {
-        return no_memory(&rt);
-    };
-    let (Ok(button), Ok(brightness)) = (button, brightness) else {
-        return no_memory(&rt);
-    };
-    let (limit, sum): (Judge, Judge) = (limit, sum);
-    let (gain, balance): (Teller, Teller) = (gain, balance);
-    let (button, brightness): (Teller, Teller) = (button, brightness);
-    run::<Sample, HostRuntime>(&rt, mode, limit, sum, gain, balance, button, brightness)
+    run::<Sample, HostRuntime>(&rt, mode, plan)
 }
 
-// Runs what standard input gives, as the mode says, on a fresh sample device, whose clusters have these closures: `limit` and `gain` are the
-// validator and the notifier of autogain and gain, `sum` and `balance` those of red and blue.
+// Runs what standard input gives, as the mode says, on a fresh device of the sample's plan.
 fn run<D: Driver + Send, R: AllocGlobal + Input + Print + Eprint + Threads + Wait + Sync>(
     rt: &R,
     mode: Mode,
-    limit: D::Judge,
-    sum: D::Judge,
-    gain: D::Teller,
-    balance: D::Teller,
-    button: D::Teller,
-    brightness: D::Teller,
+    plan: Plan<D>,
 ) -> ExitCode
 where
     D::Judge: Send,
     D::Teller: Send,
-    requires limit { D.Judge.callable limit }
-    requires limit_judges { JudgesBy (D.Judge.answers limit) (D.verdict GAIN_LIMIT) }
-    requires sum { D.Judge.callable sum }
-    requires sum_judges { JudgesBy (D.Judge.answers sum) (D.verdict BALANCE_LIMIT) }
-    requires gain { D.Teller.callable gain }
-    requires gain_tells { TellsBy (D.Teller.answers gain) (D.told PAIR_WORDS) }
-    requires balance { D.Teller.callable balance }
-    requires balance_tells { TellsBy (D.Teller.answers balance) (D.told PAIR_WORDS) }
-    requires button { D.Teller.callable button }
-    requires button_tells { TellsBy (D.Teller.answers button) (D.told BUTTON_WORDS) }
-    requires brightness { D.Teller.callable brightness }
-    requires brightness_tells { TellsBy (D.Teller.answers brightness) (D.told BRIGHTNESS_WORDS) }
 {
-    let of_gain: Calls<D> = Calls {
-        validator: Some(Validator::new(GAIN_LIMIT, limit)),
-        notifier: Some(Notifier::new(PAIR_WORDS, gain)),
-    };
-    let of_balance: Calls<D> = Calls {
-        validator: Some(Validator::new(BALANCE_LIMIT, sum)),
-        notifier: Some(Notifier::new(PAIR_WORDS, balance)),
-    };
-    let of_button: Calls<D> = Calls {
-        validator: None,
-        notifier: Some(Notifier::new(BUTTON_WORDS, button)),
-    };
-    let of_brightness: Calls<D> = Calls {
-        validator: None,
-        notifier: Some(Notifier::new(BRIGHTNESS_WORDS, brightness)),
-    };
-    let Ok(plan) = sample_plan(rt.alloc(), of_gain, of_balance, of_button, of_brightness) else {
-        return no_memory(rt);
-    };
     let Ok(device) = Device::new(rt.alloc(), plan) else {
         return no_memory(rt);
     };

@@ -6,7 +6,7 @@ ghost use Rattle.history_audit.specs.Replay.{IsProgressOf};
 use crate::view::View;
 use ctl_script::{Binding, ask_of, audit_of};
 use ctrl_calls::Driver;
-use ctrl_types::Fault;
+use ctrl_types::{Fault, Refusal};
 use device_state::{Ask, Device, Progress, Reply};
 use following_ranges::{RangeAsk, handle_and_follow};
 use script_lines::{LineFault, read_line};
@@ -24,9 +24,23 @@ pub enum Said {
     Nothing,
     /// An audit was made.
     Audit(Audited),
-    /// The device was asked. The clusters are those that the frame of a begin or of a forecast refuses, each with the reason; and then come the ranges that the device
-    /// asked for by itself.
-    Answer(Ask, Result<Reply, Fault>, RefusedClusters, Vec<RangeAsk>),
+    /// The device was asked.
+    Answer(Answered),
+}
+
+/// What the device was asked, with what came of it.
+#[derive(Drop)]
+pub struct Answered {
+    /// What was asked.
+    pub ask: Ask,
+    /// What it was answered.
+    pub answer: Result<Reply, Fault>,
+    /// What refused it; none where it was accepted.
+    pub refusal: Option<Refusal>,
+    /// The clusters that the frame of a begin or of a forecast refuses, each with the reason.
+    pub clusters: RefusedClusters,
+    /// The ranges that the device asked for by itself.
+    pub ranges: Vec<RangeAsk>,
 }
 
 /// Asks what a line says, as `run_script` of `ctl_script` does, binds its names, and has ranges follow that do. All that it needs of memory is taken before the device
@@ -55,11 +69,11 @@ pub fn answer_line<D: Driver>(
         return Ok(Said::Audit(audit_of(alloc, device, made)));
     };
     // (behind a begin nothing would tell them any more)
-    let Ok(refused) = refused_by(alloc, device, &ask) else {
+    let Ok(clusters) = refused_by(alloc, device, &ask) else {
         return Err(LineFault::Memory);
     };
     let followers = view.followers.as_slice();
-    let Ok((answer, asked)) = handle_and_follow(
+    let Ok((answer, ranges)) = handle_and_follow(
         alloc,
         device,
         followers,
@@ -69,8 +83,18 @@ pub fn answer_line<D: Driver>(
     ) else {
         return Err(LineFault::Memory);
     };
+    let (answer, refusal) = match answer {
+        Ok(reply) => (Ok(reply), None),
+        Err(refusal) => (Err(ask.fault(refusal)), Some(refusal)),
+    };
     binding.bind(&mut view.names, &answer);
-    Ok(Said::Answer(ask, answer, refused, asked))
+    Ok(Said::Answer(Answered {
+        ask,
+        answer,
+        refusal,
+        clusters,
+        ranges,
+    }))
 }
 
 // The clusters that the frame refuses which an ask begins or foretells; none of another ask.

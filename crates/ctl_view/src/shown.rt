@@ -1,17 +1,17 @@
 //! A line of a script on the page, with what it came to.
 
-use crate::answer::Said;
+use crate::answer::{Answered, Said};
 use crate::follow::put_range_ask;
 use crate::table::{put_below, put_table};
 use crate::view::View;
-use ask_reasons::{ClusterReason, reason_of};
 use ctrl_calls::Driver;
-use ctrl_types::Fault;
+use ctrl_types::{Fault, Refusal};
 use device_state::{Ask, Device, Plan, Reply};
 use following_ranges::RangeAsk;
+use frame_reasons::ClusterReason;
 use line_reasons::{Complaint, Names, reason_of as reason_of_line};
 use script_replies::{Audited, Outcome, write_audit};
-use std::alloc::{AllocError, Global};
+use std::alloc::Global;
 use std::io::Write;
 use view_layout::{Ink, Line, Page, put_command, put_skipped};
 use view_words::{Asked, put_check, put_refusal, put_refused_cluster, put_reply};
@@ -29,19 +29,18 @@ pub fn show_said<D: Driver, W: Write>(
     match said {
         Said::Nothing => put_skipped(&mut page, line, view.ink),
         Said::Audit(audited) => put_audited(&mut page, alloc, view, line, *audited),
-        Said::Answer(ask, Err(fault), _, _) => {
-            if put_refused(&mut page, alloc, device, view, line, ask, *fault).is_err() {
-                return Err(Outcome::Memory);
-            }
-        }
-        Said::Answer(ask, answer, refused, asked) => {
-            put_accepted(&mut page, alloc, device, view, line, ask, answer);
-            if let Ask::Begin = ask {
-                put_left_out(&mut page, alloc, device.plan(), view, refused.as_slice());
-            }
-            put_followed(&mut page, alloc, view, asked.as_slice());
-            put_queue(&mut page, alloc, device, view, ask);
-        }
+        Said::Answer(answered) => match answered.refusal {
+            Some(refusal) => put_refused(
+                &mut page,
+                alloc,
+                device,
+                view,
+                line,
+                &answered.ask,
+                refusal,
+            ),
+            None => put_done(&mut page, alloc, device, view, line, answered),
+        },
     }
     write_page(writer, &page)
 }
@@ -57,6 +56,37 @@ fn put_audited(page: &mut Page, alloc: Global, view: &mut View, line: Line<'_>, 
 fn put_beside(page: &mut Page, line: Line<'_>, said: &Page, colour: &str, ink: Ink) {
     page.needs(said);
     put_command(page, line, said.text(), colour, ink);
+}
+
+// Puts a command that was accepted on a page, and below it what it came to.
+fn put_done<D: Driver>(
+    page: &mut Page,
+    alloc: Global,
+    device: &Device<D>,
+    view: &mut View,
+    line: Line<'_>,
+    answered: &Answered,
+) {
+    put_accepted(
+        page,
+        alloc,
+        device,
+        view,
+        line,
+        &answered.ask,
+        &answered.answer,
+    );
+    if let Ask::Begin = answered.ask {
+        put_left_out(
+            page,
+            alloc,
+            device.plan(),
+            view,
+            answered.clusters.as_slice(),
+        );
+    }
+    put_followed(page, alloc, view, answered.ranges.as_slice());
+    put_queue(page, alloc, device, view, &answered.ask);
 }
 
 // Puts a command that was accepted on a page.
@@ -132,7 +162,7 @@ fn put_left_out<D: Driver>(
     }
 }
 
-// Puts a command that was refused on a page, and why. The error is that there is no memory to find it out.
+// Puts a command that was refused on a page, and why.
 fn put_refused<D: Driver>(
     page: &mut Page,
     alloc: Global,
@@ -140,12 +170,11 @@ fn put_refused<D: Driver>(
     view: &mut View,
     line: Line<'_>,
     ask: &Ask,
-    fault: Fault,
-) -> Result<(), AllocError> {
+    refusal: Refusal,
+) {
     view.commands = view.commands.saturating_add(1);
     view.refused = view.refused.saturating_add(1);
     let ink = view.ink;
-    let reason = reason_of(alloc, device, ask)?;
     let mut said = Page::new(alloc);
     let asked = Asked {
         known: &view.known,
@@ -153,14 +182,11 @@ fn put_refused<D: Driver>(
         line: line.text,
         ask,
     };
-    put_refusal(&mut said, &mut view.line, asked, fault, reason);
+    put_refusal(&mut said, &mut view.line, asked, refusal);
     put_beside(page, line, &said, ink.bad, ink);
-    if let Some(reason) = reason {
-        said.clear();
-        put_check(&mut said, asked, reason);
-        put_below(page, &said, ink.bad, ink.plain);
-    }
-    Ok(())
+    said.clear();
+    put_check(&mut said, asked, refusal);
+    put_below(page, &said, ink.bad, ink.plain);
 }
 
 /// Shows a line that isn't a command, and why, as far as it is found out. The outcome is that of the script, which ends here.

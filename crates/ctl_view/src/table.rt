@@ -3,10 +3,10 @@
 use crate::follow::is_behind_a_move;
 use crate::frame::{cell_at, frame_at, put_buffer, put_in_frame, put_now, stays, widest};
 use crate::view::View;
-use ask_reasons::frame_reason;
 use ctl_script::ControlWords;
 use ctrl_calls::Driver;
 use device_state::Device;
+use frame_reasons::frame_reason;
 use range_followers::Follower;
 use std::alloc::Global;
 use std::io::Write;

@@ -1,17 +1,15 @@
 //! The replies alone, with reasons on standard error.
 
-use crate::answer::Said;
+use crate::answer::{Answered, Said};
 use crate::follow::put_range_ask;
 use crate::view::View;
 use crate::wanted::Task;
-use ask_reasons::{ClusterReason, reason_of};
 use ctrl_calls::Driver;
-use ctrl_types::Fault;
 use device_state::{Ask, Device, Plan};
 use following_ranges::RangeAsk;
+use frame_reasons::ClusterReason;
 use line_reasons::{Complaint, Names, reason_in_pair, reason_of as reason_of_line};
-use script_replies::{Outcome, ReplyLine, write_answer, write_audit};
-use std::alloc::{AllocError, Global};
+use script_replies::{Outcome, write_answer, write_audit};
 use std::io::Write;
 use view_layout::{Line, Page};
 use view_words::{Asked, put_check, put_refusal, put_refused_cluster};
@@ -30,45 +28,59 @@ pub fn explain<D: Driver, R: AllocGlobal + Eprint, W: Write>(
         _ if view.task != Task::Why => Ok(()),
         Said::Nothing => Ok(()),
         Said::Audit(audited) => write_audit(writer, &mut view.line, *audited),
-        Said::Answer(ask, answer, _, _) => write_answer(writer, &mut view.line, ask, answer),
+        Said::Answer(answered) => {
+            write_answer(writer, &mut view.line, &answered.ask, &answered.answer)
+        }
     };
     if written.is_err() {
         return Err(Outcome::WriteFault);
     }
-    if let Said::Answer(_, _, _, asked) = said {
-        tell_followed(rt, view, line.number, asked.as_slice());
+    if let Said::Answer(answered) = said {
+        tell_answered(rt, device, view, line, answered);
     }
+    Ok(())
+}
+
+// Says which ranges the device asked for by itself, why clusters are refused, or why the command is.
+fn tell_answered<D: Driver, R: AllocGlobal + Eprint>(
+    rt: &R,
+    device: &Device<D>,
+    view: &mut View,
+    line: Line<'_>,
+    answered: &Answered,
+) {
+    tell_followed(rt, view, line.number, answered.ranges.as_slice());
     // a board tells of no refusals
     if view.task == Task::Board {
-        return Ok(());
+        return;
     }
-    if let Said::Answer(ask, Ok(_), refused, _) = said {
+    let Some(refusal) = answered.refusal else {
         tell_clusters(
             rt,
             device.plan(),
             view,
             line.number,
-            ask,
-            refused.as_slice(),
+            &answered.ask,
+            answered.clusters.as_slice(),
         );
+        return;
+    };
+    let mut text = Page::new(rt.alloc());
+    let asked = Asked {
+        known: &view.known,
+        device,
+        line: line.text,
+        ask: &answered.ask,
+    };
+    put_refusal(&mut text, &mut view.line, asked, refusal);
+    text.put(": ");
+    put_check(&mut text, asked, refusal);
+    // nothing else depends on it, so the script goes on where memory is wanting
+    if text.is_whole() {
+        tell(rt, line.number, text.text());
+    } else {
+        tell(rt, line.number, b"no memory to find out why");
     }
-    if let Said::Answer(ask, Err(fault), _, _) = said {
-        let mut text = Page::new(rt.alloc());
-        let asked = Asked {
-            known: &view.known,
-            device,
-            line: line.text,
-            ask,
-        };
-        let found = put_why(&mut text, rt.alloc(), &mut view.line, asked, *fault);
-        // nothing else depends on it, so the script goes on where memory is wanting
-        if found.is_ok() && text.is_whole() {
-            tell(rt, line.number, text.text());
-        } else {
-            tell(rt, line.number, b"no memory to find out why");
-        }
-    }
-    Ok(())
 }
 
 // Says which ranges the device asked for by itself, a line for each.
@@ -115,23 +127,6 @@ fn tell_clusters<D: Driver, R: AllocGlobal + Eprint>(
             tell(rt, number, b"no memory to find out why");
         }
     }
-}
-
-// Puts together what is said of a refusal, on one line.
-fn put_why<D: Driver>(
-    text: &mut Page,
-    alloc: Global,
-    line: &mut ReplyLine,
-    asked: Asked<'_, D>,
-    fault: Fault,
-) -> Result<(), AllocError> {
-    let reason = reason_of(alloc, asked.device, asked.ask)?;
-    put_refusal(text, line, asked, fault, reason);
-    if let Some(reason) = reason {
-        text.put(": ");
-        put_check(text, asked, reason);
-    }
-    Ok(())
 }
 
 // Says something of a line on standard error.

@@ -34,4 +34,4 @@ pub use ranges::Ranges;
 pub use rising::next_number;
 pub use rows::member_value;
 pub use start::{default_values, no_grabs};
-pub use writing::{copy_row, present_row, read_row, write_row, write_rows, write_values};
+pub use writing::{present_row, read_row, write_row, write_rows};

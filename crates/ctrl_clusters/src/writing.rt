@@ -46,21 +46,6 @@ pub fn read_row(values: &[CtrlValue], members: &[u32], row: &mut ClusterRow)
     }
 }
 
-/// Puts the values of a row where another row stood (Linux driver API, "V4L2 Controls", "Control Clusters").
-///
-/// - `from`: the row whose values count.
-/// - `row`: any row of as many values, which the caller owes; the same row then.
-///
-/// It takes no memory and refuses nothing.
-pub fn copy_row(from: &RowValues, row: &mut ClusterRow)
-    requires { length row.old ≡ length from.now }
-    ensures { row.new ≡ from.now }
-{
-    for place in 0..from.len() {
-        row.set(place, from.value(place));
-    }
-}
-
 /// Writes the rows that some clusters get into a device's values (Linux driver API, "V4L2 Controls", "Control Clusters"): their members have
 /// the values of their rows then, every other control keeps its own.
 ///
@@ -99,48 +84,6 @@ pub fn write_row<D: Driver>(
     ensures { values.new.items ≡ written plan.now values.old.items (one_row cluster row.now) }
 {
     write_members(values, plan.members(cluster), row);
-}
-
-/// Writes values of the members of one cluster into a device's values, as `write_row` does a row; they may be of any form (Linux driver API, "V4L2
-/// Controls", "Control Clusters").
-///
-/// - `plan`, `values`, `cluster`: as of `write_row`.
-/// - `row`: a value for each of its members; the caller owes exactly as many.
-///
-/// It takes no memory and refuses nothing.
-pub fn write_values<D: Driver>(
-    plan: &Plan<D>,
-    values: &mut Vec<CtrlValue>,
-    cluster: u32,
-    row: &[CtrlValue],
-)
-    requires values { length values.old.items ≡ length plan.now.controls }
-    requires cluster { cluster < length plan.now.clusters }
-    requires row { length row.now ≡ length (members plan.now cluster) }
-    ensures { values.new.items ≡ written plan.now values.old.items (one_row cluster row.now) }
-{
-    write_each(values, plan.members(cluster), row);
-}
-
-// Gives the members of a cluster these values.
-#[tactic(auto, using(crate::proofs::NewRowLemmas::write_next))]
-fn write_each(values: &mut Vec<CtrlValue>, members: &[u32], row: &[CtrlValue])
-    requires known { All (λ c. c < length values.old.items) members.now }
-    requires long { length row.now ≡ length members.now }
-    ensures { values.new.items ≡ with_row values.old.items members.now row.now }
-{
-    for (place, &member) in members.iter().enumerate() {
-        write_value(values, member, row, place);
-    }
-}
-
-// Gives a member its value of these.
-fn write_value(values: &mut Vec<CtrlValue>, member: u32, row: &[CtrlValue], place: usize)
-    requires known { member < length values.old.items }
-    requires within { place < length row.now }
-    ensures { values.new.items ≡ slice_set values.old.items member (value_at row.now place) }
-{
-    values[member as usize] = row[place];
 }
 
 // Gives the members of a cluster the values of a row.

@@ -1,5 +1,5 @@
 -- What is kept of file handles, by their entries: what is found, and what is left once an entry is put in, changed or taken out.
-use Rattle.std.proofs.Common.{arith, ◌≡◌, ℕ, zero, suc, ◌+◌, ◌∙◌, Bool, true, false, cond, length, inl, inr, List, [], ◌∷◌, Option, None, Some, is_some, Result, Ok, Err, is_err, OnOk, unwrap_or, nat_eq, refl, sym, ap}
+use Rattle.std.proofs.Common.{arith, ◌≡◌, ℕ, zero, suc, ◌+◌, ◌∙◌, Bool, true, false, cond, length, inl, inr, List, [], ◌∷◌, Option, None, Some, is_some, Result, Ok, Err, is_err, OnErr, OnOk, unwrap_or, nat_eq, refl, sym, ap}
 use Rattle.std.specs.Prelude.{position, nat_lt}
 use Rattle.std.specs.List.{position_or_len}
 use Rattle.std.specs.Cmp.{nat_eq_equiv}
@@ -61,6 +61,21 @@ unwritten old now fh change is none same = looked_up old old now fh None change 
 pub accepted : {T F : Type 0} (r : Result T F) (P : Type 0) → false ≡ is_err r → OnOk r P → P
 accepted (Ok x) P ok holds = holds
 accepted (Err e) P ok holds = cc
+
+-- what follows of what it made
+pub where_accepted : {T F : Type 0} (r : Result T F) (P Q : Type 0) → OnOk r P → (P → Q) → OnOk r Q
+where_accepted (Ok x) P Q holds gives = gives holds
+where_accepted (Err e) P Q holds gives = tt
+
+-- and of what a refused one left
+pub where_refused : {T F : Type 0} (r : Result T F) (P Q : Type 0) → OnErr r P → (P → Q) → OnErr r Q
+where_refused (Ok x) P Q holds gives = tt
+where_refused (Err e) P Q holds gives = gives holds
+
+-- what follows of both
+pub after_both : {T F : Type 0} (r : Result T F) (P Q X : Type 0) → OnOk r P → OnErr r Q → (P → X) → (Q → X) → X
+after_both (Ok x) P Q X ok err made left = made ok
+after_both (Err e) P Q X ok err made left = left err
 
 -- where there isn't one, there is none
 pub none_of : {X : Type 0} (o : Option X) → false ≡ is_some o → None ≡ o

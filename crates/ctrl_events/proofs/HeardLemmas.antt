@@ -94,12 +94,6 @@ value_listens [] i f c there = cc
 value_listens (e ∷ es) zero f c there = let same : e.1 ≡ f = cc in ap (λ (x : FileEvents). is_some (flags_in x.subscribed c)) (sym same)
 value_listens (e ∷ es) (suc i) f c there = value_listens es i f c there
 
--- none is subscribed at a place beyond all
-pub none_listens : (es : List (ℕ × FileEvents)) (i c : ℕ) → None ≡ slice_get (values_of es) i → listens es i c ≡ false
-none_listens [] i c none = refl
-none_listens (e ∷ es) zero c none = cc
-none_listens (e ∷ es) (suc i) c none = none_listens es i c none
-
 -- a raise for the file handle at a place leaves who is subscribed
 raised_listens : (es : List (ℕ × FileEvents)) (i c : ℕ) (changes : Changes) (payload : Payload) (from : Option ℕ) (p d : ℕ) → listens (changed_at i (raised_in_entry c changes payload from) es) p d ≡ listens es p d
 raised_listens [] i c changes payload from p d = refl

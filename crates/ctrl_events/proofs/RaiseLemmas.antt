@@ -31,12 +31,6 @@ raised_at (e ∷ es) zero f g own c changes payload from there is made =
     ap (λ (x : FileEvents). (e.0, x) ∷ es) (made ∙ ap₂ (λ (o : Bool) (x : FileEvents). if reaches o (flags_in x.subscribed c) then raised c changes payload x else x) is (same f e.1 there))
 raised_at (e ∷ es) (suc i) f g own c changes payload from there is made = ap (λ (xs : List (ℕ × FileEvents)). e ∷ xs) (raised_at es i f g own c changes payload from there is made)
 
--- none is at a place beyond all
-pub none_at : (es : List (ℕ × FileEvents)) (i : ℕ) (change : ℕ × FileEvents → ℕ × FileEvents) → None ≡ slice_get (values_of es) i → es ≡ changed_at i change es
-none_at [] i change none = refl
-none_at (e ∷ es) zero change none = cc
-none_at (e ∷ es) (suc i) change none = ap (λ (xs : List (ℕ × FileEvents)). e ∷ xs) (none_at es i change none)
-
 -- the one at the place is changed, and the others stay
 pub changed_here : (es : List (ℕ × FileEvents)) (i : ℕ) (change : ℕ × FileEvents → ℕ × FileEvents) → slice_get (changed_at i change es) i ≡ option_map change (slice_get es i)
 changed_here [] i change = refl

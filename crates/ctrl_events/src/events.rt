@@ -153,14 +153,7 @@ impl Events {
         if hear(&mut self.heard, control, place).is_err() {
             return Err(AllocError);
         }
-        match self.files.get_index_mut(place) {
-            Some(queue) => match queue.subscribe(control, flags, changes, payload) {
-                Ok(()) => Ok(()),
-                Err(error) => Err(error),
-            },
-            // a place that was found has a file handle
-            None => Err(AllocError),
-        }
+        self.files[place].subscribe(control, flags, changes, payload)
     }
 
     // Subscribes a file handle for which nothing is kept; its place is behind all others.
@@ -304,16 +297,17 @@ impl Events {
         payload: &Payload,
         from: Option<FhId>,
     ) -> bool
-        requires { IfSome (slice_get self.old.files place) (λ e. e.1.next < 4294967295) }
+        requires place { place < length self.old.files }
+        requires next { IfSome (slice_get self.old.files place) (λ e. e.1.next < 4294967295) }
         ensures files { self.new.files ≡ changed_at place (raised_in_entry control changes payload.now (option_map (λ fh. fh.0) from)) self.old.files }
         ensures own { listens self.old.files place control ≡ true → result ≡ true }
         ensures kept { is_heard ≡ true → result ≡ true }
     {
         let is_own = self.is_at(place, from);
-        match self.files.get_index_mut(place) {
-            Some(queue) => either(is_heard, queue.raise(control, changes, payload, is_own)),
-            None => is_heard,
-        }
+        either(
+            is_heard,
+            self.files[place].raise(control, changes, payload, is_own),
+        )
     }
 
     // Keeps the bits of the places at which a file handle is subscribed to a control, in place of those of which some may no longer be.

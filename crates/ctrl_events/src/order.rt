@@ -64,9 +64,7 @@ impl Order {
         ensures bound { OnOk result (number < self.new.bound) }
         ensures room { OnOk result (fits + fits ≤ self.new.room) }
     {
-        let Some(entries) = fits.checked_add(fits) else {
-            return Err(AllocError);
-        };
+        let entries = fits.saturating_add(fits);
         self.log.reserve(entries.saturating_sub(self.log.len()))?;
         keep_place(&mut self.places, number)
     }

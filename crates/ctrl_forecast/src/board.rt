@@ -213,19 +213,6 @@ impl Board {
         first.into_parts()
     }
 
-    /// Takes the first frame out, and answers what it will have; none where no frame is queued (of this project). What the others will have stays as it is: it is
-    /// what they have over the values that the first one leaves. It takes no memory, and asks nobody.
-    pub fn pop(&mut self) -> Option<Forecast>
-        ensures first { result ≡ slice_get self.old.forecasts 0 }
-        ensures rest { self.new ≡ record { queued = drop 1 self.old.queued; named = drop 1 self.old.named; forecasts = drop 1 self.old.forecasts } }
-    {
-        if self.frames.is_empty() {
-            return None;
-        }
-        let (first, _) = self.begin();
-        Some(first)
-    }
-
     /// Takes the frame at a place out. Behind it only the clusters with a member among its pairs are judged anew, each up to and with the first frame that comes out as
     /// it was: with the same row of the cluster, which is refused or not as it was (of this project).
     ///

@@ -1,3 +1,4 @@
 pub mod ListLemmas
+pub mod NamingLemmas
 pub mod TouchLemmas
 pub mod TouchedLemmas

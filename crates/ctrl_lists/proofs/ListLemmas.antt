@@ -1,6 +1,5 @@
 -- The loops over a list.
 use Rattle.std.proofs.Common.{◌≡◌, ℕ, ◌<◌, ◌≤◌, ◌+◌, Bool, true, false, cond, nat_eq, eq-eqb, ◌||◌, map, List, [], ◌∷◌, ◌++◌, length, take, drop, get_or, Option, None, Some, arith, refl, sym, subst, ap, ◌∙◌}
-use Rattle.std.specs.Option.{option_map}
 use Rattle.std.specs.List.{All, filter_map, fold, list_any}
 use Rattle.std.proofs.lemmas.List.{length_push, take-append-drop, map-append}
 use Rattle.std.proofs.lemmas.List.Folds.{list_any-append}
@@ -8,13 +7,11 @@ use Rattle.std.proofs.lemmas.List.Sums.{fold-append}
 use Rattle.std.proofs.lemmas.List.{drop_more, take_more}
 use Rattle.std.proofs.lemmas.List.Elements.{filter_map-append, All-push}
 use Rattle.ctrl_types.specs.declared.check.Check.{Check}
-use Rattle.ctrl_types.specs.declared.ids.ExtControl.{ExtControl}
 use Rattle.ctrl_types.specs.declared.ids.Pair.{Pair}
 use Rattle.ctrl_handlers.specs.Plan.{PlanData, cluster_of}
-use Rattle.ctrl_lists.specs.View.{ViewData, named, pair_of}
-use Rattle.ctrl_lists.specs.Checks.{first_from, found_at, naming_check}
+use Rattle.ctrl_lists.specs.Checks.{first_from, found_at}
 use Rattle.ctrl_lists.specs.Touched.{with_cluster, touched}
-use Rattle.ctrl_lists.specs.declared.refusal.Refusal.{Refusal}
+use Rattle.ctrl_types.specs.declared.refusal.Refusal.{Refusal}
 
 -- the next item is refused, or one behind it
 pub first_next : {X : Type 0} (refused : X → Option Check) (n : ℕ) (xs : List X) (i : ℕ) (d : X) → i < length xs
@@ -43,16 +40,8 @@ passes refused all xs i d within none left = sym (first_next refused i xs i d wi
 
 -- one that is refused is the first
 pub stops : {X : Type 0} (refused : X → Option Check) (all : Option Refusal) (xs : List X) (i : ℕ) (d : X) (check : Check) → i < length xs → refused (get_or xs i d) ≡ Some check
-    → first_from refused i (drop i xs) ≡ all → all ≡ Some (record { check = check; place = Some i })
+    → first_from refused i (drop i xs) ≡ all → all ≡ Some (record { check = check; entry = Some i })
 stops refused all xs i d check within some left = sym left ∙ first_next refused i xs i d within ∙ rw some refl
-
--- an entry that gives a pair names a control
-pub names_one : (plan : PlanData) (view : ViewData) (entry : ExtControl) (p : Pair) → pair_of plan view.handler view.which entry ≡ Some p → naming_check plan view entry ≡ None
-names_one plan view entry p gives = by (named plan view.handler view.which entry.id) refl gives
-  where
-    by : (o : Option ℕ) → named plan view.handler view.which entry.id ≡ o → option_map (λ c. record { control = c; value = entry.value }) o ≡ Some p → naming_check plan view entry ≡ None
-    by None is h = cc
-    by (Some c) is h = rw is refl
 
 -- one more cluster leaves no fewer
 with_more : (clusters : List ℕ) (o : Option ℕ) → length clusters ≤ length (with_cluster clusters o)

@@ -1,8 +1,7 @@
 -- What a list of controls is answered (Linux userspace API, "ioctl VIDIOC_G_EXT_CTRLS, VIDIOC_S_EXT_CTRLS, VIDIOC_TRY_EXT_CTRLS";
 -- which index a refusal has is of this project).
-use Rattle.std.specs.Prelude.{ℕ, Bool, false, not, List, [], ◌∷◌, map, Option, None, Some, unwrap_or, Result, Ok, Err}
+use Rattle.std.specs.Prelude.{ℕ, Bool, false, not, List, [], ◌∷◌, map, Option, None, Some, Result, Ok, Err}
 use Rattle.ctrl_types.specs.declared.value.CtrlValue.{CtrlValue}
-use Rattle.ctrl_types.specs.Checks.{errno_of}
 use Rattle.ctrl_types.specs.declared.errno.Fault.{Fault}
 use Rattle.ctrl_types.specs.declared.ids.ExtControl.{ExtControl}
 use Rattle.ctrl_types.specs.declared.ids.Pair.{Pair}
@@ -13,21 +12,13 @@ use Rattle.ctrl_settle.specs.Control.{Control, default_of}
 use Rattle.ctrl_handlers.specs.Plan.{PlanData, control, control_in}
 use Rattle.ctrl_clusters.specs.Rows.{Values, value_at}
 use Rattle.ctrl_clusters.specs.Overlay.{value_after, no_grabs}
-use Rattle.ctrl_lists.specs.declared.refusal.Refusal.{Refusal}
+use Rattle.ctrl_types.specs.declared.refusal.Refusal.{Refusal}
 use Rattle.ctrl_lists.specs.View.{ViewData, pairs_of}
 use Rattle.ctrl_lists.specs.Checks.{is_long, pairs_judged}
 
 -- what a list is answered: its entries with their values, or a fault
 abbrev pub ListAnswer : Type 0
 ListAnswer = Result (List ExtControl) Fault
-
--- A refusal of a get or a set has the number of entries as its index.
-abbrev pub fault_at_count : ℕ → Refusal → Fault
-fault_at_count count refusal = record { errno = errno_of refusal.check; index = Some count }
-
--- A refusal of a try has the place of the entry where it stands; the number of entries where it stands at none.
-abbrev pub fault_at_entry : ℕ → Refusal → Fault
-fault_at_entry count refusal = record { errno = errno_of refusal.check; index = Some (unwrap_or refusal.place count) }
 
 -- the entries, unless something refuses the list
 abbrev pub answered : (Refusal → Fault) → Option Refusal → List ExtControl → ListAnswer

@@ -2,14 +2,15 @@
 -- API, "ioctl VIDIOC_G_EXT_CTRLS, VIDIOC_S_EXT_CTRLS, VIDIOC_TRY_EXT_CTRLS"; of this project, so that a kernel may differ, are their order,
 -- the limit of 64, what a class and a list without entries answer, and that a DISABLED control and the default of a WRITE_ONLY one can't be
 -- read).
-use Rattle.std.specs.Prelude.{ℕ, Bool, true, false, not, ◌&&◌, ◌+◌, if◌then◌else◌, nat_lt, List, [], ◌∷◌, ◌++◌, length, Option, None, Some, is_some, Result, Ok, Err}
+use Rattle.std.specs.Prelude.{ℕ, Bool, true, false, not, ◌&&◌, ◌+◌, if◌then◌else◌, nat_lt, List, [], ◌∷◌, ◌++◌, length, Option, None, Some, Result, Ok, Err}
 use Rattle.ctrl_types.specs.Flags.{contains}
 use Rattle.ctrl_types.specs.declared.value.CtrlValue.{CtrlValue}
 use Rattle.ctrl_types.specs.declared.errno.Errno.{Errno}
 use Rattle.ctrl_types.specs.declared.errno.Errno.TheVariants.{EINVAL}
 use Rattle.ctrl_types.specs.declared.check.Check.{Check}
-use Rattle.ctrl_types.specs.declared.check.Check.TheVariants.{TooManyEntries, ClassNotShown, EntryNamesNone, EntryWriteOnly, EntryReadOnly, EntryGrabbed, RowRefused, MemoryRefused}
-use Rattle.ctrl_types.specs.declared.flags.TheConstants.Flags.{READ_ONLY, WRITE_ONLY}
+use Rattle.ctrl_types.specs.declared.check.Check.TheVariants.{TooManyEntries, ClassNotShown, EntryNotShown, EntryOfOtherClass, EntryDisabled, EntryWriteOnly, EntryReadOnly, EntryGrabbed, RowRefused}
+use Rattle.ctrl_types.specs.declared.flags.TheConstants.Flags.{DISABLED, READ_ONLY, WRITE_ONLY}
+use Rattle.ctrl_types.specs.declared.ids.CtrlId.{CtrlId}
 use Rattle.ctrl_types.specs.declared.ids.ExtControl.{ExtControl}
 use Rattle.ctrl_types.specs.declared.ids.Pair.{Pair}
 use Rattle.ctrl_types.specs.declared.which.Which.{Which}
@@ -20,21 +21,18 @@ use Rattle.ctrl_handlers.specs.Plan.{PlanData, control, control_in, cluster_of}
 use Rattle.ctrl_clusters.specs.Rows.{is_grabbed}
 use Rattle.ctrl_clusters.specs.Overlay.{row_after, no_grabs}
 use Rattle.ctrl_lists.specs.declared.limits.TheConstants.{MAX_ENTRIES}
-use Rattle.ctrl_lists.specs.declared.refusal.Refusal.{Refusal}
-use Rattle.ctrl_lists.specs.View.{ViewData, named, pairs_of, shows_class}
-
--- want of memory, which refuses the list as a whole
-abbrev pub memory_refusal : Refusal
-memory_refusal = record { check = MemoryRefused; place = None }
+use Rattle.ctrl_types.specs.declared.refusal.Refusal.{Refusal}
+use Rattle.ctrl_handlers.specs.Visible.{find}
+use Rattle.ctrl_lists.specs.View.{ViewData, is_meant, pairs_of, shows_class}
 
 -- the whole list is refused where this holds
 abbrev pub refused_if : Bool → Check → Option Refusal
-refused_if true check = Some (record { check = check; place = None })
+refused_if true check = Some (record { check = check; entry = None })
 refused_if false check = None
 
 -- what is found at a place stands before what is found behind it
 abbrev pub found_at : ℕ → Option Check → Option Refusal → Option Refusal
-found_at n (Some check) behind = Some (record { check = check; place = Some n })
+found_at n (Some check) behind = Some (record { check = check; entry = Some n })
 found_at n None behind = behind
 
 -- the first item that is refused, with its place, where the places begin at n
@@ -71,9 +69,15 @@ abbrev pub is_of_no_class : PlanData → ViewData → List ExtControl → Bool
 is_of_no_class plan view [] = shows_none_of plan view view.which
 is_of_no_class plan view (entry ∷ rest) = false
 
--- an entry that names no control: its id isn't shown, isn't of the class that the list speaks of, or its control is DISABLED
+-- why the control that an id finds isn't named by it: the list is about another class, or the control is DISABLED
+abbrev pub unnamed : PlanData → Which → CtrlId → Option ℕ → Option Check
+unnamed plan which id None = Some EntryNotShown
+unnamed plan which id (Some c) = if not (is_meant which id) then Some EntryOfOtherClass else if contains (control plan c).flags DISABLED then Some EntryDisabled else None
+
+-- an entry that names no control, as the law `unnamed_entries` says: its id isn't shown, isn't of the class that the list speaks of, or its control is DISABLED; the first of these
+-- is meant
 abbrev pub naming_check : PlanData → ViewData → ExtControl → Option Check
-naming_check plan view entry = if is_some (named plan view.handler view.which entry.id) then None else Some EntryNamesNone
+naming_check plan view entry = unnamed plan view.which entry.id (find plan view.handler entry.id)
 
 -- a control that can't be read
 abbrev pub reading_check : PlanData → Pair → Option Check

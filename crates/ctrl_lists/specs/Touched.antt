@@ -12,7 +12,7 @@ pub use Rattle.ctrl_clusters.specs.Judging.{with_calls}
 use Rattle.ctrl_clusters.specs.NewRows.{clusters_of, value_written}
 use Rattle.ctrl_clusters.specs.declared.new_row.NewRow.{NewRow}
 use Rattle.ctrl_lists.specs.View.{ViewData, pairs_of}
-use Rattle.ctrl_lists.specs.declared.refusal.Refusal.{Refusal}
+use Rattle.ctrl_types.specs.declared.refusal.Refusal.{Refusal}
 use Rattle.ctrl_lists.specs.Checks.{entry_checks, first_refusal, pairs_judged}
 
 -- these clusters, with one more where it isn't among them

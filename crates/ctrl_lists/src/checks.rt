@@ -9,13 +9,12 @@ ghost use Rattle.ctrl_lists.specs.declared.limits.TheConstants.{MAX_ENTRIES};
 use crate::control_list::ControlList;
 use crate::limits::MAX_ENTRIES;
 use crate::naming::shows_class;
-use crate::refusal::Refusal;
 use crate::view::View;
 use bitflags::Flags as FlagSet;
 use ctrl_calls::Driver;
 use ctrl_handlers::Plan;
 use ctrl_settle::settle_check;
-use ctrl_types::{Check, Flags, Pair, Which};
+use ctrl_types::{Check, Flags, Pair, Refusal, Which};
 
 /// The checks of a list as a whole: that it hasn't too many entries, and that it isn't one without entries about a class of which
 /// no control is shown.

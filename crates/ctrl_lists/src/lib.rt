@@ -4,10 +4,10 @@
 
 mod checks;
 mod control_list;
+pub mod laws;
 mod limits;
 mod lists;
 mod naming;
-mod refusal;
 mod room;
 mod rows;
 mod touched;
@@ -17,7 +17,6 @@ pub use control_list::ControlList;
 pub use ctrl_clusters::{NewRow, NewRows};
 pub use limits::MAX_ENTRIES;
 pub use lists::{plan_set, read_list, try_list};
-pub use refusal::Refusal;
 pub use room::Room;
 pub use touched::Touched;
 pub use view::View;

@@ -3,7 +3,8 @@ ghost use Rattle.std.specs.List.{All};
 ghost use Rattle.ctrl_types.specs.declared.which.Which.TheVariants.{Defaults};
 ghost use Rattle.ctrl_clusters.specs.Overlay.{is_among};
 ghost use Rattle.ctrl_lists.specs.View.{pairs_of};
-ghost use Rattle.ctrl_lists.specs.Checks.{at_first, first_refusal, judging_check, read_checks, write_checks, memory_refusal};
+ghost use Rattle.ctrl_lists.specs.Checks.{at_first, first_refusal, judging_check, read_checks, write_checks};
+ghost use Rattle.ctrl_types.specs.Refusals.{memory_refusal};
 ghost use Rattle.ctrl_lists.specs.Touched.{touched, AreJudged, IsTouched, judged_count, list_asks, with_calls};
 ghost use Rattle.ctrl_lists.specs.Answers.{value_read, entry_read, entries_read, entry_judged, entries_judged, may_lack};
 ghost use Rattle.ctrl_lists.specs.declared.limits.TheConstants.{MAX_ENTRIES};
@@ -11,14 +12,13 @@ ghost use Rattle.ctrl_lists.specs.declared.limits.TheConstants.{MAX_ENTRIES};
 use crate::checks::{check_whole, first_unreadable, first_unwritable};
 use crate::control_list::ControlList;
 use crate::naming::pairs_of;
-use crate::refusal::Refusal;
 use crate::room::Room;
 use crate::rows::{entries_in, judge_all};
 use crate::touched::Touched;
 use crate::view::View;
 use ctrl_calls::{Driver, Work};
 use ctrl_clusters::{NewRows, Ranges};
-use ctrl_types::{CtrlValue, ExtControl, Pair, Which};
+use ctrl_types::{CtrlValue, ExtControl, Pair, Refusal, Which};
 use std::alloc::{AllocError, Global};
 
 /// Reads controls (Linux userspace API, "ioctl VIDIOC_G_EXT_CTRLS, VIDIOC_S_EXT_CTRLS, VIDIOC_TRY_EXT_CTRLS"; the order of the

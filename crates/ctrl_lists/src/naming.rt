@@ -1,20 +1,22 @@
 //! Which controls the entries of a list name.
 
-ghost use Rattle.std.specs.Prelude.{◌≡◌, ◌==◌, ◌<◌, ◌≤◌, ◌⊎◌, None, Some, length, IfErr, IfSome, OnOk};
+ghost use Rattle.std.specs.Prelude.{◌≡◌, ◌==◌, ◌<◌, ◌≤◌, ◌⊎◌, None, Some, length, IfErr, IfOk, OnOk};
+ghost use Rattle.std.specs.Result.{result_err};
 ghost use Rattle.std.specs.List.{All, list_any};
 ghost use Rattle.ctrl_types.specs.Classes.{class_of};
 ghost use Rattle.ctrl_handlers.specs.Plan.{control_in};
 ghost use Rattle.ctrl_lists.specs.View.{is_meant, named, pair_of, pairs_of, shows_class};
-ghost use Rattle.ctrl_lists.specs.Checks.{at_first, naming_check, memory_refusal};
+ghost use Rattle.ctrl_handlers.specs.Visible.{find};
+ghost use Rattle.ctrl_lists.specs.Checks.{at_first, naming_check, unnamed};
+ghost use Rattle.ctrl_types.specs.Refusals.{memory_refusal};
 ghost use Rattle.ctrl_lists.specs.declared.limits.TheConstants.{MAX_ENTRIES};
 
-use crate::refusal::Refusal;
 use crate::view::View;
 use bitflags::Flags as FlagSet;
 use ctrl_calls::Driver;
 use ctrl_handlers::Plan;
 use ctrl_settle::Ctrl;
-use ctrl_types::{Check, CtrlId, ExtControl, Flags, Pair, Which};
+use ctrl_types::{Check, CtrlId, ExtControl, Flags, Pair, Refusal, Which};
 
 /// Puts the pairs of a list in place of those that are there: each entry's control with the value as it was given; or tells the first entry that names no control.
 pub(crate) fn pairs_of<D: Driver>(
@@ -34,43 +36,43 @@ pub(crate) fn pairs_of<D: Driver>(
     }
     for (place, entry) in list.iter().enumerate() {
         match pair_of(view, entry) {
-            Some(pair) => pairs.push_reserved(pair),
-            None => return Err(Refusal::at(Check::EntryNamesNone, place as u32)),
+            Ok(pair) => pairs.push_reserved(pair),
+            Err(check) => return Err(Refusal::at(check, place as u32)),
         }
     }
     Ok(())
 }
 
-// An entry's control with the value as it was given.
-fn pair_of<D: Driver>(view: &View<D>, entry: &ExtControl) -> Option<Pair>
-    ensures pair { result ≡ pair_of view.now.plan view.now.parts.handler view.now.parts.which entry.now }
-    ensures known { IfSome result (λ p. p.control < length view.now.plan.controls) }
+// An entry's control with the value as it was given, or why it names none.
+fn pair_of<D: Driver>(view: &View<D>, entry: &ExtControl) -> Result<Pair, Check>
+    ensures pair { IfOk result (λ p. pair_of view.now.plan view.now.parts.handler view.now.parts.which entry.now ≡ Some p) }
+    ensures check { result_err result ≡ naming_check view.now.plan view.now.parts entry.now }
+    ensures known { IfOk result (λ p. p.control < length view.now.plan.controls) }
 {
     let control = named(view, entry.id)?;
-    Some(Pair {
+    Ok(Pair {
         control,
         value: entry.value,
     })
 }
 
-// The control that an id names.
-fn named<D: Driver>(view: &View<D>, id: CtrlId) -> Option<u32>
-    ensures named { result ≡ named view.now.plan view.now.parts.handler view.now.parts.which id }
-    ensures known { IfSome result (λ c. c < length view.now.plan.controls) }
+// The control that an id names, or why it names none.
+fn named<D: Driver>(view: &View<D>, id: CtrlId) -> Result<u32, Check>
+    ensures named { IfOk result (λ c. named view.now.plan view.now.parts.handler view.now.parts.which id ≡ Some c) }
+    ensures check { result_err result ≡ unnamed view.now.plan view.now.parts.which id (find view.now.plan view.now.parts.handler id) }
+    ensures known { IfOk result (λ c. c < length view.now.plan.controls) }
 {
-    let control = view.at.plan.find(view.handler, id).ok()?;
-    if is_meant(view.which, id)
-        && !view
-            .at
-            .plan
-            .control(control)
-            .flags()
-            .contains(Flags::DISABLED)
-    {
-        Some(control)
-    } else {
-        None
+    let plan = view.at.plan;
+    let Ok(control) = plan.find(view.handler, id) else {
+        return Err(Check::EntryNotShown);
+    };
+    if !is_meant(view.which, id) {
+        return Err(Check::EntryOfOtherClass);
     }
+    if plan.control(control).flags().contains(Flags::DISABLED) {
+        return Err(Check::EntryDisabled);
+    }
+    Ok(control)
 }
 
 // Whether a list speaks of an id.

@@ -6,16 +6,16 @@ ghost use Rattle.ctrl_types.specs.declared.check.Check.TheVariants.{RowRefused};
 ghost use Rattle.ctrl_handlers.specs.Plan.{cluster_of, members};
 ghost use Rattle.ctrl_clusters.specs.Overlay.{is_among};
 ghost use Rattle.ctrl_clusters.specs.NewRows.{clusters_of};
-ghost use Rattle.ctrl_lists.specs.Checks.{at_first, row_check, row_judged, judging_check, memory_refusal};
+ghost use Rattle.ctrl_lists.specs.Checks.{at_first, row_check, row_judged, judging_check};
+ghost use Rattle.ctrl_types.specs.Refusals.{memory_refusal};
 ghost use Rattle.ctrl_lists.specs.Touched.{with_cluster, touched, entry_in, AreRows, AreJudged, judged_count, with_calls};
 ghost use Rattle.ctrl_lists.specs.declared.limits.TheConstants.{MAX_ENTRIES};
 
 use crate::control_list::ControlList;
-use crate::refusal::Refusal;
 use crate::view::View;
 use ctrl_calls::{Driver, RowValues, Work};
 use ctrl_clusters::{Moment, NewRow, NewRows, member_value, validated_row};
-use ctrl_types::{Check, Errno, ExtControl, Pair};
+use ctrl_types::{Check, Errno, ExtControl, Pair, Refusal};
 use std::alloc::{AllocError, Global};
 
 /// Puts the rows of the clusters that pairs touch, in the order of their first pairs, where the pairs `laid` are laid over the values, in place of the rows

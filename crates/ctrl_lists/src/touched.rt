@@ -1,9 +1,8 @@
-ghost use Rattle.std.specs.Prelude.{◌≡◌, [], option_map};
-ghost use Rattle.ctrl_clusters.specs.NewRows.{clusters_of, row_among};
+ghost use Rattle.std.specs.Prelude.{◌≡◌, []};
+ghost use Rattle.ctrl_clusters.specs.NewRows.{clusters_of};
 
 use crate::control_list::ControlList;
 use crate::room::Room;
-use ctrl_calls::RowValues;
 use ctrl_clusters::{NewRow, NewRows};
 use ctrl_types::{ExtControl, Pair};
 use std::alloc::Global;
@@ -65,15 +64,6 @@ impl Touched {
         ensures { result.now ≡ self.now.pairs }
     {
         self.pairs.as_slice()
-    }
-
-    /// The row that a cluster gets; none where the list doesn't touch it.
-    ///
-    /// - `cluster`: the cluster's number, any `u32`; one that isn't there isn't touched.
-    pub fn row_of(&self, cluster: u32) -> Option<&RowValues>
-        ensures { option_map (λ row. row.now) result ≡ row_among self.now.rows cluster }
-    {
-        self.rows.among(cluster)
     }
 
     /// The clusters that the list touches, in the order of their first entries.

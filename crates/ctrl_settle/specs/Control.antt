@@ -8,26 +8,20 @@ use Rattle.ctrl_types.specs.declared.flags.TheConstants.Flags.{WRITE_ONLY, EXECU
 use Rattle.ctrl_types.specs.declared.ids.CtrlId.{CtrlId}
 use Rattle.ctrl_types.specs.declared.kind.Kind.{Kind}
 use Rattle.ctrl_types.specs.declared.kind.Kind.TheVariants.{Button, U8}
+use Rattle.ctrl_settle.specs.declared.config.CtrlConfig.{CtrlConfig}
 
-pub record Control : Type 0 where
-  pub id : CtrlId
-  pub kind : Kind
-  pub minimum : ℤ
-  pub maximum : ℤ
-  pub step : ℕ
-  pub default_value : ℤ
-  -- bit i says that item i of a menu is left out
-  pub skip : ℕ
-  pub flags : Flags
-  -- handlers that add this control's handler don't show it
-  pub is_private : Bool
-  -- how many elements an array has; none where it isn't described as an array
-  pub elems : Option ℕ
+-- what a driver says of it, field by field
+abbrev pub Control : Type 0
+Control = CtrlConfig
 
 -- the flags of a control that is given these: a button can only be written, and acts on each write
 abbrev pub flags_of : Kind → Flags → Flags
 flags_of Button given = union given (union WRITE_ONLY EXECUTE_ON_WRITE)
 flags_of _ given = given
+
+-- the control that named fields describe: a button has its own flags besides
+abbrev pub control_of : CtrlConfig → Control
+control_of c = record c { flags = flags_of c.kind c.flags }
 
 -- the control that these describe
 abbrev pub described : CtrlId → Kind → ℤ → ℤ → ℕ → ℤ → ℕ → Flags → Bool → Control

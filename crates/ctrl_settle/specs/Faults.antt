@@ -7,6 +7,7 @@ use Rattle.ctrl_types.specs.declared.flags.Flags.{Flags}
 use Rattle.ctrl_types.specs.declared.flags.TheConstants.Flags.{GRABBED, INACTIVE}
 use Rattle.ctrl_types.specs.declared.kind.Kind.{Kind}
 use Rattle.ctrl_types.specs.declared.kind.Kind.TheVariants.{Integer, Boolean, Menu, Button, Integer64, Bitmask, IntegerMenu, U8}
+use Rattle.ctrl_types.specs.declared.bytes.TheConstants.{MAX_ELEMENTS}
 use Rattle.ctrl_types.specs.declared.check.Check.{Check}
 use Rattle.ctrl_types.specs.declared.check.Check.TheVariants.{RangeReversed, RangeStepZero, RangeNotOfKind, RangeDefaultNotTaken}
 use Rattle.ctrl_settle.specs.Control.{Control}
@@ -60,7 +61,7 @@ CanSkip _ skip = skip ≡ 0
 -- an array has 1 to 32 elements, and no other control any
 abbrev pub HasElems : Kind → Option ℕ → Type 0
 HasElems U8 None = ⊥
-HasElems U8 (Some n) = (1 ≤ n) × (n ≤ 32)
+HasElems U8 (Some n) = (1 ≤ n) × (n ≤ MAX_ELEMENTS)
 HasElems _ elems = elems ≡ None
 
 -- no control starts grabbed or inactive: these two come and go while the device runs

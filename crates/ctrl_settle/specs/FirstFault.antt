@@ -2,6 +2,7 @@
 use Rattle.std.specs.Prelude.{ℕ, ◌-◌, ◌^◌, ◌==◌, ◌&&◌, ℤ, pos, negsuc, int_le, int_lt, Bool, true, false, not, if◌then◌else◌, Option, None, Some, is_some, nat_le, Result, Ok, Err}
 use Rattle.std.specs.Ordering.{int_eq}
 use Rattle.ctrl_types.specs.Flags.{union, intersects}
+use Rattle.ctrl_types.specs.declared.bytes.TheConstants.{MAX_ELEMENTS}
 use Rattle.ctrl_types.specs.declared.check.Check.{Check}
 use Rattle.ctrl_types.specs.declared.flags.Flags.{Flags}
 use Rattle.ctrl_types.specs.declared.flags.TheConstants.Flags.{GRABBED, INACTIVE}
@@ -53,7 +54,7 @@ can_skip _ skip = skip == 0
 -- whether the kind may have so many elements
 abbrev pub has_elems : Kind → Option ℕ → Bool
 has_elems U8 None = false
-has_elems U8 (Some n) = nat_le 1 n && nat_le n 32
+has_elems U8 (Some n) = nat_le 1 n && nat_le n MAX_ELEMENTS
 has_elems _ elems = not (is_some elems)
 
 -- whether the flags may be declared

@@ -1,6 +1,5 @@
 pub use Rattle.ctrl_types.specs.Values
 pub mod Control
-pub mod Config
 pub mod Grid
 pub mod Settle
 pub mod Faults

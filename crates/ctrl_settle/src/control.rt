@@ -3,7 +3,7 @@ ghost use Rattle.ctrl_settle.specs.Control.{default_of, described, described_arr
 ghost use Rattle.ctrl_settle.specs.Faults.{IsFirstFault, IsWellFormed};
 ghost use Rattle.ctrl_settle.specs.Settle.{settle, settle_check, settle_value, settled_anew};
 
-use crate::description::Description;
+use crate::config::CtrlConfig;
 use crate::fault::CtrlFault;
 use bitflags::Flags as FlagSet;
 use ctrl_types::{Check, CtrlId, CtrlValue, Errno, Flags, Kind};
@@ -12,7 +12,7 @@ use std::marker::Model;
 /// A control with which nothing is wrong (Linux userspace API, "struct v4l2_query_ext_ctrl").
 #[derive(Clone, Copy, Debug, PartialEq, Eq)]
 pub struct Ctrl {
-    description: Description,
+    description: CtrlConfig,
 }
 
 impl Model for Ctrl {
@@ -61,7 +61,7 @@ impl Ctrl {
         ensures fault { IfErr result (IsFirstFault
             (described id kind minimum maximum step default_value skip flags is_private)) }
     {
-        Ctrl::made(Description {
+        Ctrl::made(CtrlConfig {
             id,
             kind,
             minimum,
@@ -76,7 +76,7 @@ impl Ctrl {
     }
 
     // The control that is described, where nothing is wrong with it.
-    pub(crate) fn made(description: Description) -> Result<Ctrl, CtrlFault>
+    pub(crate) fn made(description: CtrlConfig) -> Result<Ctrl, CtrlFault>
         ensures ok { IsOk result ↔ IsWellFormed description }
         ensures value { IfOk result (λ c. c ≡ description) }
         ensures fault { IfErr result (IsFirstFault description) }
@@ -115,7 +115,7 @@ impl Ctrl {
         ensures fault { IfErr result (IsFirstFault
             (described_array id elems minimum maximum step default_value flags is_private)) }
     {
-        Ctrl::made(Description {
+        Ctrl::made(CtrlConfig {
             id,
             kind: Kind::U8,
             minimum,
@@ -149,7 +149,7 @@ impl Ctrl {
         ensures value { IfOk result (λ c. c ≡ with_range self.now minimum maximum step default_value) }
         ensures fault { IfErr result (IsFirstFault (with_range self.now minimum maximum step default_value)) }
     {
-        Ctrl::made(Description {
+        Ctrl::made(CtrlConfig {
             minimum,
             maximum,
             step,

@@ -4,7 +4,6 @@
 
 mod config;
 mod control;
-mod description;
 mod fault;
 pub mod laws;
 

@@ -1,5 +1,6 @@
 pub mod Numbers
 pub mod Checks
+pub mod Refusals
 pub mod Classes
 pub mod Flags
 pub mod Values

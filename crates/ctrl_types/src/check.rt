@@ -21,8 +21,12 @@ pub enum Check {
     TooManyEntries,
     /// Check 5: a list without entries is about a class of which no control is shown.
     ClassNotShown,
-    /// Check 6: an entry's id isn't shown, is of another class, or its control is DISABLED.
-    EntryNamesNone,
+    /// Check 6: an entry's id isn't shown to the file handle.
+    EntryNotShown,
+    /// Check 6: an entry's id is of another class than the list.
+    EntryOfOtherClass,
+    /// Check 6: the control of an entry is DISABLED.
+    EntryDisabled,
     /// Check 7: a control of a list that reads is WRITE_ONLY.
     EntryWriteOnly,
     /// Check 7: a control of a list that writes is READ_ONLY.
@@ -113,7 +117,9 @@ impl Check {
             | Check::ListRequestMissing
             | Check::TooManyEntries
             | Check::ClassNotShown
-            | Check::EntryNamesNone
+            | Check::EntryNotShown
+            | Check::EntryOfOtherClass
+            | Check::EntryDisabled
             | Check::ValueSkipped
             | Check::ValueNotOfKind
             | Check::HandlerMissing
@@ -166,7 +172,7 @@ impl Check {
                 3,
             Check::TooManyEntries => 4,
             Check::ClassNotShown => 5,
-            Check::EntryNamesNone => 6,
+            Check::EntryNotShown | Check::EntryOfOtherClass | Check::EntryDisabled => 6,
             Check::EntryWriteOnly
             | Check::EntryReadOnly
             | Check::EntryGrabbed

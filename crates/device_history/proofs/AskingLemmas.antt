@@ -18,8 +18,9 @@ use Rattle.ctrl_types.specs.declared.which.Which.TheVariants.{Current, Defaults,
 use Rattle.ctrl_calls.specs.Meanings.{Verdicts}
 use Rattle.ctrl_handlers.specs.Plan.{PlanData}
 use Rattle.ctrl_handlers.specs.Visible.{find}
-use Rattle.ctrl_lists.specs.declared.refusal.Refusal.{Refusal}
-use Rattle.ctrl_lists.specs.Answers.{answered, entries_judged, fault_at_count}
+use Rattle.ctrl_types.specs.declared.refusal.Refusal.{Refusal}
+use Rattle.ctrl_lists.specs.Answers.{answered, entries_judged}
+use Rattle.ctrl_types.specs.Refusals.{fault_at_count}
 use Rattle.ctrl_lists.specs.View.{ViewData, is_meant, pairs_of}
 use Rattle.ctrl_lists.specs.Checks.{at_first, first_refusal, is_long, is_of_no_class, judging_check, naming_check, refused_if, shows_none_of, write_checks, writing_check}
 use Rattle.device_history.specs.declared.ask.Ask.{Ask}

@@ -1,10 +1,16 @@
--- An ask that is no list is refused by the check that is found for it.
-use Rattle.std.proofs.Common.{◌≡◌, false, [], Option, None, Some, Result, Ok, Err, refl}
+-- An ask is refused by what is found for it: one that is no list by its check, a list by its first refusal.
+use Rattle.std.proofs.Common.{◌≡◌, false, List, [], length, Option, None, Some, Result, Ok, Err, ap, refl}
 use Rattle.std.specs.Option.{option_map}
 use Rattle.std.specs.Result.{result_err}
+use Rattle.ctrl_types.specs.Refusals.{fault_at_count, fault_at_entry, whole}
 use Rattle.ctrl_types.specs.declared.check.Check.{Check}
+use Rattle.ctrl_types.specs.declared.errno.Fault.{Fault}
+use Rattle.ctrl_types.specs.declared.ids.ExtControl.{ExtControl}
+use Rattle.ctrl_types.specs.declared.refusal.Refusal.{Refusal}
 use Rattle.ctrl_calls.specs.Meanings.{Verdicts}
 use Rattle.ctrl_handlers.specs.Plan.{PlanData}
+use Rattle.ctrl_lists.specs.Answers.{answered, entries_judged, entries_read}
+use Rattle.ctrl_lists.specs.Checks.{first_refusal}
 use Rattle.frame_queue.specs.Frames.{next_frame}
 use Rattle.device_history.specs.declared.ask.Ask.{Ask}
 use Rattle.device_history.specs.declared.ask.Ask.TheVariants as asks
@@ -16,8 +22,9 @@ use Rattle.device_history.specs.RequestAnswers.{state_found}
 use Rattle.device_history.specs.EventAnswers.{first_event}
 use Rattle.device_history.specs.Forecasts.{forecast_at}
 use Rattle.device_history.specs.Queries.{control_shown, id_behind, item_found, word_of}
+use Rattle.device_history.specs.Lists.{controls_of, get_checks, read_view, set_checks, try_checks, write_view}
 use Rattle.device_history.specs.Answers.{is_list, refusal}
-use Rattle.device_history.specs.AskChecks.{check_of}
+use Rattle.device_history.specs.AskChecks.{check_of, fault_for, index_of, refusal_of}
 
 -- whether a reply is refused, and with which fault, is told by the check
 unless_by : (check : Option Check) (reply : Reply) → fault_of (unless_refused check reply) ≡ option_map fault_by check
@@ -62,3 +69,27 @@ refused_by_checks verdicts plan past (asks.Query fh id) h = told_by _ (control_s
 refused_by_checks verdicts plan past (asks.NextId fh id) h = told_by _ (id_behind plan past fh id)
 refused_by_checks verdicts plan past (asks.MenuItem fh id index) h = told_by _ (item_found plan past fh id index)
 refused_by_checks verdicts plan past (asks.Told cluster) h = told_by _ (word_of plan [] cluster)
+
+-- a list, whose refusals are told so
+list_so : (ask : Ask) (fault : Refusal → Fault) (first : Option Refusal) (entries : List ExtControl) → ((r : Refusal) → fault r ≡ fault_for ask r)
+    → fault_of (controls_of (answered fault first entries)) ≡ option_map (fault_for ask) first
+list_so ask fault None entries h = refl
+list_so ask fault (Some r) entries h = ap Some (h r)
+
+-- an ask that is no list
+single_so : (ask : Ask) (check : Option Check) (fault : Option Fault) → index_of ask None ≡ None → fault ≡ option_map fault_by check
+    → fault ≡ option_map (fault_for ask) (option_map whole check)
+single_so ask None fault i h = h
+single_so ask (Some check) fault i h = rw i h
+
+pub explained : (verdicts : Verdicts) (plan : PlanData) (past : Past) (ask : Ask) → refusal verdicts plan past ask ≡ option_map (fault_for ask) (refusal_of verdicts plan past ask)
+explained verdicts plan past (asks.GetCtrls fh which request list) =
+    list_so (asks.GetCtrls fh which request list) (fault_at_count (length list)) (first_refusal (get_checks verdicts plan past fh which request list))
+    (entries_read plan (read_view verdicts plan past fh which request) list) (λ r. refl)
+explained verdicts plan past (asks.SetCtrls fh which request list) =
+    list_so (asks.SetCtrls fh which request list) (fault_at_count (length list)) (first_refusal (set_checks verdicts plan past fh which request list))
+    (entries_judged verdicts plan (write_view verdicts plan past fh which request) list) (λ r. refl)
+explained verdicts plan past (asks.TryCtrls fh which request list) =
+    list_so (asks.TryCtrls fh which request list) (fault_at_entry (length list)) (first_refusal (try_checks verdicts plan past fh which request list))
+    (entries_judged verdicts plan (write_view verdicts plan past fh which request) list) (λ r. refl)
+explained verdicts plan past ask = single_so ask (check_of verdicts plan past ask) (refusal verdicts plan past ask) refl (refused_by_checks verdicts plan past ask refl)

@@ -18,7 +18,7 @@ use Rattle.ctrl_handlers.specs.Plan.{PlanData}
 use Rattle.req_book.specs.Requests.{RequestData, is_idle}
 use Rattle.req_book.specs.Refusals.{store_check}
 use Rattle.frame_queue.specs.Frames.{next_frame}
-use Rattle.ctrl_lists.specs.declared.refusal.Refusal.{Refusal}
+use Rattle.ctrl_types.specs.declared.refusal.Refusal.{Refusal}
 use Rattle.ctrl_lists.specs.Answers.{answered}
 use Rattle.ctrl_lists.specs.Checks.{first_refusal, refused_if, write_checks}
 use Rattle.device_history.specs.declared.ask.Ask.{Ask}

@@ -9,8 +9,9 @@ use Rattle.device_history.specs.declared.ask.Ask.{Ask}
 use Rattle.device_history.specs.declared.ask.Ask.TheVariants as asks
 use Rattle.device_history.specs.declared.ask.Reply.{Reply}
 use Rattle.ctrl_handlers.specs.Plan.{PlanData}
-use Rattle.ctrl_lists.specs.declared.refusal.Refusal.{Refusal}
-use Rattle.ctrl_lists.specs.Answers.{answered, fault_at_count, fault_at_entry}
+use Rattle.ctrl_types.specs.declared.refusal.Refusal.{Refusal}
+use Rattle.ctrl_lists.specs.Answers.{answered}
+use Rattle.ctrl_types.specs.Refusals.{fault_at_count, fault_at_entry}
 use Rattle.device_history.specs.Steps.{Past}
 use Rattle.device_history.specs.Refusals.{Answer, refused, refused_at, step_check, stepped, stepped_with, replied_with, unless_refused}
 use Rattle.device_history.specs.Answers.{answer_of, is_list, no_memory, MayAnswer}

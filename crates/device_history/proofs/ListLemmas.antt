@@ -12,10 +12,11 @@ use Rattle.ctrl_types.specs.declared.ids.RequestId.{RequestId}
 use Rattle.ctrl_calls.specs.Meanings.{Verdicts}
 use Rattle.ctrl_settle.specs.Settle.{settle_check}
 use Rattle.ctrl_handlers.specs.Plan.{PlanData, control, control_in}
-use Rattle.ctrl_lists.specs.declared.refusal.Refusal.{Refusal}
+use Rattle.ctrl_types.specs.declared.refusal.Refusal.{Refusal}
 use Rattle.ctrl_lists.specs.View.{ViewData, pairs_of}
 use Rattle.ctrl_lists.specs.Checks.{at_first, first_from, first_refusal, found_at, is_long, is_of_no_class, pairs_judged, refused_if, judging_check, naming_check, writing_check, write_checks}
-use Rattle.ctrl_lists.specs.Answers.{answered, entries_judged, fault_at_count}
+use Rattle.ctrl_lists.specs.Answers.{answered, entries_judged}
+use Rattle.ctrl_types.specs.Refusals.{fault_at_count}
 use Rattle.ctrl_clusters.specs.Rows.{is_grabbed}
 use Rattle.device_history.specs.declared.ask.Reply.TheVariants.{Controls}
 use Rattle.device_history.specs.Steps.{Past}

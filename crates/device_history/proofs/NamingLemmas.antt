@@ -4,8 +4,8 @@ use Rattle.std.proofs.lemmas.Bool.Decides.{nat_tests}
 use Rattle.std.specs.List.{cons_option}
 use Rattle.std.specs.Option.{option_map, option_and_then}
 use Rattle.ctrl_types.specs.Flags.{contains}
-use Rattle.ctrl_types.specs.declared.check.Check.TheVariants.{EntryNamesNone}
 use Rattle.ctrl_types.specs.declared.flags.TheConstants.Flags.{DISABLED}
+use Rattle.ctrl_types.specs.declared.check.Check.{Check}
 use Rattle.ctrl_types.specs.declared.ids.CtrlId.{CtrlId}
 use Rattle.ctrl_types.specs.declared.ids.ExtControl.{ExtControl}
 use Rattle.ctrl_types.specs.declared.ids.FhId.{FhId}
@@ -18,6 +18,7 @@ use Rattle.ctrl_handlers.specs.Plan.{PlanData, control, control_in}
 use Rattle.ctrl_handlers.specs.Visible.{find, first_with_id}
 use Rattle.ctrl_lists.specs.View.{ViewData, is_meant, meant_one, named, pairs_of}
 use Rattle.ctrl_lists.specs.Checks.{first_from, naming_check}
+use Rattle.ctrl_lists.proofs.NamingLemmas.{unnamed_entry}
 use Rattle.device_history.specs.Steps.{Past}
 use Rattle.device_history.specs.Handles.{handler_of, shown}
 use Rattle.device_history.specs.Asking.{entries_of, shows_pair, shows_pairs}
@@ -96,7 +97,7 @@ entries_back plan view n [] names = (refl, refl)
 entries_back plan view n (entry ∷ list) names =
     let parts : (naming_check plan view entry ≡ None) × (first_from (naming_check plan view) (n + 1) list ≡ None) =
     none_found n (naming_check plan view entry) (first_from (naming_check plan view) (n + 1) list) names in
-    by (named plan view.handler view.which entry.id) refl parts.0 (entries_back plan view (n + 1) list parts.1)
+    by (named plan view.handler view.which entry.id) refl (sym (unnamed_entry plan view entry) ∙ ap is_some parts.0) (entries_back plan view (n + 1) list parts.1)
   where
     rest : List Pair
     rest = pairs_of plan view.handler view.which list
@@ -104,7 +105,7 @@ entries_back plan view n (entry ∷ list) names =
     one : (o : Option ℕ) → List Pair
     one o = cons_option (option_map (λ c. record { control = c; value = entry.value }) o) rest
 
-    by : (o : Option ℕ) → named plan view.handler view.which entry.id ≡ o → cond (is_some o) None (Some EntryNamesNone) ≡ None → (entries_of plan rest ≡ list) × (shows_pairs plan view.handler rest ≡ true)
+    by : (o : Option ℕ) → named plan view.handler view.which entry.id ≡ o → not (is_some o) ≡ false → (entries_of plan rest ≡ list) × (shows_pairs plan view.handler rest ≡ true)
         → (entries_of plan (one o) ≡ entry ∷ list) × (shows_pairs plan view.handler (one o) ≡ true)
     by None is h ih = cc
     by (Some c) is h ih =
@@ -112,6 +113,14 @@ entries_back plan view n (entry ∷ list) names =
         let own : named plan view.handler Current (control plan c).id ≡ Some c =
         subst (λ (i : CtrlId). named plan view.handler Current i ≡ Some c) (sym id) (named_by_all plan view.handler view.which Current entry.id c refl is) in
         (rw (id, ih.0) refl, rw (is_own (named plan view.handler Current (control plan c).id) c own, ih.1) refl)
+
+-- an entry that names a control passes
+named_passes : (plan : PlanData) (view : ViewData) (entry : ExtControl) (c : ℕ) → named plan view.handler view.which entry.id ≡ Some c → naming_check plan view entry ≡ None
+named_passes plan view entry c is = none (naming_check plan view entry) (unnamed_entry plan view entry ∙ ap (λ (o : Option ℕ). not (is_some o)) is)
+  where
+    none : (o : Option Check) → is_some o ≡ false → o ≡ None
+    none None h = refl
+    none (Some check) h = cc
 
 -- A handler that shows some pairs has each entry of their list name its control, where the list speaks of all controls.
 pub pairs_back : (plan : PlanData) (view : ViewData) (n : ℕ) (pairs : List Pair) → ((id : CtrlId) → is_meant view.which id ≡ true) → shows_pairs plan view.handler pairs ≡ true
@@ -123,4 +132,5 @@ pairs_back plan view n (p ∷ pairs) all shows =
     let own : named plan view.handler view.which (control plan p.control).id ≡ Some p.control =
     named_by_all plan view.handler Current view.which (control plan p.control).id p.control (all (control plan p.control).id)
     (own_is (named plan view.handler Current (control plan p.control).id) p.control parts.0) in
-    (rw (own, ih.0) refl, rw (own, ih.1) refl)
+    let passes = named_passes plan view (record { id = (control plan p.control).id; value = p.value }) p.control own in
+    (rw (own, ih.0) refl, rw (passes, ih.1) refl)

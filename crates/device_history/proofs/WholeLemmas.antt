@@ -17,7 +17,7 @@ use Rattle.ctrl_handlers.proofs.ClusterLemmas.{cluster_of_member, cluster_of_wit
 use Rattle.ctrl_clusters.specs.Rows.{Grabs, is_grabbed, Values, value_at, row_of}
 use Rattle.ctrl_clusters.specs.Overlay.{is_touched, row_after, result_value, result_value_in, value_after, overlay, no_grabs}
 use Rattle.ctrl_clusters.proofs.OverlayLemmas.{held_none, held_not, overlaid_row, member_after}
-use Rattle.ctrl_lists.specs.declared.refusal.Refusal.{Refusal}
+use Rattle.ctrl_types.specs.declared.refusal.Refusal.{Refusal}
 use Rattle.ctrl_lists.specs.View.{ViewData, pairs_of}
 use Rattle.ctrl_lists.specs.Checks.{at_first, row_check, first_from, first_refusal, is_long, is_of_no_class, pairs_judged, refused_if, row_judged, judging_check, naming_check, writing_check, write_checks}
 use Rattle.ctrl_lists.specs.Answers.{entry_judged, value_judged}

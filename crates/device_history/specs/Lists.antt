@@ -19,10 +19,11 @@ use Rattle.device_history.specs.declared.ask.Step.TheVariants.{Set, Store}
 use Rattle.ctrl_handlers.specs.Plan.{PlanData}
 use Rattle.ctrl_calls.specs.Meanings.{Verdicts}
 use Rattle.ctrl_clusters.specs.Rows.{Values}
-use Rattle.ctrl_lists.specs.declared.refusal.Refusal.{Refusal}
+use Rattle.ctrl_types.specs.declared.refusal.Refusal.{Refusal}
 use Rattle.ctrl_lists.specs.View.{ViewData, pairs_of}
 use Rattle.ctrl_lists.specs.Checks.{first_refusal, refused_if, read_checks, entry_checks, write_checks}
-use Rattle.ctrl_lists.specs.Answers.{ListAnswer, answered, fault_at_count, fault_at_entry, entries_read, entries_judged, may_lack}
+use Rattle.ctrl_lists.specs.Answers.{ListAnswer, answered, entries_read, entries_judged, may_lack}
+use Rattle.ctrl_types.specs.Refusals.{fault_at_count, fault_at_entry}
 use Rattle.device_history.specs.Steps.{Past}
 use Rattle.device_history.specs.Refusals.{Answer, is_full}
 use Rattle.device_history.specs.Handles.{handler_of}
@@ -52,7 +53,7 @@ meant_check verdicts plan past writes _ id = None
 -- the whole list is refused by a check, where there is one
 abbrev pub refused_by : Option Check → Option Refusal
 refused_by None = None
-refused_by (Some check) = Some (record { check = check; place = None })
+refused_by (Some check) = Some (record { check = check; entry = None })
 
 -- what `which` stands for; where it can't be read, which refuses the list, the present values stand in
 abbrev pub which_or : Result Which Check → Which

@@ -1,5 +1,5 @@
-ghost use Rattle.std.specs.Prelude.{◌≡◌};
-ghost use Rattle.device_history.specs.Refusals.{refused};
+ghost use Rattle.std.specs.Prelude.{◌≡◌, Err};
+ghost use Rattle.ctrl_types.specs.Refusals.{whole};
 
 use crate::info::CtrlInfo;
 use crate::pair_list::PairList;
@@ -7,7 +7,7 @@ use ctrl_events::Event;
 use ctrl_forecast::{ClusterList, Forecast};
 use ctrl_handlers::MenuItem;
 use ctrl_lists::ControlList;
-use ctrl_types::{Check, CtrlId, Fault, FhId, RequestId, SubFlags};
+use ctrl_types::{Check, CtrlId, Fault, FhId, Refusal, RequestId, SubFlags};
 use req_book::RequestState;
 
 /// What a caller asks of a device.
@@ -322,13 +322,33 @@ pub enum Step {
     },
 }
 
-/// The answer to an ask that a check refuses and that isn't about a list (of this project): the check's errno, without an index.
+/// The answer to an ask that a check refuses as a whole (of this project).
 ///
 /// - `check`: the first check that doesn't hold.
-pub fn refused(check: Check) -> Result<Reply, Fault>
-    ensures { result ≡ refused check }
+pub fn refused(check: Check) -> Result<Reply, Refusal>
+    ensures { result ≡ Err (whole check) }
 {
-    Err(check.fault())
+    Err(Refusal::whole(check))
+}
+
+impl Ask {
+    ghost use Rattle.device_history.specs.AskChecks.{fault_for};
+
+    /// The fault that the ask is answered (Linux userspace API, "struct v4l2_ext_controls", `error_idx`; which index a list has is of this project): the errno of the
+    /// check, and of a list an index: of a try the place of the entry where it is refused, and else the number of entries.
+    ///
+    /// - `refusal`: what refuses it.
+    pub fn fault(&self, refusal: Refusal) -> Fault
+        ensures { result ≡ fault_for self.now refusal }
+    {
+        match self {
+            Ask::GetCtrls { list, .. } | Ask::SetCtrls { list, .. } => {
+                refusal.at_count(list.len())
+            }
+            Ask::TryCtrls { list, .. } => refusal.at_entry(list.len()),
+            _ => refusal.check.fault(),
+        }
+    }
 }
 
 // An ask, a reply and a step are let go by hand: a derived drop is written out wherever one may be let go, which makes the proof of each such

@@ -32,7 +32,7 @@ ghost use Rattle.device_history.specs.Ranges.{ranges_after, ranges_now};
 ghost use Rattle.device_history.specs.Refusals.{fault_by, fault_of};
 ghost use Rattle.device_history.specs.Handles.{opened, opened_after, handler_of};
 ghost use Rattle.device_history.specs.Values.{defaults, now, values_after};
-ghost use Rattle.device_history.specs.AskChecks.{check_of};
+ghost use Rattle.device_history.specs.AskChecks.{check_of, fault_for, refusal_of};
 ghost use Rattle.device_history.specs.Answers.{MayAnswer, answer_of, is_list, refusal, step_of};
 ghost use Rattle.device_history.specs.Lists.{list_pairs, meant, set_list_answer, values_set, which_or};
 ghost use Rattle.device_history.specs.Legal.{IsLegal, MayFollow};
@@ -129,10 +129,13 @@ pub fn refusals()
     ensures words { (verdicts : Verdicts) (plan : PlanData) (older : Past) (words : List ℕ) (ask : Ask) → fault_of (answer_of verdicts plan older words ask) ≡ refusal verdicts plan older ask }
 {}
 
-/// An ask that is no list is refused exactly where a check refuses it, with the errno of this check and without an index.
-#[tactic(auto, using(crate::proofs::CheckLemmas::refused_by_checks))]
+/// Where memory suffices, an ask is refused exactly where something refuses it, and the fault is what this makes: the errno of its check, and of a try its entry,
+/// where it has one, as the index; a get and a set are refused with the number of entries, and no other ask has an index. So an ask that is no list is refused
+/// exactly where a check refuses it, with the errno of this check and without an index.
+#[tactic(auto, using(crate::proofs::CheckLemmas::explained, crate::proofs::CheckLemmas::refused_by_checks))]
 pub fn refusals_by_checks()
-    ensures { (verdicts : Verdicts) (plan : PlanData) (older : Past) (ask : Ask) → is_list ask ≡ false → refusal verdicts plan older ask ≡ option_map fault_by (check_of verdicts plan older ask) }
+    ensures all { (verdicts : Verdicts) (plan : PlanData) (older : Past) (ask : Ask) → refusal verdicts plan older ask ≡ option_map (fault_for ask) (refusal_of verdicts plan older ask) }
+    ensures alone { (verdicts : Verdicts) (plan : PlanData) (older : Past) (ask : Ask) → is_list ask ≡ false → refusal verdicts plan older ask ≡ option_map fault_by (check_of verdicts plan older ask) }
 {}
 
 /// The empty history is legal; one more entry keeps it so where its step may follow. What a legal history begins with is legal.

@@ -15,29 +15,19 @@ mod loads;
 mod wanted;
 mod ways;
 
-ghost use Rattle.ctrl_calls.specs.Meanings.{JudgesBy, TellsBy};
-
 use crate::asked::Asked;
 use crate::asks::Asks;
 use crate::desk::measure_load;
 use crate::desk_wanted::DeskLoad;
 use crate::loads::{LOADS, Load, fill, play, prepare};
 use crate::wanted::{AtDevice, Loads, Wanted};
-use ctrl_calls::{Calls, ClusterRow, Driver, Notifier, Validator, Verdict};
 use ctrl_handlers::PlanFault;
 use device_state::Device;
-use sample_device::{
-    BALANCE_LIMIT, BRIGHTNESS_WORDS, BUTTON_WORDS, GAIN_LIMIT, PAIR_WORDS, Sample, balance_verdict,
-    brightness_word, button_word, gain_verdict, pair_word, sample_plan,
-};
+use sample_device::own_sample_plan;
 use std::process::ExitCode;
 use std::rt::Clock;
 use std::time::Instant;
 use std::{env, io};
-
-type Judge = Box<dyn Fn(ClusterRow) -> Verdict + Send>;
-
-type Teller = Box<dyn Fn(ClusterRow) -> u64 + Send>;
 
 fn main(rt: HostRuntime) -> io::Result<ExitCode> {
     let words = env::args(&rt)?.collect::<Vec<String>>(rt.alloc())?;
@@ -58,67 +48,14 @@ fn main(rt: HostRuntime) -> io::Result<ExitCode> {
     Ok(ExitCode::from(0))
 }
 
-// Makes the closures of the sample device, and measures with them.
+// Makes the device and the loads.
 fn measure_device<R: AllocGlobal + Print + Eprint + Clock>(
     rt: &R,
     wanted: &AtDevice<'_>,
 ) -> io::Result<()> {
-    let limit: Judge = Box::new(rt.alloc(), |row: ClusterRow| gain_verdict(&row))?;
-    let sum: Judge = Box::new(rt.alloc(), |row: ClusterRow| balance_verdict(&row))?;
-    let gain: Teller = Box::new(rt.alloc(), |row: ClusterRow| pair_word(&row))?;
-    let balance: Teller = Box::new(rt.alloc(), |row: ClusterRow| pair_word(&row))?;
-    let button: Teller = Box::new(rt.alloc(), |row: ClusterRow| button_word(&row))?;
-    let brightness: Teller = Box::new(rt.alloc(), |row: ClusterRow| brightness_word(&row))?;
-    run::<Sample, R>(
-        rt,
-        wanted,
-        (limit, sum),
-        (gain, balance, button, brightness),
-    )
-}
-
-// Makes the device and the loads. The device's clusters have these closures: of autogain and gain the first validator and the first notifier, of red
-// and blue the second ones, of the button and of brightness the last notifiers.
-fn run<D: Driver, R: AllocGlobal + Print + Eprint + Clock>(
-    rt: &R,
-    wanted: &AtDevice<'_>,
-    judges: (D::Judge, D::Judge),
-    tellers: (D::Teller, D::Teller, D::Teller, D::Teller),
-) -> io::Result<()>
-    requires limit { D.Judge.callable judges.0 }
-    requires limit_judges { JudgesBy (D.Judge.answers judges.0) (D.verdict GAIN_LIMIT) }
-    requires sum { D.Judge.callable judges.1 }
-    requires sum_judges { JudgesBy (D.Judge.answers judges.1) (D.verdict BALANCE_LIMIT) }
-    requires gain { D.Teller.callable tellers.0 }
-    requires gain_tells { TellsBy (D.Teller.answers tellers.0) (D.told PAIR_WORDS) }
-    requires balance { D.Teller.callable tellers.1 }
-    requires balance_tells { TellsBy (D.Teller.answers tellers.1) (D.told PAIR_WORDS) }
-    requires button { D.Teller.callable tellers.2 }
-    requires button_tells { TellsBy (D.Teller.answers tellers.2) (D.told BUTTON_WORDS) }
-    requires brightness { D.Teller.callable tellers.3 }
-    requires brightness_tells { TellsBy (D.Teller.answers tellers.3) (D.told BRIGHTNESS_WORDS) }
-{
-    let (limit, sum) = judges;
-    let (gain, balance, button, brightness) = tellers;
-    let of_gain: Calls<D> = Calls {
-        validator: Some(Validator::new(GAIN_LIMIT, limit)),
-        notifier: Some(Notifier::new(PAIR_WORDS, gain)),
-    };
-    let of_balance: Calls<D> = Calls {
-        validator: Some(Validator::new(BALANCE_LIMIT, sum)),
-        notifier: Some(Notifier::new(PAIR_WORDS, balance)),
-    };
-    let of_button: Calls<D> = Calls {
-        validator: None,
-        notifier: Some(Notifier::new(BUTTON_WORDS, button)),
-    };
-    let of_brightness: Calls<D> = Calls {
-        validator: None,
-        notifier: Some(Notifier::new(BRIGHTNESS_WORDS, brightness)),
-    };
     let made = match wanted {
         AtDevice::Asks(asks) if !asks.is_sample() => asks.plan(rt.alloc()),
-        _ => sample_plan(rt.alloc(), of_gain, of_balance, of_button, of_brightness),
+        _ => own_sample_plan(rt.alloc()),
     };
     let plan = match made {
         Ok(plan) => plan,

@@ -12,8 +12,9 @@ use Rattle.ctrl_types.specs.declared.which.Which.TheVariants.{Class, Current, De
 use Rattle.ctrl_calls.specs.Meanings.{Verdicts}
 use Rattle.ctrl_handlers.specs.Plan.{PlanData}
 use Rattle.ctrl_forecast.specs.Forecasts.{named_by_frames}
-use Rattle.ctrl_lists.specs.declared.refusal.Refusal.{Refusal}
-use Rattle.ctrl_lists.specs.Answers.{answered, entries_judged, fault_at_count}
+use Rattle.ctrl_types.specs.declared.refusal.Refusal.{Refusal}
+use Rattle.ctrl_lists.specs.Answers.{answered, entries_judged}
+use Rattle.ctrl_types.specs.Refusals.{fault_at_count}
 use Rattle.ctrl_lists.specs.Checks.{at_first, entry_checks, first_refusal, judging_check, pairs_judged, refused_if, write_checks}
 use Rattle.ctrl_lists.specs.Touched.{list_asks, none_where, touched}
 use Rattle.ctrl_lists.specs.View.{ViewData, pairs_of}
@@ -75,7 +76,7 @@ names_request verdicts plan older fh which request opens through none = last (sy
     spoken = refused_by (meant_check verdicts plan older true (which_or (which_of which)) request)
 
     nameless : Refusal
-    nameless = record { check = ListRequestMissing; place = None }
+    nameless = record { check = ListRequestMissing; entry = None }
 
     speaks : first_refusal (spoken ∷ []) ≡ Some nameless
     speaks =

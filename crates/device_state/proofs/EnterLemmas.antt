@@ -8,7 +8,7 @@ use Rattle.ctrl_types.specs.declared.ids.Pair.{Pair}
 use Rattle.ctrl_calls.specs.Meanings.{Verdicts, Words}
 use Rattle.ctrl_calls.specs.declared.work.Work.{Work}
 use Rattle.ctrl_handlers.specs.Plan.{PlanData}
-use Rattle.req_book.specs.Requests.{RequestData, find, is_complete}
+use Rattle.req_book.specs.Requests.{RequestData, RequestsData, find, is_complete}
 use Rattle.frame_queue.specs.Frames.{FramesData}
 use Rattle.device_history.specs.declared.ask.Ask.{Ask}
 use Rattle.device_history.specs.declared.ask.Reply.{Reply}
@@ -38,8 +38,8 @@ use Rattle.device_state.proofs.HandleLemmas.{at_rest, asked_since, handles_asked
 use Rattle.device_state.proofs.BoundLemmas.{set_at_least}
 use Rattle.device_state.proofs.SettingLemmas.{store_adds}
 use Rattle.device_state.proofs.StepLemmas.{step_accepted, step_answered, step_passes, step_refused}
-use Rattle.device_state.specs.Setting.{IsSettable, SetsList}
-use Rattle.device_history.specs.Lists.{list_pairs, meant, request_check, which_or}
+use Rattle.device_state.specs.Setting.{CanBeSet, SetsList}
+use Rattle.device_history.specs.Lists.{list_pairs, meant, request_check, set_list_answer, which_or}
 use Rattle.ctrl_lists.specs.Touched.{TouchedData, touched, judged_count}
 use Rattle.ctrl_types.specs.Classes.{which_of}
 use Rattle.ctrl_types.specs.declared.ids.ExtControl.{ExtControl}
@@ -104,10 +104,11 @@ pub handles_lacking : (verdicts : Verdicts) (old new : DeviceData) (start work :
 handles_lacking verdicts old new start work seat ask own step reply begin rest untold asked is free =
     handles_asked verdicts old new start work seat ask (refused MemoryRefused) begin rest untold (omega (arith, asked, is.most (refused MemoryRefused))) (λ e. cc) refl (entered_lacks verdicts old.plan (past old.steps) old.words ask own step reply is free)
 
--- the request that is kept under an id
-pub found : (verdicts : Verdicts) (told : Words) (plan : PlanData) (entries : History) (caches : Caches) (r : ℕ) → IsKept verdicts told plan entries caches
-    → find caches.frames.requests.all r ≡ request verdicts plan (past entries) r
-found verdicts told plan entries caches r kept = ap (λ (f : FramesData). find f.requests.all r) kept.frames ∙ found_request verdicts plan (past entries) r kept.legal
+-- the request under an id in the requests that are kept
+pub found : (verdicts : Verdicts) (told : Words) (plan : PlanData) (entries : History) (caches : Caches) (r : ℕ) → IsKept verdicts told plan entries caches → (kept : RequestsData) → kept ≡ caches.frames.requests
+    → find kept.all r ≡ request verdicts plan (past entries) r
+found verdicts told plan entries caches r is kept lent =
+    ap (λ (rs : RequestsData). find rs.all r) lent ∙ ap (λ (f : FramesData). find f.requests.all r) is.frames ∙ found_request verdicts plan (past entries) r is.legal
 
 -- its state
 pub state_is : (verdicts : Verdicts) (plan : PlanData) (older : Past) (r : ℕ) → option_map (λ (q : RequestData). q.state) (request verdicts plan older r) ≡ state older r
@@ -133,25 +134,27 @@ list_missing writes (Some q) is = cc
 -- a list that stores its pairs in a request
 pub handles_store : (verdicts : Verdicts) (old : DeviceData) (start work : Work) (seat : ℕ) (fh : FhId) (which : ℕ) (request : Option RequestId) (stored : RequestId) (list : List ExtControl) (touch : TouchedData) (controls : List ExtControl)
     → start ≡ at_rest → work.told ≡ start.told → work.asked ≤ start.asked + list_most verdicts old.plan (past old.steps) fh which request true list (list_touches old.plan (past old.steps) fh which list)
-    → IsSettable verdicts old.plan (past old.steps) fh which request list touch → meant (which_or (which_of which)) request ≡ Some stored → controls ≡ touch.answers
+    → touch.pairs ≡ list_pairs old.plan (past old.steps) fh which list → set_list_answer verdicts old.plan (past old.steps) fh which request list ≡ Ok (Controls touch.answers)
+    → meant (which_or (which_of which)) request ≡ Some stored → controls ≡ touch.answers
     → with_calls (judged_count old.plan (touched old.plan (list_pairs old.plan (past old.steps) fh which list))) 0 ≤ work.asked
     → Handles verdicts old (with_step (record old { work = work }) seat (steps.Store stored touch.pairs)) seat (asks.SetCtrls fh which request list) (Ok (Controls controls))
-handles_store verdicts old start work seat fh which request stored list touch controls rest untold asked sets through reply all =
+handles_store verdicts old start work seat fh which request stored list touch controls rest untold asked own_pairs accepted through reply all =
     handles_controls_left verdicts old work seat (asks.SetCtrls fh which request list) (steps.Store stored touch.pairs) (Controls controls) (told_since start work rest untold)
     (omega (arith, asked_since start work _ rest asked, set_at_least verdicts old.plan (past old.steps) fh which request list)) all
-    (inl (ap (λ (l : List ExtControl). Ok (Controls l)) reply ∙ sym sets.accepted)) (store_adds verdicts old.plan (past old.steps) fh which request stored list touch sets through) refl
+    (inl (ap (λ (l : List ExtControl). Ok (Controls l)) reply ∙ sym accepted)) (store_adds verdicts old.plan (past old.steps) fh which request stored list touch own_pairs through) refl
 
 -- a list that is accepted
 pub handles_list : (verdicts : Verdicts) (told : Words) (old between new : DeviceData) (start work : Work) (seat : ℕ) (fh : FhId) (which : ℕ) (request : Option RequestId) (list : List ExtControl) (touch : TouchedData) (controls : List ExtControl)
     → between ≡ record old { work = work } → start ≡ at_rest → work.told ≡ start.told → work.asked ≤ start.asked + list_most verdicts old.plan (past old.steps) fh which request true list (list_touches old.plan (past old.steps) fh which list)
-    → IsSettable verdicts old.plan (past old.steps) fh which request list touch → controls ≡ touch.answers → with_calls (judged_count old.plan (touched old.plan (list_pairs old.plan (past old.steps) fh which list))) 0 ≤ work.asked
+    → CanBeSet verdicts old.plan (past old.steps) fh (meant (which_or (which_of which)) request) touch → touch.pairs ≡ list_pairs old.plan (past old.steps) fh which list
+    → set_list_answer verdicts old.plan (past old.steps) fh which request list ≡ Ok (Controls touch.answers) → controls ≡ touch.answers → with_calls (judged_count old.plan (touched old.plan (list_pairs old.plan (past old.steps) fh which list))) 0 ≤ work.asked
     → SetsList verdicts told between new seat fh (meant (which_or (which_of which)) request) touch
     → Handles verdicts old new seat (asks.SetCtrls fh which request list) (Ok (Controls controls))
-handles_list verdicts told old between new start work seat fh which request list touch controls begin rest untold asked sets reply all does = by (meant (which_or (which_of which)) request) refl does
+handles_list verdicts told old between new start work seat fh which request list touch controls begin rest untold asked sets own_pairs accepted reply all does = by (meant (which_or (which_of which)) request) refl does
   where
     by : (o : Option RequestId) → meant (which_or (which_of which)) request ≡ o → SetsList verdicts told between new seat fh o touch → Handles verdicts old new seat (asks.SetCtrls fh which request list) (Ok (Controls controls))
-    by None is h = handles_set verdicts told old between new start work seat fh which request list touch controls begin rest untold asked sets is reply all h
-    by (Some stored) is h = rw (h, begin) (handles_store verdicts old start work seat fh which request stored list touch controls rest untold asked sets is reply all)
+    by None is h = handles_set verdicts told old between new start work seat fh which request list touch controls begin rest untold asked sets own_pairs accepted is reply all h
+    by (Some stored) is h = rw (h, begin) (handles_store verdicts old start work seat fh which request stored list touch controls rest untold asked own_pairs accepted is reply all)
 
 -- the values that were read of a complete request are its snapshot
 pub snapshot_is : (verdicts : Verdicts) (plan : PlanData) (older : Past) (r : ℕ) (values : List CtrlValue) → book.snapshot_answer (request verdicts plan older r) ≡ Ok values → values ≡ snapshot verdicts plan older r
@@ -193,10 +196,10 @@ storable_there None h = cc
 storable_there (Some r) h = refl
 
 -- a request that is there is among those that are kept
-pub held : (verdicts : Verdicts) (told : Words) (plan : PlanData) (entries : History) (caches : Caches) (r : ℕ) → IsKept verdicts told plan entries caches → is_some (state (past entries) r) ≡ true
-    → is_some (find caches.frames.requests.all r) ≡ true
+pub held : (verdicts : Verdicts) (told : Words) (plan : PlanData) (entries : History) (caches : Caches) (r : ℕ) → IsKept verdicts told plan entries caches → (kept : RequestsData) → kept ≡ caches.frames.requests
+    → is_some (state (past entries) r) ≡ true → is_some (find kept.all r) ≡ true
 unfolding request
-held verdicts told plan entries caches r kept there = ap is_some (found verdicts told plan entries caches r kept) ∙ by (state (past entries) r) there
+held verdicts told plan entries caches r is kept lent there = ap is_some (found verdicts told plan entries caches r is kept lent) ∙ by (state (past entries) r) there
   where
     by : (o : Option RequestState) → is_some o ≡ true → is_some (option_map (request_in verdicts plan (past entries) r) o) ≡ true
     by None h = cc

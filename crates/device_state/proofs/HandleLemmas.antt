@@ -29,15 +29,15 @@ use Rattle.device_history.specs.Refusals.{Answer, refused, step_check, stepped}
 use Rattle.device_history.specs.Handles.{open_check, through}
 use Rattle.device_history.specs.RequestAnswers.{state_answer}
 use Rattle.device_history.specs.Queries.{query_answer, next_answer, told_answer}
-use Rattle.device_history.specs.Lists.{list_pairs, meant, which_or}
+use Rattle.device_history.specs.Lists.{list_pairs, meant, set_list_answer, which_or}
 use Rattle.device_history.specs.Answers.{MayAnswer, answer_of, taken}
 use Rattle.device_history.specs.Forecasts.{queued_frames}
 use Rattle.ctrl_forecast.specs.Forecasts.{named_by_frames}
 use Rattle.ctrl_clusters.specs.NewRows.{clusters_of}
-use Rattle.ctrl_lists.specs.declared.refusal.Refusal.{Refusal}
+use Rattle.ctrl_types.specs.declared.refusal.Refusal.{Refusal}
 use Rattle.device_state.specs.Device.{DeviceData, Handles, forecast_asks, cluster_asks, list_most, list_touches, may_ask, must_ask, with_step, step_changes}
 use Rattle.device_state.proofs.BoundLemmas.{forecasts_asked, set_opened}
-use Rattle.device_state.specs.Setting.{IsSettable, SetsAll}
+use Rattle.device_state.specs.Setting.{CanBeSet, SetsAll}
 use Rattle.ctrl_clusters.specs.Changes.{cluster_changes}
 use Rattle.ctrl_lists.specs.Touched.{judged_count, with_calls}
 use Rattle.device_history.proofs.PresentLemmas.{length_now}
@@ -237,35 +237,36 @@ handles_forecast verdicts old work seat place answer rest may =
 
 -- what a set changes of the members of a cluster: what the row that it gets changes
 set_changing : (verdicts : Verdicts) (plan : PlanData) (older : Past) (fh : FhId) (which : ℕ) (request : Option RequestId) (list : List ExtControl) (touch : TouchedData) (reply : Reply)
-    → IsSettable verdicts plan older fh which request list touch → meant (which_or (which_of which)) request ≡ None → (j : ℕ) → j < length plan.clusters
+    → CanBeSet verdicts plan older fh (meant (which_or (which_of which)) request) touch → touch.pairs ≡ list_pairs plan older fh which list → meant (which_or (which_of which)) request ≡ None → (j : ℕ) → j < length plan.clusters
     → list_any (step_changes verdicts plan older (taken verdicts plan older (asks.SetCtrls fh which request list) (Ok reply))) (members plan j)
     ≡ cluster_changes plan (now verdicts plan older) touch.pairs touch.rows j
-set_changing verdicts plan older fh which request list touch reply sets current j lt =
+set_changing verdicts plan older fh which request list touch reply sets own_pairs current j lt =
     ap (λ (step : Step). list_any (step_changes verdicts plan older (Some step)) (members plan j)) (set_step (meant (which_or (which_of which)) request) fh (list_pairs plan older fh which list) current)
-    ∙ ap (λ (pairs : List Pair). list_any (step_changes verdicts plan older (Some (Set fh pairs))) (members plan j)) (sym sets.own_pairs)
-    ∙ changes_written verdicts plan (ranges_now plan older) (now verdicts plan older) (grabbed plan older) touch.pairs touch.rows j sets.plans (length_now verdicts plan older) lt (own_judged verdicts plan older fh which request list touch sets current) sets.free
+    ∙ ap (λ (pairs : List Pair). list_any (step_changes verdicts plan older (Some (Set fh pairs))) (members plan j)) (sym own_pairs)
+    ∙ changes_written verdicts plan (ranges_now plan older) (now verdicts plan older) (grabbed plan older) touch.pairs touch.rows j sets.plans (length_now verdicts plan older) lt (own_judged verdicts plan older fh which request touch sets current) sets.free
 
 -- a set that is accepted
 pub handles_set : (verdicts : Verdicts) (told : Words) (old between new : DeviceData) (start work : Work) (seat : ℕ) (fh : FhId) (which : ℕ) (request : Option RequestId) (list : List ExtControl) (touch : TouchedData) (controls : List ExtControl)
     → between ≡ record old { work = work } → start ≡ at_rest → work.told ≡ start.told → work.asked ≤ start.asked + list_most verdicts old.plan (past old.steps) fh which request true list (list_touches old.plan (past old.steps) fh which list)
-    → IsSettable verdicts old.plan (past old.steps) fh which request list touch → meant (which_or (which_of which)) request ≡ None → controls ≡ touch.answers → with_calls (judged_count old.plan (touched old.plan (list_pairs old.plan (past old.steps) fh which list))) 0 ≤ work.asked → SetsAll verdicts told between new seat fh touch
+    → CanBeSet verdicts old.plan (past old.steps) fh (meant (which_or (which_of which)) request) touch → touch.pairs ≡ list_pairs old.plan (past old.steps) fh which list
+    → set_list_answer verdicts old.plan (past old.steps) fh which request list ≡ Ok (Controls touch.answers) → meant (which_or (which_of which)) request ≡ None → controls ≡ touch.answers → with_calls (judged_count old.plan (touched old.plan (list_pairs old.plan (past old.steps) fh which list))) 0 ≤ work.asked → SetsAll verdicts told between new seat fh touch
     → Handles verdicts old new seat (asks.SetCtrls fh which request list) (Ok (Controls controls))
-handles_set verdicts told old between new start work seat fh which request list touch controls begin rest untold asked sets current reply all does =
+handles_set verdicts told old between new start work seat fh which request list touch controls begin rest untold asked sets own_pairs accepted current reply all does =
     let done : SetsAll verdicts told (record old { work = work }) new seat fh touch = rw begin at does in
-    let changing = set_changing verdicts old.plan (past old.steps) fh which request list touch (Controls controls) sets current in
+    let changing = set_changing verdicts old.plan (past old.steps) fh which request list touch (Controls controls) sets own_pairs current in
     let own : List ℕ = touched old.plan (list_pairs old.plan (past old.steps) fh which list) in
-    let clusters : clusters_of touch.rows ≡ own = sets.judged.each_once ∙ ap (touched old.plan) sets.own_pairs in
-    let passed = set_opened verdicts old.plan (past old.steps) fh which request list touch.answers sets.accepted in
+    let clusters : clusters_of touch.rows ≡ own = sets.judged.each_once ∙ ap (touched old.plan) own_pairs in
+    let passed = set_opened verdicts old.plan (past old.steps) fh which request list touch.answers accepted in
     let judged : work.asked ≤ start.asked + length own = subst (λ (o : Option Refusal). work.asked ≤ start.asked + none_where o (length own)) passed.1 asked in
     let renewed : new.work.asked ≤ work.asked + forecast_asks old.plan (past old.steps) (which_or (which_of which)) own =
     subst (λ (n : ℕ). new.work.asked ≤ work.asked + n) (sym (forecasts_asked verdicts old.plan (past old.steps) fh which request own passed.0 current))
     (subst (λ (ks : List ℕ). new.work.asked ≤ work.asked + named_by_frames old.plan (queued_frames old.plan (past old.steps)) ks) clusters done.asked) in
     record {
       plan = done.plan;
-      answers = inl (ap (λ (l : List ExtControl). Ok (Controls l)) reply ∙ sym sets.accepted);
+      answers = inl (ap (λ (l : List ExtControl). Ok (Controls l)) reply ∙ sym accepted);
       refused = λ e. cc;
       steps =
-          done.steps ∙ ap (λ (pairs : List Pair). old.steps ++ record { seat = seat; step = Set fh pairs } ∷ []) sets.own_pairs
+          done.steps ∙ ap (λ (pairs : List Pair). old.steps ++ record { seat = seat; step = Set fh pairs } ∷ []) own_pairs
           ∙ ap (λ (step : Step). old.steps ++ record { seat = seat; step = step } ∷ []) (sym (set_step (meant (which_or (which_of which)) request) fh (list_pairs old.plan (past old.steps) fh which list) current));
       words = λ j lt same. done.words.others j (λ _. sym (changing j lt) ∙ same);
       notified =

@@ -1,5 +1,5 @@
 -- What a device is seen as, and what a call does to it (of this project).
-use Rattle.std.specs.Prelude.{◌≡◌, ◌+◌, ℕ, Bool, true, false, ◌≤◌, [], ◌∷◌, ◌++◌, List, Option, None, Some, Ok, Err, IsErr, IsOk, length, ◌<◌, slice_index}
+use Rattle.std.specs.Prelude.{◌≡◌, ◌⊎◌, ◌+◌, ℕ, Bool, true, false, ◌≤◌, [], ◌∷◌, ◌++◌, List, Option, None, Some, Ok, Err, IsErr, IsOk, length, ◌<◌, slice_index}
 use Rattle.std.specs.List.{list_any}
 use Rattle.history.specs.Past.{past, entered}
 use Rattle.ctrl_calls.specs.declared.work.Work.{Work}
@@ -21,8 +21,11 @@ use Rattle.step_effects.specs.QueuedFrames.{asks_at_most}
 use Rattle.device_history.specs.Forecasts.{queued_frames}
 use Rattle.device_history.specs.Refusals.{Answer}
 use Rattle.device_history.specs.Answers.{MayAnswer, taken}
+use Rattle.device_history.specs.AskChecks.{refusal_of}
 use Rattle.device_history.specs.Lists.{checks_before_judging, list_pairs, which_or}
 use Rattle.ctrl_types.specs.Classes.{which_of}
+use Rattle.ctrl_types.specs.Refusals.{memory_refusal}
+use Rattle.ctrl_types.specs.declared.refusal.Refusal.{Refusal}
 use Rattle.ctrl_types.specs.declared.which.Which.{Which}
 use Rattle.ctrl_types.specs.declared.which.Which.TheVariants.{Request}
 use Rattle.ctrl_types.specs.declared.ids.ExtControl.{ExtControl}
@@ -91,6 +94,13 @@ may_ask verdicts plan past (asks.Grab c on) answer = where_accepted answer (clus
 may_ask verdicts plan past (asks.ModifyRange c low high apart default_value) answer = where_accepted answer (cluster_asks plan past (cluster_of plan c))
 may_ask verdicts plan past _ answer = 0
 
+-- how many are asked at most where it is only looked for what refuses an ask: one for each cluster that a list which writes touches, but none where it is refused before a
+-- cluster is judged
+abbrev pub may_judge : Verdicts → PlanData → Past → Ask → ℕ
+may_judge verdicts plan past (asks.SetCtrls fh which request list) = list_most verdicts plan past fh which request true list (list_touches plan past fh which list)
+may_judge verdicts plan past (asks.TryCtrls fh which request list) = list_most verdicts plan past fh which request false list (list_touches plan past fh which list)
+may_judge verdicts plan past _ = 0
+
 -- how many validators a set and a try ask at least, where they are accepted: one for each cluster that they touch and that has one; every other ask none
 abbrev pub must_ask : PlanData → Past → Ask → ℕ
 must_ask plan past (asks.SetCtrls fh which request list) = judged_count plan (touched plan (list_pairs plan past fh which list))
@@ -118,6 +128,10 @@ must_ask plan past (asks.Query fh id) = 0
 must_ask plan past (asks.NextId fh id) = 0
 must_ask plan past (asks.MenuItem fh id index) = 0
 must_ask plan past (asks.Told cluster) = 0
+
+-- what may refuse an ask: the first check that doesn't hold, or want of memory
+abbrev pub MayRefuse : Verdicts → DeviceData → Ask → Refusal → Type 0
+MayRefuse verdicts device ask refusal = (refusal_of verdicts device.plan (past device.steps) ask ≡ Some refusal) ⊎ (refusal ≡ memory_refusal)
 
 -- What a call at a seat does: the answer is one that the ask may get, and the steps grow by the one that it takes, or by none.
 -- Each cluster with a changed member is told once, and the word of every other stays. Validators are asked as often as `may_ask` says at most.

@@ -1,15 +1,12 @@
 -- What an accepted list makes of the values, the words and the counts, one cluster after another (of this project).
-use Rattle.std.specs.Prelude.{◌≡◌, ◌<◌, ◌≤◌, ◌+◌, ℕ, length, false, ◌++◌, List, [], ◌∷◌, Option, None, Some, Ok}
+use Rattle.std.specs.Prelude.{◌≡◌, ◌<◌, ◌≤◌, ◌+◌, ℕ, length, false, ◌++◌, [], ◌∷◌, Option, None, Some}
 use Rattle.std.specs.List.{All, list_any}
 use Rattle.history.specs.Past.{past}
-use Rattle.ctrl_types.specs.declared.ids.ExtControl.{ExtControl}
-use Rattle.ctrl_types.specs.Classes.{which_of}
 use Rattle.ctrl_types.specs.declared.ids.FhId.{FhId}
 use Rattle.ctrl_types.specs.declared.ids.RequestId.{RequestId}
 use Rattle.ctrl_calls.specs.Meanings.{Verdicts, Words}
 use Rattle.ctrl_handlers.specs.Plan.{PlanData, IsPlan}
 use Rattle.ctrl_lists.specs.Touched.{TouchedData, AreJudged}
-use Rattle.device_history.specs.declared.ask.Reply.TheVariants.{Controls}
 use Rattle.device_history.specs.declared.ask.Step.TheVariants.{Set, Store}
 use Rattle.ctrl_clusters.specs.Rows.{is_grabbed}
 use Rattle.device_history.specs.Ranges.{ranges_now}
@@ -20,24 +17,14 @@ use Rattle.device_history.specs.Forecasts.{queued_frames}
 use Rattle.device_history.specs.Values.{now}
 use Rattle.device_history.specs.Refusals.{is_full}
 use Rattle.device_history.specs.Legal.{MayFollow}
-use Rattle.device_history.specs.Lists.{earlier_pairs, list_pairs, meant, pairs_step, set_list_answer, which_or}
+use Rattle.device_history.specs.Lists.{earlier_pairs, pairs_step}
 use Rattle.device_state.specs.Device.{DeviceData, with_step}
 use Rattle.ctrl_clusters.specs.NewRows.{clusters_of, row_or_empty}
 use Rattle.ctrl_clusters.specs.Changes.{cluster_changes}
 use Rattle.ctrl_clusters.specs.Notified.{AreNotified, notified_count}
 
--- A list that can be set: its pairs are laid behind what its request asks for, where it speaks of one; each touched cluster gets a row, off which
--- the answers are read; none of its controls is grabbed; and there is room for a step.
-pub record IsSettable (verdicts : Verdicts) (plan : PlanData) (older : Past) (fh : FhId) (which : ℕ) (request : Option RequestId) (list : List ExtControl) (touch : TouchedData) : Type 0 where
-  pub plans : IsPlan plan
-  pub own_pairs : touch.pairs ≡ list_pairs plan older fh which list
-  pub known : All (λ p. p.control < length plan.controls) touch.pairs
-  pub judged : AreJudged verdicts plan (ranges_now plan older) (now verdicts plan older) (earlier_pairs plan older (meant (which_or (which_of which)) request) ++ touch.pairs) touch.pairs touch.rows
-  pub free : list_any (λ p. is_grabbed (grabbed plan older) p.control) touch.pairs ≡ false
-  pub room : is_full older ≡ false
-  pub accepted : set_list_answer verdicts plan older fh which request list ≡ Ok (Controls touch.answers)
-
--- What makes of it that its rows can be written, or its pairs stored in the request that it speaks of: its step may follow, whatever list it is of.
+-- A list that can be set, so that its rows can be written, or its pairs stored in the request that it speaks of: its pairs are laid behind what that asks
+-- for; each touched cluster gets a row; none of its controls is grabbed; there is room for a step, and its step may follow.
 pub record CanBeSet (verdicts : Verdicts) (plan : PlanData) (older : Past) (fh : FhId) (request : Option RequestId) (touch : TouchedData) : Type 0 where
   pub plans : IsPlan plan
   pub known : All (λ p. p.control < length plan.controls) touch.pairs

@@ -11,14 +11,15 @@ ghost use Rattle.device_history.specs.Flags.{flags_now};
 ghost use Rattle.device_history.specs.Handles.{opened, handler_of, open_check, shown, through};
 ghost use Rattle.device_history.specs.Values.{defaults, now};
 ghost use Rattle.ctrl_clusters.specs.Notified.{HaveWords};
-ghost use Rattle.device_history.specs.Refusals.{is_full, refused, step_check};
+ghost use Rattle.device_history.specs.AskChecks.{published};
+ghost use Rattle.device_history.specs.Refusals.{is_full, step_check};
 ghost use Rattle.device_history.specs.Queries.{control_shown, has_index, id_behind, item_found, query_answer, told_answer, word_of};
 ghost use Rattle.device_history.specs.RequestAnswers.{state_found};
 ghost use Rattle.device_history.specs.Answers.{MayAnswer};
 ghost use Rattle.device_history.specs.Legal.{IsLegal};
 ghost use Rattle.history_audit.specs.Scratch.{Agrees};
 ghost use Rattle.ctrl_handlers.specs.Plan.{cluster_of, control_in};
-ghost use Rattle.device_state.specs.Device.{Handles, cluster_asks, with_step};
+ghost use Rattle.device_state.specs.Device.{Handles, MayRefuse, cluster_asks, with_step};
 
 mod begin;
 mod checks;
@@ -36,7 +37,7 @@ use ctrl_forecast::Board;
 use ctrl_handlers::{MenuItem, Plan};
 use ctrl_lists::Room;
 use ctrl_settle::Ctrl;
-use ctrl_types::{Check, CtrlId, CtrlValue, Errno, Fault, FhId, Flags, RequestId};
+use ctrl_types::{Check, CtrlId, CtrlValue, Errno, Fault, FhId, Flags, Refusal, RequestId};
 use device_history::{Ask, CtrlInfo, MAX_FILE_HANDLES, MAX_STEPS, Reply, Step, refused};
 use frame_queue::{Frames, RequestState};
 use history::Entry;
@@ -301,14 +302,31 @@ impl<D: Driver> Device<D> {
         ensures handles { Handles D.verdict self.old self.new seat ask.now result }
         ensures words { HaveWords D.told self.new.plan (now D.verdict self.new.plan (past self.new.steps)) self.new.words }
     {
+        match self.ask(seat, ask) {
+            Ok(reply) => Ok(reply),
+            Err(refusal) => Err(ask.fault(refusal)),
+        }
+    }
+
+    /// Answers an ask as `handle` does, but tells a refusal as what refuses the ask (of this project): the first check of docs/RULES.md that doesn't hold, and of a list
+    /// the entry where it doesn't; or want of memory, check 34, where `handle` answers ENOMEM. `Ask::fault` makes of it what `handle` answers. A refusal leaves the device
+    /// as it was, but for the counts of `work`.
+    ///
+    /// - `seat`, `ask`: as of `handle`.
+    pub fn ask(&mut self, seat: u32, ask: &Ask) -> Result<Reply, Refusal>
+        ensures handles { Handles D.verdict self.old self.new seat ask.now (published ask.now result) }
+        ensures why { IfErr result (MayRefuse D.verdict self.old ask.now) }
+        ensures words { HaveWords D.told self.new.plan (now D.verdict self.new.plan (past self.new.steps)) self.new.words }
+    {
         let answer = self.answer(seat, ask);
         // the words are such as were told, as the contract of `steps` says
         let _kept = self.steps();
         answer
     }
 
-    fn answer(&mut self, seat: u32, ask: &Ask) -> Result<Reply, Fault>
-        ensures { Handles D.verdict self.old self.new seat ask.now result }
+    fn answer(&mut self, seat: u32, ask: &Ask) -> Result<Reply, Refusal>
+        ensures handles { Handles D.verdict self.old self.new seat ask.now (published ask.now result) }
+        ensures why { IfErr result (MayRefuse D.verdict self.old ask.now) }
     {
         match ask {
             Ask::OpenFh { handler } => self.open(seat, *handler),
@@ -318,19 +336,19 @@ impl<D: Driver> Device<D> {
                 which,
                 request,
                 list,
-            } => self.get(*fh, *which, *request, list),
+            } => self.ask_get(*fh, *which, *request, list),
             Ask::SetCtrls {
                 fh,
                 which,
                 request,
                 list,
-            } => self.set(seat, *fh, *which, *request, list),
+            } => self.set_list(seat, *fh, *which, *request, list),
             Ask::TryCtrls {
                 fh,
                 which,
                 request,
                 list,
-            } => self.try_set(*fh, *which, *request, list),
+            } => self.ask_try(*fh, *which, *request, list),
             Ask::Grab { control, on } => self.grab(seat, *control, *on),
             Ask::ModifyRange {
                 control,
@@ -352,13 +370,13 @@ impl<D: Driver> Device<D> {
             Ask::Free { request } => self.enter_free(seat, ask, *request),
             Ask::Subscribe { fh, id, flags } => self.subscribe(seat, *fh, *id, *flags),
             Ask::Unsubscribe { fh, id } => self.enter_unsubscribe(seat, ask, *fh, *id),
-            Ask::Take { fh } => self.take(seat, *fh),
+            Ask::Take { fh } => self.ask_take(seat, *fh),
             Ask::StateOf { request } => self.read_state(*request),
-            Ask::Forecast { place } => self.forecast(*place),
-            Ask::Query { fh, id } => self.query(*fh, *id),
+            Ask::Forecast { place } => self.ask_forecast(*place),
+            Ask::Query { fh, id } => self.ask_query(*fh, *id),
             Ask::NextId { fh, id } => self.next(*fh, *id),
             Ask::MenuItem { fh, id, index } => self.item(*fh, *id, *index),
-            Ask::Told { cluster } => self.told(*cluster),
+            Ask::Told { cluster } => self.ask_told(*cluster),
         }
     }
 
@@ -372,9 +390,20 @@ impl<D: Driver> Device<D> {
     ///
     /// Refused, without an index, by check 12 (EBADF, 9) or 15 (EINVAL, 22) of docs/RULES.md. Answered or refused, nothing is changed but
     /// the counts of `work`.
-    #[inline(never)]
     pub fn query(&mut self, fh: FhId, id: CtrlId) -> Result<Reply, Fault>
         ensures { (seat : ℕ) → Handles D.verdict self.old self.new seat (asks.Query fh id) result }
+    {
+        match self.ask_query(fh, id) {
+            Ok(reply) => Ok(reply),
+            Err(refusal) => Err(refusal.check.fault()),
+        }
+    }
+
+    // Answers a query.
+    #[inline(never)]
+    fn ask_query(&mut self, fh: FhId, id: CtrlId) -> Result<Reply, Refusal>
+        ensures handles { (seat : ℕ) → Handles D.verdict self.old self.new seat (asks.Query fh id) (published (asks.Query fh id) result) }
+        ensures why { IfErr result (MayRefuse D.verdict self.old (asks.Query fh id)) }
     {
         self.work = Work::new();
         self.info(fh, id)
@@ -387,9 +416,20 @@ impl<D: Driver> Device<D> {
     ///
     /// Refused, without an index, by check 14 of docs/RULES.md (EINVAL, 22). Answered or refused, nothing is changed but the counts of
     /// `work`.
-    #[inline(never)]
     pub fn told(&mut self, cluster: u32) -> Result<Reply, Fault>
         ensures { (seat : ℕ) → Handles D.verdict self.old self.new seat (asks.Told cluster) result }
+    {
+        match self.ask_told(cluster) {
+            Ok(reply) => Ok(reply),
+            Err(refusal) => Err(refusal.check.fault()),
+        }
+    }
+
+    // Answers an ask for the word that a cluster was told last.
+    #[inline(never)]
+    fn ask_told(&mut self, cluster: u32) -> Result<Reply, Refusal>
+        ensures handles { (seat : ℕ) → Handles D.verdict self.old self.new seat (asks.Told cluster) (published (asks.Told cluster) result) }
+        ensures why { IfErr result (MayRefuse D.verdict self.old (asks.Told cluster)) }
     {
         self.work = Work::new();
         self.word(cluster)
@@ -397,8 +437,9 @@ impl<D: Driver> Device<D> {
 
     // Answers an ask for a request's state.
     #[inline(never)]
-    fn read_state(&mut self, request: RequestId) -> Result<Reply, Fault>
-        ensures { (seat : ℕ) → Handles D.verdict self.old self.new seat (asks.StateOf request) result }
+    fn read_state(&mut self, request: RequestId) -> Result<Reply, Refusal>
+        ensures handles { (seat : ℕ) → Handles D.verdict self.old self.new seat (asks.StateOf request) (published (asks.StateOf request) result) }
+        ensures why { IfErr result (MayRefuse D.verdict self.old (asks.StateOf request)) }
     {
         self.work = Work::new();
         match self.state_found(request) {
@@ -411,7 +452,7 @@ impl<D: Driver> Device<D> {
     fn state_found(&self, request: RequestId) -> Result<RequestState, Check>
         ensures { result ≡ state_found (past self.now.steps) request }
     {
-        match self.frames.state(request) {
+        match self.frames.requests().state(request) {
             Some(state) => Ok(state),
             None => Err(Check::RequestMissing),
         }
@@ -419,8 +460,9 @@ impl<D: Driver> Device<D> {
 
     // Answers an ask for the next id.
     #[inline(never)]
-    fn next(&mut self, fh: FhId, id: CtrlId) -> Result<Reply, Fault>
-        ensures { (seat : ℕ) → Handles D.verdict self.old self.new seat (asks.NextId fh id) result }
+    fn next(&mut self, fh: FhId, id: CtrlId) -> Result<Reply, Refusal>
+        ensures handles { (seat : ℕ) → Handles D.verdict self.old self.new seat (asks.NextId fh id) (published (asks.NextId fh id) result) }
+        ensures why { IfErr result (MayRefuse D.verdict self.old (asks.NextId fh id)) }
     {
         self.work = Work::new();
         match self.id_behind(fh, id) {
@@ -431,16 +473,18 @@ impl<D: Driver> Device<D> {
 
     // Answers an ask for an item of a menu.
     #[inline(never)]
-    fn item(&mut self, fh: FhId, id: CtrlId, index: u32) -> Result<Reply, Fault>
-        ensures { (seat : ℕ) → Handles D.verdict self.old self.new seat (asks.MenuItem fh id index) result }
+    fn item(&mut self, fh: FhId, id: CtrlId, index: u32) -> Result<Reply, Refusal>
+        ensures handles { (seat : ℕ) → Handles D.verdict self.old self.new seat (asks.MenuItem fh id index) (published (asks.MenuItem fh id index) result) }
+        ensures why { IfErr result (MayRefuse D.verdict self.old (asks.MenuItem fh id index)) }
     {
         self.work = Work::new();
         self.menu_item(fh, id, index)
     }
 
     #[inline(never)]
-    fn open(&mut self, seat: u32, handler: u32) -> Result<Reply, Fault>
-        ensures { Handles D.verdict self.old self.new seat (asks.OpenFh handler) result }
+    fn open(&mut self, seat: u32, handler: u32) -> Result<Reply, Refusal>
+        ensures handles { Handles D.verdict self.old self.new seat (asks.OpenFh handler) (published (asks.OpenFh handler) result) }
+        ensures why { IfErr result (MayRefuse D.verdict self.old (asks.OpenFh handler)) }
     {
         self.work = Work::new();
         if let Some(check) = self.step_check(self.open_check(handler)) {
@@ -482,8 +526,9 @@ impl<D: Driver> Device<D> {
     }
 
     #[inline(never)]
-    fn close(&mut self, seat: u32, fh: FhId) -> Result<Reply, Fault>
-        ensures { Handles D.verdict self.old self.new seat (asks.CloseFh fh) result }
+    fn close(&mut self, seat: u32, fh: FhId) -> Result<Reply, Refusal>
+        ensures handles { Handles D.verdict self.old self.new seat (asks.CloseFh fh) (published (asks.CloseFh fh) result) }
+        ensures why { IfErr result (MayRefuse D.verdict self.old (asks.CloseFh fh)) }
     {
         self.work = Work::new();
         if let Some(check) = self.step_check(self.through(fh)) {
@@ -522,8 +567,9 @@ impl<D: Driver> Device<D> {
     }
 
     #[inline(never)]
-    fn grab(&mut self, seat: u32, control: u32, on: bool) -> Result<Reply, Fault>
-        ensures { Handles D.verdict self.old self.new seat (asks.Grab control on) result }
+    fn grab(&mut self, seat: u32, control: u32, on: bool) -> Result<Reply, Refusal>
+        ensures handles { Handles D.verdict self.old self.new seat (asks.Grab control on) (published (asks.Grab control on) result) }
+        ensures why { IfErr result (MayRefuse D.verdict self.old (asks.Grab control on)) }
     {
         self.work = Work::new();
         if let Some(check) = self.step_check(self.grab_check(control)) {
@@ -643,8 +689,9 @@ impl<D: Driver> Device<D> {
     }
 
     // What the control that is shown to a file handle under an id is like.
-    fn info(&self, fh: FhId, id: CtrlId) -> Result<Reply, Fault>
-        ensures { result ≡ query_answer D.verdict self.now.plan (past self.now.steps) fh id }
+    fn info(&self, fh: FhId, id: CtrlId) -> Result<Reply, Refusal>
+        ensures answer { published (asks.Query fh id) result ≡ query_answer D.verdict self.now.plan (past self.now.steps) fh id }
+        ensures why { IfErr result (MayRefuse D.verdict self.now (asks.Query fh id)) }
     {
         match self.control_shown(fh, id) {
             Ok(number) => {
@@ -683,8 +730,9 @@ impl<D: Driver> Device<D> {
     }
 
     // The same, as the reply.
-    fn menu_item(&self, fh: FhId, id: CtrlId, index: u32) -> Result<Reply, Fault>
-        ensures { MayAnswer D.verdict self.now.plan (past self.now.steps) self.now.words (asks.MenuItem fh id index) result }
+    fn menu_item(&self, fh: FhId, id: CtrlId, index: u32) -> Result<Reply, Refusal>
+        ensures answers { MayAnswer D.verdict self.now.plan (past self.now.steps) self.now.words (asks.MenuItem fh id index) (published (asks.MenuItem fh id index) result) }
+        ensures why { IfErr result (MayRefuse D.verdict self.now (asks.MenuItem fh id index)) }
     {
         let item = match self.item_found(fh, id, index) {
             Ok(item) => item,
@@ -717,8 +765,9 @@ impl<D: Driver> Device<D> {
     }
 
     // The same, as the reply.
-    fn word(&self, cluster: u32) -> Result<Reply, Fault>
-        ensures { result ≡ told_answer self.now.plan self.now.words cluster }
+    fn word(&self, cluster: u32) -> Result<Reply, Refusal>
+        ensures answer { published (asks.Told cluster) result ≡ told_answer self.now.plan self.now.words cluster }
+        ensures why { IfErr result (MayRefuse D.verdict self.now (asks.Told cluster)) }
     {
         match self.word_of(cluster) {
             Ok(word) => Ok(Reply::Word(word)),

@@ -291,6 +291,10 @@ fn answer(alloc: Global, run: &mut Run, command: &str, said: &mut String) -> Opt
     ) else {
         return said.push_str("no memory").ok();
     };
+    let answer = match answer {
+        Ok(reply) => Ok(reply),
+        Err(refusal) => Err(ask.fault(refusal)),
+    };
     binding.bind(&mut run.names, &answer);
     say(said, answer.err(), asked.as_slice(), run.owed).ok()
 }

@@ -3,7 +3,7 @@
 ghost use Rattle.std.specs.Prelude.{◌≡◌, Err, IfOk, map, pos};
 ghost use Rattle.std.specs.List.{list_any};
 ghost use Rattle.toml.specs.View.{view, table_view};
-ghost use Rattle.ctrl_settle.specs.Config.{control_of};
+ghost use Rattle.ctrl_settle.specs.Control.{control_of};
 ghost use Rattle.ctrl_settle.specs.Faults.{CanDeclare, IsWellFormed};
 ghost use Rattle.ctrl_settle.specs.FirstFault.{can_skip, has_elems};
 ghost use Rattle.file_tables.specs.Reading.{read_as};
@@ -15,7 +15,7 @@ use crate::reading::{elements, elements_of, find, needed_text, number, number_or
 use bitflags::Flags as FlagSet;
 use control_ids::id_named;
 use ctrl_settle::{Ctrl, CtrlConfig, CtrlFault};
-use ctrl_types::{CtrlId, Flags, Kind};
+use ctrl_types::{CtrlId, Flags, Kind, MAX_ELEMENTS};
 use file_faults::{Key, KeyFault, Problem, Sort};
 use toml::{Table, Value};
 
@@ -81,7 +81,7 @@ fn elems_fit(kind: Kind, elems: Option<u32>) -> bool
     ensures { result ≡ has_elems kind elems }
 {
     match (kind, elems) {
-        (Kind::U8, Some(elems)) => 1 <= elems && elems <= 32,
+        (Kind::U8, Some(elems)) => 1 <= elems && elems as usize <= MAX_ELEMENTS,
         (Kind::U8, None) => false,
         (_, elems) => elems.is_none(),
     }

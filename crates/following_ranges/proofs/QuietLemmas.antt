@@ -1,10 +1,11 @@
 -- Behind an ask that is no accepted change nothing is asked for.
-use Rattle.std.proofs.Common.{◌≡◌, ℕ, Bool, true, false, not, ◌&&◌, if◌then◌else◌, List, [], ◌∷◌, ◌++◌, append-nil, map, Option, None, Some, is_none, Ok, Err, is_err, refl, ap, sym, ◌∙◌}
+use Rattle.std.proofs.Common.{◌≡◌, ℕ, Bool, true, false, not, ◌&&◌, if◌then◌else◌, List, [], ◌∷◌, ◌++◌, append-nil, map, Option, None, Some, is_none, Result, Ok, Err, is_err, refl, ap, sym, ◌∙◌}
 use Rattle.std.specs.List.{list_any}
 use Rattle.std.specs.Option.{option_map}
 use Rattle.history.specs.Past.{past, entered}
 use Rattle.ctrl_types.specs.Classes.{which_of}
 use Rattle.ctrl_types.specs.declared.ids.FhId.{FhId}
+use Rattle.ctrl_types.specs.declared.refusal.Refusal.{Refusal}
 use Rattle.ctrl_types.specs.declared.ids.RequestId.{RequestId}
 use Rattle.ctrl_types.specs.declared.ids.Pair.{Pair}
 use Rattle.ctrl_types.proofs.ValueLemmas.{same_self}
@@ -13,9 +14,11 @@ use Rattle.ctrl_clusters.specs.Rows.{Values}
 use Rattle.ctrl_handlers.specs.Plan.{PlanData}
 use Rattle.device_history.specs.declared.ask.Ask.{Ask}
 use Rattle.device_history.specs.declared.ask.Ask.TheVariants as asks
+use Rattle.device_history.specs.declared.ask.Reply.{Reply}
 use Rattle.device_history.specs.declared.ask.Step.{Step}
 use Rattle.device_history.specs.declared.ask.Step.TheVariants as steps
 use Rattle.device_history.specs.Answers.{step_of, taken}
+use Rattle.device_history.specs.AskChecks.{published}
 use Rattle.device_history.specs.EventAnswers.{first_control}
 use Rattle.device_history.specs.Events.{pending}
 use Rattle.device_history.specs.Frames.{running}
@@ -209,3 +212,8 @@ pub refused_alone : (verdicts : Verdicts) (followers : List Follower) (old new :
     → is_err answer ≡ true → asked ≡ [] → HandlesAndFollows verdicts followers old new owed owed seat ask answer asked
 refused_alone verdicts followers old new owed seat ask answer asked does refused nothing =
     left_alone verdicts followers old new owed seat ask answer asked does (not_refused ask answer refused) nothing
+
+-- an answer is a refusal as it is published where it is one
+pub err_published : (ask : Ask) (answer : Result Reply Refusal) → is_err (published ask answer) ≡ is_err answer
+err_published ask (Ok reply) = refl
+err_published ask (Err refusal) = refl

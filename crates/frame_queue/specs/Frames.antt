@@ -44,11 +44,6 @@ pub record QueueFitsRequests (f : FramesData) : Type 0 where
   pub runs : (id : ℕ) → is_number f.running id ≡ is_in is_running (find f.requests.all id)
   pub buffers : (id : ℕ) (r : RequestData) → find f.requests.all id ≡ Some r → is_queued r.state ≡ true → is_some r.buffer ≡ true
 
--- what is left: what was there, where a call is refused
-abbrev pub unless_refused : Option Check → FramesData → FramesData → FramesData
-unless_refused None old new = new
-unless_refused (Some check) old new = old
-
 -- other requests, with the same queue
 abbrev pub with_requests : FramesData → RequestsData → FramesData
 with_requests f requests = record f { requests = requests }

@@ -1,11 +1,11 @@
-ghost use Rattle.std.specs.Prelude.{◌≡◌, ◌↔◌, IsTrue, ◌++◌, ◌<◌, ◌∷◌, [], length, None, Some, Ok, Err, true, IfErr, IfOk, IsOk, IfSome, OnErr, OnOk, MatchResult, slice_get, is_some, ℕ, remove, filter, not, nat_eq, option_copied, vec_capacity};
+ghost use Rattle.std.specs.Prelude.{◌≡◌, ◌↔◌, IsTrue, ◌++◌, ◌<◌, ◌∷◌, [], length, None, Some, Ok, Err, true, IfOk, IfSome, OnErr, OnOk, MatchResult, slice_get, is_some, ℕ, remove, filter, not, nat_eq, vec_capacity};
 ghost use Rattle.std.specs.Option.{option_map};
 ghost use Rattle.std.specs.List.{All};
 ghost use Rattle.req_book.specs.Requests.{HaveOwnIds, RequestData, buffer_in, find, with_changed, completed, with_pairs, with_buffer, cleared, without, new_request};
-ghost use Rattle.req_book.specs.Refusals.{alloc_check, store_check, buffer_check, queue_check, clear_check, state_answer, buffer_answer, asked_answer, snapshot_answer, value_answer, done_unless, unless, IsRefusedBy};
+ghost use Rattle.req_book.specs.Refusals.{alloc_check, store_check, buffer_check, queue_check, clear_check};
 ghost use Rattle.ctrl_types.specs.declared.check.Check.TheVariants.{MemoryRefused};
 ghost use Rattle.ctrl_types.specs.Checks.{errno_of};
-ghost use Rattle.frame_queue.specs.Frames.{QueueFitsRequests, is_queued, with_requests, queued_last, next_frame, begin_answer, begin_check, after_begin, buffer_number, first_begun, complete_check, after_complete, cancel_check, cancelled, unless_refused, after_off};
+ghost use Rattle.frame_queue.specs.Frames.{QueueFitsRequests, is_queued, with_requests, queued_last, next_frame, begin_answer, begin_check, after_begin, buffer_number, first_begun, complete_check, after_complete, cancel_check, cancelled, after_off};
 ghost use Rattle.frame_queue.specs.Like.{IsLike};
 
 use ctrl_types::{Check, CtrlValue, Errno, Pair, RequestId};
@@ -112,7 +112,7 @@ impl Frames {
 
     /// Has a request wait for its frame, the last (Linux userspace API, "ioctl MEDIA_REQUEST_IOC_QUEUE").
     ///
-    /// - `id`: a request; the caller owes that `queue_refusal` doesn't refuse it.
+    /// - `id`: a request; the caller owes that `queue_refusal` of `requests` doesn't refuse it.
     /// - `room`: room for what its frame will have; the caller owes one for as many controls as there are, as `reserve` makes it.
     ///
     /// It takes no memory.
@@ -123,28 +123,6 @@ impl Frames {
     {
         self.requests.mark_queued(id, room);
         self.queue.push_reserved(id.0);
-    }
-
-    /// Has a request wait for its frame, the last (Linux userspace API, "ioctl MEDIA_REQUEST_IOC_QUEUE"), and makes room for what its frame will have;
-    /// its place in the queue takes no memory.
-    ///
-    /// - `id`: any request, there or not.
-    ///
-    /// Refused by check 19 (EINVAL, 22), 20 (EBUSY, 16), 23 (ENOENT, 2) or 34 (ENOMEM, 12), which changes nothing.
-    pub fn try_queue(&mut self, id: RequestId) -> Result<(), Errno>
-        ensures ok { OnOk result ((queue_check (find self.old.requests.all id.0) ≡ None) × (self.new ≡ queued_last self.old id.0)) }
-        ensures err { IfErr result (λ errno. IsRefusedBy (queue_check (find self.old.requests.all id.0)) errno × (self.new ≡ self.old)) }
-    {
-        match self.queue_refusal(id) {
-            Some(check) => Err(check.errno()),
-            None => match self.reserve() {
-                Ok(room) => {
-                    self.queue(id, room);
-                    Ok(())
-                }
-                Err(_) => Err(Check::MemoryRefused.errno()),
-            },
-        }
     }
 
     /// The request whose frame is begun next, the first that waits, or why no frame is begun (Linux userspace API, "Request API": requests run in the
@@ -186,23 +164,6 @@ impl Frames {
         let number = self.number_of(RequestId(id));
         self.begin_first(id, applied);
         (RequestId(id), number)
-    }
-
-    /// Has the frame of the first request that waits be made, in which controls get these values, and answers the request and the number of
-    /// its buffer (Linux userspace API, "Request API": requests run in the order of queueing; begins as calls are of this project).
-    ///
-    /// - `applied`: the values after the begin of the controls that the request asks for and whose cluster isn't refused; the last pair of a control
-    ///   counts, and one that names no control doesn't.
-    ///
-    /// Refused by check 24 (EBUSY, 16) or 25 (ENOENT, 2), which changes nothing. It takes no memory.
-    pub fn try_begin(&mut self, applied: &[Pair]) -> Result<(RequestId, u32), Errno>
-        ensures answer { MatchResult result (λ a. begin_answer self.old ≡ Ok (a.0.0, a.1)) (λ errno. begin_answer self.old ≡ Err errno) }
-        ensures frames { self.new ≡ after_begin self.old applied.now }
-    {
-        match self.begin_refusal() {
-            Some(check) => Err(check.errno()),
-            None => Ok(self.begin(applied)),
-        }
     }
 
     // The first request that waits. The caller owes that a frame can begin.
@@ -252,26 +213,6 @@ impl Frames {
         self.requests.mark_complete(RequestId(id), values);
     }
 
-    /// Ends the frame that is being made (Linux userspace API, "Request API"; ends as calls are of this project): its request is complete, whose snapshot
-    /// has the values that it got at its begin, and else these.
-    ///
-    /// - `values`: the present values; the caller owes one for each control, in the order of their numbers.
-    ///
-    /// Refused by check 26 (ENOENT, 2), which changes nothing. It takes no memory.
-    pub fn try_complete(&mut self, values: &[CtrlValue]) -> Result<(), Errno>
-        requires { length values.now ≡ self.old.requests.controls }
-        ensures answer { result ≡ done_unless (complete_check self.old) }
-        ensures frames { self.new ≡ after_complete self.old values.now }
-    {
-        match self.complete_refusal() {
-            Some(check) => Err(check.errno()),
-            None => {
-                self.complete(values);
-                Ok(())
-            }
-        }
-    }
-
     // Ends the frame that is being made, where one is. What is always so of the queue and of the ids is said here, too.
     fn complete_running(&mut self, values: &[CtrlValue])
         requires { length values.now ≡ self.old.requests.controls }
@@ -315,27 +256,6 @@ impl Frames {
         self.requests.mark_complete(id, values);
     }
 
-    /// Takes a request from the queue (of this project; `VIDIOC_STREAMOFF` does it to all): it is complete, without having run, and its
-    /// snapshot has these values.
-    ///
-    /// - `id`: any request, there or not.
-    /// - `values`: the present values; the caller owes one for each control, in the order of their numbers.
-    ///
-    /// Refused by check 19 (EINVAL, 22), 27 (EBUSY, 16) or 28 (EINVAL, 22), which changes nothing. It takes no memory.
-    pub fn try_cancel(&mut self, id: RequestId, values: &[CtrlValue]) -> Result<(), Errno>
-        requires { length values.now ≡ self.old.requests.controls }
-        ensures answer { result ≡ done_unless (cancel_check (find self.old.requests.all id.0)) }
-        ensures frames { self.new ≡ unless_refused (cancel_check (find self.old.requests.all id.0)) self.old (cancelled self.old id.0 values.now) }
-    {
-        match self.cancel_refusal(id) {
-            Some(check) => Err(check.errno()),
-            None => {
-                self.cancel(id, values);
-                Ok(())
-            }
-        }
-    }
-
     /// Stops the stream (Linux userspace API, "ioctl VIDIOC_STREAMON, VIDIOC_STREAMOFF"): the request whose frame is being made and all that
     /// wait are complete; the first has the values that it got at its begin, and else, as the others, these.
     ///
@@ -369,68 +289,15 @@ impl Frames {
         self.requests.mark_complete(RequestId(id), values);
     }
 
-    /// The number of the device's controls, as it was given to `new` (of this project). It takes no memory and refuses nothing.
-    pub fn controls(&self) -> u32
-        ensures { result ≡ self.now.requests.controls }
+    /// The requests, whose states, buffers and values are read there, and why a call about one is refused (Linux userspace API, "Request API"). It takes
+    /// no memory and refuses nothing.
+    pub fn requests(&self) -> &Requests
+        ensures { result.now ≡ self.now.requests }
     {
-        self.requests.controls()
+        &self.requests
     }
 
-    /// How many requests there are, at most 64 (of this project). It takes no memory and refuses nothing.
-    pub fn count(&self) -> usize
-        ensures { result ≡ length self.now.requests.all }
-    {
-        self.requests.count()
-    }
-
-    /// A request's state (Linux userspace API, "Request API"). Refused by check 19 (EINVAL, 22). It takes no memory.
-    ///
-    /// - `id`: any request, there or not.
-    pub fn state_of(&self, id: RequestId) -> Result<RequestState, Errno>
-        ensures { result ≡ state_answer (find self.now.requests.all id.0) }
-    {
-        self.requests.state_of(id)
-    }
-
-    /// A request's state, none where there is no such request (Linux userspace API, "Request API"). It takes no memory and refuses nothing.
-    ///
-    /// - `id`: any request, there or not.
-    pub fn state(&self, id: RequestId) -> Option<RequestState>
-        ensures { result ≡ option_map (λ r. r.state) (find self.now.requests.all id.0) }
-    {
-        self.requests.state(id)
-    }
-
-    /// The number of the buffer that a request was given, where it was given one since it was made, or made as new; a complete one keeps it (Linux
-    /// userspace API, "Request API"; that it has one is of this project). Refused by check 19 (EINVAL, 22). It takes no memory.
-    ///
-    /// - `id`: any request, there or not.
-    pub fn buffer_of(&self, id: RequestId) -> Result<Option<u32>, Errno>
-        ensures { result ≡ buffer_answer (find self.now.requests.all id.0) }
-    {
-        self.requests.buffer_of(id)
-    }
-
-    /// What a request asks for (Linux userspace API, "Request API"): of each control the last stored pair, in order of control numbers. Refused by
-    /// check 19 (EINVAL, 22). It takes no memory.
-    ///
-    /// - `id`: any request, there or not.
-    pub fn asked(&self, id: RequestId) -> Result<&[Pair], Errno>
-        ensures { MatchResult result (λ pairs. asked_answer (find self.now.requests.all id.0) ≡ Ok pairs.now) (λ errno. asked_answer (find self.now.requests.all id.0) ≡ Err errno) }
-    {
-        self.requests.asked(id)
-    }
-
-    /// What a request asks for, as `asked` answers it (Linux userspace API, "Request API"). It takes no memory.
-    ///
-    /// - `id`: a request; the caller owes that it is there.
-    pub fn pairs_of(&self, id: RequestId) -> &[Pair]
-        requires { is_some (find self.now.requests.all id.0) ≡ true }
-        ensures { asked_answer (find self.now.requests.all id.0) ≡ Ok result.now }
-    {
-        self.requests.pairs_of(id)
-    }
-
+    // Beside the one of `requests`, since it tells the number as a begin answers it, too (`buffer_number`).
     /// The number of a request's buffer (Linux userspace API, "Request API"; that it has one is of this project). It takes no memory.
     ///
     /// - `id`: a request; the caller owes that it is there, and was given a buffer.
@@ -442,92 +309,9 @@ impl Frames {
         self.requests.number_of(id)
     }
 
-    /// The value of a control that the frame of a complete request had (Linux userspace API, "Request API": its controls are read once it is complete):
-    /// of one that its begin applied that value, of any other the value in force at the completion.
-    ///
-    /// - `id`: any request, there or not.
-    /// - `control`: any number, of a control or not.
-    ///
-    /// Refused by check 19 or 13 (EINVAL, 22), or 30 (EACCES, 13). It takes no memory.
-    pub fn snapshot(&self, id: RequestId, control: u32) -> Result<CtrlValue, Errno>
-        ensures { result ≡ value_answer self.now.requests.controls control (find self.now.requests.all id.0) }
-    {
-        self.requests.snapshot(id, control)
-    }
-
-    /// The value of each control that the frame of a complete request had, in the order of their numbers (Linux userspace API, "Request API": its
-    /// controls are read once it is complete). Refused by check 19 (EINVAL, 22) or 30 (EACCES, 13). It takes no memory.
-    ///
-    /// - `id`: any request, there or not.
-    pub fn snapshot_values(&self, id: RequestId) -> Result<&[CtrlValue], Errno>
-        ensures { MatchResult result (λ values. snapshot_answer (find self.now.requests.all id.0) ≡ Ok values.now) (λ errno. snapshot_answer (find self.now.requests.all id.0) ≡ Err errno) }
-    {
-        self.requests.snapshot_values(id)
-    }
-
-    /// The value of each control that the frame of a request had, as `snapshot_values` answers them (Linux userspace API, "Request API"). It takes no
-    /// memory.
-    ///
-    /// - `id`: a request; the caller owes that it is there and complete.
-    pub fn snapshot_of(&self, id: RequestId) -> &[CtrlValue]
-        requires { IsOk (snapshot_answer (find self.now.requests.all id.0)) }
-        ensures { snapshot_answer (find self.now.requests.all id.0) ≡ Ok result.now }
-    {
-        self.requests.snapshot_of(id)
-    }
-
-    /// Why no further request is made: check 18 (ENOSPC, 28), the limit of 64 (of this project); none where nothing but want of memory refuses it. It
-    /// takes no memory.
-    pub fn alloc_refusal(&self) -> Option<Check>
-        ensures { result ≡ alloc_check self.now.requests.all }
-    {
-        self.requests.alloc_refusal()
-    }
-
-    /// Why a request takes no settings (Linux userspace API, "Request API": a queued one can't be changed): check 19 (EINVAL, 22) or 20 (EBUSY, 16);
-    /// none where nothing but want of memory refuses them. It takes no memory.
-    ///
-    /// - `id`: any request, there or not.
-    pub fn store_refusal(&self, id: RequestId) -> Option<Check>
-        ensures { result ≡ store_check (find self.now.requests.all id.0) }
-    {
-        self.requests.store_refusal(id)
-    }
-
-    /// Why a request takes no buffer (Linux userspace API, "Request API"; that it has one, that no two hold a number, and the order are of this
-    /// project): check 19 (EINVAL, 22), or one of 20 to 22 (EBUSY, 16); none where it takes it. It takes no memory.
-    ///
-    /// - `id`: any request, there or not.
-    /// - `number`: any number.
-    pub fn buffer_refusal(&self, id: RequestId, number: u32) -> Option<Check>
-        ensures { result ≡ buffer_check self.now.requests.all number (find self.now.requests.all id.0) }
-    {
-        self.requests.buffer_refusal(id, number)
-    }
-
-    /// Why a request isn't queued (Linux userspace API, "ioctl MEDIA_REQUEST_IOC_QUEUE"; the order is of this project): check 19 (EINVAL, 22), 20
-    /// (EBUSY, 16) or 23 (ENOENT, 2); none where nothing but want of memory refuses it. It takes no memory.
-    ///
-    /// - `id`: any request, there or not.
-    pub fn queue_refusal(&self, id: RequestId) -> Option<Check>
-        ensures { result ≡ queue_check (find self.now.requests.all id.0) }
-    {
-        self.requests.queue_refusal(id)
-    }
-
-    /// Why a request is neither made as new nor let go (Linux userspace API, "ioctl MEDIA_REQUEST_IOC_REINIT"; that a queued or running one isn't let go is of
-    /// this project): check 19 (EINVAL, 22) or 29 (EBUSY, 16); none where nothing refuses it. It takes no memory.
-    ///
-    /// - `id`: any request, there or not.
-    pub fn clear_refusal(&self, id: RequestId) -> Option<Check>
-        ensures { result ≡ clear_check (find self.now.requests.all id.0) }
-    {
-        self.requests.clear_refusal(id)
-    }
-
     /// Makes a request, the last: idle, without a buffer, and with nothing asked (Linux userspace API, "ioctl MEDIA_IOC_REQUEST_ALLOC").
     ///
-    /// - `id`: its number; the caller owes one that no request has, and that `alloc_refusal` doesn't refuse it.
+    /// - `id`: its number; the caller owes one that no request has, and that `alloc_refusal` of `requests` doesn't refuse it.
     ///
     /// The error is that a growth was refused; nothing is changed then.
     pub fn alloc(&mut self, id: RequestId) -> Result<(), AllocError>
@@ -539,29 +323,10 @@ impl Frames {
         self.requests.alloc(id)
     }
 
-    /// Makes a request, the last: idle, without a buffer, and with nothing asked (Linux userspace API, "ioctl MEDIA_IOC_REQUEST_ALLOC").
-    ///
-    /// - `id`: its number; the caller owes one that no request has.
-    ///
-    /// Refused by check 18 (ENOSPC, 28) or 34 (ENOMEM, 12), which changes nothing.
-    pub fn try_alloc(&mut self, id: RequestId) -> Result<(), Errno>
-        requires { find self.old.requests.all id.0 ≡ None }
-        ensures ok { OnOk result ((alloc_check self.old.requests.all ≡ None) × (self.new ≡ with_requests self.old (record self.old.requests { all = self.old.requests.all ++ new_request id.0 ∷ [] }))) }
-        ensures err { IfErr result (λ errno. IsRefusedBy (alloc_check self.old.requests.all) errno × (self.new ≡ self.old)) }
-    {
-        match self.alloc_refusal() {
-            Some(check) => Err(check.errno()),
-            None => match self.alloc(id) {
-                Ok(()) => Ok(()),
-                Err(_) => Err(Check::MemoryRefused.errno()),
-            },
-        }
-    }
-
     /// Stores values that a request asks for (Linux userspace API, "Request API"; `VIDIOC_S_EXT_CTRLS` with `V4L2_CTRL_WHICH_REQUEST_VAL`): of each
     /// control the last stored pair counts.
     ///
-    /// - `id`: a request; the caller owes that `store_refusal` doesn't refuse it.
+    /// - `id`: a request; the caller owes that `store_refusal` of `requests` doesn't refuse it.
     /// - `pairs`: any number, a control any number of times; the caller owes numbers of controls.
     ///
     /// The error is that a growth was refused; nothing is changed then.
@@ -574,31 +339,10 @@ impl Frames {
         self.requests.store(id, pairs)
     }
 
-    /// Stores values that a request asks for (Linux userspace API, "Request API"; `VIDIOC_S_EXT_CTRLS` with `V4L2_CTRL_WHICH_REQUEST_VAL`): of each
-    /// control the last stored pair counts.
-    ///
-    /// - `id`: any request, there or not.
-    /// - `pairs`: any number, a control any number of times; the caller owes numbers of controls.
-    ///
-    /// Refused by check 19 (EINVAL, 22), 20 (EBUSY, 16) or 34 (ENOMEM, 12), which changes nothing.
-    pub fn try_store(&mut self, id: RequestId, pairs: &[Pair]) -> Result<(), Errno>
-        requires { All (λ p. p.control < self.old.requests.controls) pairs.now }
-        ensures ok { OnOk result ((store_check (find self.old.requests.all id.0) ≡ None) × (self.new ≡ with_requests self.old (with_changed self.old.requests id.0 (with_pairs self.old.requests.controls pairs.now)))) }
-        ensures err { IfErr result (λ errno. IsRefusedBy (store_check (find self.old.requests.all id.0)) errno × (self.new ≡ self.old)) }
-    {
-        match self.store_refusal(id) {
-            Some(check) => Err(check.errno()),
-            None => match self.store(id, pairs) {
-                Ok(()) => Ok(()),
-                Err(_) => Err(Check::MemoryRefused.errno()),
-            },
-        }
-    }
-
     /// Gives a request the buffer with a number (Linux userspace API, "Request API"; `VIDIOC_QBUF` with `request_fd`; that it has one, and that no two
     /// hold a number, is of this project).
     ///
-    /// - `id`, `number`: a request and a number; the caller owes that `buffer_refusal` doesn't refuse them.
+    /// - `id`, `number`: a request and a number; the caller owes that `buffer_refusal` of `requests` doesn't refuse them.
     ///
     /// It takes no memory.
     pub fn add_buffer(&mut self, id: RequestId, number: u32)
@@ -608,30 +352,10 @@ impl Frames {
         self.requests.add_buffer(id, number);
     }
 
-    /// Gives a request the buffer with a number (Linux userspace API, "Request API"; `VIDIOC_QBUF` with `request_fd`; that it has one, and that no two
-    /// hold a number, is of this project).
-    ///
-    /// - `id`: any request, there or not.
-    /// - `number`: any number.
-    ///
-    /// Refused by check 19 (EINVAL, 22), or one of 20 to 22 (EBUSY, 16), which changes nothing. It takes no memory.
-    pub fn try_add_buffer(&mut self, id: RequestId, number: u32) -> Result<(), Errno>
-        ensures answer { result ≡ done_unless (buffer_check self.old.requests.all number (find self.old.requests.all id.0)) }
-        ensures frames { self.new ≡ with_requests self.old (unless (buffer_check self.old.requests.all number (find self.old.requests.all id.0)) self.old.requests (with_changed self.old.requests id.0 (with_buffer number))) }
-    {
-        match self.buffer_refusal(id, number) {
-            Some(check) => Err(check.errno()),
-            None => {
-                self.add_buffer(id, number);
-                Ok(())
-            }
-        }
-    }
-
     /// Makes a request as new (Linux userspace API, "ioctl MEDIA_REQUEST_IOC_REINIT"): idle, without a buffer, and with nothing asked; it keeps its place
     /// among the others.
     ///
-    /// - `id`: a request; the caller owes that `clear_refusal` doesn't refuse it.
+    /// - `id`: a request; the caller owes that `clear_refusal` of `requests` doesn't refuse it.
     ///
     /// It takes no memory.
     pub fn reinit(&mut self, id: RequestId)
@@ -641,28 +365,9 @@ impl Frames {
         self.requests.reinit(id);
     }
 
-    /// Makes a request as new (Linux userspace API, "ioctl MEDIA_REQUEST_IOC_REINIT"): idle, without a buffer, and with nothing asked; it keeps its place
-    /// among the others.
-    ///
-    /// - `id`: any request, there or not.
-    ///
-    /// Refused by check 19 (EINVAL, 22) or 29 (EBUSY, 16), which changes nothing. It takes no memory.
-    pub fn try_reinit(&mut self, id: RequestId) -> Result<(), Errno>
-        ensures answer { result ≡ done_unless (clear_check (find self.old.requests.all id.0)) }
-        ensures frames { self.new ≡ with_requests self.old (unless (clear_check (find self.old.requests.all id.0)) self.old.requests (with_changed self.old.requests id.0 cleared)) }
-    {
-        match self.clear_refusal(id) {
-            Some(check) => Err(check.errno()),
-            None => {
-                self.reinit(id);
-                Ok(())
-            }
-        }
-    }
-
     /// Lets a request go: its id names nothing then (Linux userspace API, "request close()"; that a queued or running one is refused is of this project).
     ///
-    /// - `id`: a request; the caller owes that `clear_refusal` doesn't refuse it.
+    /// - `id`: a request; the caller owes that `clear_refusal` of `requests` doesn't refuse it.
     ///
     /// It takes no memory.
     pub fn free(&mut self, id: RequestId)
@@ -670,24 +375,6 @@ impl Frames {
         ensures { self.new ≡ with_requests self.old (record self.old.requests { all = without id.0 self.old.requests.all }) }
     {
         self.requests.free(id);
-    }
-
-    /// Lets a request go: its id names nothing then (Linux userspace API, "request close()"; that a queued or running one is refused is of this project).
-    ///
-    /// - `id`: any request, there or not.
-    ///
-    /// Refused by check 19 (EINVAL, 22) or 29 (EBUSY, 16), which changes nothing. It takes no memory.
-    pub fn try_free(&mut self, id: RequestId) -> Result<(), Errno>
-        ensures answer { result ≡ done_unless (clear_check (find self.old.requests.all id.0)) }
-        ensures frames { self.new ≡ with_requests self.old (unless (clear_check (find self.old.requests.all id.0)) self.old.requests (record self.old.requests { all = without id.0 self.old.requests.all })) }
-    {
-        match self.clear_refusal(id) {
-            Some(check) => Err(check.errno()),
-            None => {
-                self.free(id);
-                Ok(())
-            }
-        }
     }
 }
 

@@ -5,4 +5,4 @@
 mod frames;
 
 pub use frames::Frames;
-pub use req_book::{FrameRoom, MAX_REQUESTS, RequestState};
+pub use req_book::{FrameRoom, MAX_REQUESTS, RequestState, Requests};

@@ -48,7 +48,7 @@ use Rattle.device_history.specs.Events.{happened, pending}
 use Rattle.device_history.specs.Lists.{handler_or}
 use Rattle.device_history.proofs.FreeIdLemmas.{free_unshown}
 use Rattle.history_audit.specs.Replay.{is_judged}
-use Rattle.history_audit.specs.Changing.{StoresKnown, fits_parts, lacks}
+use Rattle.history_audit.specs.Changing.{fits_parts, lacks}
 use Rattle.device_history.proofs.EventLemmas.{subscribes_known}
 use Rattle.step_effects.specs.Leaving.{NamesKnown}
 
@@ -347,23 +347,23 @@ full_not verdicts plan past step plain full may = clash (sym full ∙ (may_fits 
 pub begin_there : (verdicts : Verdicts) (plan : PlanData) (past : Past) (r : RequestId) → MayFollow verdicts plan past (steps.Begin r) → is_some (state past r.0) ≡ true
 begin_there verdicts plan past r may = ap is_some (first_queued past r.0 (fits verdicts plan past (steps.Begin r) may).1)
 
--- the controls that a step names are there, where those that it stores are
-pub names_known : (verdicts : Verdicts) (plan : PlanData) (past : Past) (step : Step) → IsPlan plan → MayFollow verdicts plan past step → StoresKnown (length plan.controls) step → NamesKnown (length plan.controls) step
-names_known verdicts plan past (steps.Store r pairs) plans may known = known
-names_known verdicts plan past (steps.Subscribe fh c flags) plans may known = subscribes_known verdicts plan past fh c flags plans may
-names_known verdicts plan past steps.Alloc plans may known = tt
-names_known verdicts plan past (steps.Buffer r number) plans may known = tt
-names_known verdicts plan past (steps.Queue r) plans may known = tt
-names_known verdicts plan past (steps.Complete r) plans may known = tt
-names_known verdicts plan past (steps.Cancel r) plans may known = tt
-names_known verdicts plan past steps.StreamOff plans may known = tt
-names_known verdicts plan past (steps.Reinit r) plans may known = tt
-names_known verdicts plan past (steps.Free r) plans may known = tt
-names_known verdicts plan past (steps.OpenFh handler) plans may known = tt
-names_known verdicts plan past (steps.CloseFh fh) plans may known = tt
-names_known verdicts plan past (steps.Set fh pairs) plans may known = tt
-names_known verdicts plan past (steps.Grab c on) plans may known = tt
-names_known verdicts plan past (steps.ModifyRange c low high apart default_value) plans may known = tt
-names_known verdicts plan past (steps.Begin r) plans may known = tt
-names_known verdicts plan past (steps.Unsubscribe fh c) plans may known = tt
-names_known verdicts plan past (steps.Take fh c) plans may known = tt
+-- the controls that a step which gives no pairs names are there
+pub names_known : (verdicts : Verdicts) (plan : PlanData) (past : Past) (step : Step) → IsPlan plan → is_judged step ≡ false → MayFollow verdicts plan past step → NamesKnown (length plan.controls) step
+names_known verdicts plan past (steps.Store r pairs) plans plain may = cc
+names_known verdicts plan past (steps.Subscribe fh c flags) plans plain may = subscribes_known verdicts plan past fh c flags plans may
+names_known verdicts plan past steps.Alloc plans plain may = tt
+names_known verdicts plan past (steps.Buffer r number) plans plain may = tt
+names_known verdicts plan past (steps.Queue r) plans plain may = tt
+names_known verdicts plan past (steps.Complete r) plans plain may = tt
+names_known verdicts plan past (steps.Cancel r) plans plain may = tt
+names_known verdicts plan past steps.StreamOff plans plain may = tt
+names_known verdicts plan past (steps.Reinit r) plans plain may = tt
+names_known verdicts plan past (steps.Free r) plans plain may = tt
+names_known verdicts plan past (steps.OpenFh handler) plans plain may = tt
+names_known verdicts plan past (steps.CloseFh fh) plans plain may = tt
+names_known verdicts plan past (steps.Set fh pairs) plans plain may = tt
+names_known verdicts plan past (steps.Grab c on) plans plain may = tt
+names_known verdicts plan past (steps.ModifyRange c low high apart default_value) plans plain may = tt
+names_known verdicts plan past (steps.Begin r) plans plain may = tt
+names_known verdicts plan past (steps.Unsubscribe fh c) plans plain may = tt
+names_known verdicts plan past (steps.Take fh c) plans plain may = tt

@@ -18,8 +18,9 @@ use Rattle.ctrl_handlers.specs.Plan.{PlanData, IsPlan}
 use Rattle.req_book.specs.Refusals.{store_check}
 use Rattle.req_book.specs.Requests.{RequestData, is_idle}
 use Rattle.ctrl_lists.specs.declared.limits.TheConstants.{MAX_ENTRIES}
-use Rattle.ctrl_lists.specs.declared.refusal.Refusal.{Refusal}
-use Rattle.ctrl_lists.specs.Answers.{answered, entries_judged, fault_at_count}
+use Rattle.ctrl_types.specs.declared.refusal.Refusal.{Refusal}
+use Rattle.ctrl_lists.specs.Answers.{answered, entries_judged}
+use Rattle.ctrl_types.specs.Refusals.{fault_at_count}
 use Rattle.ctrl_lists.specs.Checks.{at_first, first_refusal, is_long, is_of_no_class, naming_check, refused_if, write_checks}
 use Rattle.ctrl_lists.specs.Touched.{TouchedData}
 use Rattle.ctrl_lists.specs.View.{ViewData, pairs_of}

@@ -1,16 +1,25 @@
 -- What is read of the requests.
-use Rattle.std.proofs.Common.{◌≡◌, ℕ, true, List, is_some, unwrap_or, Option, None, Some, IfSome, Ok, refl, ap, sym}
+use Rattle.std.proofs.Common.{◌≡◌, ℕ, true, List, is_some, unwrap_or, Option, None, Some, IfSome, Ok, refl, ap, sym, ◌∙◌}
 use Rattle.std.specs.Option.{option_map}
+use Rattle.history.specs.Past.{past}
 use Rattle.ctrl_types.specs.declared.ids.Pair.{Pair}
 use Rattle.ctrl_types.specs.declared.ids.RequestId.{RequestId}
 use Rattle.ctrl_calls.specs.Meanings.{Verdicts}
 use Rattle.ctrl_handlers.specs.Plan.{PlanData}
 use Rattle.req_book.specs.Refusals as book
-use Rattle.req_book.specs.Requests.{RequestData, buffer_in}
+use Rattle.req_book.specs.Requests.{RequestData, RequestsData, buffer_in, find}
 use Rattle.req_book.specs.declared.state.RequestState.{RequestState}
-use Rattle.device_history.specs.Steps.{Past}
+use Rattle.frame_queue.specs.Frames.{FramesData}
+use Rattle.device_history.specs.Legal.{IsLegal}
+use Rattle.device_history.specs.Steps.{History, Past}
 use Rattle.device_history.specs.Requests.{asked, buffer, state}
-use Rattle.device_history.specs.Snapshots.{request, request_in}
+use Rattle.device_history.specs.Snapshots.{frames, request, request_in}
+use Rattle.step_effects.proofs.FitLemmas.{found}
+
+-- the request under an id in the requests that a queue lends
+pub lent : (verdicts : Verdicts) (plan : PlanData) (entries : History) (kept : FramesData) (r : ℕ) → kept ≡ frames verdicts plan (past entries) → IsLegal verdicts plan (past entries) → (rs : RequestsData) → rs ≡ kept.requests
+    → find rs.all r ≡ request verdicts plan (past entries) r
+lent verdicts plan entries kept r own legal rs is = ap (λ (q : RequestsData). find q.all r) is ∙ found verdicts plan entries kept r own legal
 
 -- what a request asks for that is there
 pub asked_is : (verdicts : Verdicts) (plan : PlanData) (older : Past) (r : ℕ) (pairs : List Pair) → book.asked_answer (request verdicts plan older r) ≡ Ok pairs → pairs ≡ asked plan older r

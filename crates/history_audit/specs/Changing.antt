@@ -1,6 +1,5 @@
 -- Which steps fit what is kept (of this project).
-use Rattle.std.specs.Prelude.{ℕ, ◌<◌, Bool, true, false, not, ◌&&◌, nat_lt, length, Option, None, Some, is_some}
-use Rattle.std.specs.List.{All}
+use Rattle.std.specs.Prelude.{ℕ, Bool, true, false, not, ◌&&◌, nat_lt, length, Option, None, Some, is_some}
 use Rattle.req_book.specs.Requests.{is_number}
 use Rattle.req_book.specs.Refusals.{alloc_check, buffer_check, queue_check, clear_check}
 use Rattle.frame_queue.specs.Frames.{cancel_check}
@@ -44,8 +43,3 @@ fits_parts verdicts plan past (steps.Unsubscribe fh (Some c)) = shows_it plan pa
 fits_parts verdicts plan past (steps.Unsubscribe fh None) = is_some (handler_of past fh)
 fits_parts verdicts plan past (steps.Take fh c) = is_number (first_control (pending verdicts plan past fh)) c
 fits_parts verdicts plan past _ = false
-
--- what a step stores names controls that are there
-abbrev pub StoresKnown : ℕ → Step → Type 0
-StoresKnown controls (steps.Store r pairs) = All (λ p. p.control < controls) pairs
-StoresKnown controls _ = Unit {0}

@@ -1,5 +1,6 @@
 ghost use Rattle.std.specs.Prelude.{◌≡◌, ◌<◌, ◌≤◌, false, [], length, take, IfOk, IfErr, OnOk, OnErr};
 ghost use Rattle.history.specs.Past.{past};
+ghost use Rattle.ctrl_handlers.specs.Plan.{IsPlan};
 ghost use Rattle.device_history.specs.Ranges.{ranges_now};
 ghost use Rattle.device_history.specs.Grabs.{grabbed};
 ghost use Rattle.device_history.specs.Handles.{handler_of};
@@ -260,10 +261,11 @@ impl<'a, D: Driver> Replay<'a, D> {
         self.file_handles.get(&fh.0).copied()
     }
 
-    // Whether no further step is kept.
+    // Whether no further step is kept. What is always so of the plan is said here, too.
     #[tactic(auto, using(history::proofs::Pasts::length_past))]
     fn is_full(&self) -> bool
-        ensures { result ≡ is_full (past self.now.steps) }
+        ensures full { result ≡ is_full (past self.now.steps) }
+        ensures plan { IsPlan self.now.plan }
     {
         self.count >= MAX_STEPS
     }

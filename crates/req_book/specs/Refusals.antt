@@ -1,16 +1,16 @@
 -- When the calls of a store of requests refuse (Linux userspace API, "Request API"; that a request has one buffer, and that no two hold a
 -- number, is of this project).
-use Rattle.std.specs.Prelude.{◌≡◌, ℕ, not, List, length, nat_le, Option, None, Some, is_some, Result, Ok, Err, if◌then◌else◌}
+use Rattle.std.specs.Prelude.{ℕ, not, List, length, nat_le, Option, None, Some, is_some, Result, Ok, Err, if◌then◌else◌}
 use Rattle.std.specs.Option.{is_none}
 use Rattle.ctrl_types.specs.declared.value.CtrlValue.{CtrlValue}
 use Rattle.ctrl_types.specs.declared.errno.Errno.{Errno}
 use Rattle.ctrl_types.specs.declared.check.Check.{Check}
-use Rattle.ctrl_types.specs.declared.check.Check.TheVariants.{ControlMissing, TooManyRequests, RequestMissing, NotIdle, AlreadyHasBuffer, BufferHeld, BufferMissing, StillPending, NotComplete, MemoryRefused}
+use Rattle.ctrl_types.specs.declared.check.Check.TheVariants.{ControlMissing, TooManyRequests, RequestMissing, NotIdle, AlreadyHasBuffer, BufferHeld, BufferMissing, StillPending, NotComplete}
 use Rattle.ctrl_types.specs.Checks.{errno_of}
 use Rattle.ctrl_types.specs.declared.ids.Pair.{Pair}
 use Rattle.req_book.specs.declared.state.RequestState.{RequestState}
 use Rattle.req_book.specs.declared.limits.TheConstants.{MAX_REQUESTS}
-use Rattle.req_book.specs.Requests.{RequestData, RequestsData, value_of_control, is_idle, is_complete, is_pending, is_number_held}
+use Rattle.req_book.specs.Requests.{RequestData, value_of_control, is_idle, is_complete, is_pending, is_number_held}
 
 -- Why no further request is made: there are as many as there can be.
 abbrev pub alloc_check : List RequestData → Option Check
@@ -70,18 +70,3 @@ value_answer controls c (Some r) =
     if nat_le controls c then Err (errno_of ControlMissing)
     else if is_complete r.state then Ok (value_of_control r.snapshot c)
     else Err (errno_of NotComplete)
-
--- what a call answers that only its refusal can stop
-abbrev pub done_unless : Option Check → Result (Unit {0}) Errno
-done_unless None = Ok tt
-done_unless (Some check) = Err (errno_of check)
-
--- what it leaves: what was there, where it is refused
-abbrev pub unless : Option Check → RequestsData → RequestsData → RequestsData
-unless None old new = new
-unless (Some check) old new = old
-
--- A call answers the errno of the check that refuses it, where one does; where none does it can only want memory.
-abbrev pub IsRefusedBy : Option Check → Errno → Type 0
-IsRefusedBy (Some check) errno = errno ≡ errno_of check
-IsRefusedBy None errno = errno ≡ errno_of MemoryRefused

@@ -1,9 +1,9 @@
-ghost use Rattle.std.specs.Prelude.{◌≡◌, ◌↔◌, IsTrue, ◌++◌, ◌<◌, ◌∷◌, [], length, None, Ok, Err, true, IfErr, IfSome, OnErr, OnOk, MatchResult, is_some, IfOk, IsOk, Some};
+ghost use Rattle.std.specs.Prelude.{◌≡◌, ◌↔◌, IsTrue, ◌++◌, ◌<◌, ◌∷◌, [], length, None, Ok, Err, true, IfSome, OnErr, OnOk, MatchResult, is_some, IfOk, IsOk, Some};
 ghost use Rattle.std.specs.List.{All};
 ghost use Rattle.std.specs.Option.{option_map};
 ghost use Rattle.req_book.specs.declared.state.RequestState.TheVariants as states;
-ghost use Rattle.req_book.specs.Requests.{HaveOwnIds, find, buffer_in, with_changed, with_pairs, with_buffer, cleared, queued, begun, completed, is_pending, is_number_held, without, new_request};
-ghost use Rattle.req_book.specs.Refusals.{alloc_check, store_check, buffer_check, queue_check, clear_check, state_answer, buffer_answer, asked_answer, snapshot_answer, value_answer, IsRefusedBy, done_unless, unless};
+ghost use Rattle.req_book.specs.Requests.{HaveOwnIds, find, buffer_in, with_changed, with_pairs, with_buffer, cleared, queued, begun, completed, is_pending, without, new_request};
+ghost use Rattle.req_book.specs.Refusals.{alloc_check, store_check, buffer_check, queue_check, clear_check, state_answer, buffer_answer, asked_answer, snapshot_answer, value_answer};
 ghost use Rattle.req_book.specs.Alike.{AreLike};
 
 use crate::limits::MAX_REQUESTS;
@@ -106,15 +106,6 @@ impl Requests {
             Some(object) => Ok(object.buffer),
             None => Err(Check::RequestMissing.errno()),
         }
-    }
-
-    /// Whether a request that isn't complete holds a buffer number (of this project). It takes no memory and refuses nothing.
-    ///
-    /// - `number`: any number.
-    pub fn is_number_held(&self, number: u32) -> bool
-        ensures { result ≡ is_number_held self.now.all number }
-    {
-        self.objects.is_number_held(number)
     }
 
     /// What a request asks for (Linux userspace API, "Request API"): of each control the last stored pair, in order of control numbers. Refused by
@@ -270,25 +261,6 @@ impl Requests {
         self.objects.add(self.alloc, id.0)
     }
 
-    /// Makes a request, the last: idle, without a buffer, and with nothing asked (Linux userspace API, "ioctl MEDIA_IOC_REQUEST_ALLOC").
-    ///
-    /// - `id`: its number; the caller owes one that no request has.
-    ///
-    /// Refused by check 18 (ENOSPC, 28) or 34 (ENOMEM, 12), which changes nothing.
-    pub fn try_alloc(&mut self, id: RequestId) -> Result<(), Errno>
-        requires { find self.old.all id.0 ≡ None }
-        ensures ok { OnOk result ((alloc_check self.old.all ≡ None) × (self.new ≡ record self.old { all = self.old.all ++ new_request id.0 ∷ [] })) }
-        ensures err { IfErr result (λ errno. IsRefusedBy (alloc_check self.old.all) errno × (self.new ≡ self.old)) }
-    {
-        match self.alloc_refusal() {
-            Some(check) => Err(check.errno()),
-            None => match self.alloc(id) {
-                Ok(()) => Ok(()),
-                Err(_) => Err(Check::MemoryRefused.errno()),
-            },
-        }
-    }
-
     /// Stores values that a request asks for (Linux userspace API, "Request API"; `VIDIOC_S_EXT_CTRLS` with `V4L2_CTRL_WHICH_REQUEST_VAL`): of each
     /// control the last stored pair counts.
     ///
@@ -305,27 +277,6 @@ impl Requests {
         self.objects.store(self.alloc, id.0, pairs)
     }
 
-    /// Stores values that a request asks for (Linux userspace API, "Request API"; `VIDIOC_S_EXT_CTRLS` with `V4L2_CTRL_WHICH_REQUEST_VAL`): of each
-    /// control the last stored pair counts.
-    ///
-    /// - `id`: any request, there or not.
-    /// - `pairs`: any number, a control any number of times; the caller owes numbers of controls.
-    ///
-    /// Refused by check 19 (EINVAL, 22), 20 (EBUSY, 16) or 34 (ENOMEM, 12), which changes nothing.
-    pub fn try_store(&mut self, id: RequestId, pairs: &[Pair]) -> Result<(), Errno>
-        requires { All (λ p. p.control < self.old.controls) pairs.now }
-        ensures ok { OnOk result ((store_check (find self.old.all id.0) ≡ None) × (self.new ≡ with_changed self.old id.0 (with_pairs self.old.controls pairs.now))) }
-        ensures err { IfErr result (λ errno. IsRefusedBy (store_check (find self.old.all id.0)) errno × (self.new ≡ self.old)) }
-    {
-        match self.store_refusal(id) {
-            Some(check) => Err(check.errno()),
-            None => match self.store(id, pairs) {
-                Ok(()) => Ok(()),
-                Err(_) => Err(Check::MemoryRefused.errno()),
-            },
-        }
-    }
-
     /// Gives a request the buffer with a number (Linux userspace API, "Request API"; `VIDIOC_QBUF` with `request_fd`; that it has one, and that no two
     /// hold a number, is of this project).
     ///
@@ -337,26 +288,6 @@ impl Requests {
         ensures { self.new ≡ with_changed self.old id.0 (with_buffer number) }
     {
         self.objects.set_buffer(id.0, number);
-    }
-
-    /// Gives a request the buffer with a number (Linux userspace API, "Request API"; `VIDIOC_QBUF` with `request_fd`; that it has one, and that no two
-    /// hold a number, is of this project).
-    ///
-    /// - `id`: any request, there or not.
-    /// - `number`: any number.
-    ///
-    /// Refused by check 19 (EINVAL, 22), or one of 20 to 22 (EBUSY, 16), which changes nothing. It takes no memory.
-    pub fn try_add_buffer(&mut self, id: RequestId, number: u32) -> Result<(), Errno>
-        ensures answer { result ≡ done_unless (buffer_check self.old.all number (find self.old.all id.0)) }
-        ensures requests { self.new ≡ unless (buffer_check self.old.all number (find self.old.all id.0)) self.old (with_changed self.old id.0 (with_buffer number)) }
-    {
-        match self.buffer_refusal(id, number) {
-            Some(check) => Err(check.errno()),
-            None => {
-                self.add_buffer(id, number);
-                Ok(())
-            }
-        }
     }
 
     /// Makes a request as new (Linux userspace API, "ioctl MEDIA_REQUEST_IOC_REINIT"): idle, without a buffer, and with nothing asked; it keeps its place
@@ -372,25 +303,6 @@ impl Requests {
         self.objects.clear(id.0);
     }
 
-    /// Makes a request as new (Linux userspace API, "ioctl MEDIA_REQUEST_IOC_REINIT"): idle, without a buffer, and with nothing asked; it keeps its place
-    /// among the others.
-    ///
-    /// - `id`: any request, there or not.
-    ///
-    /// Refused by check 19 (EINVAL, 22) or 29 (EBUSY, 16), which changes nothing. It takes no memory.
-    pub fn try_reinit(&mut self, id: RequestId) -> Result<(), Errno>
-        ensures answer { result ≡ done_unless (clear_check (find self.old.all id.0)) }
-        ensures requests { self.new ≡ unless (clear_check (find self.old.all id.0)) self.old (with_changed self.old id.0 cleared) }
-    {
-        match self.clear_refusal(id) {
-            Some(check) => Err(check.errno()),
-            None => {
-                self.reinit(id);
-                Ok(())
-            }
-        }
-    }
-
     /// Lets a request go: its id names nothing then (Linux userspace API, "request close()"; that a queued or running one is refused is of this project).
     ///
     /// - `id`: a request; the caller owes that `clear_refusal` doesn't refuse it.
@@ -401,24 +313,6 @@ impl Requests {
         ensures { self.new ≡ record self.old { all = without id.0 self.old.all } }
     {
         self.objects.remove(id.0);
-    }
-
-    /// Lets a request go: its id names nothing then (Linux userspace API, "request close()"; that a queued or running one is refused is of this project).
-    ///
-    /// - `id`: any request, there or not.
-    ///
-    /// Refused by check 19 (EINVAL, 22) or 29 (EBUSY, 16), which changes nothing. It takes no memory.
-    pub fn try_free(&mut self, id: RequestId) -> Result<(), Errno>
-        ensures answer { result ≡ done_unless (clear_check (find self.old.all id.0)) }
-        ensures requests { self.new ≡ unless (clear_check (find self.old.all id.0)) self.old (record self.old { all = without id.0 self.old.all }) }
-    {
-        match self.clear_refusal(id) {
-            Some(check) => Err(check.errno()),
-            None => {
-                self.free(id);
-                Ok(())
-            }
-        }
     }
 
     /// Room for what the frame of a request will have, which `mark_queued` takes (of this project). It changes nothing. The error is that a growth was
@@ -442,28 +336,6 @@ impl Requests {
     {
         let (applied, values) = room.into_rows();
         self.objects.enqueue(id.0, applied, values);
-    }
-
-    /// Marks a request as one that waits for its frame (Linux userspace API, "ioctl MEDIA_REQUEST_IOC_QUEUE"), and makes room for what its frame will
-    /// have. For the queue of frames alone.
-    ///
-    /// - `id`: any request, there or not.
-    ///
-    /// Refused by check 19 (EINVAL, 22), 20 (EBUSY, 16), 23 (ENOENT, 2) or 34 (ENOMEM, 12), which changes nothing.
-    pub fn try_mark_queued(&mut self, id: RequestId) -> Result<(), Errno>
-        ensures ok { OnOk result ((queue_check (find self.old.all id.0) ≡ None) × (self.new ≡ with_changed self.old id.0 (queued self.old.controls))) }
-        ensures err { IfErr result (λ errno. IsRefusedBy (queue_check (find self.old.all id.0)) errno × (self.new ≡ self.old)) }
-    {
-        match self.queue_refusal(id) {
-            Some(check) => Err(check.errno()),
-            None => match self.reserve() {
-                Ok(room) => {
-                    self.mark_queued(id, room);
-                    Ok(())
-                }
-                Err(_) => Err(Check::MemoryRefused.errno()),
-            },
-        }
     }
 
     /// Marks a request as the one whose frame is being made, in which controls got values (of this project). For the queue of frames alone.

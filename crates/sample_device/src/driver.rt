@@ -1,20 +1,68 @@
-ghost use Rattle.std.specs.Prelude.{◌≡◌, ◌↔◌, IsTrue, pos, negsuc, ◌+ℤ◌, ◌*ℤ◌, ◌≤ℤ◌};
+ghost use Rattle.std.specs.Prelude.{⊤, ◌≡◌, ◌↔◌, IsTrue, pos, negsuc, ◌+ℤ◌, ◌*ℤ◌, ◌≤ℤ◌};
+ghost use Rattle.sample_device.specs.Closures.{limit_of, words_of};
 ghost use Rattle.sample_device.specs.Sample.{sample_verdict, sample_told, IsSmall};
 
-use ctrl_calls::{ClusterRow, Notifies, Relation, Validates, Verdict};
+use ctrl_calls::{ClusterRow, Judging, Notifies, Relation, Telling, Validates, Verdict};
 use ctrl_types::{CtrlValue, Errno};
 
-/// The driver of the sample device. Its closures are boxed; who runs a script makes the boxes.
+/// The driver of the sample device. Its closures are plain, so that one function makes the device with them (`own_sample_plan`).
 pub enum Sample {}
 
+/// A validator of the sample device.
+#[derive(Drop)]
+pub enum Judge {
+    /// That of autogain and gain.
+    OfGain,
+    /// That of red and blue.
+    OfBalance,
+}
+
+impl Judging for Judge {
+    ghost callable = { λ _. ⊤ };
+
+    ghost answers = { λ judge row verdict. verdict ≡ sample_verdict (limit_of judge) row };
+
+    fn judge(&self, row: ClusterRow) -> Verdict {
+        match self {
+            Judge::OfGain => gain_verdict(&row),
+            Judge::OfBalance => balance_verdict(&row),
+        }
+    }
+}
+
+/// A notifier of the sample device.
+#[derive(Drop)]
+pub enum Teller {
+    /// That of autogain and gain, and that of red and blue.
+    OfPair,
+    /// That of the button.
+    OfButton,
+    /// That of brightness.
+    OfBrightness,
+}
+
+impl Telling for Teller {
+    ghost callable = { λ _. ⊤ };
+
+    ghost answers = { λ teller row word. sample_told (words_of teller) row word };
+
+    fn tell(&self, row: ClusterRow) -> u64 {
+        match self {
+            Teller::OfPair => pair_word(&row),
+            Teller::OfButton => button_word(&row),
+            Teller::OfBrightness => brightness_word(&row),
+        }
+    }
+}
+
 impl Validates for Sample {
-    type Judge = Box<dyn Fn(ClusterRow) -> Verdict + Send>;
+    type Judge = Judge;
 
     ghost verdict = { sample_verdict };
 }
 
 impl Notifies for Sample {
-    type Teller = Box<dyn Fn(ClusterRow) -> u64 + Send>;
+    type Teller = Teller;
 
     ghost told = { sample_told };
 }

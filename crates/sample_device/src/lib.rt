@@ -7,8 +7,8 @@ mod plan;
 mod words;
 
 pub use driver::{
-    BALANCE_LIMIT, BRIGHTNESS_WORDS, BUTTON_WORDS, GAIN_LIMIT, PAIR_WORDS, Sample, balance_verdict,
-    brightness_word, button_word, gain_verdict, pair_word,
+    BALANCE_LIMIT, BRIGHTNESS_WORDS, BUTTON_WORDS, GAIN_LIMIT, Judge, PAIR_WORDS, Sample, Teller,
+    balance_verdict, brightness_word, button_word, gain_verdict, pair_word,
 };
-pub use plan::{array_builder, sample_builder, sample_plan};
+pub use plan::{array_builder, own_sample_plan, sample_builder, sample_plan};
 pub use words::sample_words;

@@ -1,11 +1,14 @@
 ghost use Rattle.std.specs.Prelude.{◌≡◌, IfOk, IfErr, Ok, Some, None};
 ghost use Rattle.ctrl_settle.specs.Control.{described, described_array};
 ghost use Rattle.ctrl_settle.specs.Faults.{IsWellFormed};
+ghost use Rattle.sample_device.specs.Closures.{limit_of, own_sample, pair_calls, told_calls, words_of};
 ghost use Rattle.sample_device.specs.Sample.{array_sample, sample, weights as weights_of, whole_sample, sample_before, first_controls as first_controls_of, sample_controls as sample_controls_of, autogain as autogain_of, gain as gain_of, flip as flip_of, hue as hue_of, brightness as brightness_of, power as power_of, button as button_of, balance as balance_of, no_flags};
 
-use crate::driver::{BALANCE_LIMIT, BRIGHTNESS_WORDS, BUTTON_WORDS, GAIN_LIMIT, PAIR_WORDS};
+use crate::driver::{
+    BALANCE_LIMIT, BRIGHTNESS_WORDS, BUTTON_WORDS, GAIN_LIMIT, Judge, PAIR_WORDS, Sample, Teller,
+};
 use bitflags::Flags as FlagSet;
-use ctrl_calls::{Calls, Driver};
+use ctrl_calls::{Calls, Driver, Notifier, Relation, Validator};
 use ctrl_handlers::{Plan, PlanBuilder, PlanFault};
 use ctrl_settle::{Ctrl, CtrlFault};
 use ctrl_types::{CtrlId, Flags, Kind};
@@ -238,5 +241,42 @@ pub fn sample_plan<D: Driver>(
     match sample_builder(alloc, of_gain, of_balance, of_button, of_brightness)?.finish() {
         Ok(plan) => Ok(plan),
         Err((_, fault)) => Err(fault),
+    }
+}
+
+/// The plan of the sample device with the closures of its own driver (of this project), as `sample_plan` makes it of their calls. The only fault is `Memory`
+/// (7).
+pub fn own_sample_plan(alloc: Global) -> Result<Plan<Sample>, PlanFault>
+    ensures ok { IfOk result (λ plan. plan ≡ own_sample) }
+    ensures err { IfErr result (λ fault. fault ≡ PlanFault.Memory) }
+{
+    sample_plan(
+        alloc,
+        pair_calls(GAIN_LIMIT, Judge::OfGain),
+        pair_calls(BALANCE_LIMIT, Judge::OfBalance),
+        told_calls(BUTTON_WORDS, Teller::OfButton),
+        told_calls(BRIGHTNESS_WORDS, Teller::OfBrightness),
+    )
+}
+
+// The calls of a pair of controls, whose validator answers by this relation.
+fn pair_calls(limit: Relation, judge: Judge) -> Calls<Sample>
+    requires { limit_of judge ≡ limit }
+    ensures { result ≡ pair_calls limit }
+{
+    Calls {
+        validator: Some(Validator::new(limit, judge)),
+        notifier: Some(Notifier::new(PAIR_WORDS, Teller::OfPair)),
+    }
+}
+
+// The calls of a control without a validator, whose notifier answers by this relation.
+fn told_calls(words: Relation, teller: Teller) -> Calls<Sample>
+    requires { words_of teller ≡ words }
+    ensures { result ≡ told_calls words }
+{
+    Calls {
+        validator: None,
+        notifier: Some(Notifier::new(words, teller)),
     }
 }

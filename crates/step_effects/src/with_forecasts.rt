@@ -127,5 +127,10 @@ fn frame_of(frames: &Frames, request: RequestId) -> Queued<'_>
     requires { is_some (buffer_in (find frames.now.requests.all request.0)) ≡ true }
     ensures { result ≡ frame_in frames.now request.0 }
 {
-    Queued::new(request, frames.number_of(request), frames.pairs_of(request))
+    let requests = frames.requests();
+    Queued::new(
+        request,
+        frames.number_of(request),
+        requests.pairs_of(request),
+    )
 }

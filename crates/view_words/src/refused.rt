@@ -2,10 +2,10 @@
 
 use crate::why::put_broken;
 use crate::words::{members_of, put_cluster, word_of};
-use ask_reasons::{ClusterReason, frame_reason, text_of};
 use ctrl_calls::Driver;
 use ctrl_types::{Check, CtrlValue, Errno};
 use device_state::{Device, Plan};
+use frame_reasons::{ClusterReason, frame_reason};
 use script_lines::ControlWords;
 use std::alloc::{AllocError, Global};
 use view_layout::Page;
@@ -47,7 +47,7 @@ pub fn put_refused_cluster<D: Driver>(
     page.put(becomes);
     match reason {
         ClusterReason::Grabbed(control) => {
-            put_broken(page, Check::EntryGrabbed, text_of(Check::EntryGrabbed));
+            put_broken(page, Check::EntryGrabbed);
             page.put(": ");
             page.put(word_of(known, control));
         }
@@ -56,14 +56,13 @@ pub fn put_refused_cluster<D: Driver>(
             value,
             check,
         } => {
-            put_broken(page, check, text_of(check));
+            put_broken(page, check);
             page.put(": ");
             put_asked(page, known, control, &value);
         }
         ClusterReason::RowNotTaken(row) => {
             // (the number and the words are those of each row that is refused)
-            let check = Check::RowRefused(Errno::EINVAL);
-            put_broken(page, check, text_of(check));
+            put_broken(page, Check::RowRefused(Errno::EINVAL));
             page.put(":");
             for (member, value) in members_of(plan, cluster).iter().zip(row.values()) {
                 page.put(" ");

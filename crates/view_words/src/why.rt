@@ -5,9 +5,8 @@ use crate::classes::put_class;
 use crate::items::put_item;
 use crate::reply::wanted_by;
 use crate::words::{members_beside, word_of};
-use ask_reasons::{Reason, text_for};
 use ctrl_calls::Driver;
-use ctrl_types::{Check, CtrlId, CtrlValue, Fault, Kind, Pair, Which, last_value};
+use ctrl_types::{Check, CtrlId, CtrlValue, Kind, Pair, Refusal, Which, last_value};
 use device_state::Ask;
 use script_replies::{ReplyLine, write_answer};
 use std::io::Write;
@@ -21,43 +20,36 @@ pub fn put_refusal<D: Driver>(
     page: &mut Page,
     line: &mut ReplyLine,
     asked: Asked<'_, D>,
-    fault: Fault,
-    reason: Option<Reason>,
+    refusal: Refusal,
 ) {
-    let _ = write_answer(page, line, asked.ask, &Err(fault));
+    let _ = write_answer(page, line, asked.ask, &Err(asked.ask.fault(refusal)));
     // its line feed
     page.pop();
-    let errno = fault.errno;
+    let errno = refusal.check.errno();
     let _ = write!(page, ": {errno:?}");
-    if let Some(reason) = reason {
-        put_place(page, asked, reason.entry);
-    }
+    put_place(page, asked, refusal.entry);
 }
 
 /// Puts on a page the check that an ask was refused by, behind it in brackets the part of it that is meant, where docs/RULES.md numbers its parts, and what
 /// didn't hold.
-pub fn put_check<D: Driver>(page: &mut Page, asked: Asked<'_, D>, reason: Reason) {
-    put_broken(
-        page,
-        reason.check,
-        text_for(asked.device, asked.ask, reason),
-    );
-    match reason.check {
-        Check::RowRefused(_) => put_row(page, asked, reason.entry),
-        Check::ValueNotOfKind => put_form(page, asked, reason.entry),
-        Check::ValueOutsideMenu => put_range(page, asked, reason.entry),
+pub fn put_check<D: Driver>(page: &mut Page, asked: Asked<'_, D>, refusal: Refusal) {
+    put_broken(page, refusal.check);
+    match refusal.check {
+        Check::RowRefused(_) => put_row(page, asked, refusal.entry),
+        Check::ValueNotOfKind => put_form(page, asked, refusal.entry),
+        Check::ValueOutsideMenu => put_range(page, asked, refusal.entry),
         Check::ClassNotShown => put_list_class(page, asked.ask),
-        Check::EntryNamesNone => {
-            put_entry_class(page, asked, reason.entry);
-            put_showing(page, asked, reason.entry);
+        Check::EntryNotShown | Check::EntryOfOtherClass => {
+            put_entry_class(page, asked, refusal.entry);
+            put_showing(page, asked, refusal.entry);
         }
-        Check::IdNotShown => put_showing(page, asked, reason.entry),
+        Check::IdNotShown => put_showing(page, asked, refusal.entry),
         _ => {}
     }
 }
 
-/// Puts a check on a page: its number, behind it in brackets the part of it that is meant, where docs/RULES.md numbers its parts, and what didn't hold, in these words.
-pub(crate) fn put_broken(page: &mut Page, check: Check, text: &str) {
+/// Puts a check on a page: its number, behind it in brackets the part of it that is meant, where docs/RULES.md numbers its parts, and what didn't hold.
+pub(crate) fn put_broken(page: &mut Page, check: Check) {
     page.put("check ");
     page.put_number(i64::from(check.number()));
     if let Some(part) = check.part() {
@@ -66,7 +58,7 @@ pub(crate) fn put_broken(page: &mut Page, check: Check, text: &str) {
         page.put(")");
     }
     page.put(", ");
-    page.put(text);
+    page.put(check.text());
 }
 
 // What the control of an entry would take.

@@ -7,18 +7,20 @@ ghost use Rattle.frame_queue.specs.Frames.{begin_check};
 ghost use Rattle.device_history.specs.declared.ask.Ask.TheVariants as asks;
 ghost use Rattle.device_history.specs.Answers.{MayAnswer};
 ghost use Rattle.device_history.specs.Frames.{first_of, queue, running};
+ghost use Rattle.ctrl_types.specs.Refusals.{whole};
 ghost use Rattle.device_history.specs.Refusals.{refused};
 ghost use Rattle.device_history.specs.RequestAnswers.{begin_frame_answer};
 ghost use Rattle.device_history.specs.Requests.{asked as asked_of, state};
 ghost use Rattle.device_history.specs.Snapshots.{begun_pairs, frames};
 ghost use Rattle.device_state.specs.Beginning.{BeginsAll, IsBegun};
-ghost use Rattle.device_state.specs.Device.{Handles};
+ghost use Rattle.device_history.specs.AskChecks.{published};
+ghost use Rattle.device_state.specs.Device.{Handles, MayRefuse};
 
 use super::Device;
 use ctrl_calls::{Driver, Work};
 use ctrl_clusters::notify_between;
 use ctrl_forecast::{Forecast, applied};
-use ctrl_types::{Check, Fault, Pair, RequestId};
+use ctrl_types::{Check, Pair, Refusal, RequestId};
 use device_history::{Reply, Step, refused};
 use history::Entry;
 use std::alloc::AllocError;
@@ -34,8 +36,9 @@ struct Begun {
 impl<D: Driver> Device<D> {
     // Answers an ask for the begin of a frame.
     #[inline(never)]
-    pub(super) fn begin(&mut self, seat: u32) -> Result<Reply, Fault>
-        ensures { Handles D.verdict self.old self.new seat asks.Begin result }
+    pub(super) fn begin(&mut self, seat: u32) -> Result<Reply, Refusal>
+        ensures handles { Handles D.verdict self.old self.new seat (asks.Begin) (published (asks.Begin) result) }
+        ensures why { IfErr result (MayRefuse D.verdict self.old (asks.Begin)) }
     {
         self.work = Work::new();
         let begun = match self.plan_begin() {
@@ -52,6 +55,7 @@ impl<D: Driver> Device<D> {
     fn plan_begin(&self) -> Result<Begun, Check>
         ensures ok { IfOk result (λ b. IsBegun D.verdict self.now.plan (past self.now.steps) b.request.0 b.applied.items) }
         ensures err { IfErr result (λ check. MayAnswer D.verdict self.now.plan (past self.now.steps) self.now.words asks.Begin (refused check)) }
+        ensures why { IfErr result (λ check. MayRefuse D.verdict self.now asks.Begin (whole check)) }
     {
         let request = match self.next_frame() {
             Ok(request) => request,
@@ -80,7 +84,7 @@ impl<D: Driver> Device<D> {
         requires { is_some (state (past self.now.steps) request.0) ≡ true }
         ensures { result.now ≡ asked_of self.now.plan (past self.now.steps) request.0 }
     {
-        self.frames.pairs_of(request)
+        self.frames.requests().pairs_of(request)
     }
 
     // What the begin of the first frame in the queue applies.

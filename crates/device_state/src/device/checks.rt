@@ -1,21 +1,129 @@
-//! Which check refuses an ask.
+//! What refuses an ask.
 
-ghost use Rattle.std.specs.Prelude.{◌≡◌};
+ghost use Rattle.std.specs.Prelude.{◌≡◌, ◌≤◌, None, MatchOption};
+ghost use Rattle.std.specs.Option.{option_map};
 ghost use Rattle.history.specs.Past.{past};
-ghost use Rattle.device_history.specs.AskChecks.{check_of};
+ghost use Rattle.ctrl_types.specs.Refusals.{whole};
+ghost use Rattle.device_history.specs.declared.ask.Ask.TheVariants as asks;
+ghost use Rattle.device_history.specs.AskChecks.{check_of, refusal_of};
+ghost use Rattle.device_state.specs.Device.{MayRefuse, may_judge};
 
 use super::Device;
-use ctrl_calls::Driver;
-use ctrl_types::Check;
+use ctrl_calls::{Driver, Work};
+use ctrl_lists::{ControlList, Room};
+use ctrl_types::{Check, FhId, Refusal, RequestId};
 use device_history::Ask;
+use std::mem;
 
 impl<D: Driver> Device<D> {
-    /// The check of docs/RULES.md that refuses an ask which is no list, as `handle` refuses it now, for a driver's own use; none where it would be
-    /// accepted, but for want of memory, and none for a list, whose checks `read_view`, `write_view` and `ctrl_lists` have. It takes no memory and changes
-    /// nothing.
+    /// What refuses an ask, as `ask` would be refused now (of this project): the first check of docs/RULES.md that doesn't hold, and of a list the entry where it
+    /// doesn't; none where none refuses it. For a list memory is taken for the moment, so that want of memory, check 34, may stand in place of its other answers.
     ///
     /// - `ask`: what would be asked.
-    pub fn check_of(&self, ask: &Ask) -> Option<Check>
+    ///
+    /// Nothing is changed but the counts of `work`, and no notifier is told. Where a list that writes meets the checks 1 to 7, the validators of the clusters that it
+    /// touches are asked, each once at most.
+    pub fn refusal(&mut self, ask: &Ask) -> Option<Refusal>
+        ensures why { MatchOption result (refusal_of D.verdict self.old.plan (past self.old.steps) ask.now ≡ None) (MayRefuse D.verdict self.old ask.now) }
+        ensures kept { self.new ≡ record self.old { work = self.new.work } }
+        ensures told { self.new.work.told ≡ 0 }
+        ensures asked { self.new.work.asked ≤ may_judge D.verdict self.old.plan (past self.old.steps) ask.now }
+    {
+        match ask {
+            Ask::GetCtrls {
+                fh,
+                which,
+                request,
+                list,
+            } => self.get_refusal(*fh, *which, *request, list),
+            Ask::SetCtrls {
+                fh,
+                which,
+                request,
+                list,
+            } => self.set_refusal(*fh, *which, *request, list),
+            Ask::TryCtrls {
+                fh,
+                which,
+                request,
+                list,
+            } => self.try_refusal(*fh, *which, *request, list),
+            _ => {
+                self.work = Work::new();
+                as_whole(self.check_of(ask))
+            }
+        }
+    }
+
+    // What refuses a get.
+    fn get_refusal(
+        &mut self,
+        fh: FhId,
+        which: u32,
+        request: Option<RequestId>,
+        list: &ControlList,
+    ) -> Option<Refusal>
+        ensures why { MatchOption result (refusal_of D.verdict self.old.plan (past self.old.steps) (asks.GetCtrls fh which request list.now) ≡ None) (MayRefuse D.verdict self.old (asks.GetCtrls fh which request list.now)) }
+        ensures kept { self.new ≡ record self.old { work = record { asked = 0; told = 0 } } }
+    {
+        let mut room = mem::replace(&mut self.room, Room::new(self.alloc));
+        let answer = self.get_list(fh, which, request, list, &mut room);
+        self.work = Work::new();
+        self.room = room;
+        answer.err()
+    }
+
+    // What refuses a set.
+    fn set_refusal(
+        &mut self,
+        fh: FhId,
+        which: u32,
+        request: Option<RequestId>,
+        list: &ControlList,
+    ) -> Option<Refusal>
+        ensures why { MatchOption result (refusal_of D.verdict self.old.plan (past self.old.steps) (asks.SetCtrls fh which request list.now) ≡ None) (MayRefuse D.verdict self.old (asks.SetCtrls fh which request list.now)) }
+        ensures kept { self.new ≡ record self.old { work = self.new.work } }
+        ensures told { self.new.work.told ≡ 0 }
+        ensures asked { self.new.work.asked ≤ may_judge D.verdict self.old.plan (past self.old.steps) (asks.SetCtrls fh which request list.now) }
+    {
+        let mut room = mem::replace(&mut self.room, Room::new(self.alloc));
+        let mut work = Work::new();
+        let planned = self.plan_list(fh, which, request, list, &mut room, &mut work);
+        self.work = work;
+        let refusal = match planned {
+            Ok(touch) => {
+                let _ = touch.into_answers(&mut room);
+                None
+            }
+            Err(refusal) => Some(refusal),
+        };
+        self.room = room;
+        refusal
+    }
+
+    // What refuses a try.
+    fn try_refusal(
+        &mut self,
+        fh: FhId,
+        which: u32,
+        request: Option<RequestId>,
+        list: &ControlList,
+    ) -> Option<Refusal>
+        ensures why { MatchOption result (refusal_of D.verdict self.old.plan (past self.old.steps) (asks.TryCtrls fh which request list.now) ≡ None) (MayRefuse D.verdict self.old (asks.TryCtrls fh which request list.now)) }
+        ensures kept { self.new ≡ record self.old { work = self.new.work } }
+        ensures told { self.new.work.told ≡ 0 }
+        ensures asked { self.new.work.asked ≤ may_judge D.verdict self.old.plan (past self.old.steps) (asks.TryCtrls fh which request list.now) }
+    {
+        let mut room = mem::replace(&mut self.room, Room::new(self.alloc));
+        let mut work = Work::new();
+        let answer = self.try_list(fh, which, request, list, &mut room, &mut work);
+        self.work = work;
+        self.room = room;
+        answer.err()
+    }
+
+    // The check of docs/RULES.md that refuses an ask which is no list; none where it would be accepted, but for want of memory, and none for a list.
+    fn check_of(&self, ask: &Ask) -> Option<Check>
         ensures { result ≡ check_of D.verdict self.now.plan (past self.now.steps) ask.now }
     {
         match ask {
@@ -56,5 +164,15 @@ impl<D: Driver> Device<D> {
             Ask::MenuItem { fh, id, index } => self.item_found(*fh, *id, *index).err(),
             Ask::Told { cluster } => self.word_of(*cluster).err(),
         }
+    }
+}
+
+// A check that refuses an ask as a whole, where there is one.
+fn as_whole(check: Option<Check>) -> Option<Refusal>
+    ensures { result ≡ option_map whole check }
+{
+    match check {
+        Some(check) => Some(Refusal::whole(check)),
+        None => None,
     }
 }

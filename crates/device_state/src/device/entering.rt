@@ -1,21 +1,23 @@
 //! Asks that a device answers by adding a step which leaves file handles, grabs, ranges and values. Each stands in a function of its own, so that no other ask
 //! takes the room on the stack that it takes.
 
-ghost use Rattle.std.specs.Prelude.{◌≡◌};
+ghost use Rattle.std.specs.Prelude.{◌≡◌, IfErr};
 ghost use Rattle.device_history.specs.declared.ask.Ask.TheVariants as asks;
-ghost use Rattle.device_state.specs.Device.{Handles};
+ghost use Rattle.device_history.specs.AskChecks.{published};
+ghost use Rattle.device_state.specs.Device.{Handles, MayRefuse};
 
 use super::Device;
 use ctrl_calls::Driver;
-use ctrl_types::{CtrlId, Fault, FhId, RequestId};
+use ctrl_types::{CtrlId, FhId, Refusal, RequestId};
 use device_history::{Ask, Reply, Step};
 
 impl<D: Driver> Device<D> {
     // Answers an ask for a request.
     #[inline(never)]
-    pub(super) fn enter_alloc(&mut self, seat: u32, ask: &Ask) -> Result<Reply, Fault>
+    pub(super) fn enter_alloc(&mut self, seat: u32, ask: &Ask) -> Result<Reply, Refusal>
         requires { ask.now ≡ asks.Alloc }
-        ensures { Handles D.verdict self.old self.new seat ask.now result }
+        ensures handles { Handles D.verdict self.old self.new seat ask.now (published ask.now result) }
+        ensures why { IfErr result (MayRefuse D.verdict self.old ask.now) }
     {
         let check = self.alloc_refusal();
         let request = RequestId(self.steps.len() as u32);
@@ -30,9 +32,10 @@ impl<D: Driver> Device<D> {
         ask: &Ask,
         request: RequestId,
         buffer: u32,
-    ) -> Result<Reply, Fault>
+    ) -> Result<Reply, Refusal>
         requires { ask.now ≡ asks.AddBuffer request buffer }
-        ensures { Handles D.verdict self.old self.new seat ask.now result }
+        ensures handles { Handles D.verdict self.old self.new seat ask.now (published ask.now result) }
+        ensures why { IfErr result (MayRefuse D.verdict self.old ask.now) }
     {
         let check = self.buffer_refusal(request, buffer);
         let step = Step::Buffer { request, buffer };
@@ -46,9 +49,10 @@ impl<D: Driver> Device<D> {
         seat: u32,
         ask: &Ask,
         request: RequestId,
-    ) -> Result<Reply, Fault>
+    ) -> Result<Reply, Refusal>
         requires { ask.now ≡ asks.Queue request }
-        ensures { Handles D.verdict self.old self.new seat ask.now result }
+        ensures handles { Handles D.verdict self.old self.new seat ask.now (published ask.now result) }
+        ensures why { IfErr result (MayRefuse D.verdict self.old ask.now) }
     {
         let check = self.queue_refusal(request);
         self.enter(seat, ask, check, Step::Queue { request }, Reply::Done)
@@ -61,9 +65,10 @@ impl<D: Driver> Device<D> {
         seat: u32,
         ask: &Ask,
         request: RequestId,
-    ) -> Result<Reply, Fault>
+    ) -> Result<Reply, Refusal>
         requires { ask.now ≡ asks.Cancel request }
-        ensures { Handles D.verdict self.old self.new seat ask.now result }
+        ensures handles { Handles D.verdict self.old self.new seat ask.now (published ask.now result) }
+        ensures why { IfErr result (MayRefuse D.verdict self.old ask.now) }
     {
         let check = self.cancel_refusal(request);
         self.enter(seat, ask, check, Step::Cancel { request }, Reply::Done)
@@ -71,9 +76,10 @@ impl<D: Driver> Device<D> {
 
     // Answers an ask that completes the running frame's request and all that wait.
     #[inline(never)]
-    pub(super) fn enter_stream_off(&mut self, seat: u32, ask: &Ask) -> Result<Reply, Fault>
+    pub(super) fn enter_stream_off(&mut self, seat: u32, ask: &Ask) -> Result<Reply, Refusal>
         requires { ask.now ≡ asks.StreamOff }
-        ensures { Handles D.verdict self.old self.new seat ask.now result }
+        ensures handles { Handles D.verdict self.old self.new seat ask.now (published ask.now result) }
+        ensures why { IfErr result (MayRefuse D.verdict self.old ask.now) }
     {
         self.enter(seat, ask, None, Step::StreamOff, Reply::Done)
     }
@@ -85,9 +91,10 @@ impl<D: Driver> Device<D> {
         seat: u32,
         ask: &Ask,
         request: RequestId,
-    ) -> Result<Reply, Fault>
+    ) -> Result<Reply, Refusal>
         requires { ask.now ≡ asks.Reinit request }
-        ensures { Handles D.verdict self.old self.new seat ask.now result }
+        ensures handles { Handles D.verdict self.old self.new seat ask.now (published ask.now result) }
+        ensures why { IfErr result (MayRefuse D.verdict self.old ask.now) }
     {
         let check = self.clear_refusal(request);
         self.enter(seat, ask, check, Step::Reinit { request }, Reply::Done)
@@ -100,9 +107,10 @@ impl<D: Driver> Device<D> {
         seat: u32,
         ask: &Ask,
         request: RequestId,
-    ) -> Result<Reply, Fault>
+    ) -> Result<Reply, Refusal>
         requires { ask.now ≡ asks.Free request }
-        ensures { Handles D.verdict self.old self.new seat ask.now result }
+        ensures handles { Handles D.verdict self.old self.new seat ask.now (published ask.now result) }
+        ensures why { IfErr result (MayRefuse D.verdict self.old ask.now) }
     {
         let check = self.clear_refusal(request);
         self.enter(seat, ask, check, Step::Free { request }, Reply::Done)
@@ -116,9 +124,10 @@ impl<D: Driver> Device<D> {
         ask: &Ask,
         fh: FhId,
         id: CtrlId,
-    ) -> Result<Reply, Fault>
+    ) -> Result<Reply, Refusal>
         requires { ask.now ≡ asks.Unsubscribe fh id }
-        ensures { Handles D.verdict self.old self.new seat ask.now result }
+        ensures handles { Handles D.verdict self.old self.new seat ask.now (published ask.now result) }
+        ensures why { IfErr result (MayRefuse D.verdict self.old ask.now) }
     {
         let check = self.through(fh);
         let control = self.shown(fh, id);

@@ -1,6 +1,6 @@
 //! What a device answers about control events.
 
-ghost use Rattle.std.specs.Prelude.{◌≡◌, Some, IfOk};
+ghost use Rattle.std.specs.Prelude.{◌≡◌, Some, IfOk, IfErr};
 ghost use Rattle.std.specs.Result.{result_map_both};
 ghost use Rattle.history.specs.Past.{past};
 ghost use Rattle.ctrl_events.specs.Events.{event_at};
@@ -8,12 +8,13 @@ ghost use Rattle.device_history.specs.declared.ask.Ask.TheVariants as asks;
 ghost use Rattle.device_history.specs.EventAnswers.{first_control, first_event};
 ghost use Rattle.device_history.specs.Events.{next_sequence, pending};
 ghost use Rattle.device_history.specs.Subscriptions.{subscribed};
-ghost use Rattle.device_state.specs.Device.{Handles};
+ghost use Rattle.device_history.specs.AskChecks.{published};
+ghost use Rattle.device_state.specs.Device.{Handles, MayRefuse};
 
 use super::Device;
 use ctrl_calls::Driver;
 use ctrl_events::Event;
-use ctrl_types::{Check, CtrlId, Fault, FhId, SubFlags};
+use ctrl_types::{Check, CtrlId, Fault, FhId, Refusal, SubFlags};
 use device_history::{Ask, Reply, Step};
 
 impl<D: Driver> Device<D> {
@@ -60,9 +61,20 @@ impl<D: Driver> Device<D> {
     ///
     /// Refused, without an index, by check 12 (EBADF, 9), 32 (ENOENT, 2), 33 (ENOSPC, 28) or 34 (ENOMEM, 12) of docs/RULES.md. Nothing is changed
     /// then but the counts of `work`.
-    #[inline(never)]
     pub fn take(&mut self, seat: u32, fh: FhId) -> Result<Reply, Fault>
         ensures { Handles D.verdict self.old self.new seat (asks.Take fh) result }
+    {
+        match self.ask_take(seat, fh) {
+            Ok(reply) => Ok(reply),
+            Err(refusal) => Err(refusal.check.fault()),
+        }
+    }
+
+    // Takes an event.
+    #[inline(never)]
+    pub(super) fn ask_take(&mut self, seat: u32, fh: FhId) -> Result<Reply, Refusal>
+        ensures handles { Handles D.verdict self.old self.new seat (asks.Take fh) (published (asks.Take fh) result) }
+        ensures why { IfErr result (MayRefuse D.verdict self.old (asks.Take fh)) }
     {
         match self.first_event(fh) {
             Ok((control, event)) => {
@@ -96,8 +108,9 @@ impl<D: Driver> Device<D> {
         fh: FhId,
         id: CtrlId,
         flags: SubFlags,
-    ) -> Result<Reply, Fault>
-        ensures { Handles D.verdict self.old self.new seat (asks.Subscribe fh id flags) result }
+    ) -> Result<Reply, Refusal>
+        ensures handles { Handles D.verdict self.old self.new seat (asks.Subscribe fh id flags) (published (asks.Subscribe fh id flags) result) }
+        ensures why { IfErr result (MayRefuse D.verdict self.old (asks.Subscribe fh id flags)) }
     {
         match self.control_shown(fh, id) {
             Ok(control) => {

@@ -1,6 +1,6 @@
 //! What a device says of the frames that are queued.
 
-ghost use Rattle.std.specs.Prelude.{◌≡◌, ℕ, slice_get};
+ghost use Rattle.std.specs.Prelude.{◌≡◌, ℕ, slice_get, IfErr};
 ghost use Rattle.std.specs.Option.{option_map};
 ghost use Rattle.std.specs.Result.{result_map_both};
 ghost use Rattle.history.specs.Past.{past};
@@ -8,12 +8,13 @@ ghost use Rattle.ctrl_forecast.specs.Looks.{seen};
 ghost use Rattle.device_history.specs.declared.ask.Ask.TheVariants as asks;
 ghost use Rattle.device_history.specs.Answers.{MayAnswer};
 ghost use Rattle.device_history.specs.Forecasts.{forecast, forecast_at};
-ghost use Rattle.device_state.specs.Device.{Handles};
+ghost use Rattle.device_history.specs.AskChecks.{published};
+ghost use Rattle.device_state.specs.Device.{Handles, MayRefuse};
 
 use super::Device;
 use ctrl_calls::{Driver, Work};
 use ctrl_forecast::Row;
-use ctrl_types::{Check, Fault};
+use ctrl_types::{Check, Fault, Refusal};
 use device_history::{Reply, refused};
 
 impl<D: Driver> Device<D> {
@@ -37,9 +38,20 @@ impl<D: Driver> Device<D> {
     ///
     /// It asks no validator: what the frames will have is kept, and renewed by each call that changes it. Refused, without an index, by check 31
     /// (ENOENT, 2) or 34 (ENOMEM, 12) of docs/RULES.md. Answered or refused, nothing is changed but the counts of `work`.
-    #[inline(never)]
     pub fn forecast(&mut self, place: u32) -> Result<Reply, Fault>
         ensures { (seat : ℕ) → Handles D.verdict self.old self.new seat (asks.Forecast place) result }
+    {
+        match self.ask_forecast(place) {
+            Ok(reply) => Ok(reply),
+            Err(refusal) => Err(refusal.check.fault()),
+        }
+    }
+
+    // Answers an ask for a forecast.
+    #[inline(never)]
+    pub(super) fn ask_forecast(&mut self, place: u32) -> Result<Reply, Refusal>
+        ensures handles { (seat : ℕ) → Handles D.verdict self.old self.new seat (asks.Forecast place) (published (asks.Forecast place) result) }
+        ensures why { IfErr result (MayRefuse D.verdict self.old (asks.Forecast place)) }
     {
         self.work = Work::new();
         self.forecast_read(place)
@@ -56,8 +68,9 @@ impl<D: Driver> Device<D> {
     }
 
     // The same, as the reply.
-    fn forecast_read(&self, place: u32) -> Result<Reply, Fault>
-        ensures { MayAnswer D.verdict self.now.plan (past self.now.steps) self.now.words (asks.Forecast place) result }
+    fn forecast_read(&self, place: u32) -> Result<Reply, Refusal>
+        ensures answers { MayAnswer D.verdict self.now.plan (past self.now.steps) self.now.words (asks.Forecast place) (published (asks.Forecast place) result) }
+        ensures why { IfErr result (MayRefuse D.verdict self.now (asks.Forecast place)) }
     {
         let row = match self.forecast_at(place) {
             Ok(row) => row,

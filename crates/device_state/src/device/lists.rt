@@ -3,30 +3,32 @@
 ghost use Rattle.std.specs.Prelude.{◌≡◌, ◌≢◌, ◌<◌, ◌≤◌, ◌+◌, ℕ, true, false, length, Option, None, Some, Ok, Err, IfOk, IfErr, IfSome, OnOk, OnErr};
 ghost use Rattle.std.specs.List.{All};
 ghost use Rattle.history.specs.Past.{past};
-ghost use Rattle.ctrl_types.specs.Checks.{errno_of};
+ghost use Rattle.ctrl_types.specs.Refusals.{fault_at_count};
 ghost use Rattle.ctrl_types.specs.Classes.{which_of};
 ghost use Rattle.ctrl_types.specs.declared.which.Which.TheVariants.{Defaults};
 ghost use Rattle.req_book.specs.Requests.{RequestData};
 ghost use Rattle.ctrl_lists.specs.Checks.{first_refusal};
 ghost use Rattle.ctrl_lists.specs.Touched.{touched, judged_count, with_calls};
 ghost use Rattle.device_history.specs.declared.ask.Ask.TheVariants as asks;
+ghost use Rattle.device_history.specs.declared.ask.Reply.TheVariants.{Controls};
 ghost use Rattle.device_history.specs.Values.{now};
 ghost use Rattle.ctrl_clusters.specs.Notified.{HaveWords};
 ghost use Rattle.device_history.specs.declared.ask.Step.TheVariants as steps;
 ghost use Rattle.device_history.specs.Handles.{handler_of};
 ghost use Rattle.device_history.specs.Legal.{MayFollow};
+ghost use Rattle.device_history.specs.AskChecks.{published};
 ghost use Rattle.device_history.specs.Refusals.{is_full};
-ghost use Rattle.device_history.specs.Lists.{earlier_pairs, handler_or, list_pairs, meant, meant_check, opening_checks, read_view, request_check, values_read, which_or, write_view, writes_defaults};
+ghost use Rattle.device_history.specs.Lists.{earlier_pairs, get_checks, handler_or, list_pairs, meant, meant_check, opening_checks, read_view, request_check, set_checks, set_list_answer, try_checks, values_read, which_or, write_view, writes_defaults};
 ghost use Rattle.device_history.specs.Answers.{MayAnswer};
-ghost use Rattle.device_state.specs.Device.{Handles, list_most, list_touches, request_now, with_step};
-ghost use Rattle.device_state.specs.Setting.{CanBeSet, IsSettable, SetsAll, SetsList};
+ghost use Rattle.device_state.specs.Device.{Handles, MayRefuse, list_most, list_touches, request_now, with_step};
+ghost use Rattle.device_state.specs.Setting.{CanBeSet, SetsAll, SetsList};
 
 use super::Device;
 use ctrl_calls::{Driver, Work};
 use ctrl_clusters::{Moment, notify_changed, write_rows};
 use ctrl_lists::{ControlList, Room, Touched, View, plan_set, read_list, try_list};
-use ctrl_types::{Check, CtrlValue, Fault, FhId, Pair, RequestId, Which};
-use device_history::{PairList, Reply, Step, meant, spoken, state_check, writes_defaults};
+use ctrl_types::{Check, CtrlValue, Fault, FhId, Pair, Refusal, RequestId, Which};
+use device_history::{PairList, Reply, Step, meant, refused, spoken, state_check, writes_defaults};
 use history::Entry;
 use std::alloc::AllocError;
 use std::mem;
@@ -47,7 +49,6 @@ impl<D: Driver> Device<D> {
     /// Refused by the first of the checks 1 to 7 of a list in docs/RULES.md that doesn't hold: EBADF (9), EINVAL (22) or EACCES (13). Where
     /// there are 1 to 64 entries, ENOMEM (12) may stand in place of the values and of the refusals from check 6 on. The index is the number
     /// of entries.
-    #[inline(never)]
     pub fn get(
         &mut self,
         fh: FhId,
@@ -56,6 +57,24 @@ impl<D: Driver> Device<D> {
         list: &ControlList,
     ) -> Result<Reply, Fault>
         ensures { (seat : ℕ) → Handles D.verdict self.old self.new seat (asks.GetCtrls fh which request list.now) result }
+    {
+        match self.ask_get(fh, which, request, list) {
+            Ok(reply) => Ok(reply),
+            Err(refusal) => Err(refusal.at_count(list.len())),
+        }
+    }
+
+    // Answers a get.
+    #[inline(never)]
+    pub(super) fn ask_get(
+        &mut self,
+        fh: FhId,
+        which: u32,
+        request: Option<RequestId>,
+        list: &ControlList,
+    ) -> Result<Reply, Refusal>
+        ensures handles { (seat : ℕ) → Handles D.verdict self.old self.new seat (asks.GetCtrls fh which request list.now) (published (asks.GetCtrls fh which request list.now) result) }
+        ensures why { IfErr result (MayRefuse D.verdict self.old (asks.GetCtrls fh which request list.now)) }
     {
         let mut room = mem::replace(&mut self.room, Room::new(self.alloc));
         let answer = self.get_list(fh, which, request, list, &mut room);
@@ -89,7 +108,6 @@ impl<D: Driver> Device<D> {
     /// (22), ENOSPC (28) or ERANGE (34). Where there are 1 to 64 entries, ENOMEM (12) may stand in place of success and of the refusals from
     /// check 6 on; where there are none, in place of success alone. The index is the number of entries. Nothing is changed then but the
     /// counts of `work`, and no notifier is told.
-    #[inline(never)]
     pub fn set(
         &mut self,
         seat: u32,
@@ -104,7 +122,10 @@ impl<D: Driver> Device<D> {
         let answer = self.set_list(seat, fh, which, request, list);
         // the words are such as were told, as the contract of `steps` says
         let _kept = self.steps();
-        answer
+        match answer {
+            Ok(reply) => Ok(reply),
+            Err(why) => Err(why.at_count(list.len())),
+        }
     }
 
     /// Tries what controls would be set to, as `handle` on `Ask::TryCtrls` of these fields at any seat does (Linux userspace
@@ -117,7 +138,6 @@ impl<D: Driver> Device<D> {
     /// Refused as `set` is, through a request too, but never for a grab, never by check 9, and where there are no entries never with ENOMEM
     /// (12). The index is the place of an entry, from 0, in the checks 6, 7 and 8: the entry that is refused, and in check 8 the first one of
     /// its cluster. Else, and with ENOMEM, it is the number of entries.
-    #[inline(never)]
     pub fn try_set(
         &mut self,
         fh: FhId,
@@ -126,6 +146,24 @@ impl<D: Driver> Device<D> {
         list: &ControlList,
     ) -> Result<Reply, Fault>
         ensures { (seat : ℕ) → Handles D.verdict self.old self.new seat (asks.TryCtrls fh which request list.now) result }
+    {
+        match self.ask_try(fh, which, request, list) {
+            Ok(reply) => Ok(reply),
+            Err(refusal) => Err(refusal.at_entry(list.len())),
+        }
+    }
+
+    // Answers a try.
+    #[inline(never)]
+    pub(super) fn ask_try(
+        &mut self,
+        fh: FhId,
+        which: u32,
+        request: Option<RequestId>,
+        list: &ControlList,
+    ) -> Result<Reply, Refusal>
+        ensures handles { (seat : ℕ) → Handles D.verdict self.old self.new seat (asks.TryCtrls fh which request list.now) (published (asks.TryCtrls fh which request list.now) result) }
+        ensures why { IfErr result (MayRefuse D.verdict self.old (asks.TryCtrls fh which request list.now)) }
     {
         let mut room = mem::replace(&mut self.room, Room::new(self.alloc));
         let mut work = Work::new();
@@ -144,7 +182,7 @@ impl<D: Driver> Device<D> {
         writes: bool,
     ) -> Result<(u32, Which), Check>
         ensures passed { OnOk result (first_refusal (opening_checks D.verdict self.now.plan (past self.now.steps) fh which request writes) ≡ None) }
-        ensures err { IfErr result (λ check. first_refusal (opening_checks D.verdict self.now.plan (past self.now.steps) fh which request writes) ≡ Some (record { check = check; place = None })) }
+        ensures err { IfErr result (λ check. first_refusal (opening_checks D.verdict self.now.plan (past self.now.steps) fh which request writes) ≡ Some (record { check = check; entry = None })) }
         ensures handler { IfOk result (λ r. r.0 ≡ handler_or (handler_of (past self.now.steps) fh)) }
         ensures which { IfOk result (λ r. r.1 ≡ which_or (which_of which)) }
         ensures writable { IfOk result (λ r. writes ≡ true → r.1 ≢ Defaults) }
@@ -179,7 +217,7 @@ impl<D: Driver> Device<D> {
     fn request_check(&self, writes: bool, request: RequestId) -> Option<Check>
         ensures { result ≡ request_check writes (request_now D.verdict self.now request) }
     {
-        match self.frames.state(request) {
+        match self.frames.requests().state(request) {
             Some(state) => state_check(writes, state),
             None => Some(Check::ListRequestMissing),
         }
@@ -199,7 +237,7 @@ impl<D: Driver> Device<D> {
         request: Option<RequestId>,
     ) -> Result<View<'_, D>, Check>
         ensures passed { OnOk result (first_refusal (opening_checks D.verdict self.now.plan (past self.now.steps) fh which request false) ≡ None) }
-        ensures err { IfErr result (λ check. first_refusal (opening_checks D.verdict self.now.plan (past self.now.steps) fh which request false) ≡ Some (record { check = check; place = None })) }
+        ensures err { IfErr result (λ check. first_refusal (opening_checks D.verdict self.now.plan (past self.now.steps) fh which request false) ≡ Some (record { check = check; entry = None })) }
         ensures plan { IfOk result (λ view. view.plan ≡ self.now.plan) }
         ensures view { IfOk result (λ view. view.parts ≡ read_view D.verdict self.now.plan (past self.now.steps) fh which request) }
     {
@@ -221,7 +259,7 @@ impl<D: Driver> Device<D> {
         ensures long { length result.now ≡ length self.now.plan.controls }
     {
         match request {
-            Some(request) => self.frames.snapshot_of(request),
+            Some(request) => self.frames.requests().snapshot_of(request),
             None => self.values(),
         }
     }
@@ -239,7 +277,7 @@ impl<D: Driver> Device<D> {
         request: Option<RequestId>,
     ) -> Result<View<'_, D>, Check>
         ensures passed { OnOk result (first_refusal (opening_checks D.verdict self.now.plan (past self.now.steps) fh which request true) ≡ None) }
-        ensures err { IfErr result (λ check. first_refusal (opening_checks D.verdict self.now.plan (past self.now.steps) fh which request true) ≡ Some (record { check = check; place = None })) }
+        ensures err { IfErr result (λ check. first_refusal (opening_checks D.verdict self.now.plan (past self.now.steps) fh which request true) ≡ Some (record { check = check; entry = None })) }
         ensures plan { IfOk result (λ view. view.plan ≡ self.now.plan) }
         ensures view { IfOk result (λ view. view.parts ≡ write_view D.verdict self.now.plan (past self.now.steps) fh which request) }
         ensures which { IfOk result (λ view. view.parts.which ≢ Defaults) }
@@ -255,35 +293,37 @@ impl<D: Driver> Device<D> {
         ensures { result.now ≡ earlier_pairs self.now.plan (past self.now.steps) request }
     {
         match request {
-            Some(request) => self.frames.pairs_of(request),
+            Some(request) => self.frames.requests().pairs_of(request),
             None => &[],
         }
     }
 
     // Gets the controls of a list.
-    fn get_list(
+    pub(super) fn get_list(
         &self,
         fh: FhId,
         which: u32,
         request: Option<RequestId>,
         list: &ControlList,
         room: &mut Room,
-    ) -> Result<Reply, Fault>
-        ensures { MayAnswer D.verdict self.now.plan (past self.now.steps) self.now.words (asks.GetCtrls fh which request list.now) result }
+    ) -> Result<Reply, Refusal>
+        ensures answers { MayAnswer D.verdict self.now.plan (past self.now.steps) self.now.words (asks.GetCtrls fh which request list.now) (published (asks.GetCtrls fh which request list.now) result) }
+        ensures why { IfErr result (MayRefuse D.verdict self.now (asks.GetCtrls fh which request list.now)) }
+        ensures passed { OnOk result (first_refusal (get_checks D.verdict self.now.plan (past self.now.steps) fh which request list.now) ≡ None) }
     {
         let view = match self.read_view(fh, which, request) {
             Ok(view) => view,
-            Err(check) => return Err(check.fault_at(list.len())),
+            Err(check) => return refused(check),
         };
         let controls = match read_list(self.alloc, &view, list, room) {
             Ok(controls) => controls,
-            Err(refusal) => return Err(refusal.at_count(list.len())),
+            Err(refusal) => return Err(refusal),
         };
         Ok(Reply::Controls(controls))
     }
 
     // Tries the controls of a list.
-    fn try_list(
+    pub(super) fn try_list(
         &self,
         fh: FhId,
         which: u32,
@@ -291,33 +331,36 @@ impl<D: Driver> Device<D> {
         list: &ControlList,
         room: &mut Room,
         work: &mut Work,
-    ) -> Result<Reply, Fault>
-        ensures answers { MayAnswer D.verdict self.now.plan (past self.now.steps) self.now.words (asks.TryCtrls fh which request list.now) result }
+    ) -> Result<Reply, Refusal>
+        ensures answers { MayAnswer D.verdict self.now.plan (past self.now.steps) self.now.words (asks.TryCtrls fh which request list.now) (published (asks.TryCtrls fh which request list.now) result) }
+        ensures why { IfErr result (MayRefuse D.verdict self.now (asks.TryCtrls fh which request list.now)) }
+        ensures passed { OnOk result (first_refusal (try_checks D.verdict self.now.plan (past self.now.steps) fh which request list.now) ≡ None) }
         ensures at_most { work.new.asked ≤ work.old.asked + list_most D.verdict self.now.plan (past self.now.steps) fh which request false list.now (list_touches self.now.plan (past self.now.steps) fh which list.now) }
         ensures asked { OnOk result (work.new.asked ≡ with_calls (judged_count self.now.plan (touched self.now.plan (list_pairs self.now.plan (past self.now.steps) fh which list.now))) work.old.asked) }
         ensures told { work.new.told ≡ work.old.told }
     {
         let view = match self.write_view(fh, which, request) {
             Ok(view) => view,
-            Err(check) => return Err(check.fault_at(list.len())),
+            Err(check) => return refused(check),
         };
         let touch = match try_list(self.alloc, &view, list, room, work) {
             Ok(touch) => touch,
-            Err(refusal) => return Err(refusal.at_entry(list.len())),
+            Err(refusal) => return Err(refusal),
         };
         Ok(Reply::Controls(touch.into_answers(room)))
     }
 
     // Sets the controls of a list.
-    fn set_list(
+    pub(super) fn set_list(
         &mut self,
         seat: u32,
         fh: FhId,
         which: u32,
         request: Option<RequestId>,
         list: &ControlList,
-    ) -> Result<Reply, Fault>
-        ensures { Handles D.verdict self.old self.new seat (asks.SetCtrls fh which request list.now) result }
+    ) -> Result<Reply, Refusal>
+        ensures handles { Handles D.verdict self.old self.new seat (asks.SetCtrls fh which request list.now) (published (asks.SetCtrls fh which request list.now) result) }
+        ensures why { IfErr result (MayRefuse D.verdict self.old (asks.SetCtrls fh which request list.now)) }
     {
         let mut room = mem::replace(&mut self.room, Room::new(self.alloc));
         let mut work = Work::new();
@@ -326,16 +369,16 @@ impl<D: Driver> Device<D> {
         self.room = room;
         let touch = match planned {
             Ok(touch) => touch,
-            Err(fault) => return Err(fault),
+            Err(why) => return Err(why),
         };
         match self.accept_set(seat, fh, spoken(which, request), touch) {
             Ok(controls) => Ok(Reply::Controls(controls)),
-            Err(_) => Err(Check::MemoryRefused.fault_at(list.len())),
+            Err(_) => refused(Check::MemoryRefused),
         }
     }
 
     // The refusals of a list that is to be set; else what it makes of the clusters that it touches.
-    fn plan_list(
+    pub(super) fn plan_list(
         &self,
         fh: FhId,
         which: u32,
@@ -343,24 +386,28 @@ impl<D: Driver> Device<D> {
         list: &ControlList,
         room: &mut Room,
         work: &mut Work,
-    ) -> Result<Touched, Fault>
-        ensures ok { IfOk result (λ touch. IsSettable D.verdict self.now.plan (past self.now.steps) fh which request list.now touch) }
-        ensures err { IfErr result (λ fault. MayAnswer D.verdict self.now.plan (past self.now.steps) self.now.words (asks.SetCtrls fh which request list.now) (Err fault)) }
+    ) -> Result<Touched, Refusal>
+        ensures ok { IfOk result (λ touch. CanBeSet D.verdict self.now.plan (past self.now.steps) fh (meant (which_or (which_of which)) request) touch) }
+        ensures own_pairs { IfOk result (λ touch. touch.pairs ≡ list_pairs self.now.plan (past self.now.steps) fh which list.now) }
+        ensures accepted { IfOk result (λ touch. set_list_answer D.verdict self.now.plan (past self.now.steps) fh which request list.now ≡ Ok (Controls touch.answers)) }
+        ensures err { IfErr result (λ refusal. MayAnswer D.verdict self.now.plan (past self.now.steps) self.now.words (asks.SetCtrls fh which request list.now) (Err (fault_at_count (length list.now) refusal))) }
+        ensures why { IfErr result (MayRefuse D.verdict self.now (asks.SetCtrls fh which request list.now)) }
+        ensures passed { OnOk result (first_refusal (set_checks D.verdict self.now.plan (past self.now.steps) fh which request list.now) ≡ None) }
         ensures at_most { work.new.asked ≤ work.old.asked + list_most D.verdict self.now.plan (past self.now.steps) fh which request true list.now (list_touches self.now.plan (past self.now.steps) fh which list.now) }
         ensures asked { OnOk result (work.new.asked ≡ with_calls (judged_count self.now.plan (touched self.now.plan (list_pairs self.now.plan (past self.now.steps) fh which list.now))) work.old.asked) }
         ensures told { work.new.told ≡ work.old.told }
     {
         let view = match self.write_view(fh, which, request) {
             Ok(view) => view,
-            Err(check) => return Err(check.fault_at(list.len())),
+            Err(check) => return Err(Refusal::whole(check)),
         };
         let touch = match plan_set(self.alloc, &view, list, room, work) {
             Ok(touch) => touch,
-            Err(refused) => return Err(refused.at_count(list.len())),
+            Err(refusal) => return Err(refusal),
         };
         if self.is_full() {
             let _ = touch.into_answers(room);
-            return Err(Check::ListHistoryFull.fault_at(list.len()));
+            return Err(Refusal::whole(Check::ListHistoryFull));
         }
         Ok(touch)
     }

@@ -1,18 +1,19 @@
 //! How a device gives a control another range.
 
-ghost use Rattle.std.specs.Prelude.{◌≡◌, IfOk, OnOk, OnErr};
+ghost use Rattle.std.specs.Prelude.{◌≡◌, IfOk, OnOk, OnErr, IfErr};
 ghost use Rattle.std.specs.Result.{result_err};
 ghost use Rattle.history.specs.Past.{past};
 ghost use Rattle.device_history.specs.declared.ask.Ask.TheVariants as asks;
 ghost use Rattle.device_history.specs.Ranges.{control_with_range, range_check, ranges_now};
-ghost use Rattle.device_state.specs.Device.{Handles};
+ghost use Rattle.device_history.specs.AskChecks.{published};
+ghost use Rattle.device_state.specs.Device.{Handles, MayRefuse};
 ghost use Rattle.device_state.specs.Ranging.{GivesRange, IsRanged};
 
 use super::Device;
 use ctrl_calls::{Driver, Work};
 use ctrl_clusters::notify_cluster;
 use ctrl_settle::Ctrl;
-use ctrl_types::{Check, Fault};
+use ctrl_types::{Check, Refusal};
 use device_history::{Reply, Step, refused};
 use history::Entry;
 use std::alloc::AllocError;
@@ -29,8 +30,9 @@ impl<D: Driver> Device<D> {
         max: i64,
         step: u64,
         default_value: i64,
-    ) -> Result<Reply, Fault>
-        ensures { Handles D.verdict self.old self.new seat (asks.ModifyRange control min max step default_value) result }
+    ) -> Result<Reply, Refusal>
+        ensures handles { Handles D.verdict self.old self.new seat (asks.ModifyRange control min max step default_value) (published (asks.ModifyRange control min max step default_value) result) }
+        ensures why { IfErr result (MayRefuse D.verdict self.old (asks.ModifyRange control min max step default_value)) }
     {
         self.work = Work::new();
         let changed = match self.range_made(control, min, max, step, default_value) {

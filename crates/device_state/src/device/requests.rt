@@ -1,6 +1,6 @@
 //! What a device answers about media requests and its queue of frames, but for the begin of a frame.
 
-ghost use Rattle.std.specs.Prelude.{◌≡◌, ◌≤◌, ◌+◌, false, true, length, Some, Ok, Err, IfOk, MatchResult, OnOk, OnErr, slice_get};
+ghost use Rattle.std.specs.Prelude.{◌≡◌, ◌≤◌, ◌+◌, false, true, length, Some, Ok, Err, IfOk, MatchResult, OnOk, OnErr, slice_get, IfErr};
 ghost use Rattle.std.specs.Option.{option_map};
 ghost use Rattle.std.specs.Result.{result_err};
 ghost use Rattle.history.specs.Past.{past};
@@ -10,9 +10,11 @@ ghost use Rattle.device_history.specs.declared.ask.Ask.TheVariants as asks;
 ghost use Rattle.device_history.specs.Frames.{queue, running};
 ghost use Rattle.device_history.specs.declared.limits.TheConstants.{MAX_STEPS};
 ghost use Rattle.device_history.specs.Legal.{MayFollow};
-ghost use Rattle.device_history.specs.Refusals.{is_full, refused};
+ghost use Rattle.ctrl_types.specs.Refusals.{whole};
+ghost use Rattle.device_history.specs.Refusals.{is_full};
 ghost use Rattle.device_history.specs.Snapshots.{frames, requests};
-ghost use Rattle.device_state.specs.Device.{Handles, request_now, with_step};
+ghost use Rattle.device_history.specs.AskChecks.{published};
+ghost use Rattle.device_state.specs.Device.{Handles, MayRefuse, request_now, with_step};
 ghost use Rattle.device_history.specs.Forecasts.{queued_frames};
 ghost use Rattle.step_effects.specs.QueuedFrames.{asks_at_most};
 ghost use Rattle.step_effects.specs.Leaving.{NamesKnown, leaves_controls};
@@ -20,7 +22,7 @@ ghost use Rattle.device_state.specs.Entering.{AddsStep};
 
 use super::Device;
 use ctrl_calls::{Driver, Work};
-use ctrl_types::{Check, CtrlValue, Errno, Fault, Pair, RequestId};
+use ctrl_types::{Check, CtrlValue, Errno, Pair, Refusal, RequestId};
 use device_history::{Ask, Reply, Step, refused};
 use frame_queue::RequestState;
 use history::Entry;
@@ -36,7 +38,7 @@ impl<D: Driver> Device<D> {
     pub fn state_of(&self, request: RequestId) -> Result<RequestState, Errno>
         ensures { result ≡ state_answer (request_now D.verdict self.now request) }
     {
-        self.frames.state_of(request)
+        self.frames.requests().state_of(request)
     }
 
     /// The number of a request's buffer, where it was given one since it was made, or made as new, for a driver's own use. Refused by check 19
@@ -46,7 +48,7 @@ impl<D: Driver> Device<D> {
     pub fn buffer_of(&self, request: RequestId) -> Result<Option<u32>, Errno>
         ensures { result ≡ buffer_answer (request_now D.verdict self.now request) }
     {
-        self.frames.buffer_of(request)
+        self.frames.requests().buffer_of(request)
     }
 
     /// What a request asks for, for a driver's own use: of each control the last pair that was stored since the request was made, or made
@@ -56,7 +58,7 @@ impl<D: Driver> Device<D> {
     pub fn asked(&self, request: RequestId) -> Result<&[Pair], Errno>
         ensures { MatchResult result (λ pairs. asked_answer (request_now D.verdict self.now request) ≡ Ok pairs.now) (λ errno. asked_answer (request_now D.verdict self.now request) ≡ Err errno) }
     {
-        self.frames.asked(request)
+        self.frames.requests().asked(request)
     }
 
     /// The value of a control in the snapshot of a complete request, for a driver's own use: of a control that the request asks for and
@@ -69,7 +71,7 @@ impl<D: Driver> Device<D> {
     pub fn snapshot(&self, request: RequestId, control: u32) -> Result<CtrlValue, Errno>
         ensures { result ≡ value_answer (length self.now.plan.controls) control (request_now D.verdict self.now request) }
     {
-        self.frames.snapshot(request, control)
+        self.frames.requests().snapshot(request, control)
     }
 
     /// The request that waits at a place of the queue, for a driver's own use: the queued ones, in the order of their last queueing; none
@@ -101,28 +103,28 @@ impl<D: Driver> Device<D> {
     pub(super) fn alloc_refusal(&self) -> Option<Check>
         ensures { result ≡ alloc_check (requests D.verdict self.now.plan (past self.now.steps)) }
     {
-        self.frames.alloc_refusal()
+        self.frames.requests().alloc_refusal()
     }
 
     // Why a request takes no buffer.
     pub(super) fn buffer_refusal(&self, request: RequestId, buffer: u32) -> Option<Check>
         ensures { result ≡ buffer_check (requests D.verdict self.now.plan (past self.now.steps)) buffer (request_now D.verdict self.now request) }
     {
-        self.frames.buffer_refusal(request, buffer)
+        self.frames.requests().buffer_refusal(request, buffer)
     }
 
     // Why a request isn't queued.
     pub(super) fn queue_refusal(&self, request: RequestId) -> Option<Check>
         ensures { result ≡ queue_check (request_now D.verdict self.now request) }
     {
-        self.frames.queue_refusal(request)
+        self.frames.requests().queue_refusal(request)
     }
 
     // Why a request is neither made as new nor let go.
     pub(super) fn clear_refusal(&self, request: RequestId) -> Option<Check>
         ensures { result ≡ clear_check (request_now D.verdict self.now request) }
     {
-        self.frames.clear_refusal(request)
+        self.frames.requests().clear_refusal(request)
     }
 
     // Why a request isn't taken from the queue.
@@ -145,8 +147,9 @@ impl<D: Driver> Device<D> {
 
     // Ends the frame that is being made.
     #[inline(never)]
-    pub(super) fn complete(&mut self, seat: u32) -> Result<Reply, Fault>
-        ensures { Handles D.verdict self.old self.new seat asks.Complete result }
+    pub(super) fn complete(&mut self, seat: u32) -> Result<Reply, Refusal>
+        ensures handles { Handles D.verdict self.old self.new seat (asks.Complete) (published (asks.Complete) result) }
+        ensures why { IfErr result (MayRefuse D.verdict self.old (asks.Complete)) }
     {
         match self.frame_running() {
             Ok(request) => {
@@ -158,8 +161,8 @@ impl<D: Driver> Device<D> {
     }
 
     // Refuses an ask before anything else is done.
-    pub(super) fn refuse(&mut self, check: Check) -> Result<Reply, Fault>
-        ensures answer { result ≡ refused check }
+    pub(super) fn refuse(&mut self, check: Check) -> Result<Reply, Refusal>
+        ensures answer { result ≡ Err (whole check) }
         ensures kept { self.new ≡ record self.old { work = record { asked = 0; told = 0 } } }
     {
         self.work = Work::new();
@@ -175,9 +178,10 @@ impl<D: Driver> Device<D> {
         check: Option<Check>,
         step: Step,
         reply: Reply,
-    ) -> Result<Reply, Fault>
+    ) -> Result<Reply, Refusal>
         requires { AddsStep D.verdict self.old.plan (past self.old.steps) self.old.words ask.now check step reply }
-        ensures { Handles D.verdict self.old self.new seat ask.now result }
+        ensures handles { Handles D.verdict self.old self.new seat ask.now (published ask.now result) }
+        ensures why { IfErr result (MayRefuse D.verdict self.old ask.now) }
     {
         self.work = Work::new();
         if let Some(check) = self.step_check(check) {

@@ -5,7 +5,7 @@ ghost use Rattle.history.specs.Past.{past};
 ghost use Rattle.device_history.specs.declared.ask.Step.TheVariants as steps;
 ghost use Rattle.device_history.specs.Refusals.{is_full};
 ghost use Rattle.device_history.specs.Requests.{asked as asked_of, state};
-ghost use Rattle.device_history.specs.Snapshots.{begun_pairs, begun_refused, begun_values};
+ghost use Rattle.device_history.specs.Snapshots.{begun_refused, begun_values};
 ghost use Rattle.history_audit.specs.Replay.{AddsNext, IsNextStep, MayBeNext};
 
 use super::Replay;
@@ -46,7 +46,7 @@ impl<'a, D: Driver> Replay<'a, D> {
         requires { is_some (state (past self.now.steps) request.0) ≡ true }
         ensures { result.now ≡ asked_of self.now.plan (past self.now.steps) request.0 }
     {
-        self.frames.pairs_of(request)
+        self.frames.requests().pairs_of(request)
     }
 
     // Lays what a request asks for, which the caller owes to be there, over the present values.

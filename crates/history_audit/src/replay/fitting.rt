@@ -1,10 +1,11 @@
 //! Whether a step that gives neither pairs nor a range may follow.
 
-ghost use Rattle.std.specs.Prelude.{◌≡◌, ◌↔◌, false, IsTrue};
+ghost use Rattle.std.specs.Prelude.{◌≡◌, ◌↔◌, false, length, IsTrue};
 ghost use Rattle.history.specs.Past.{past};
 ghost use Rattle.device_history.specs.Refusals.{is_full};
 ghost use Rattle.history_audit.specs.Changing.{fits_parts};
 ghost use Rattle.history_audit.specs.Replay.{MayBeNext, is_judged};
+ghost use Rattle.step_effects.specs.Leaving.{NamesKnown};
 
 use super::Replay;
 use ctrl_calls::Driver;
@@ -16,6 +17,7 @@ impl<'a, D: Driver> Replay<'a, D> {
         requires { is_judged step.now ≡ false }
         ensures follows { IsTrue result ↔ MayBeNext D.verdict self.now step.now }
         ensures room { IsTrue result → is_full (past self.now.steps) ≡ false }
+        ensures known { IsTrue result → NamesKnown (length self.now.plan.controls) step.now }
     {
         if self.is_full() {
             return false;
@@ -28,25 +30,26 @@ impl<'a, D: Driver> Replay<'a, D> {
         requires { is_judged step.now ≡ false }
         ensures { result ≡ fits_parts D.verdict self.now.plan (past self.now.steps) step.now }
     {
+        let requests = self.frames.requests();
         match step {
             Step::OpenFh { handler } => {
                 self.plan.has_handler(*handler) && self.file_handles.len() < MAX_FILE_HANDLES
             }
             Step::CloseFh { fh } => self.handler_of(*fh).is_some(),
             Step::Grab { control, .. } => *control < self.plan.control_count(),
-            Step::Alloc => self.frames.alloc_refusal().is_none(),
+            Step::Alloc => requests.alloc_refusal().is_none(),
             Step::Buffer { request, buffer } => {
-                self.frames.buffer_refusal(*request, *buffer).is_none()
+                requests.buffer_refusal(*request, *buffer).is_none()
             }
-            Step::Queue { request } => self.frames.queue_refusal(*request).is_none(),
+            Step::Queue { request } => requests.queue_refusal(*request).is_none(),
             Step::Begin { request } => {
                 self.frames.running().is_none() && self.frames.queued(0) == Some(*request)
             }
             Step::Complete { request } => self.frames.running() == Some(*request),
             Step::Cancel { request } => self.frames.cancel_refusal(*request).is_none(),
             Step::StreamOff => true,
-            Step::Reinit { request } => self.frames.clear_refusal(*request).is_none(),
-            Step::Free { request } => self.frames.clear_refusal(*request).is_none(),
+            Step::Reinit { request } => requests.clear_refusal(*request).is_none(),
+            Step::Free { request } => requests.clear_refusal(*request).is_none(),
             Step::Subscribe { fh, control, .. } => self.shows(*fh, *control),
             Step::Unsubscribe {
                 fh,

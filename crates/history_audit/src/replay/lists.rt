@@ -114,7 +114,7 @@ impl<'a, D: Driver> Replay<'a, D> {
     fn store_refusal(&self, request: RequestId) -> Option<Check>
         ensures { result ≡ store_check (request_of D.verdict self.now.plan (past self.now.steps) request.0) }
     {
-        self.frames.store_refusal(request)
+        self.frames.requests().store_refusal(request)
     }
 
     // The handler of the first open file handle whose handler shows pairs.

@@ -7,8 +7,7 @@ ghost use Rattle.ctrl_handlers.specs.Plan.{control_in};
 ghost use Rattle.device_history.specs.Ranges.{ranges_now};
 ghost use Rattle.device_history.specs.Refusals.{is_full};
 ghost use Rattle.history_audit.specs.Replay.{AddsNext, IsNextStep, MayBeNext, TriesNext};
-ghost use Rattle.history_audit.specs.Changing.{StoresKnown};
-ghost use Rattle.step_effects.specs.Leaving.{leaves_controls};
+ghost use Rattle.step_effects.specs.Leaving.{NamesKnown, leaves_controls};
 
 use super::Replay;
 use ctrl_calls::Driver;
@@ -109,7 +108,7 @@ impl<'a, D: Driver> Replay<'a, D> {
         requires leaves { leaves_controls step.now ≡ true }
         requires room { is_full (past self.old.steps) ≡ false }
         requires follows { MayBeNext D.verdict self.old step.now }
-        requires known { StoresKnown (length self.old.plan.controls) step.now }
+        requires known { NamesKnown (length self.old.plan.controls) step.now }
         ensures ok { OnOk result (AddsNext self.old self.new) }
         ensures err { OnErr result (self.new ≡ self.old) }
     {

@@ -83,13 +83,12 @@ impl<'a> Scene<'a> {
 
     // The same, but the frame stays among those that wait.
     fn begin_first(&mut self) {
-        match self.board.pop() {
-            Some(first) => {
-                let Forecast { values, .. } = first;
-                self.controls.replace_values(values.into_vec());
-            }
-            None => {}
+        if self.board.len() == 0 {
+            return;
         }
+        let (first, _) = self.board.begin();
+        let Forecast { values, .. } = first;
+        self.controls.replace_values(values.into_vec());
     }
 
     /// The frame at a place is taken out. The answer is how many validators may be asked.

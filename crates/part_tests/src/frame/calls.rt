@@ -1,9 +1,11 @@
 //! Calls of a queue of frames over three controls, and looks at it.
 
+ghost use Rattle.std.specs.Prelude.{◌≡◌, None, OnOk};
+
 use crate::values::{are_numbers, are_pairs, pairs_of};
-use ctrl_types::{CtrlValue, Errno, Pair, RequestId};
+use ctrl_types::{Check, CtrlValue, Errno, Pair, RequestId};
 use frame_queue::{Frames, RequestState};
-use std::alloc::Global;
+use std::alloc::{AllocError, Global};
 
 /// How many controls there are.
 pub(crate) const CONTROLS: u32 = 3;
@@ -38,8 +40,8 @@ pub(crate) enum Look {
     Count(usize),
 }
 
-/// What a call answers; a begin the number of its frame's buffer, every other call 0. A call that its caller owes something else isn't made,
-/// and answers ERANGE.
+/// What a call answers: the errno of the check that refuses it, which is asked first; else a begin the number of its frame's buffer, and every
+/// other call 0, once it is made. A call that its caller owes something else isn't made, and answers ERANGE.
 pub(crate) fn answer(alloc: Global, frames: &mut Frames, call: Call) -> Result<u32, Errno> {
     match call {
         Call::Alloc(id) => make(frames, RequestId(id)),
@@ -47,18 +49,17 @@ pub(crate) fn answer(alloc: Global, frames: &mut Frames, call: Call) -> Result<u
             let pairs = made(alloc, pairs)?;
             store(frames, RequestId(id), pairs.as_slice())
         }
-        Call::Buffer(id, number) => done(frames.try_add_buffer(RequestId(id), number)),
-        Call::Queue(id) => done(frames.try_queue(RequestId(id))),
+        Call::Buffer(id, number) => add_buffer(frames, RequestId(id), number),
+        Call::Queue(id) => queue(frames, RequestId(id)),
         Call::Begin(applied) => {
             let applied = made(alloc, applied)?;
-            let (_, number) = frames.try_begin(applied.as_slice())?;
-            Ok(number)
+            begin(frames, applied.as_slice())
         }
         Call::Complete(number) => complete(frames, number),
         Call::Cancel(id, number) => cancel(frames, RequestId(id), number),
         Call::Off(number) => stream_off(frames, number),
-        Call::Reinit(id) => done(frames.try_reinit(RequestId(id))),
-        Call::Free(id) => done(frames.try_free(RequestId(id))),
+        Call::Reinit(id) => reinit(frames, RequestId(id)),
+        Call::Free(id) => free(frames, RequestId(id)),
     }
 }
 
@@ -69,31 +70,88 @@ fn made(alloc: Global, asked: &[(u32, i64)]) -> Result<Vec<Pair>, Errno> {
     }
 }
 
-fn done(answer: Result<(), Errno>) -> Result<u32, Errno> {
-    match answer {
-        Ok(()) => Ok(0),
-        Err(errno) => Err(errno),
+// Nothing refuses a call; else the errno of the check that does.
+fn passes(refusal: Option<Check>) -> Result<(), Errno>
+    ensures { OnOk result (refusal ≡ None) }
+{
+    match refusal {
+        Some(check) => Err(check.errno()),
+        None => Ok(()),
     }
 }
 
+fn grown(answer: Result<(), AllocError>) -> Result<u32, Errno> {
+    match answer {
+        Ok(()) => Ok(0),
+        Err(_) => Err(Errno::ENOMEM),
+    }
+}
+
+fn make(frames: &mut Frames, id: RequestId) -> Result<u32, Errno> {
+    match frames.requests().state_of(id) {
+        Ok(_) => Err(Errno::ERANGE),
+        Err(_) => {
+            passes(frames.requests().alloc_refusal())?;
+            grown(frames.alloc(id))
+        }
+    }
+}
+
+fn store(frames: &mut Frames, id: RequestId, pairs: &[Pair]) -> Result<u32, Errno> {
+    let controls = frames.requests().controls();
+    if pairs.iter().all(|pair| pair.control < controls) {
+        passes(frames.requests().store_refusal(id))?;
+        grown(frames.store(id, pairs))
+    } else {
+        Err(Errno::ERANGE)
+    }
+}
+
+fn add_buffer(frames: &mut Frames, id: RequestId, number: u32) -> Result<u32, Errno> {
+    passes(frames.requests().buffer_refusal(id, number))?;
+    frames.add_buffer(id, number);
+    Ok(0)
+}
+
+fn queue(frames: &mut Frames, id: RequestId) -> Result<u32, Errno> {
+    passes(frames.requests().queue_refusal(id))?;
+    match frames.reserve() {
+        Ok(room) => {
+            frames.queue(id, room);
+            Ok(0)
+        }
+        Err(_) => Err(Errno::ENOMEM),
+    }
+}
+
+fn begin(frames: &mut Frames, applied: &[Pair]) -> Result<u32, Errno> {
+    passes(frames.begin_refusal())?;
+    let (_, number) = frames.begin(applied);
+    Ok(number)
+}
+
 fn complete(frames: &mut Frames, number: i64) -> Result<u32, Errno> {
-    if frames.controls() == CONTROLS {
-        done(frames.try_complete([CtrlValue::Number(number); 3].as_slice()))
+    if frames.requests().controls() == CONTROLS {
+        passes(frames.complete_refusal())?;
+        frames.complete([CtrlValue::Number(number); 3].as_slice());
+        Ok(0)
     } else {
         Err(Errno::ERANGE)
     }
 }
 
 fn cancel(frames: &mut Frames, id: RequestId, number: i64) -> Result<u32, Errno> {
-    if frames.controls() == CONTROLS {
-        done(frames.try_cancel(id, [CtrlValue::Number(number); 3].as_slice()))
+    if frames.requests().controls() == CONTROLS {
+        passes(frames.cancel_refusal(id))?;
+        frames.cancel(id, [CtrlValue::Number(number); 3].as_slice());
+        Ok(0)
     } else {
         Err(Errno::ERANGE)
     }
 }
 
 fn stream_off(frames: &mut Frames, number: i64) -> Result<u32, Errno> {
-    if frames.controls() == CONTROLS {
+    if frames.requests().controls() == CONTROLS {
         frames.stream_off([CtrlValue::Number(number); 3].as_slice());
         Ok(0)
     } else {
@@ -101,49 +159,46 @@ fn stream_off(frames: &mut Frames, number: i64) -> Result<u32, Errno> {
     }
 }
 
-fn make(frames: &mut Frames, id: RequestId) -> Result<u32, Errno> {
-    match frames.state_of(id) {
-        Ok(_) => Err(Errno::ERANGE),
-        Err(_) => done(frames.try_alloc(id)),
-    }
+fn reinit(frames: &mut Frames, id: RequestId) -> Result<u32, Errno> {
+    passes(frames.requests().clear_refusal(id))?;
+    frames.reinit(id);
+    Ok(0)
 }
 
-fn store(frames: &mut Frames, id: RequestId, pairs: &[Pair]) -> Result<u32, Errno> {
-    let controls = frames.controls();
-    if pairs.iter().all(|pair| pair.control < controls) {
-        done(frames.try_store(id, pairs))
-    } else {
-        Err(Errno::ERANGE)
-    }
+fn free(frames: &mut Frames, id: RequestId) -> Result<u32, Errno> {
+    passes(frames.requests().clear_refusal(id))?;
+    frames.free(id);
+    Ok(0)
 }
 
 /// Whether a look shows what it says.
 pub(crate) fn shows(frames: &Frames, look: Look) -> bool {
+    let requests = frames.requests();
     match look {
-        Look::State(id, state) => frames.state_of(RequestId(id)) == Ok(state),
-        Look::Gone(id) => frames.state_of(RequestId(id)) == Err(Errno::EINVAL),
-        Look::Holds(id, number) => frames.buffer_of(RequestId(id)) == Ok(number),
-        Look::Asks(id, pairs) => match frames.asked(RequestId(id)) {
+        Look::State(id, state) => requests.state_of(RequestId(id)) == Ok(state),
+        Look::Gone(id) => requests.state_of(RequestId(id)) == Err(Errno::EINVAL),
+        Look::Holds(id, number) => requests.buffer_of(RequestId(id)) == Ok(number),
+        Look::Asks(id, pairs) => match requests.asked(RequestId(id)) {
             Ok(asked) => are_pairs(asked, pairs),
             Err(_) => false,
         },
-        Look::Had(id, numbers) => match frames.snapshot_values(RequestId(id)) {
+        Look::Had(id, numbers) => match requests.snapshot_values(RequestId(id)) {
             Ok(snapshot) => are_numbers(snapshot, numbers),
             Err(_) => false,
         },
-        Look::HadNothing(id, errno) => match frames.snapshot_values(RequestId(id)) {
+        Look::HadNothing(id, errno) => match requests.snapshot_values(RequestId(id)) {
             Ok(_) => false,
             Err(refusal) => refusal == errno,
         },
         Look::HadValue(id, control, want) => {
-            frames.snapshot(RequestId(id), control) == want.map(CtrlValue::Number)
+            requests.snapshot(RequestId(id), control) == want.map(CtrlValue::Number)
         }
         Look::Waits(ids) => waits(frames, ids),
         Look::Runs(id) => match frames.running() {
             Some(running) => id == Some(running.0),
             None => id.is_none(),
         },
-        Look::Count(count) => frames.count() == count,
+        Look::Count(count) => requests.count() == count,
     }
 }
 

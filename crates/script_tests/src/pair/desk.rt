@@ -3,7 +3,7 @@
 ghost use Rattle.std.specs.Prelude.{◌≡◌, []};
 ghost use Rattle.turn_desk.specs.Views.{IsSeatOf};
 
-use crate::pair::closures::{Course, goes};
+use crate::pair::courses::{Course, goes};
 use ctrl_calls::Driver;
 use ctrl_types::{CtrlId, CtrlValue, ExtControl, Fault, FhId};
 use device_state::{Ask, ControlList, Device, Reply};

@@ -1,8 +1,8 @@
-//! Many asks at once, on a device with boxed closures.
+//! Many asks at once, on a device with closures.
 
 ghost use Rattle.std.specs.Prelude.{◌≡◌, []};
 
-use crate::pair::closures::{Course, goes};
+use crate::pair::courses::{Course, goes};
 use crate::pair::sample::NoGate;
 use crate::scripts::lines_in;
 use ctl_pair::run_pair;

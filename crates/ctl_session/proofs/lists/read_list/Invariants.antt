@@ -1,4 +1,4 @@
-use Rattle.std.proofs.Common.{◌≡◌, length, map, take}
+use Rattle.std.proofs.Common.{◌≡◌, ◌≤◌, length, map, vec_capacity}
 use Rattle.std.specs.List.{range_with_len}
 use Rattle.ctl_session.specs.Lists.{entry_at}
 use Rattle.ctl_session.proofs.lists.read_list.Given as goal
@@ -6,6 +6,7 @@ use Rattle.ctl_session.proofs.lists.read_list.Given as goal
 -- the entries so far
 abbrev pub invariant-loop-place : goal.invariant-loop-place
 invariant-loop-place g l = record {
-  read : take l.place l.entries ≡ map (entry_at l.plan l.handler l.count l.arg) (range_with_len 0 l.place);
-  long : length l.entries ≡ 65;
+  read : l.entries.items ≡ map (entry_at l.plan l.handler l.count l.arg) (range_with_len 0 l.place);
+  each : length l.entries.items ≡ l.place;
+  room : l.count ≤ vec_capacity l.entries;
 }

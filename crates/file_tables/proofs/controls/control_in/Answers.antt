@@ -1,6 +1,6 @@
 -- A control with which nothing is wrong is taken as it is described, and another is refused with its first fault.
 use Rattle.std.proofs.Common.{Ok, Err, refl, ap, sym, ◌∙◌}
-use Rattle.ctrl_settle.specs.Config.{control_of}
+use Rattle.ctrl_settle.specs.Control.{control_of}
 use Rattle.ctrl_settle.proofs.WellFormed.{fault_found, nothing_found}
 use Rattle.file_tables.specs.Controls.{checked, unless_fault}
 use Rattle.file_faults.specs.Faults.{read_then}

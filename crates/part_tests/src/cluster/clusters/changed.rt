@@ -1,15 +1,11 @@
 // Rows that are written, and notifiers that hear of them.
-ghost use Rattle.std.specs.Prelude.{◌≡◌};
-
 use super::planning::{Made, Named, plan_of};
 use super::rows::{Two, are_rows, is_work, kept_rows, rows_of};
 use crate::cluster::common::controls_of;
 use crate::cluster::driver::Strict;
 use crate::values::{are_numbers, pairs_of, values_of};
-use ctrl_calls::{ClusterRow, RowValues, Work};
-use ctrl_clusters::{
-    Moment, copy_row, first_words, notify_changed, write_row, write_rows, write_values,
-};
+use ctrl_calls::Work;
+use ctrl_clusters::{Moment, first_words, notify_changed, write_row, write_rows};
 use ctrl_handlers::Plan;
 use ctrl_types::{CtrlValue, Pair};
 use std::alloc::{AllocError, Global};
@@ -36,16 +32,7 @@ const HEARD: &[Named] = &[
 
 const VALUES: &[i64] = &[10, 11, 0, 13, 14];
 
-// The same row, as a closure is told it.
-fn copied(row: &RowValues) -> ClusterRow
-    ensures { result ≡ row.now }
-{
-    let mut copy = ClusterRow::zeros(row.len());
-    copy_row(row, &mut copy);
-    copy
-}
-
-// Writes the rows of two clusters, and to others one row after another, as a row and as values.
+// Writes the rows of two clusters, and to others one row after another.
 fn are_written(
     plan: &Plan<Strict>,
     values: &mut Vec<CtrlValue>,
@@ -67,10 +54,6 @@ fn are_written(
             return false;
         }
         write_row(plan, others, new.cluster, &new.row);
-        if others.len() != plan.controls().len() {
-            return false;
-        }
-        write_values(plan, others, new.cluster, copied(&new.row).values());
     }
     true
 }

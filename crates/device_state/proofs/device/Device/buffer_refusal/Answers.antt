@@ -1,6 +1,6 @@
 use Rattle.std.proofs.Common.{ap, ◌∙◌}
 use Rattle.history.specs.Past.{past}
-use Rattle.req_book.specs.Requests.{find}
+use Rattle.req_book.specs.Requests.{RequestsData, find}
 use Rattle.req_book.specs.Refusals.{buffer_check}
 use Rattle.frame_queue.specs.Frames.{FramesData}
 use Rattle.device_history.specs.Snapshots.{requests}
@@ -12,5 +12,6 @@ returns g c =
     let device = c.self.inside in
     rw (← c.self.view_is)
     (c.buffer_refusal.ensures
-    ∙ ap (λ (f : FramesData). buffer_check f.requests.all c.args.buffer (find device.frames.requests.all c.args.request.0)) c.self.invariant.frames
-    ∙ ap (buffer_check (requests g.D.Validates.verdict device.plan (past device.steps.items)) c.args.buffer) (found g.D.Validates.verdict g.D.Notifies.told device.plan device.steps.items _ c.args.request.0 c.self.invariant))
+    ∙ ap (λ (rs : RequestsData). buffer_check rs.all c.args.buffer (find c.requests.result.now.all c.args.request.0)) c.requests.ensures
+    ∙ ap (λ (f : FramesData). buffer_check f.requests.all c.args.buffer (find c.requests.result.now.all c.args.request.0)) c.self.invariant.frames
+    ∙ ap (buffer_check (requests g.D.Validates.verdict device.plan (past device.steps.items)) c.args.buffer) (found g.D.Validates.verdict g.D.Notifies.told device.plan device.steps.items _ c.args.request.0 c.self.invariant _ c.requests.ensures))

@@ -3,6 +3,6 @@ use Rattle.device_history.specs.declared.ask.Ask.TheVariants as asks
 use Rattle.device_state.proofs.HandleLemmas.{handles_unowned}
 use Rattle.device_state.proofs.device.Device.complete.Goals as goal
 
-pub returns-in-Err : goal.returns-in-Err
-returns-in-Err g c =
+pub returns-in-Err-clause-handles : goal.returns-in-Err-clause-handles
+returns-in-Err-clause-handles g c =
     rw c.refuse.ensures.answer (handles_unowned g.D.Validates.verdict _ _ _ c.args.seat asks.Complete _ c.in-Err.check _ c.refuse.ensures.kept refl refl (sym c.in-Err.ensures.check))

@@ -1,7 +1,5 @@
-use Rattle.device_state.proofs.HandleLemmas.{handles_forecast}
 use Rattle.device_state.proofs.device.Device.forecast.Goals as goal
 
--- a forecast adds no step
-pub returns : goal.returns
-returns g c = λ seat.
-    rw (← c.self.view_is) (handles_forecast g.D.Validates.verdict _ _ seat c.args.place _ c.new-self-inside.ensures c.forecast_read.ensures)
+-- the fault is what the refusal makes
+pub returns-in-Err : goal.returns-in-Err
+returns-in-Err g c = λ seat. rw c.fault.ensures (rw c.in-Err.is at c.ask_forecast.ensures.handles seat)

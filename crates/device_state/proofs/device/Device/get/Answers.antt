@@ -1,8 +1,5 @@
-use Rattle.device_state.proofs.HandleLemmas.{handles_get}
 use Rattle.device_state.proofs.device.Device.get.Goals as goal
 
--- a get adds no step
-pub returns : goal.returns
-returns g c = λ seat.
-    rw (← c.self.view_is)
-    (handles_get g.D.Validates.verdict _ _ seat c.args.fh c.args.which c.args.request c.args.list.now _ c.new-self-inside.ensures c.get_list-answer.ensures)
+-- the fault is what the refusal makes
+pub returns-in-Err : goal.returns-in-Err
+returns-in-Err g c = λ seat. rw (c.at_count.ensures, c.len.ensures) (rw c.in-Err.is at c.ask_get.ensures.handles seat)

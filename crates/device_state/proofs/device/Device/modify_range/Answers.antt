@@ -6,8 +6,8 @@ use Rattle.device_state.proofs.HandleLemmas.{handles_refused, handles_unowned, h
 use Rattle.device_state.proofs.RangingLemmas.{handles_range, range_accepted, range_full, ranged}
 use Rattle.device_state.proofs.device.Device.modify_range.Goals as goal
 
-pub returns-in-Err : goal.returns-in-Err
-returns-in-Err g c =
+pub returns-in-Err-clause-handles : goal.returns-in-Err-clause-handles
+returns-in-Err-clause-handles g c =
     let low = to_z-of_z {w = w64} {z = c.args.min} c.ranges.min in
     let high = to_z-of_z {w = w64} {z = c.args.max} c.ranges.max in
     let value = to_z-of_z {w = w64} {z = c.args.default_value} c.ranges.default_value in
@@ -24,8 +24,8 @@ accept_range-requires-clause-ranged g c =
     ranged device.plan (past device.steps.items) c.args.control c.args.min c.args.max c.args.step c.args.default_value c.in-Ok.changed (rw (low, high, value) at c.in-Ok.ensures.changed)
     (range_accepted device.plan (past device.steps.items) c.args.control c.args.min c.args.max c.args.step c.args.default_value (sym (rw (low, high, value) at c.in-Ok.ensures.check)) (sym c.in_default.ensures))
 
-pub returns-in-Ok-accept_range : goal.returns-in-Ok-accept_range
-returns-in-Ok-accept_range g c =
+pub returns-in-Ok-accept_range-clause-handles : goal.returns-in-Ok-accept_range-clause-handles
+returns-in-Ok-accept_range-clause-handles g c =
     let device = c.self.inside in
     let low = to_z-of_z {w = w64} {z = c.args.min} c.ranges.min in
     let high = to_z-of_z {w = w64} {z = c.args.max} c.ranges.max in
@@ -35,8 +35,8 @@ returns-in-Ok-accept_range g c =
     (range_accepted device.plan (past device.steps.items) c.args.control c.args.min c.args.max c.args.step c.args.default_value (sym (rw (low, high, value) at c.in-Ok.ensures.check)) (sym c.in_default.ensures))
     (rw (low, high, value) at c.in-Ok.ensures.changed) c.in-Ok-accept_range.ensures.ok)
 
-pub returns-in-Err-accept_range : goal.returns-in-Err-accept_range
-returns-in-Err-accept_range g c =
+pub returns-in-Err-accept_range-clause-handles : goal.returns-in-Err-accept_range-clause-handles
+returns-in-Err-accept_range-clause-handles g c =
     let device = c.self.inside in
     let low = to_z-of_z {w = w64} {z = c.args.min} c.ranges.min in
     let high = to_z-of_z {w = w64} {z = c.args.max} c.ranges.max in
@@ -46,8 +46,8 @@ returns-in-Err-accept_range g c =
     (inr (rw (range_accepted device.plan (past device.steps.items) c.args.control c.args.min c.args.max c.args.step c.args.default_value (sym (rw (low, high, value) at c.in-Ok.ensures.check)) (sym c.in_default.ensures)) refl, refl)))
 
 -- no further step is kept
-pub returns-in-Some : goal.returns-in-Some
-returns-in-Some g c =
+pub returns-in-Some-clause-handles : goal.returns-in-Some-clause-handles
+returns-in-Some-clause-handles g c =
     let device = c.self.inside in
     let low = to_z-of_z {w = w64} {z = c.args.min} c.ranges.min in
     let high = to_z-of_z {w = w64} {z = c.args.max} c.ranges.max in

@@ -5,10 +5,10 @@ use Rattle.device_state.proofs.HandleLemmas.{handles_state}
 use Rattle.device_state.proofs.device.Device.read_state.Goals as goal
 
 -- reading a state adds no step
-pub returns-in-Ok : goal.returns-in-Ok
-returns-in-Ok g c = λ seat.
+pub returns-in-Ok-clause-handles : goal.returns-in-Ok-clause-handles
+returns-in-Ok-clause-handles g c = λ seat.
     rw (← c.self.view_is) (handles_state g.D.Validates.verdict _ _ seat c.args.request _ c.new-self-inside.ensures (ap (replied_with State) c.in-Ok.ensures))
 
-pub returns-in-Err : goal.returns-in-Err
-returns-in-Err g c = λ seat.
+pub returns-in-Err-clause-handles : goal.returns-in-Err-clause-handles
+returns-in-Err-clause-handles g c = λ seat.
     rw (← c.self.view_is, c.refused.ensures) (handles_state g.D.Validates.verdict _ _ seat c.args.request _ c.new-self-inside.ensures (ap (replied_with State) c.in-Err.ensures))

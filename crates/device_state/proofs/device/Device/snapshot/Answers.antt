@@ -1,5 +1,5 @@
 use Rattle.std.proofs.Common.{length, ap, ◌∙◌}
-use Rattle.req_book.specs.Requests.{find}
+use Rattle.req_book.specs.Requests.{RequestsData, find}
 use Rattle.req_book.specs.Refusals.{value_answer}
 use Rattle.frame_queue.specs.Frames.{FramesData}
 use Rattle.device_state.proofs.EnterLemmas.{found}
@@ -10,5 +10,6 @@ returns g c =
     let device = c.self.inside in
     rw (← c.self.view_is)
     (c.snapshot.ensures
-    ∙ ap (λ (f : FramesData). value_answer f.requests.controls c.args.control (find device.frames.requests.all c.args.request.0)) c.self.invariant.frames
-    ∙ ap (value_answer (length device.plan.controls) c.args.control) (found g.D.Validates.verdict g.D.Notifies.told device.plan device.steps.items _ c.args.request.0 c.self.invariant))
+    ∙ ap (λ (rs : RequestsData). value_answer rs.controls c.args.control (find c.requests.result.now.all c.args.request.0)) c.requests.ensures
+    ∙ ap (λ (f : FramesData). value_answer f.requests.controls c.args.control (find c.requests.result.now.all c.args.request.0)) c.self.invariant.frames
+    ∙ ap (value_answer (length device.plan.controls) c.args.control) (found g.D.Validates.verdict g.D.Notifies.told device.plan device.steps.items _ c.args.request.0 c.self.invariant _ c.requests.ensures))

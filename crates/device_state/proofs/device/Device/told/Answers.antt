@@ -1,7 +1,5 @@
-use Rattle.device_state.proofs.HandleLemmas.{handles_told}
 use Rattle.device_state.proofs.device.Device.told.Goals as goal
 
--- reading a word adds no step
-pub returns : goal.returns
-returns g c = λ seat.
-    rw (← c.self.view_is) (handles_told g.D.Validates.verdict _ _ seat c.args.cluster _ c.new-self-inside.ensures c.word.ensures)
+-- the fault is what the refusal makes
+pub returns-in-Err : goal.returns-in-Err
+returns-in-Err g c = λ seat. rw c.fault.ensures (rw c.in-Err.is at c.ask_told.ensures.handles seat)

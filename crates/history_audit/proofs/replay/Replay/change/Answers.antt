@@ -17,7 +17,6 @@ use Rattle.device_history.specs.Values.{now}
 use Rattle.step_effects.specs.Leaving.{FitsIn, NamesKnown}
 use Rattle.step_effects.proofs.FitLemmas.{fits_in}
 use Rattle.step_effects.proofs.LeavingLemmas.{opened_controls_left, grabbed_controls_left, values_left, ranges_left, given_controls_left}
-use Rattle.history_audit.proofs.FollowLemmas.{names_known}
 use Rattle.history_audit.proofs.MadeLemmas.{behind_next, numbered, ranges_there, replay_add, taken_many}
 use Rattle.history_audit.proofs.replay.Replay.change.Goals as goal
 
@@ -30,14 +29,11 @@ pub change_requests_and_events-requires-clause-fits : goal.change_requests_and_e
 change_requests_and_events-requires-clause-fits g c =
     let r = c.self.inside in
     subst (λ (n : ℕ). FitsIn n c.args.step.now r.frames) (taken_many r.steps.now r.count c.self.invariant.within)
-    (fits_in g.D.Validates.verdict r.plan.now (take r.count r.steps.now) r.frames c.args.step.now c.self.invariant.made.frames c.self.invariant.made.legal (rw (← c.self.view_is) at c.requires.follows) c.requires.leaves
-    (names_known g.D.Validates.verdict r.plan.now (past (take r.count r.steps.now)) c.args.step.now c.self.invariant.plans (rw (← c.self.view_is) at c.requires.follows) (rw (← c.self.view_is) at c.requires.known)))
+    (fits_in g.D.Validates.verdict r.plan.now (take r.count r.steps.now) r.frames c.args.step.now c.self.invariant.made.frames c.self.invariant.made.legal (rw (← c.self.view_is) at c.requires.follows) c.requires.leaves (rw (← c.self.view_is) at c.requires.known))
 
 pub change_requests_and_events-requires-clause-known : goal.change_requests_and_events-requires-clause-known
 change_requests_and_events-requires-clause-known g c =
-    let r = c.self.inside in
-    subst (λ (p : PlanData). NamesKnown (length p.controls) c.args.step.now) (sym c.at.ensures.plan)
-    (names_known g.D.Validates.verdict r.plan.now (past (take r.count r.steps.now)) c.args.step.now c.self.invariant.plans (rw (← c.self.view_is) at c.requires.follows) (rw (← c.self.view_is) at c.requires.known))
+    subst (λ (p : PlanData). NamesKnown (length p.controls) c.args.step.now) (sym c.at.ensures.plan) (rw (← c.self.view_is) at c.requires.known)
 
 pub change_requests_and_events-requires-clause-frames : goal.change_requests_and_events-requires-clause-frames
 change_requests_and_events-requires-clause-frames g c = ap (λ (f : FramesData). f.requests.controls) c.self.invariant.made.frames ∙ ap (λ (p : PlanData). length p.controls) (sym c.at.ensures.plan)

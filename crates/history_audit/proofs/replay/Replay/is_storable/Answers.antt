@@ -14,7 +14,7 @@ nothing (Some check) h = cc
 
 -- no further step is kept
 pub returns-then-is_full-clause-follows : goal.returns-then-is_full-clause-follows
-returns-then-is_full-clause-follows g c = (λ none. cc, λ may. absurd (store_full g.D.Validates.verdict c.args.self.now.plan (past c.args.self.now.steps) c.args.request c.args.pairs.now (sym c.is_full.ensures ∙ c.if-is_full.true) may))
+returns-then-is_full-clause-follows g c = (λ none. cc, λ may. absurd (store_full g.D.Validates.verdict c.args.self.now.plan (past c.args.self.now.steps) c.args.request c.args.pairs.now (sym c.is_full.ensures.full ∙ c.if-is_full.true) may))
 
 -- the request refuses pairs
 pub returns-then-is_some-clause-follows : goal.returns-then-is_some-clause-follows
@@ -39,5 +39,5 @@ returns-clause-follows g c =
     let plan = c.args.self.now.plan in
     let judged = subst (λ (asks : List Pair). Judged verdict plan (view_of verdict plan (past c.args.self.now.steps) c.in-Some.handler Request asks) c.args.pairs.now c.in_ok-touched.touched) c.asked_by.ensures c.in_ok-touched.ensures in
     rw c.is_some-2.ensures
-    (store_judged verdict plan (past c.args.self.now.steps) c.args.request c.in-Some.handler c.args.pairs.now c.in_ok-touched.touched c.in-Some.ensures (sym c.is_full.ensures ∙ c.if-is_full.false)
+    (store_judged verdict plan (past c.args.self.now.steps) c.args.request c.in-Some.handler c.args.pairs.now c.in_ok-touched.touched c.in-Some.ensures (sym c.is_full.ensures.full ∙ c.if-is_full.false)
     (sym c.store_refusal.ensures ∙ nothing c.store_refusal.result (sym c.is_some.ensures ∙ c.if-is_some.false)) judged)

@@ -19,7 +19,7 @@ use Rattle.history_audit.proofs.replay.Replay.modify.Goals as goal
 pub returns-then-is_full : goal.returns-then-is_full
 returns-then-is_full g c =
     replayed_false g.D.Validates.verdict c.args.self.now c.args.self.now (steps.ModifyRange c.args.control c.args.min c.args.max c.args.apart c.args.default_value) c.requires
-    (range_full g.D.Validates.verdict c.args.self.now.plan (past c.args.self.now.steps) c.args.control c.args.min c.args.max c.args.apart c.args.default_value (sym c.is_full.ensures ∙ c.if-is_full.true)) refl
+    (range_full g.D.Validates.verdict c.args.self.now.plan (past c.args.self.now.steps) c.args.control c.args.min c.args.max c.args.apart c.args.default_value (sym c.is_full.ensures.full ∙ c.if-is_full.true)) refl
 
 -- no such control is there
 pub returns-in_default : goal.returns-in_default
@@ -55,8 +55,8 @@ invariant_of-self g c =
     given_own c.in-Some.ctrl.now _ c.args.min _ c.args.max _ c.args.apart c.args.default_value _ (to_z-of_z {w = w64} {z = c.args.min} c.ranges.min) (to_z-of_z {w = w64} {z = c.args.max} c.ranges.max) (to_z-of_z {w = w64} {z = c.args.default_value} c.ranges.default_value) there.1 in
     let own : c.in-Ok.changed ≡ control_with_range (ranges_now r.plan.now P) n c.args.min c.args.max c.args.apart c.args.default_value = c.in-Ok.ensures.value ∙ given in
     replay_add g.D.Validates.verdict r.plan.now r.steps.now r.count _ _ (steps.ModifyRange n c.args.min c.args.max c.args.apart c.args.default_value) c.self.invariant
-    (rw (← c.self.view_is) at c.requires) (rw (← c.self.view_is) at (sym c.is_full.ensures ∙ c.if-is_full.false))
-    (range_follows g.D.Validates.verdict r.plan.now P n c.args.min c.args.max c.args.apart c.args.default_value _ (rw (← c.self.view_is) at (sym c.is_full.ensures ∙ c.if-is_full.false)) there.0 given (c.in-Ok.ensures.ok.0 refl))
+    (rw (← c.self.view_is) at c.requires) (rw (← c.self.view_is) at (sym c.is_full.ensures.full ∙ c.if-is_full.false))
+    (range_follows g.D.Validates.verdict r.plan.now P n c.args.min c.args.max c.args.apart c.args.default_value _ (rw (← c.self.view_is) at (sym c.is_full.ensures.full ∙ c.if-is_full.false)) there.0 given (c.in-Ok.ensures.ok.0 refl))
     made.file_handles
     (ap (λ (d : ControlsData). d.ranges) c.change_range.ensures.controls ∙ (λ i. modified (made.ranges i) n (own i)))
     (ap (λ (d : ControlsData). d.values) c.change_range.ensures.controls ∙ (λ i. slice_set (made.values i) n (settled_anew (own i) (value_at (made.values i) n))))
@@ -71,5 +71,5 @@ returns g c =
     let given =
     given_own c.in-Some.ctrl.now _ c.args.min _ c.args.max _ c.args.apart c.args.default_value _ (to_z-of_z {w = w64} {z = c.args.min} c.ranges.min) (to_z-of_z {w = w64} {z = c.args.max} c.ranges.max) (to_z-of_z {w = w64} {z = c.args.default_value} c.ranges.default_value) c.in-Some.ensures.1 in
     replayed_true g.D.Validates.verdict c.args.self.now _ (steps.ModifyRange c.args.control c.args.min c.args.max c.args.apart c.args.default_value) c.requires
-    (range_follows g.D.Validates.verdict c.args.self.now.plan (past c.args.self.now.steps) c.args.control c.args.min c.args.max c.args.apart c.args.default_value _ (sym c.is_full.ensures ∙ c.if-is_full.false) c.in-Some.ensures.0 given (c.in-Ok.ensures.ok.0 refl))
+    (range_follows g.D.Validates.verdict c.args.self.now.plan (past c.args.self.now.steps) c.args.control c.args.min c.args.max c.args.apart c.args.default_value _ (sym c.is_full.ensures.full ∙ c.if-is_full.false) c.in-Some.ensures.0 given (c.in-Ok.ensures.ok.0 refl))
     (rw (← c.self.view_is) (behind_next c.self.inside.plan.now c.self.inside.steps.now c.self.inside.count c.self.invariant.within))

@@ -1,0 +1,2 @@
+pub mod FrameReasons
+pub mod Refusals
