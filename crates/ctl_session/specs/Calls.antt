@@ -7,6 +7,7 @@ use Rattle.ctrl_calls.specs.Meanings.{Verdicts}
 use Rattle.ctrl_types.specs.Numbers.{errno_number}
 use Rattle.ctrl_types.specs.Values.{number_of}
 use Rattle.ctrl_types.specs.declared.errno.Errno.TheVariants.{EBADF, EINVAL, ENOSPC}
+use Rattle.ctrl_types.specs.declared.errno.Fault.{Fault}
 use Rattle.ctrl_types.specs.declared.ids.CtrlId.{CtrlId}
 use Rattle.ctrl_types.specs.declared.ids.ExtControl.{ExtControl}
 use Rattle.ctrl_types.specs.declared.ids.FhId.{FhId}
@@ -32,7 +33,7 @@ use Rattle.ioctl_bytes.specs.declared.layout.v4l2_ext_controls.TheConstants as h
 use Rattle.ioctl_bytes.specs.declared.layout.v4l2_query_ext_ctrl.TheConstants as ext
 use Rattle.ioctl_bytes.specs.declared.layout.v4l2_queryctrl.TheConstants as query
 use Rattle.ioctl_bytes.specs.declared.layout.v4l2_querymenu.TheConstants as menu
-use Rattle.call_structs.specs.Entries.{id_at, list_size, with_size}
+use Rattle.call_structs.specs.Entries.{list_size, with_size}
 use Rattle.call_structs.specs.Told.{event_told, is_heading, query_ext_ctrl, queryctrl, querymenu}
 use Rattle.call_structs.specs.declared.entries.Form.{Form}
 use Rattle.call_structs.specs.declared.entries.Form.TheVariants.{Array}
@@ -43,7 +44,7 @@ use Rattle.ctl_session.specs.declared.list_calls.Access.{Access}
 use Rattle.ctl_session.specs.declared.list_calls.Access.TheVariants.{Get, Set, Try}
 use Rattle.ctl_session.specs.declared.lists.TheConstants.{MOST_ENTRIES, V4L2_CID_MAX_CTRLS}
 use Rattle.ctl_session.specs.Ids.{form_of, is_narrow, is_old, queried, real_id, shown}
-use Rattle.ctl_session.specs.Lists.{Wrong, entries_in, first_of_control, stands_before, with_values, wrong_payload}
+use Rattle.ctl_session.specs.Lists.{Wrong, entries_in, first_of_control, form_at, forms_in, stands_before, with_values, wrong_payload}
 use Rattle.ctl_session.specs.Session.{Asked, SessionData, Stays, errno_in, refusal_in, without_room}
 
 -- an errno, 0 for none, and the struct of the call as it is then
@@ -172,11 +173,15 @@ abbrev pub index_told : List ℕ → Option ℕ → ℕ
 index_told bytes None = u32_in head.COUNT bytes
 index_told bytes (Some index) = if nat_lt index (read_count bytes) then index else u32_in head.COUNT bytes
 
--- what a list is told; the index of an accepted one is its last entry, as a kernel leaves it, and 0 where it has none
-abbrev pub list_told : PlanData → ℕ → List ℕ → Answer → Told
-list_told plan h bytes (Ok (Controls list)) = (0, with_u32 head.ERROR_IDX (u32_in head.COUNT bytes - 1) (with_values plan h (read_count bytes) 0 list bytes))
-list_told plan h bytes (Ok reply) = (NO_CALL, bytes)
-list_told plan h bytes (Err fault) = (errno_number fault.errno, with_u32 head.ERROR_IDX (index_told bytes fault.index) bytes)
+-- what a list is told that is refused
+abbrev pub fault_told : List ℕ → Fault → Told
+fault_told bytes fault = (errno_number fault.errno, with_u32 head.ERROR_IDX (index_told bytes fault.index) bytes)
+
+-- what a list of entries of these forms is told; the index of an accepted one is its last entry, as a kernel leaves it, and 0 where it has none
+abbrev pub list_told : List Form → List ℕ → Answer → Told
+list_told forms bytes (Ok (Controls list)) = (0, with_u32 head.ERROR_IDX (u32_in head.COUNT bytes - 1) (with_values forms 0 list bytes))
+list_told forms bytes (Ok reply) = (NO_CALL, bytes)
+list_told forms bytes (Err fault) = fault_told bytes fault
 
 -- the errno of a payload that can't be taken: a get is told that there is no room for it
 abbrev pub wrong_errno : Access → PayloadFault → ℕ
@@ -193,14 +198,14 @@ abbrev pub with_wanted_size : Form → ℕ → List ℕ → List ℕ
 with_wanted_size (Array elems) place bytes = with_size place elems bytes
 with_wanted_size _ place bytes = bytes
 
-abbrev pub with_wrong_size : PlanData → ℕ → Access → ℕ → List ℕ → List ℕ
-with_wrong_size plan h Get place bytes = with_wanted_size (form_of plan h (id_at place bytes)) place bytes
-with_wrong_size plan h _ place bytes = bytes
+abbrev pub with_wrong_size : List Form → Access → ℕ → List ℕ → List ℕ
+with_wrong_size forms Get place bytes = with_wanted_size (form_at forms place) place bytes
+with_wrong_size forms _ place bytes = bytes
 
 -- what a list is told whose payload can't be taken
-abbrev pub wrong_told : PlanData → ℕ → Access → List ℕ → Wrong → Told
-wrong_told plan h access bytes wrong =
-    (wrong_errno access wrong.1, with_u32 head.ERROR_IDX (wrong_index access wrong.0 bytes) (with_wrong_size plan h access wrong.0 bytes))
+abbrev pub wrong_told : List Form → Access → List ℕ → Wrong → Told
+wrong_told forms access bytes wrong =
+    (wrong_errno access wrong.1, with_u32 head.ERROR_IDX (wrong_index access wrong.0 bytes) (with_wrong_size forms access wrong.0 bytes))
 
 -- The payload that refuses a list: none where nothing is wrong with them, or where something else refuses it before.
 abbrev pub refusing : Verdicts → SessionData → List ℕ → Ask → Option Wrong → Option Wrong
@@ -209,24 +214,28 @@ refusing verdicts session bytes ask (Some wrong) =
     if stands_before (refusal_in verdicts session ask) wrong (first_of_control (read_count bytes) bytes wrong.0) then None else Some wrong
 
 -- A list is asked of the device, unless a payload refuses it.
-abbrev pub list_by : PlanData → ℕ → Access → List ℕ → Ask → Option Wrong → Meaning
-list_by plan h access bytes ask None = asking_list ask (list_told plan h bytes)
-list_by plan h access bytes ask (Some wrong) = record {
+abbrev pub list_by : List Form → Access → List ℕ → Ask → Option Wrong → Meaning
+list_by forms access bytes ask None = asking_list ask (list_told forms bytes)
+list_by forms access bytes ask (Some wrong) = record {
   asks = [];
-  told = λ answers. wrong_told plan h access bytes wrong;
-  short = Some (list_told plan h bytes without_room);
+  told = λ answers. wrong_told forms access bytes wrong;
+  short = Some (list_told forms bytes without_room);
 }
 
 -- the ask of a list
-abbrev pub whole_ask : PlanData → ℕ → FhId → Option RequestId → Access → List ℕ → Ask
-whole_ask plan h fh request access bytes = list_ask access fh (u32_in head.WHICH bytes) request (entries_in plan h (read_count bytes) bytes)
+abbrev pub whole_ask : List Form → FhId → Option RequestId → Access → List ℕ → Ask
+whole_ask forms fh request access bytes = list_ask access fh (u32_in head.WHICH bytes) request (entries_in forms bytes)
+
+-- a list with entries of these forms
+abbrev pub formed_list : Verdicts → SessionData → List Form → FhId → Option RequestId → Access → List ℕ → Meaning
+formed_list verdicts session forms fh request access bytes =
+    let ask = whole_ask forms fh request access bytes in
+    list_by forms access bytes ask (refusing verdicts session bytes ask (wrong_payload forms (is_write access) bytes))
 
 -- a list whose head, entries and slots are there
 abbrev pub whole_list : Verdicts → SessionData → ℕ → FhId → Option RequestId → Access → List ℕ → Meaning
 whole_list verdicts session h fh request access bytes =
-    let plan = plan_in session in
-    let ask = whole_ask plan h fh request access bytes in
-    list_by plan h access bytes ask (refusing verdicts session bytes ask (wrong_payload plan h (read_count bytes) (is_write access) bytes))
+    formed_list verdicts session (forms_in (plan_in session) h (read_count bytes) bytes) fh request access bytes
 
 -- A list that names more entries than any may have is refused before anything else of it is looked at; so its index stays as it was.
 abbrev pub list_call : Verdicts → SessionData → ℕ → FhId → Option RequestId → Access → List ℕ → Meaning

@@ -1,9 +1,10 @@
 -- The entries of a list, as the device takes them, and what refuses their payloads (Linux userspace API, "ioctl VIDIOC_G_EXT_CTRLS, VIDIOC_S_EXT_CTRLS,
 -- VIDIOC_TRY_EXT_CTRLS"; Linux, v4l2-ctrls-api.c, for the order in which payloads are looked at).
-use Rattle.std.specs.Prelude.{◌==◌, ◌&&◌, ◌||◌, ◌+◌, ℕ, pos, Bool, true, false, if◌then◌else◌, nat_lt, nat_le, List, [], ◌∷◌, replicate, map, Option, None, Some, unwrap_or, Result, Ok, Err}
+use Rattle.std.specs.Prelude.{◌≡◌, ◌≤◌, ◌==◌, ◌&&◌, ◌||◌, ◌+◌, ℕ, pos, Bool, true, false, if◌then◌else◌, nat_lt, nat_le, List, [], ◌∷◌, replicate, map, length, slice_get, Option, None, Some, unwrap_or, Result, Ok, Err}
 use Rattle.std.specs.List.{find as first_that, range_with_len}
 use Rattle.std.specs.Option.{option_map}
 use Rattle.ctrl_types.specs.Checks.{check_number}
+use Rattle.ctrl_types.specs.declared.bytes.TheConstants.{MAX_ELEMENTS}
 use Rattle.ctrl_types.specs.declared.ids.ExtControl.{ExtControl}
 use Rattle.ctrl_types.specs.declared.value.CtrlValue.{CtrlValue}
 use Rattle.ctrl_types.specs.declared.value.CtrlValue.TheVariants.{Bytes, Number}
@@ -11,7 +12,7 @@ use Rattle.ctrl_handlers.specs.Plan.{PlanData}
 use Rattle.ctrl_types.specs.declared.refusal.Refusal.{Refusal}
 use Rattle.call_structs.specs.Entries.{id_at, value_at, with_told}
 use Rattle.call_structs.specs.declared.entries.Form.{Form}
-use Rattle.call_structs.specs.declared.entries.Form.TheVariants.{Array}
+use Rattle.call_structs.specs.declared.entries.Form.TheVariants.{Array, Narrow}
 use Rattle.call_structs.specs.declared.entries.PayloadFault.{PayloadFault}
 use Rattle.call_structs.specs.declared.entries.PayloadFault.TheVariants.{TooSmall, Unreadable}
 use Rattle.ctl_session.specs.Ids.{form_of}
@@ -26,20 +27,29 @@ abbrev pub value_or : Form → Result CtrlValue PayloadFault → CtrlValue
 value_or form (Ok value) = value
 value_or form (Err fault) = stand_in form
 
+-- the form of each entry of a list
+abbrev pub forms_in : PlanData → ℕ → ℕ → List ℕ → List Form
+forms_in plan h count bytes = map (λ place. form_of plan h (id_at place bytes)) (range_with_len 0 count)
+
+-- the form of the entry at a place
+abbrev pub form_at : List Form → ℕ → Form
+form_at forms place = unwrap_or (slice_get forms place) Narrow
+
+-- the elements of an array have room in a slot
+abbrev pub HasSlot : Form → Type 0
+HasSlot form = (elems : ℕ) → form ≡ Array elems → elems ≤ MAX_ELEMENTS
+
 -- the value of the entry at a place
-abbrev pub read_at : PlanData → ℕ → ℕ → List ℕ → ℕ → Result CtrlValue PayloadFault
-read_at plan h count bytes place = value_at (form_of plan h (id_at place bytes)) count place bytes
+abbrev pub read_at : List Form → List ℕ → ℕ → Result CtrlValue PayloadFault
+read_at forms bytes place = value_at (form_at forms place) (length forms) place bytes
 
 -- that entry as the device takes it
-abbrev pub entry_at : PlanData → ℕ → ℕ → List ℕ → ℕ → ExtControl
-entry_at plan h count bytes place = record {
-  id = id_at place bytes;
-  value = value_or (form_of plan h (id_at place bytes)) (read_at plan h count bytes place);
-}
+abbrev pub entry_at : List Form → List ℕ → ℕ → ExtControl
+entry_at forms bytes place = record { id = id_at place bytes; value = value_or (form_at forms place) (read_at forms bytes place) }
 
 -- the entries of a list
-abbrev pub entries_in : PlanData → ℕ → ℕ → List ℕ → List ExtControl
-entries_in plan h count bytes = map (entry_at plan h count bytes) (range_with_len 0 count)
+abbrev pub entries_in : List Form → List ℕ → List ExtControl
+entries_in forms bytes = map (entry_at forms bytes) (range_with_len 0 (length forms))
 
 -- whether the payload of an entry has a fault
 abbrev pub is_too_small : Result CtrlValue PayloadFault → Bool
@@ -55,8 +65,8 @@ has_fault TooSmall value = is_too_small value
 has_fault Unreadable value = is_unreadable value
 
 -- the first entry whose payload has a fault
-abbrev pub first_with : PlanData → ℕ → ℕ → List ℕ → PayloadFault → Option ℕ
-first_with plan h count bytes fault = first_that (λ place. has_fault fault (read_at plan h count bytes place)) (range_with_len 0 count)
+abbrev pub first_with : List Form → List ℕ → PayloadFault → Option ℕ
+first_with forms bytes fault = first_that (λ place. has_fault fault (read_at forms bytes place)) (range_with_len 0 (length forms))
 
 -- a place with the fault of its payload
 abbrev pub Wrong : Type 0
@@ -68,10 +78,10 @@ or_else (Some wrong) later = Some wrong
 or_else None later = later
 
 -- The first payload that can't be taken: one that has no room, and else, where the list writes, one that can't be read.
-abbrev pub wrong_payload : PlanData → ℕ → ℕ → Bool → List ℕ → Option Wrong
-wrong_payload plan h count writes bytes =
-    or_else (option_map (λ place. (place, TooSmall)) (first_with plan h count bytes TooSmall))
-    (if writes then option_map (λ place. (place, Unreadable)) (first_with plan h count bytes Unreadable) else None)
+abbrev pub wrong_payload : List Form → Bool → List ℕ → Option Wrong
+wrong_payload forms writes bytes =
+    or_else (option_map (λ place. (place, TooSmall)) (first_with forms bytes TooSmall))
+    (if writes then option_map (λ place. (place, Unreadable)) (first_with forms bytes Unreadable) else None)
 
 -- whether an entry is refused at a place, or before it; a list that is refused as a whole is refused before all entries
 abbrev pub is_up_to : Option ℕ → ℕ → Bool
@@ -100,9 +110,9 @@ stands_before (Some refusal) (place, Unreadable) first =
     nat_lt (check_number refusal.check) 8 || (check_number refusal.check == 8 && is_below refusal.entry first)
 
 -- the bytes of a list with values in its entries and slots, from a place on, as far as there are entries
-abbrev pub with_values : PlanData → ℕ → ℕ → ℕ → List ExtControl → List ℕ → List ℕ
-with_values plan h count place [] bytes = bytes
-with_values plan h count place (entry ∷ rest) bytes =
-    if nat_lt place count
-    then with_values plan h count (place + 1) rest (with_told (form_of plan h entry.id) count place entry.value bytes)
+abbrev pub with_values : List Form → ℕ → List ExtControl → List ℕ → List ℕ
+with_values forms place [] bytes = bytes
+with_values forms place (entry ∷ rest) bytes =
+    if nat_lt place (length forms)
+    then with_values forms (place + 1) rest (with_told (form_at forms place) (length forms) place entry.value bytes)
     else bytes

@@ -5,6 +5,7 @@ ghost use Rattle.std.specs.List.{filter};
 ghost use Rattle.ctrl_handlers.specs.Plan.{control_in, ids_of};
 ghost use Rattle.ctrl_handlers.specs.Visible.{least_above};
 ghost use Rattle.ctl_session.specs.Ids.{form_of as form_for, form_of_kind as form_by, is_narrow as has_narrow, is_nth as is_the_nth, is_old as is_of_old, is_private_user as is_own_user, is_wanted as wanted, next_wanted as next_of, nth_private as nth_own, private_below as own_below, queried as meant_by, real_id as real, shown as control_shown};
+ghost use Rattle.ctl_session.specs.Lists.{HasSlot};
 
 use call_structs::Form;
 use ctrl_calls::Driver;
@@ -38,7 +39,8 @@ fn form_of_kind(kind: Kind, elems: u32) -> Form
 
 // What the entry of a control has its value in; that of one that isn't shown is a number of 32 bits.
 pub(crate) fn form_of<D: Driver>(plan: &Plan<D>, handler: u32, id: CtrlId) -> Form
-    ensures { result ≡ form_for plan.now handler id }
+    ensures form { result ≡ form_for plan.now handler id }
+    ensures slot { HasSlot result }
 {
     match shown(plan, handler, id) {
         Some(ctrl) => form_of_kind(ctrl.kind(), ctrl.elems()),

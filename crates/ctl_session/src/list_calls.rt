@@ -1,23 +1,24 @@
 ghost use Rattle.std.specs.Prelude.{◌≡◌, ◌≤◌, ◌<◌, ◌+◌, IfOk, IfSome, length};
+ghost use Rattle.std.specs.List.{All};
 ghost use Rattle.call_structs.specs.Entries.{entry_start, list_size as size_for};
 ghost use Rattle.ioctl_bytes.specs.declared.layout.v4l2_ext_controls.TheConstants as head;
 ghost use Rattle.ctl_session.specs.declared.lists.TheConstants.{MOST_ENTRIES};
-ghost use Rattle.ctl_session.specs.Calls.{Calls, index_told as index_for, is_write as writes, list_ask as ask_for_list, list_by as list_for, list_call, list_told, plan_in, read_count as count_read, refusing as refusing_list, whole_ask as ask_for_whole, whole_list as whole, with_wanted_size as with_size_wanted, with_wrong_size as with_size_told, wrong_errno as errno_of_wrong, wrong_index as index_of_wrong, wrong_told};
+ghost use Rattle.ctl_session.specs.Calls.{Calls, fault_told, formed_list as formed, index_told as index_for, is_write as writes, list_ask as ask_for_list, list_by as list_for, list_call, list_told, read_count as count_read, refusing as refusing_list, whole_ask as ask_for_whole, whole_list as whole, with_wanted_size as with_size_wanted, with_wrong_size as with_size_told, wrong_errno as errno_of_wrong, wrong_index as index_of_wrong, wrong_told};
 ghost use Rattle.ctl_session.specs.Session.{Stays, refusal_in};
-ghost use Rattle.ctl_session.specs.Lists.{is_below as below, is_up_to as up_to, stands_before as is_earlier, with_values, wrong_payload as payload_wrong};
+ghost use Rattle.ctl_session.specs.Lists.{HasSlot, is_below as below, is_up_to as up_to, stands_before as is_earlier, with_values, wrong_payload as payload_wrong};
 
 use crate::calls::{CUT, NO_CALL};
-use crate::ids::form_of;
-use crate::lists::{MOST_ENTRIES, V4L2_CID_MAX_CTRLS, first_of_control, first_with, read_list};
+use crate::lists::{
+    MOST_ENTRIES, V4L2_CID_MAX_CTRLS, first_of_control, first_with, form_at, forms_of, read_list,
+};
 use crate::session::{Session, no_memory};
-use call_structs::{Form, PayloadFault, entry_id, list_size, put_size, put_value};
+use call_structs::{Form, PayloadFault, list_size, put_size, put_value};
 use ctrl_calls::Driver;
-use ctrl_handlers::Plan;
 use ctrl_types::{Check, Errno, ExtControl, Fault, FhId, Refusal, RequestId};
 use device_state::{Ask, ControlList, Reply};
 use ioctl_bytes::layout::v4l2_ext_controls;
 use ioctl_bytes::{put_u32, u32_at};
-use std::alloc::AllocError;
+use std::alloc::{AllocError, Global};
 
 /// How a list is asked.
 #[derive(Clone, Copy)]
@@ -67,32 +68,36 @@ impl<D: Driver> Session<D> {
         requires whole { length arg.old ≡ size_for (count_read arg.old) }
         ensures { Calls D.verdict self.old (whole D.verdict self.old handler fh request access arg.old) self.new (result, arg.new) }
     {
-        let Ok(ask) = self.whole_ask(handler, fh, request, access, arg) else {
-            return tell_list(self.plan(), handler, &Err(no_memory()), arg);
+        let count = read_count(arg);
+        let Ok(forms) = forms_of(self.alloc(), self.plan(), handler, arg, count) else {
+            return tell_fault(&no_memory(), arg);
         };
-        let wrong = wrong_payload(self.plan(), handler, read_count(arg), is_write(access), arg);
-        match self.refusing(arg, &ask, wrong) {
-            Ok(wrong) => self.list_by(handler, access, &ask, wrong, arg),
-            Err(_) => tell_list(self.plan(), handler, &Err(no_memory()), arg),
-        }
+        self.formed_list(forms.as_slice(), fh, request, access, arg)
     }
 
-    // The ask of a list. The error is that a growth was refused.
-    fn whole_ask(
-        &self,
-        handler: u32,
+    // The same, with the forms of its entries.
+    fn formed_list(
+        &mut self,
+        forms: &[Form],
         fh: FhId,
         request: Option<RequestId>,
         access: Access,
-        arg: &[u8],
-    ) -> Result<Ask, AllocError>
-        requires head { head.SIZE ≤ length arg.now }
-        requires whole { size_for (count_read arg.now) ≤ length arg.now }
-        ensures { IfOk result (λ ask. ask ≡ ask_for_whole (plan_in self.now) handler fh request access arg.now) }
+        arg: &mut [u8],
+    ) -> u32
+        requires head { head.SIZE ≤ length arg.old }
+        requires whole { size_for (count_read arg.old) ≤ length arg.old }
+        requires each { length forms.now ≡ count_read arg.old }
+        requires slots { All HasSlot forms.now }
+        ensures { Calls D.verdict self.old (formed D.verdict self.old forms.now fh request access arg.old) self.new (result, arg.new) }
     {
-        let list = read_list(self.alloc(), self.plan(), handler, arg, read_count(arg))?;
-        let which = u32_at(arg, v4l2_ext_controls::WHICH);
-        Ok(list_ask(access, fh, which, request, list))
+        let Ok(ask) = whole_ask(self.alloc(), forms, fh, request, access, arg) else {
+            return tell_fault(&no_memory(), arg);
+        };
+        let wrong = wrong_payload(forms, is_write(access), arg);
+        match self.refusing(arg, &ask, wrong) {
+            Ok(wrong) => self.list_by(forms, access, &ask, wrong, arg),
+            Err(_) => tell_fault(&no_memory(), arg),
+        }
     }
 
     // The payload that refuses a list: none where something else refuses it before. The error is that a growth was refused.
@@ -138,7 +143,7 @@ impl<D: Driver> Session<D> {
     // A list is asked of the device, unless a payload refuses it.
     fn list_by(
         &mut self,
-        handler: u32,
+        forms: &[Form],
         access: Access,
         ask: &Ask,
         wrong: Option<(u32, PayloadFault)>,
@@ -146,17 +151,39 @@ impl<D: Driver> Session<D> {
     ) -> u32
         requires head { head.SIZE ≤ length arg.old }
         requires whole { size_for (count_read arg.old) ≤ length arg.old }
+        requires each { length forms.now ≡ count_read arg.old }
+        requires slots { All HasSlot forms.now }
         requires place { IfSome wrong (λ w. w.0 < count_read arg.old) }
-        ensures { Calls D.verdict self.old (list_for (plan_in self.old) handler access arg.old ask.now wrong) self.new (result, arg.new) }
+        ensures { Calls D.verdict self.old (list_for forms.now access arg.old ask.now wrong) self.new (result, arg.new) }
     {
         match wrong {
-            Some(wrong) => tell_wrong(self.plan(), handler, access, wrong, arg),
+            Some(wrong) => tell_wrong(forms, access, wrong, arg),
             None => {
                 let answer = self.ask(ask);
-                tell_list(self.plan(), handler, &answer, arg)
+                tell_list(forms, &answer, arg)
             }
         }
     }
+}
+
+// The ask of a list. The error is that a growth was refused.
+fn whole_ask(
+    alloc: Global,
+    forms: &[Form],
+    fh: FhId,
+    request: Option<RequestId>,
+    access: Access,
+    arg: &[u8],
+) -> Result<Ask, AllocError>
+    requires head { head.SIZE ≤ length arg.now }
+    requires few { length forms.now ≤ MOST_ENTRIES }
+    requires slots { All HasSlot forms.now }
+    requires whole { size_for (length forms.now) ≤ length arg.now }
+    ensures { IfOk result (λ ask. ask ≡ ask_for_whole forms.now fh request access arg.now) }
+{
+    let list = read_list(alloc, forms, arg)?;
+    let which = u32_at(arg, v4l2_ext_controls::WHICH);
+    Ok(list_ask(access, fh, which, request, list))
 }
 
 fn list_ask(
@@ -210,25 +237,20 @@ fn read_count(arg: &[u8]) -> u32
 
 // The first payload that can't be taken: one that has no room, and else, where the list writes, one that can't be read. A kernel finds the first when it looks at the
 // entries, and the second when it comes to set the cluster (Linux, v4l2-ctrls-api.c, `prepare_ext_ctrls` and `try_set_ext_ctrls_common`).
-fn wrong_payload<D: Driver>(
-    plan: &Plan<D>,
-    handler: u32,
-    count: u32,
-    writes: bool,
-    arg: &[u8],
-) -> Option<(u32, PayloadFault)>
-    requires few { count ≤ MOST_ENTRIES }
-    requires whole { size_for count ≤ length arg.now }
-    ensures place { IfSome result (λ w. w.0 < count) }
-    ensures wrong { result ≡ payload_wrong plan.now handler count writes arg.now }
+fn wrong_payload(forms: &[Form], writes: bool, arg: &[u8]) -> Option<(u32, PayloadFault)>
+    requires few { length forms.now ≤ MOST_ENTRIES }
+    requires slots { All HasSlot forms.now }
+    requires whole { size_for (length forms.now) ≤ length arg.now }
+    ensures place { IfSome result (λ w. w.0 < length forms.now) }
+    ensures wrong { result ≡ payload_wrong forms.now writes arg.now }
 {
-    if let Some(place) = first_with(plan, handler, arg, count, PayloadFault::TooSmall) {
+    if let Some(place) = first_with(forms, arg, PayloadFault::TooSmall) {
         return Some((place, PayloadFault::TooSmall));
     }
     if !writes {
         return None;
     }
-    match first_with(plan, handler, arg, count, PayloadFault::Unreadable) {
+    match first_with(forms, arg, PayloadFault::Unreadable) {
         Some(place) => Some((place, PayloadFault::Unreadable)),
         None => None,
     }
@@ -269,20 +291,15 @@ fn is_below(entry: Option<u32>, place: u32) -> bool
 }
 
 // What a list is told whose payload can't be taken.
-fn tell_wrong<D: Driver>(
-    plan: &Plan<D>,
-    handler: u32,
-    access: Access,
-    wrong: (u32, PayloadFault),
-    arg: &mut [u8],
-) -> u32
+fn tell_wrong(forms: &[Form], access: Access, wrong: (u32, PayloadFault), arg: &mut [u8]) -> u32
     requires head { head.SIZE ≤ length arg.old }
     requires whole { size_for (count_read arg.old) ≤ length arg.old }
+    requires slots { All HasSlot forms.now }
     requires place { wrong.0 < count_read arg.old }
-    ensures { (result, arg.new) ≡ wrong_told plan.now handler access arg.old wrong }
+    ensures { (result, arg.new) ≡ wrong_told forms.now access arg.old wrong }
 {
     let index = wrong_index(access, wrong.0, arg);
-    put_wrong_size(plan, handler, access, wrong.0, arg);
+    put_wrong_size(forms, access, wrong.0, arg);
     put_u32(arg, v4l2_ext_controls::ERROR_IDX, index);
     wrong_errno(access, wrong.1)
 }
@@ -308,23 +325,15 @@ fn wrong_index(access: Access, place: u32, arg: &[u8]) -> u32
 }
 
 // A get is told how many bytes the payload of an entry without room has.
-fn put_wrong_size<D: Driver>(
-    plan: &Plan<D>,
-    handler: u32,
-    access: Access,
-    place: u32,
-    arg: &mut [u8],
-)
+fn put_wrong_size(forms: &[Form], access: Access, place: u32, arg: &mut [u8])
+    requires slots { All HasSlot forms.now }
     requires place { place < MOST_ENTRIES }
     requires whole { entry_start (place + 1) ≤ length arg.old }
-    ensures told { arg.new ≡ with_size_told plan.now handler access place arg.old }
+    ensures told { arg.new ≡ with_size_told forms.now access place arg.old }
     ensures length { length arg.new ≡ length arg.old }
 {
     match access {
-        Access::Get => {
-            let id = entry_id(arg, place as usize);
-            put_wanted_size(form_of(plan, handler, id), place, arg);
-        }
+        Access::Get => put_wanted_size(form_at(forms, place), place, arg),
         _ => {}
     }
 }
@@ -342,30 +351,33 @@ fn put_wanted_size(form: Form, place: u32, arg: &mut [u8])
 }
 
 // What a list is told. The index of an accepted one is its last entry: a kernel counts it along with the entries (Linux, v4l2-ctrls-api.c).
-fn tell_list<D: Driver>(
-    plan: &Plan<D>,
-    handler: u32,
-    answer: &Result<Reply, Fault>,
-    arg: &mut [u8],
-) -> u32
+fn tell_list(forms: &[Form], answer: &Result<Reply, Fault>, arg: &mut [u8]) -> u32
     requires head { head.SIZE ≤ length arg.old }
-    requires whole { size_for (count_read arg.old) ≤ length arg.old }
-    ensures { (result, arg.new) ≡ list_told plan.now handler arg.old answer.now }
+    requires few { length forms.now ≤ MOST_ENTRIES }
+    requires slots { All HasSlot forms.now }
+    requires whole { size_for (length forms.now) ≤ length arg.old }
+    ensures { (result, arg.new) ≡ list_told forms.now arg.old answer.now }
 {
     let named = u32_at(arg, v4l2_ext_controls::COUNT);
     match answer {
         Ok(Reply::Controls(list)) => {
-            put_values(plan, handler, read_count(arg), 0, list.as_slice(), arg);
+            put_values(forms, 0, list.as_slice(), arg);
             put_u32(arg, v4l2_ext_controls::ERROR_IDX, named.saturating_sub(1));
             0
         }
         Ok(_) => NO_CALL,
-        Err(fault) => {
-            let index = index_told(fault.index, arg);
-            put_u32(arg, v4l2_ext_controls::ERROR_IDX, index);
-            fault.errno.number()
-        }
+        Err(fault) => tell_fault(fault, arg),
     }
+}
+
+// What a list is told that is refused.
+fn tell_fault(fault: &Fault, arg: &mut [u8]) -> u32
+    requires { head.SIZE ≤ length arg.old }
+    ensures { (result, arg.new) ≡ fault_told arg.old fault.now }
+{
+    let index = index_told(fault.index, arg);
+    put_u32(arg, v4l2_ext_controls::ERROR_IDX, index);
+    fault.errno.number()
 }
 
 // The index of a refusal; as many entries as were read are the whole list.
@@ -380,25 +392,20 @@ fn index_told(index: Option<u32>, arg: &[u8]) -> u32
 }
 
 // Writes values into the entries and slots of a list, from a place on, as far as there are entries.
-fn put_values<D: Driver>(
-    plan: &Plan<D>,
-    handler: u32,
-    count: u32,
-    place: u32,
-    list: &[ExtControl],
-    arg: &mut [u8],
-)
-    requires few { count ≤ MOST_ENTRIES }
-    requires place { place ≤ count }
-    requires whole { size_for count ≤ length arg.old }
-    ensures told { arg.new ≡ with_values plan.now handler count place list.now arg.old }
+fn put_values(forms: &[Form], place: u32, list: &[ExtControl], arg: &mut [u8])
+    requires few { length forms.now ≤ MOST_ENTRIES }
+    requires slots { All HasSlot forms.now }
+    requires place { place ≤ length forms.now }
+    requires whole { size_for (length forms.now) ≤ length arg.old }
+    ensures told { arg.new ≡ with_values forms.now place list.now arg.old }
     ensures length { length arg.new ≡ length arg.old }
 {
     if let [control, rest @ ..] = list {
-        if place < count {
-            let form = form_of(plan, handler, control.id);
-            put_value(arg, count as usize, place as usize, form, &control.value);
-            put_values(plan, handler, count, place + 1, rest, arg);
+        let count = forms.len();
+        if (place as usize) < count {
+            let form = form_at(forms, place);
+            put_value(arg, count, place as usize, form, &control.value);
+            put_values(forms, place + 1, rest, arg);
         }
     }
 }

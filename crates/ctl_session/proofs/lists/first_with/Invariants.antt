@@ -5,4 +5,4 @@ use Rattle.ctl_session.proofs.lists.first_with.Given as goal
 
 -- no place so far has the fault
 abbrev pub invariant-loop-place : goal.invariant-loop-place
-invariant-loop-place g l = find (λ place. has_fault l.fault (read_at l.plan l.handler l.count l.arg place)) (range_with_len 0 l.place) ≡ None
+invariant-loop-place l = find (λ place. has_fault l.fault (read_at l.forms l.arg place)) (range_with_len 0 l.place) ≡ None

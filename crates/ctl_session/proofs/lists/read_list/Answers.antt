@@ -7,14 +7,14 @@ use Rattle.ctl_session.proofs.lists.read_list.Goals as goal
 
 -- one more entry
 pub loop-place-preserved : goal.loop-place-preserved
-loop-place-preserved g c =
-    let entry = entry_at c.args.plan.now c.args.handler c.args.count c.args.arg.now in
+loop-place-preserved c =
+    let entry = entry_at c.args.forms.now c.args.arg.now in
     let old = c.loop-place.invariant in
     record {
       read = c.push_reserved.ensures.items
-          ∙ ap (λ front. front ++ c.entry_at.result ∷ []) old.read
-          ∙ ap (λ last. map entry (range_with_len 0 c.loop-place.place) ++ last ∷ []) c.entry_at.ensures
+          ∙ ap (λ front. front ++ c.entry_at-value.result ∷ []) old.read
+          ∙ ap (λ last. map entry (range_with_len 0 c.loop-place.place) ++ last ∷ []) c.entry_at-value.ensures
           ∙ sym (map-range_with_len_more entry 0 c.loop-place.place c.loop-place.place (omega arith));
-      each = ap length c.push_reserved.ensures.items ∙ length_push c.loop-place.entries.items c.entry_at.result ∙ ap (λ n. n + 1) old.each;
+      each = ap length c.push_reserved.ensures.items ∙ length_push c.loop-place.entries.items c.entry_at-value.result ∙ ap (λ n. n + 1) old.each;
       room = rw c.push_reserved.ensures.capacity old.room;
     }

@@ -5,8 +5,8 @@ use Rattle.ctl_session.proofs.lists.read_list.Given as goal
 
 -- the entries so far
 abbrev pub invariant-loop-place : goal.invariant-loop-place
-invariant-loop-place g l = record {
-  read : l.entries.items ≡ map (entry_at l.plan l.handler l.count l.arg) (range_with_len 0 l.place);
+invariant-loop-place l = record {
+  read : l.entries.items ≡ map (entry_at l.forms l.arg) (range_with_len 0 l.place);
   each : length l.entries.items ≡ l.place;
   room : l.count ≤ vec_capacity l.entries;
 }

@@ -12,7 +12,7 @@ returns g c =
     let told : Told = (c.one_by.result, c.one_by.new.arg) in
     let plan = plan_in c.args.self.now in
     let id = c.one_id-id.ensures ∙ ap (λ p. one_id p c.args.handler c.args.arg.now) c.plan.ensures in
-    let narrow = c.is_narrow-narrow.ensures ∙ ap is_narrow (c.form_of.ensures ∙ ap (λ p. form_of p c.args.handler c.one_id-id.result) c.plan-2.ensures ∙ ap (form_of plan c.args.handler) id) in
+    let narrow = c.is_narrow-narrow.ensures ∙ ap is_narrow (c.form_of.ensures.form ∙ ap (λ p. form_of p c.args.handler c.one_id-id.result) c.plan-2.ensures ∙ ap (form_of plan c.args.handler) id) in
     sized_by v c.args.self.now c.one_by.new.self SIZE c.args.arg.now (one_call c.args.sets plan c.args.handler c.args.fh c.args.arg.now) told (search rules)
     (subst (λ i. Calls v c.args.self.now (one_by c.args.sets c.args.fh c.args.arg.now i (is_narrow (form_of plan c.args.handler (one_id plan c.args.handler c.args.arg.now)))) c.one_by.new.self told) id
     (subst (λ n. Calls v c.args.self.now (one_by c.args.sets c.args.fh c.args.arg.now c.one_id-id.result n) c.one_by.new.self told) narrow c.one_by.ensures))

@@ -1,28 +1,15 @@
-use Rattle.std.proofs.Common.{◌≡◌, ◌∙◌, List, ℕ, Option, ap, subst}
-use Rattle.ctrl_handlers.specs.Plan.{PlanData}
-use Rattle.device_history.specs.declared.ask.Ask.{Ask}
-use Rattle.ctl_session.specs.Calls.{Calls, Told, is_write, list_by, plan_in, read_count, refusing, whole_ask}
-use Rattle.ctl_session.specs.Lists.{Wrong, wrong_payload}
-use Rattle.ctl_session.specs.Session.{SessionData}
-use Rattle.ctl_session.proofs.CallLemmas.{calls_behind}
+use Rattle.std.proofs.Common.{◌≡◌, ◌∙◌, List, subst}
+use Rattle.call_structs.specs.declared.entries.Form.{Form}
+use Rattle.ctl_session.specs.Calls.{Calls, Told, formed_list, plan_in, read_count}
+use Rattle.ctl_session.specs.Lists.{forms_in}
 use Rattle.ctl_session.proofs.session.Session.whole_list.Goals as goal
 
--- a session of which it was found out what refuses the list stays, and is asked as it was before
-pub returns-in-Ok-refusing : goal.returns-in-Ok-refusing
-returns-in-Ok-refusing g c =
+-- the forms are those of the controls that its entries name
+pub returns : goal.returns
+returns g c =
     let v = g.D.Validates.verdict in
     let old = c.args.self.now in
-    let between = c.refusing.new.self in
-    let new = c.list_by.new.self in
-    let h = c.args.handler in
-    let access = c.args.access in
     let bytes = c.args.arg.now in
-    let told : Told = (c.list_by.result, c.list_by.new.arg) in
-    let kept : plan_in between ≡ plan_in old = ap (λ (s : SessionData). plan_in s) c.refusing.ensures.stays in
-    let first : Option Wrong = wrong_payload (plan_in old) h (read_count bytes) (is_write access) bytes in
-    let found : c.wrong_payload-wrong.result ≡ first = rw (c.plan-2.ensures, c.read_count.ensures.count, c.is_write.ensures) at c.wrong_payload-wrong.ensures.wrong in
-    let wrong : c.in-Ok-refusing.wrong ≡ refusing v old bytes c.in-Ok.ask first = c.in-Ok-refusing.ensures.refusing ∙ ap (refusing v old bytes c.in-Ok.ask) found in
-    calls_behind v old between new _ told c.refusing.ensures.stays
-    (subst (λ (a : Ask). Calls v between (list_by (plan_in old) h access bytes a (refusing v old bytes a first)) new told) c.in-Ok.ensures
-    (subst (λ (w : Option Wrong). Calls v between (list_by (plan_in old) h access bytes c.in-Ok.ask w) new told) wrong
-    (subst (λ (p : PlanData). Calls v between (list_by p h access bytes c.in-Ok.ask c.in-Ok-refusing.wrong) new told) kept c.list_by.ensures)))
+    let told : Told = (c.formed_list.result, c.formed_list.new.arg) in
+    let forms : c.as_slice.result.now ≡ forms_in (plan_in old) c.args.handler (read_count bytes) bytes = c.as_slice.ensures.value ∙ (rw (c.plan.ensures, c.read_count-count.ensures.count) at c.in-Ok.ensures.forms) in
+    subst (λ (fs : List Form). Calls v old (formed_list v old fs c.args.fh c.args.request c.args.access bytes) c.formed_list.new.self told) forms c.formed_list.ensures
