@@ -4,9 +4,9 @@ ghost use Rattle.camera_messages.specs.Messages.{Answers, IsAsked, IsAskedOrTold
 ghost use Rattle.camera_messages.specs.Replies.{Says, bare};
 
 use crate::camera::Camera;
-use crate::device_parts::{put_controls, put_values};
 use crate::message::Message;
 use crate::reply_buffer::{Head, ReplyBuffer, count};
+use crate::told_controls::{put_controls, put_values};
 use ctrl_types::{Fault, FhId, Refusal, RequestId};
 use device_state::{Ask, Reply, RequestState};
 use std::alloc::Global;

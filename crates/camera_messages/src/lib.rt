@@ -3,11 +3,11 @@
 
 mod answering;
 mod camera;
-mod device_parts;
 mod lines;
 mod message;
 mod reply_buffer;
 mod serving;
+mod told_controls;
 
 pub use camera::Camera;
 pub use message::{HEAD, MAX_PAYLOAD, Message, message_of};

@@ -1,6 +1,6 @@
 //! What differs of a case, for people.
 
-use case_files::Case;
+use crate::case::Case;
 use std::io;
 
 // So many lines of a case are shown, and how many more differ is said.

@@ -5,14 +5,19 @@
 //! prints a line for each; where memory can't be exhausted it says so, and ends with 3. `data/sample.txt` begins with the format of the files.
 #![tactic(auto)]
 
+mod case;
 mod differing;
+mod files;
+mod starved;
 mod why;
 
 ghost use Rattle.std.specs.Prelude.{◌≡◌, []};
 
+use crate::case::{Case, Program};
 use crate::differing::{show_difference, show_why};
+use crate::files::{cases_of, read_files};
+use crate::starved::starve_cases;
 use crate::why::{Ran, why_of};
-use case_files::{Case, Program, cases_of, read_files};
 use ctl_pair::{Gate, Remains, run_pair};
 use ctl_script::{ControlWords, Outcome, own_sample_plan, run_board, run_script, sample_words};
 use ctrl_calls::Driver;
@@ -21,7 +26,6 @@ use device_state::Device;
 use file_check::check_file;
 use hoard::Hoard;
 use line_reasons::Names;
-use starved::starve_cases;
 use std::alloc::{AllocError, Global};
 use std::fmt::Write;
 use std::io;

@@ -1,6 +1,6 @@
 //! Why a line of a script isn't a command.
 
-use case_files::{Case, Program};
+use crate::case::{Case, Program};
 use ctl_script::Outcome;
 use ctrl_calls::Driver;
 use line_reasons::{Complaint, Names, reason_in_pair, reason_of};

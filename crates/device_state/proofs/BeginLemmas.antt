@@ -8,21 +8,18 @@ use Rattle.ctrl_types.specs.declared.check.Check.{Check}
 use Rattle.ctrl_types.specs.declared.check.Check.TheVariants.{MemoryRefused}
 use Rattle.ctrl_types.specs.declared.errno.Errno.{Errno}
 use Rattle.ctrl_types.specs.declared.ids.Pair.{Pair}
+use Rattle.ctrl_types.specs.declared.ids.RequestId.{RequestId}
 use Rattle.ctrl_calls.specs.Meanings.{Verdicts, Words}
 use Rattle.ctrl_calls.specs.declared.work.Work.{Work}
-use Rattle.ctrl_types.specs.declared.ids.FhId.{FhId}
-use Rattle.ctrl_events.specs.Events.{EventsData, events_of}
 use Rattle.device_history.specs.Ranges.{ranges_now}
-use Rattle.device_history.specs.EventSteps.{events_after}
 use Rattle.ctrl_settle.specs.Control.{Control}
 use Rattle.ctrl_handlers.specs.Plan.{PlanData, members}
-use Rattle.ctrl_clusters.specs.ControlsData.{ControlsData}
 use Rattle.ctrl_clusters.specs.Rows.{Grabs, Values, row_of}
 use Rattle.ctrl_clusters.specs.Changes.{members_change}
 use Rattle.ctrl_clusters.specs.Notified.{AreNotified}
 use Rattle.ctrl_clusters.proofs.NotifyLemmas.{words_between}
 use Rattle.req_book.specs.Requests.{find}
-use Rattle.frame_queue.specs.Frames.{FramesData, after_begin, begin_answer, buffer_number, next_frame}
+use Rattle.frame_queue.specs.Frames.{FramesData, begin_answer, buffer_number, next_frame}
 use Rattle.device_history.specs.declared.ask.Ask.TheVariants as asks
 use Rattle.device_history.specs.declared.ask.Reply.{Reply}
 use Rattle.device_history.specs.declared.ask.Reply.TheVariants.{Frame}
@@ -43,6 +40,8 @@ use Rattle.device_history.proofs.PresentLemmas.{length_now}
 use Rattle.device_history.proofs.WordLemmas.{changed_row}
 use Rattle.device_state.specs.Beginning.{BeginsAll, IsBegun, begin_changes}
 use Rattle.device_state.specs.Device.{DeviceData, Handles, step_changes}
+use Rattle.device_parts.specs.Makes.{Makes}
+use Rattle.device_parts.specs.State.{StateData}
 use Rattle.device_state.specs.Kept.{Caches, IsKept}
 use Rattle.device_state.proofs.HandleLemmas.{at_rest}
 use Rattle.device_state.proofs.BoardLemmas.{board_after}
@@ -53,7 +52,7 @@ use Rattle.ctrl_forecast.specs.Forecasts.{QueuedData, forecasts}
 use Rattle.ctrl_forecast.specs.declared.board.Forecast.{Forecast}
 use Rattle.ctrl_clusters.specs.Overlay.{overlay}
 use Rattle.device_history.specs.Forecasts.{board, forecast, queued_frame, queued_frames}
-use Rattle.device_state.proofs.KeptLemmas.{kept_add, set_room}
+use Rattle.device_state.proofs.KeptLemmas.{kept_makes, set_room}
 use Rattle.device_state.proofs.SetLemmas.{notified_same}
 
 -- what a begin is answered by its queue, where none runs
@@ -164,17 +163,28 @@ begun_board verdicts plan older r old new own first q n f = by (queue older) ref
             ≡ forecasts verdicts plan (ranges_now plan older) (overlay verdicts plan (ranges_now plan older) (now verdicts plan older) (grabbed plan older) (asked plan older j)) (grabbed plan older) (map (queued_frame plan older) ids)
         behind j ids = rows_behind verdicts plan (ranges_now plan older) (grabbed plan older) (now verdicts plan older) (queued_frame plan older j) (map (queued_frame plan older) ids)
 
+-- what the begin of the first frame that waits is answered by its queue, where none runs
+pub begin_answered : (f : FramesData) (r : ℕ) → f.running ≡ None → slice_get f.queue 0 ≡ Some r → begin_answer f ≡ Ok (r, buffer_number (find f.requests.all r))
+begin_answered f r free first = by f.running f.queue free first
+  where
+    same : (a b : ℕ) → Some a ≡ Some b → a ≡ b
+    same a b h = cc
+
+    by : (runs : Option ℕ) (waits : List ℕ) → runs ≡ None → slice_get waits 0 ≡ Some r → begin_answer (record f { queue = waits; running = runs }) ≡ Ok (r, buffer_number (find f.requests.all r))
+    by None [] none h = cc
+    by None (k ∷ rest) none h = ap (λ (n : ℕ). Ok (n, buffer_number (find f.requests.all n))) (same k r h)
+    by (Some k) waits none h = cc
+
 -- what is kept after a begin
-pub kept_begin : (verdicts : Verdicts) (told : Words) (plan : PlanData) (entries entries' : History) (caches : Caches) (controls : ControlsData) (f : FramesData) (b : BoardData) (events : EventsData) (words : List ℕ) (applied : List Pair) (seat r : ℕ)
-    → IsKept verdicts told plan entries caches → IsBegun verdicts plan (past entries) r applied → controls ≡ record caches.controls { values = begun_values verdicts plan (past entries) r } → entries' ≡ entries ++ record { seat = seat; step = Begin (record { 0 = r }) } ∷ []
-    → f ≡ after_begin caches.frames applied → AreNotified told plan (members_change plan caches.controls.values controls.values applied) (λ k. row_of controls.values (members plan k)) caches.words words
-    → ((fh : FhId) → events_of events fh.0 ≡ events_after verdicts plan (record { seat = seat; step = Begin (record { 0 = r }) }) (past entries) fh (events_of caches.events fh.0))
-    → b ≡ board_after verdicts plan (Begin (record { 0 = r })) (past entries) → IsKept verdicts told plan entries' (record caches { controls = controls; frames = f; board = b; events = events; words = words })
-kept_begin verdicts told plan entries entries' caches controls f b events words applied seat r kept begun is s made renewed ev popped =
-    kept_add verdicts told plan entries entries' caches (record caches { controls = controls; frames = f; board = b; events = events; words = words }) (record { seat = seat; step = Begin (record { 0 = r }) }) kept (set_room entries begun.room)
-    (begin_follows verdicts plan (past entries) r begun.free begun.first begun.room) s kept.file_handles (ap (λ (m : ControlsData). m.ranges) is ∙ kept.ranges) (ap (λ (m : ControlsData). m.values) is) (ap (λ (m : ControlsData). m.grabs) is ∙ kept.grabs)
-    (made ∙ ap (λ (g : FramesData). after_begin g applied) kept.frames ∙ ap (after_begin (frames verdicts plan (past entries))) begun.are_applied)
-    (words_between told plan caches.controls.values controls.values applied caches.words words kept.words renewed) ev popped
+pub kept_begin : (verdicts : Verdicts) (told : Words) (plan : PlanData) (entries entries' : History) (caches : Caches) (state : StateData) (b : BoardData) (words : List ℕ) (applied : List Pair) (seat : ℕ) (r : RequestId)
+    → IsKept verdicts told plan entries caches → IsBegun verdicts plan (past entries) r.0 applied → entries' ≡ entries ++ record { seat = seat; step = Begin r } ∷ []
+    → Makes verdicts plan (length entries) (Begin r) caches.state state
+    → AreNotified told plan (members_change plan caches.state.controls.values state.controls.values applied) (λ k. row_of state.controls.values (members plan k)) caches.words words
+    → b ≡ board_after verdicts plan (Begin r) (past entries) → IsKept verdicts told plan entries' (record caches { state = state; board = b; words = words })
+kept_begin verdicts told plan entries entries' caches state b words applied seat r kept begun s makes renewed popped =
+    kept_makes verdicts told plan entries entries' caches (record caches { state = state; board = b; words = words }) (record { seat = seat; step = Begin r }) kept (set_room entries begun.room)
+    (begin_follows verdicts plan (past entries) r.0 begun.free begun.first begun.room) s makes
+    (words_between told plan caches.state.controls.values state.controls.values applied caches.words words kept.words renewed) popped
 
 -- what a begin changes of the members of a cluster
 begin_changing : (verdicts : Verdicts) (plan : PlanData) (older : Past) (r j : ℕ) (reply : Reply) → first_of (queue older) ≡ Some r

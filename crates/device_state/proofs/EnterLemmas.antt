@@ -105,10 +105,10 @@ handles_lacking verdicts old new start work seat ask own step reply begin rest u
     handles_asked verdicts old new start work seat ask (refused MemoryRefused) begin rest untold (omega (arith, asked, is.most (refused MemoryRefused))) (λ e. cc) refl (entered_lacks verdicts old.plan (past old.steps) old.words ask own step reply is free)
 
 -- the request under an id in the requests that are kept
-pub found : (verdicts : Verdicts) (told : Words) (plan : PlanData) (entries : History) (caches : Caches) (r : ℕ) → IsKept verdicts told plan entries caches → (kept : RequestsData) → kept ≡ caches.frames.requests
+pub found : (verdicts : Verdicts) (told : Words) (plan : PlanData) (entries : History) (caches : Caches) (r : ℕ) → IsKept verdicts told plan entries caches → (f : FramesData) → f ≡ caches.state.frames → (kept : RequestsData) → kept ≡ f.requests
     → find kept.all r ≡ request verdicts plan (past entries) r
-found verdicts told plan entries caches r is kept lent =
-    ap (λ (rs : RequestsData). find rs.all r) lent ∙ ap (λ (f : FramesData). find f.requests.all r) is.frames ∙ found_request verdicts plan (past entries) r is.legal
+found verdicts told plan entries caches r is f own kept lent =
+    ap (λ (rs : RequestsData). find rs.all r) lent ∙ ap (λ (f : FramesData). find f.requests.all r) (own ∙ is.made.frames) ∙ found_request verdicts plan (past entries) r is.made.legal
 
 -- its state
 pub state_is : (verdicts : Verdicts) (plan : PlanData) (older : Past) (r : ℕ) → option_map (λ (q : RequestData). q.state) (request verdicts plan older r) ≡ state older r
@@ -196,10 +196,10 @@ storable_there None h = cc
 storable_there (Some r) h = refl
 
 -- a request that is there is among those that are kept
-pub held : (verdicts : Verdicts) (told : Words) (plan : PlanData) (entries : History) (caches : Caches) (r : ℕ) → IsKept verdicts told plan entries caches → (kept : RequestsData) → kept ≡ caches.frames.requests
+pub held : (verdicts : Verdicts) (told : Words) (plan : PlanData) (entries : History) (caches : Caches) (r : ℕ) → IsKept verdicts told plan entries caches → (f : FramesData) → f ≡ caches.state.frames → (kept : RequestsData) → kept ≡ f.requests
     → is_some (state (past entries) r) ≡ true → is_some (find kept.all r) ≡ true
 unfolding request
-held verdicts told plan entries caches r is kept lent there = ap is_some (found verdicts told plan entries caches r is kept lent) ∙ by (state (past entries) r) there
+held verdicts told plan entries caches r is f own kept lent there = ap is_some (found verdicts told plan entries caches r is f own kept lent) ∙ by (state (past entries) r) there
   where
     by : (o : Option RequestState) → is_some o ≡ true → is_some (option_map (request_in verdicts plan (past entries) r) o) ≡ true
     by None h = cc

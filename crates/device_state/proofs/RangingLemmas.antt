@@ -14,11 +14,9 @@ use Rattle.ctrl_types.specs.declared.value.CtrlValue.{CtrlValue}
 use Rattle.ctrl_types.specs.declared.flags.TheConstants.Flags.{EXECUTE_ON_WRITE}
 use Rattle.ctrl_types.specs.declared.check.Check.{Check}
 use Rattle.ctrl_types.specs.declared.check.Check.TheVariants.{ControlMissing}
-use Rattle.ctrl_types.specs.declared.ids.FhId.{FhId}
 use Rattle.ctrl_calls.specs.Meanings.{Verdicts, Words}
 use Rattle.ctrl_calls.specs.declared.relation.Relation.{Relation}
 use Rattle.ctrl_calls.specs.declared.work.Work.{Work}
-use Rattle.ctrl_events.specs.Events.{EventsData, events_of}
 use Rattle.ctrl_settle.specs.Control.{Control, with_range}
 use Rattle.ctrl_settle.specs.Faults.{IsFirstFault, IsWellFormed, range_check_of}
 use Rattle.ctrl_settle.specs.FirstFault.{first_fault}
@@ -45,13 +43,14 @@ use Rattle.device_history.specs.Refusals.{fault_of, is_full, step_check, unless_
 use Rattle.device_history.specs.Grabs.{grabbed}
 use Rattle.device_history.specs.Values.{now}
 use Rattle.device_history.specs.Words.{changes}
-use Rattle.device_history.specs.EventSteps.{events_after}
 use Rattle.device_history.proofs.WordLemmas.{changed_row}
 use Rattle.device_state.specs.Device.{DeviceData, Handles}
+use Rattle.device_parts.specs.Makes.{Makes}
+use Rattle.device_parts.specs.State.{StateData}
 use Rattle.device_state.specs.Kept.{Caches, IsKept}
 use Rattle.device_state.specs.Ranging.{GivesRange, IsRanged, range_step, values_then}
 use Rattle.device_state.proofs.BoardLemmas.{board_same}
-use Rattle.device_state.proofs.KeptLemmas.{kept_add, set_room}
+use Rattle.device_state.proofs.KeptLemmas.{kept_makes, set_room}
 use Rattle.device_state.proofs.HandleLemmas.{at_rest}
 use Rattle.device_state.proofs.SetLemmas.{and_false, none_from, notified_same, unchanged}
 use Rattle.device_state.proofs.StepLemmas.{step_answered, step_free, step_passes}
@@ -242,27 +241,27 @@ ranges_ranged plan older c changed ranges after is own set =
     set ∙ ap (λ (cs : List Control). modified cs c changed) own ∙ ap (modified (ranges_now plan older) c) is.its_own
 
 -- what is kept after a range change
-pub kept_range : (verdicts : Verdicts) (told : Words) (plan : PlanData) (steps steps' : History) (caches : Caches) (controls : ControlsData) (b : BoardData) (events : EventsData) (words : List ℕ) (seat c : ℕ) (changed : Control)
+pub kept_range : (verdicts : Verdicts) (told : Words) (plan : PlanData) (steps steps' : History) (caches : Caches) (state : StateData) (b : BoardData) (words : List ℕ) (seat c : ℕ) (changed : Control)
     → IsKept verdicts told plan steps caches → IsRanged plan (past steps) c changed → steps' ≡ steps ++ record { seat = seat; step = range_step c changed } ∷ []
-    → controls ≡ given_range caches.controls c changed (settled_anew changed (value_at caches.controls.values c))
-    → AreNotified told plan (members_change plan caches.controls.values controls.values []) (λ k. row_of controls.values (members plan k)) caches.words words
-    → ((fh : FhId) → events_of events fh.0 ≡ events_after verdicts plan (record { seat = seat; step = range_step c changed }) (past steps) fh (events_of caches.events fh.0))
-    → b ≡ board_of verdicts plan controls.ranges controls.values controls.grabs caches.board.queued
-    → IsKept verdicts told plan steps' (record caches { controls = controls; board = b; events = events; words = words })
-kept_range verdicts told plan steps steps' caches controls b events words seat c changed kept is s given retold ev renewed =
-    kept_add verdicts told plan steps steps' caches (record caches { controls = controls; board = b; events = events; words = words }) (record { seat = seat; step = range_step c changed }) kept (range_room plan steps c changed is)
-    (asks.ModifyRange c changed.minimum changed.maximum changed.step changed.default_value, ap fault_of is.accepted, refl) s
-    kept.file_handles ranges_are values_are grabs_are kept.frames (words_between told plan caches.controls.values controls.values [] caches.words words kept.words retold) ev
+    → Makes verdicts plan (length steps) (range_step c changed) caches.state state
+    → state.controls ≡ given_range caches.state.controls c changed (settled_anew changed (value_at caches.state.controls.values c))
+    → AreNotified told plan (members_change plan caches.state.controls.values state.controls.values []) (λ k. row_of state.controls.values (members plan k)) caches.words words
+    → b ≡ board_of verdicts plan state.controls.ranges state.controls.values state.controls.grabs caches.board.queued
+    → IsKept verdicts told plan steps' (record caches { state = state; board = b; words = words })
+kept_range verdicts told plan steps steps' caches state b words seat c changed kept is s makes given retold renewed =
+    kept_makes verdicts told plan steps steps' caches (record caches { state = state; board = b; words = words }) (record { seat = seat; step = range_step c changed }) kept (range_room plan steps c changed is)
+    (asks.ModifyRange c changed.minimum changed.maximum changed.step changed.default_value, ap fault_of is.accepted, refl) s makes
+    (words_between told plan caches.state.controls.values state.controls.values [] caches.words words kept.words retold)
     (renewed ∙ board_same verdicts plan ranges_are values_are grabs_are (ap (λ (x : BoardData). x.queued) kept.board))
   where
-    ranges_are : controls.ranges ≡ ranges_after (range_step c changed) (ranges_now plan (past steps))
-    ranges_are = ranges_ranged plan (past steps) c changed caches.controls.ranges controls.ranges is kept.ranges (ap (λ (m : ControlsData). m.ranges) given)
+    ranges_are : state.controls.ranges ≡ ranges_after (range_step c changed) (ranges_now plan (past steps))
+    ranges_are = ranges_ranged plan (past steps) c changed caches.state.controls.ranges state.controls.ranges is kept.made.ranges (ap (λ (m : ControlsData). m.ranges) given)
 
-    values_are : controls.values ≡ values_then verdicts plan (past steps) (range_step c changed)
-    values_are = values_ranged verdicts plan (past steps) c changed caches.controls.values controls.values is kept.values (ap (λ (m : ControlsData). m.values) given)
+    values_are : state.controls.values ≡ values_then verdicts plan (past steps) (range_step c changed)
+    values_are = values_ranged verdicts plan (past steps) c changed caches.state.controls.values state.controls.values is kept.made.values (ap (λ (m : ControlsData). m.values) given)
 
-    grabs_are : controls.grabs ≡ grabbed plan (past steps)
-    grabs_are = ap (λ (m : ControlsData). m.grabs) given ∙ kept.grabs
+    grabs_are : state.controls.grabs ≡ grabbed plan (past steps)
+    grabs_are = ap (λ (m : ControlsData). m.grabs) given ∙ kept.made.grabs
 
 -- a range change that is accepted
 pub handles_range : (verdicts : Verdicts) (told : Words) (old between new : DeviceData) (work : Work) (seat c : ℕ) (low high : ℤ) (apart : ℕ) (default_value : ℤ) (changed : Control) → between ≡ record old { work = work } → work ≡ at_rest

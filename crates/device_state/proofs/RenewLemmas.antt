@@ -1,8 +1,8 @@
--- What a set, a grab and a range change change, for the forecasts that are renewed.
-use Rattle.std.proofs.Common.{◌≡◌, ◌≢◌, ℕ, ◌<◌, ◌≤◌, ◌⊎◌, true, false, nat_eq, List, [], ◌∷◌, length, get_or, slice_set, Option, None, Some, is_some, unwrap_or, inl, inr, refl, ap, sym, subst, ◌∙◌, arith}
+-- What a set changes, for the forecasts that are renewed.
+use Rattle.std.proofs.Common.{◌≡◌, ℕ, ◌<◌, ◌≤◌, ◌⊎◌, true, false, List, length, Option, None, Some, is_some, unwrap_or, inl, inr, refl, ap, sym, ◌∙◌, arith}
 use Rattle.std.specs.Option.{option_and_then}
-use Rattle.std.proofs.lemmas.Bool.Decides.{leb_tells, nat_tests}
-use Rattle.std.proofs.lemmas.List.{get_or-set_other, get_or_past}
+use Rattle.std.proofs.lemmas.Bool.Decides.{leb_tells}
+use Rattle.std.proofs.lemmas.List.{get_or_past}
 use Rattle.std.proofs.Math.Dec.{leb}
 use Rattle.ctrl_types.specs.Values.{zero_value}
 use Rattle.ctrl_types.specs.declared.value.CtrlValue.{CtrlValue}
@@ -11,7 +11,6 @@ use Rattle.ctrl_clusters.specs.Rows.{Values, value_at, member_value}
 use Rattle.ctrl_clusters.specs.NewRows.{clusters_of, row_among, value_among, written}
 use Rattle.ctrl_clusters.specs.declared.new_row.NewRow.{NewRow}
 use Rattle.ctrl_clusters.proofs.NewRowLemmas.{has_row, length_written, written_at}
-use Rattle.ctrl_clusters.proofs.OverlayLemmas.{or_true}
 use Rattle.ctrl_clusters.specs.ControlsData.{is_in_one_of}
 
 -- a cluster without a row gives nothing
@@ -30,20 +29,3 @@ written_apart plan values rows c apart = by (leb_tells (length values) c)
     by : ((leb (length values) c ≡ true) × (length values ≤ c)) ⊎ ((leb (length values) c ≡ false) × (c < length values)) → value_at values c ≡ value_at (written plan values rows) c
     by (inl past) = get_or_past values c zero_value past.1 ∙ sym (get_or_past (written plan values rows) c zero_value (omega (arith, past.1, length_written plan values rows)))
     by (inr within) = sym (written_at plan values rows c within.1 ∙ ap (λ (o : Option CtrlValue). unwrap_or o (value_at values c)) (nothing_among plan rows (cluster_of plan c) c apart))
-
--- a control of another cluster is another control
-apart_other : (plan : PlanData) (c k d : ℕ) → cluster_of plan c ≡ Some k → is_in_one_of (k ∷ []) (cluster_of plan d) ≡ false → d ≢ c
-apart_other plan c k d is apart same = clash (subst (λ (o : Option ℕ). is_in_one_of (k ∷ []) o ≡ false) (ap (cluster_of plan) same ∙ is) apart)
-  where
-    own : nat_eq k k ≡ true
-    own = grind (arith, nat_tests)
-
-    differ : true ≡ false → ⊥
-    differ h = cc
-
-    clash : is_in_one_of (k ∷ []) (Some k) ≡ false → ⊥
-    clash h = differ (sym (or_true (nat_eq k k) false own) ∙ h)
-
--- where one control gets something else, each of another cluster has what it had
-pub set_apart : {X : Type 0} (plan : PlanData) (xs : List X) (none : X) (c k : ℕ) (x : X) (d : ℕ) → cluster_of plan c ≡ Some k → is_in_one_of (k ∷ []) (cluster_of plan d) ≡ false → get_or xs d none ≡ get_or (slice_set xs c x) d none
-set_apart plan xs none c k x d is apart = sym (get_or-set_other xs c d x none (apart_other plan c k d is apart))

@@ -1,24 +1,18 @@
 -- In which clusters a set, the begin of a frame, and a grab change something.
-use Rattle.std.proofs.Common.{◌≡◌, ◌≢◌, ◌∙◌, ◌<◌, ◌≤◌, ◌⊎◌, ◌||◌, ◌==◌, ℕ, Bool, true, false, nat_eq, List, [], ◌∷◌, length, slice_get, slice_set, Some, inl, inr, map, refl, sym, ap, subst, arith}
+use Rattle.std.proofs.Common.{◌≡◌, ◌∙◌, ◌<◌, ◌≤◌, ◌⊎◌, ℕ, true, false, nat_eq, List, [], ◌∷◌, length, slice_get, Some, inl, inr, map, refl, sym, ap, subst}
 use Rattle.std.specs.List.{list_any}
 use Rattle.std.proofs.Math.Dec.{leb}
 use Rattle.std.proofs.lemmas.Bool.Decides.{leb_tells}
 use Rattle.std.proofs.lemmas.List.{get_or_past}
 use Rattle.ctrl_types.specs.declared.ids.Pair.{Pair}
-use Rattle.ctrl_types.specs.declared.value.CtrlValue.{CtrlValue}
 use Rattle.ctrl_calls.specs.Meanings.{Verdicts}
-use Rattle.ctrl_settle.specs.Control.{Control}
 use Rattle.ctrl_handlers.specs.ClusterData.{ClusterData}
-use Rattle.ctrl_handlers.specs.Plan.{PlanData, IsPlan, cluster_of, members, no_cluster}
+use Rattle.ctrl_handlers.specs.Plan.{PlanData, IsPlan, members, no_cluster}
 use Rattle.ctrl_clusters.specs.Changes.{members_change, row_changes}
-use Rattle.ctrl_clusters.specs.ControlsData.{ControlsData, DifferIn, as_one, is_in_one_of}
-use Rattle.ctrl_clusters.specs.NewRows.{clusters_of, written}
-use Rattle.ctrl_clusters.specs.Overlay.{is_touched, overlay}
-use Rattle.ctrl_clusters.specs.Rows.{Grabs, Values, row_of, value_at}
-use Rattle.ctrl_clusters.specs.declared.new_row.NewRow.{NewRow}
+use Rattle.ctrl_clusters.specs.ControlsData.{ControlsData, as_one, is_in_one_of}
+use Rattle.ctrl_clusters.specs.Overlay.{overlay}
+use Rattle.ctrl_clusters.specs.Rows.{row_of, value_at}
 use Rattle.ctrl_clusters.proofs.OverlayLemmas.{same_each}
-use Rattle.ctrl_lists.specs.Touched.{touched}
-use Rattle.ctrl_lists.proofs.TouchedLemmas.{touched_is}
 use Rattle.ctrl_forecast.specs.Applied.{applied_pairs}
 use Rattle.ctrl_forecast.specs.Boards.{named_clusters}
 use Rattle.ctrl_forecast.specs.Forecasts.{QueuedData}
@@ -32,38 +26,12 @@ use Rattle.device_history.specs.Requests.{asked}
 use Rattle.device_history.specs.Snapshots.{begun_pairs, begun_refused, begun_values}
 use Rattle.device_history.specs.Values.{now}
 use Rattle.device_history.specs.Steps.{Past}
-use Rattle.device_state.proofs.RenewLemmas.{set_apart, written_apart}
 use Rattle.device_state.proofs.SetLemmas.{changes_same}
 
 -- the same, of what is equal
 pub within_same : (plan plan' : PlanData) (clusters clusters' : List ℕ) (before before' after after' : ControlsData) (pairs pairs' : List Pair) → plan ≡ plan' → clusters ≡ clusters' → before ≡ before' → after ≡ after' → pairs ≡ pairs'
     → DifferWithin plan' clusters' before' after' pairs' → DifferWithin plan clusters before after pairs
 within_same plan plan' clusters clusters' before before' after after' pairs pairs' p k b a ps is = rw (p, k, b, a, ps) is
-
--- A set changes what its rows are of.
-pub set_within : (plan : PlanData) (controls : ControlsData) (rows : List NewRow) (pairs : List Pair) → IsPlan plan → clusters_of rows ≡ touched plan pairs
-    → DifferWithin plan (clusters_of rows) controls (record controls { values = written plan controls.values rows }) pairs
-set_within plan controls rows pairs is each = record {
-  ranges_stay = λ c outside. refl;
-  values_stay = written_apart plan controls.values rows;
-  grabs_stay = λ c outside. refl;
-  unasked = λ k lt outside. touched_is plan pairs k is lt ∙ ap (list_any (nat_eq k)) (sym each) ∙ outside;
-}
-
--- no pairs touch anything
-none_asked : (cs : List ℕ) → is_touched [] cs ≡ false
-none_asked [] = refl
-none_asked (c ∷ cs) = none_asked cs
-
--- A grab changes the cluster of its control.
-pub grab_within : (plan : PlanData) (controls : ControlsData) (c k : ℕ) (on : Bool) → cluster_of plan c ≡ Some k
-    → DifferWithin plan (k ∷ []) controls (record controls { grabs = slice_set controls.grabs c on }) []
-grab_within plan controls c k on is = record {
-  ranges_stay = λ d outside. refl;
-  values_stay = λ d outside. refl;
-  grabs_stay = λ d outside. set_apart plan controls.grabs false c k on d is outside;
-  unasked = λ j lt outside. none_asked (members plan j);
-}
 
 -- The begin of a frame changes the clusters that it names.
 pub begin_within : (verdicts : Verdicts) (plan : PlanData) (controls : ControlsData) (refused : List ℕ) (pairs : List Pair)

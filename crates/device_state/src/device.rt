@@ -31,21 +31,19 @@ mod ranges;
 mod requests;
 
 use ctrl_calls::{Driver, Work};
-use ctrl_clusters::{Controls, Moment, first_words, flags_under};
-use ctrl_events::Events;
+use ctrl_clusters::{Moment, first_words, flags_under};
 use ctrl_forecast::Board;
 use ctrl_handlers::{MenuItem, Plan};
 use ctrl_lists::Room;
 use ctrl_settle::Ctrl;
 use ctrl_types::{Check, CtrlId, CtrlValue, Errno, Fault, FhId, Flags, Refusal, RequestId};
 use device_history::{Ask, CtrlInfo, MAX_FILE_HANDLES, MAX_STEPS, Reply, Step, refused};
-use frame_queue::{Frames, RequestState};
+use device_parts::State;
+use frame_queue::RequestState;
 use history::Entry;
 use history_audit::Scratch;
-use indexmap::IndexMap;
 use std::alloc::{AllocError, Global};
 use std::marker::Model;
-use step_effects::raise_touched;
 
 /// The controls of one device (Linux driver API, "V4L2 Controls"), and the history of the steps that it accepted. Contracts
 /// see it as its plan, those steps, the words that its clusters were told last, and the counts of the last call: its open file
@@ -53,16 +51,10 @@ use step_effects::raise_touched;
 /// events that wait are what the steps make of them, at every moment.
 pub struct Device<D: Driver> {
     plan: Plan<D>,
-    // the open file handles, each with its handler, in the order of their opening
-    file_handles: IndexMap<u32, u32>,
-    // the present ranges, values and grabs
-    controls: Controls,
-    // the media requests, and the queue of frames
-    frames: Frames,
+    // what the steps make
+    state: State,
     // the queued frames, with what they will have
     board: Board,
-    // the events of file handles
-    events: Events,
     // the words told last, by cluster
     words: Vec<u64>,
     steps: Vec<Entry<Step>>,
@@ -81,18 +73,15 @@ impl<D: Driver> Model for Device<D> {
 
     ghost view = { λ d. record { plan = d.plan; steps = d.steps.items; words = d.words.items; work = d.work } };
 
-    ghost invariant = { λ d. IsKept D.verdict D.told d.plan d.steps.items (record { file_handles = d.file_handles.entries; controls = d.controls; frames = d.frames; board = d.board; events = d.events; words = d.words.items }) };
+    ghost invariant = { λ d. IsKept D.verdict D.told d.plan d.steps.items (record { state = d.state; board = d.board; words = d.words.items }) };
 }
 
 impl<D: Driver> Drop for Device<D> {
     fn drop(self) {
         let Device {
             plan: _,
-            file_handles: _,
-            controls: _,
-            frames: _,
+            state: _,
             board: _,
-            events: _,
             words: _,
             steps: _,
             work: _,
@@ -114,23 +103,17 @@ impl<D: Driver> Device<D> {
         ensures ok { IfOk result (λ d. (d.plan ≡ plan) × (d.steps ≡ []) × HaveWords D.told plan (defaults plan) d.words × (d.work ≡ record { asked = 0; told = 0 })) }
         ensures err { IfErr result (λ e. (e.0 ≡ plan) × (e.1 ≡ errno_of MemoryRefused)) }
     {
-        let Ok(controls) = Controls::of_plan(alloc, &plan) else {
-            return Err((plan, Check::MemoryRefused.errno()));
-        };
-        let Ok(frames) = Frames::new(alloc, plan.control_count()) else {
+        let Ok(state) = State::new(alloc, &plan) else {
             return Err((plan, Check::MemoryRefused.errno()));
         };
         let mut told = Work::new();
-        let Ok(words) = first_words(alloc, &controls.at(&plan), &mut told) else {
+        let Ok(words) = first_words(alloc, &state.at(&plan), &mut told) else {
             return Err((plan, Check::MemoryRefused.errno()));
         };
         Ok(Device {
             plan,
-            file_handles: IndexMap::new(alloc),
-            controls,
-            frames,
+            state,
             board: Board::empty(alloc),
-            events: Events::new(alloc),
             words,
             steps: Vec::new(alloc),
             work: Work::new(),
@@ -165,7 +148,7 @@ impl<D: Driver> Device<D> {
         ensures values { result.now ≡ now D.verdict self.now.plan (past self.now.steps) }
         ensures long { length result.now ≡ length self.now.plan.controls }
     {
-        self.controls.values()
+        self.state.controls().values()
     }
 
     /// A control with its present range, for a driver's own use (Linux driver API, `v4l2_ctrl_modify_range`): its bounds, step and default, as `query` tells
@@ -208,14 +191,14 @@ impl<D: Driver> Device<D> {
     pub fn handler_of(&self, fh: FhId) -> Option<u32>
         ensures { result ≡ handler_of (past self.now.steps) fh }
     {
-        self.file_handles.get(&fh.0).copied()
+        self.state.handler_of(fh)
     }
 
     /// How many file handles are open, at most 64, for a driver's own use (of this project). It takes no memory.
     pub fn open_count(&self) -> usize
         ensures { result ≡ length (opened (past self.now.steps)) }
     {
-        self.file_handles.len()
+        self.state.file_handles().len()
     }
 
     /// Whether what an audit worked out of some history is what the device has: the present ranges, values and flags, the requests with their
@@ -228,10 +211,10 @@ impl<D: Driver> Device<D> {
     {
         scratch.has_parts(
             &self.at(),
-            &self.frames,
+            self.state.frames(),
             &self.board,
-            &self.file_handles,
-            &self.events,
+            self.state.file_handles(),
+            self.state.events(),
         )
     }
 
@@ -452,7 +435,7 @@ impl<D: Driver> Device<D> {
     fn state_found(&self, request: RequestId) -> Result<RequestState, Check>
         ensures { result ≡ state_found (past self.now.steps) request }
     {
-        match self.frames.requests().state(request) {
+        match self.state.frames().requests().state(request) {
             Some(state) => Ok(state),
             None => Err(Check::RequestMissing),
         }
@@ -503,7 +486,7 @@ impl<D: Driver> Device<D> {
         if !self.plan.has_handler(handler) {
             return Some(Check::HandlerMissing);
         }
-        if self.file_handles.len() >= MAX_FILE_HANDLES {
+        if self.state.file_handles().len() >= MAX_FILE_HANDLES {
             return Some(Check::TooManyHandles);
         }
         None
@@ -517,7 +500,7 @@ impl<D: Driver> Device<D> {
     {
         let number = self.steps.len() as u32;
         self.steps.reserve(1)?;
-        self.file_handles.insert(number, handler)?;
+        self.state.open(number, handler)?;
         self.steps.push_reserved(Entry {
             seat,
             step: Step::OpenFh { handler },
@@ -557,8 +540,7 @@ impl<D: Driver> Device<D> {
         ensures err { OnErr result (self.new ≡ self.old) }
     {
         self.steps.reserve(1)?;
-        self.file_handles.shift_remove(&fh.0);
-        self.events.drop_fh(fh);
+        self.state.close(fh);
         self.steps.push_reserved(Entry {
             seat,
             step: Step::CloseFh { fh },
@@ -599,33 +581,12 @@ impl<D: Driver> Device<D> {
         ensures told { OnOk result (self.new.work.told ≡ self.old.work.told) }
         ensures err { OnErr result (self.new ≡ self.old) }
     {
-        let grabs = self.controls.lend_grabs(self.alloc)?;
-        self.write_grab(seat, control, on, grabs)
-    }
-
-    // The same, with the grabs once more.
-    fn write_grab(
-        &mut self,
-        seat: u32,
-        control: u32,
-        on: bool,
-        mut grabs: Vec<bool>,
-    ) -> Result<(), AllocError>
-        requires accepted { step_check (past self.old.steps) (grab_check self.old.plan control) ≡ None }
-        requires copied { grabs.items ≡ grabbed self.old.plan (past self.old.steps) }
-        ensures ok { OnOk result (self.new ≡ with_step (record self.old { work = self.new.work }) seat (steps.Grab control on)) }
-        ensures asked { OnOk result (self.new.work.asked ≤ self.old.work.asked + cluster_asks self.old.plan (past self.old.steps) (cluster_of self.old.plan control)) }
-        ensures told { OnOk result (self.new.work.told ≡ self.old.work.told) }
-        ensures err { OnErr result (self.new ≡ self.old) }
-    {
         self.steps.reserve(1)?;
-        grabs[control as usize] = on;
-        let change = self.controls.to_grabs(&self.plan, grabs.as_slice());
+        let room = self.state.reserve_grab(self.alloc)?;
+        self.state.grab(&self.plan, control, on, room);
         let cluster = self.plan.cluster_of(control);
         self.board
-            .rejudge(&change.after(), &[cluster], &mut self.work);
-        raise_touched(&change, &[], None, &[cluster], &mut self.events);
-        self.controls.replace_grab(grabs, control, on);
+            .rejudge(&self.state.at(&self.plan), &[cluster], &mut self.work);
         self.steps.push_reserved(Entry {
             seat,
             step: Step::Grab { control, on },
@@ -671,7 +632,7 @@ impl<D: Driver> Device<D> {
         ensures values { result.values.now ≡ now D.verdict self.now.plan (past self.now.steps) }
         ensures grabs { result.grabs.now ≡ grabbed self.now.plan (past self.now.steps) }
     {
-        self.controls.at(&self.plan)
+        self.state.at(&self.plan)
     }
 
     // The control that is shown to a file handle under an id, or why there is none.

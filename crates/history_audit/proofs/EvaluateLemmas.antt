@@ -5,9 +5,13 @@ use Rattle.std.proofs.lemmas.List.{length-map, length-take-le, map-append, take_
 use Rattle.std.proofs.lemmas.List.FromFn.{map-range_with_len_more}
 use Rattle.ctrl_types.specs.declared.flags.Flags.{Flags}
 use Rattle.ctrl_calls.specs.Meanings.{Verdicts}
+use Rattle.ctrl_settle.specs.Control.{Control}
 use Rattle.ctrl_handlers.specs.Plan.{PlanData}
 use Rattle.ctrl_clusters.specs.Rows.{Grabs, Values}
 use Rattle.ctrl_clusters.specs.PresentFlags.{flags_under}
+use Rattle.ctrl_forecast.specs.Boards.{BoardData, board_of, named_clusters}
+use Rattle.ctrl_forecast.specs.Forecasts.{QueuedData, forecast_over, forecasts}
+use Rattle.ctrl_forecast.specs.declared.board.Forecast.{Forecast}
 use Rattle.device_history.specs.Steps.{Past}
 use Rattle.device_history.specs.Flags.{flags_now}
 use Rattle.device_history.specs.Grabs.{grabbed}
@@ -39,3 +43,15 @@ mapped_many f xs i ys le so_far = ap length so_far ∙ length-map (take i xs) f 
 -- all were
 pub mapped_all : {X Y : Type 0} (f : X → Y) (xs : List X) (i : ℕ) (ys : List Y) → length xs ≤ i → ys ≡ map f (take i xs) → ys ≡ map f xs
 mapped_all f xs i ys ge so_far = so_far ∙ ap (map f) (take_all i xs ge)
+
+-- what the frame has that stands alone on a board, and the clusters that it names
+pub first_laid : (verdicts : Verdicts) (plan : PlanData) (controls : List Control) (values : Values) (grabs : Grabs) (q : QueuedData) (b : BoardData) (row : Forecast) (named : List ℕ) → b ≡ board_of verdicts plan controls values grabs (q ∷ [])
+    → Some row ≡ slice_get b.forecasts 0 → Some named ≡ slice_get b.named 0 → (row ≡ forecast_over verdicts plan controls values grabs q) × (named ≡ named_clusters plan q.asked)
+unfolding forecasts
+first_laid verdicts plan controls values grabs q b row named is first names = (one (first ∙ ap (λ (x : BoardData). slice_get x.forecasts 0) is), own (names ∙ ap (λ (x : BoardData). slice_get x.named 0) is))
+  where
+    one : Some row ≡ Some (forecast_over verdicts plan controls values grabs q) → row ≡ forecast_over verdicts plan controls values grabs q
+    one h = cc
+
+    own : Some named ≡ Some (named_clusters plan q.asked) → named ≡ named_clusters plan q.asked
+    own h = cc

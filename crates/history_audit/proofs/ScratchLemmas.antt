@@ -20,7 +20,7 @@ use Rattle.ctrl_types.specs.declared.flags.Flags.{Flags}
 use Rattle.ctrl_forecast.specs.declared.board.Forecast.{Forecast}
 use Rattle.device_history.specs.Steps.{History}
 use Rattle.device_history.specs.Forecasts.{forecast}
-use Rattle.history_audit.specs.Replay.{HaveComeAbout, Parts}
+use Rattle.device_parts.specs.State.{IsMade, StateData}
 use Rattle.history_audit.specs.Scratch.{OpenEvents, ScratchData, all_events, all_flags, events_for, its_events, open_events, open_with, scratch, shown_of}
 use Rattle.history_audit.proofs.MadeLemmas.{taken_next}
 
@@ -82,9 +82,9 @@ unlisted events (h ∷ hs) fh none = by (eqb_tells fh.0 h.0) (unlisted events hs
     by (inl here) further = let is : None ≡ Some h.1 = rw here.0 at none in cc
     by (inr other) further = rw other.0 (further (rw other.0 at none))
 
--- parts, with the flags and the forecasts of the steps that made them, show what these make of a device
-pub shown_made : (verdicts : Verdicts) (plan : PlanData) (steps : History) (parts : Parts) (flags : List Flags) (rows : List Forecast) → HaveComeAbout verdicts plan steps parts
-    → flags ≡ all_flags verdicts plan (past steps) → rows ≡ forecast verdicts plan (past steps) → shown_of parts flags rows ≡ scratch verdicts plan (past steps)
-shown_made verdicts plan steps parts flags rows made f b =
-    let events : open_events parts.events parts.file_handles ≡ all_events verdicts plan (past steps) = events_made verdicts plan (past steps) parts.events parts.file_handles made.file_handles made.events in
+-- a state, with the flags and the forecasts of the steps that made it, shows what these make of a device
+pub shown_made : (verdicts : Verdicts) (plan : PlanData) (steps : History) (state : StateData) (flags : List Flags) (rows : List Forecast) → IsMade verdicts plan steps state
+    → flags ≡ all_flags verdicts plan (past steps) → rows ≡ forecast verdicts plan (past steps) → shown_of state flags rows ≡ scratch verdicts plan (past steps)
+shown_made verdicts plan steps state flags rows made f b =
+    let events : open_events state.events state.file_handles ≡ all_events verdicts plan (past steps) = events_made verdicts plan (past steps) state.events state.file_handles made.file_handles made.events in
     λ i. let s : ScratchData = record { ranges = made.ranges i; values = made.values i; flags = f i; frames = made.frames i; forecasts = b i; events = events i } in s

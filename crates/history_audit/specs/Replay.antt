@@ -1,25 +1,16 @@
--- A replay: a history whose first steps were replayed, and what they made of the parts of a device (of this project).
-use Rattle.std.specs.Prelude.{◌≡◌, ℕ, ◌≤◌, Bool, true, false, List, [], ◌∷◌, ◌++◌, length, take, Some, slice_get}
+-- A replay: a history whose first steps were replayed, and the state that they made (of this project).
+use Rattle.std.specs.Prelude.{◌≡◌, ℕ, ◌≤◌, Bool, true, false, [], ◌∷◌, ◌++◌, length, take, Some, slice_get}
 use Rattle.std.specs.Option.{option_map}
 use Rattle.history.specs.declared.entry.Entry.{Entry}
 use Rattle.history.specs.Past.{past}
 use Rattle.ctrl_calls.specs.Meanings.{Verdicts}
-use Rattle.ctrl_types.specs.declared.ids.FhId.{FhId}
-use Rattle.ctrl_events.specs.Events.{EventsData, events_of}
-use Rattle.ctrl_handlers.specs.Plan.{IsPlan, PlanData}
-use Rattle.ctrl_clusters.specs.ControlsData.{ControlsData}
-use Rattle.frame_queue.specs.Frames.{FramesData}
+use Rattle.ctrl_handlers.specs.Plan.{PlanData}
 use Rattle.device_history.specs.declared.ask.Step.{Step}
 use Rattle.device_history.specs.declared.ask.Step.TheVariants as steps
 use Rattle.device_history.specs.declared.limits.TheConstants.{MAX_STEPS}
-use Rattle.device_history.specs.Ranges.{ranges_now}
 use Rattle.device_history.specs.Steps.{History}
-use Rattle.device_history.specs.Handles.{opened}
-use Rattle.device_history.specs.Grabs.{grabbed}
-use Rattle.device_history.specs.Snapshots.{frames}
-use Rattle.device_history.specs.Values.{now}
-use Rattle.device_history.specs.EventSteps.{AreEvents}
-use Rattle.device_history.specs.Legal.{IsLegal, MayFollow}
+use Rattle.device_history.specs.Legal.{MayFollow}
+use Rattle.device_parts.specs.State.{IsMade, StateData}
 
 -- what is replayed: the plan of the device, the steps that were replayed, and all that there are
 pub record ReplayData : Type 0 where
@@ -56,46 +47,25 @@ AddsNext old new = (e : Entry Step) → IsNextEntry old e → new ≡ with_next 
 abbrev pub TriesNext : Verdicts → ReplayData → ReplayData → Bool → Type 0
 TriesNext verdicts old new is = (e : Entry Step) → IsNextEntry old e → Replayed verdicts old new e is
 
--- what a replay keeps of the device
-pub record Parts : Type 0 where
-  -- the open file handles, each with its handler
-  pub file_handles : List (ℕ × ℕ)
-  pub controls : ControlsData
-  -- the requests and the queue
-  pub frames : FramesData
-  -- the events of file handles
-  pub events : EventsData
-
--- what was replayed and put aside: how many steps, and the parts that they made
+-- what was replayed and put aside: how many steps, and the state that they made
 pub record ProgressData : Type 0 where
   pub count : ℕ
-  pub parts : Parts
+  pub state : StateData
 
--- Steps came about, and each part is what they make of it.
-pub record HaveComeAbout (verdicts : Verdicts) (plan : PlanData) (steps : History) (parts : Parts) : Type 0 where
-  pub legal : IsLegal verdicts plan (past steps)
-  pub file_handles : parts.file_handles ≡ opened (past steps)
-  pub ranges : parts.controls.ranges ≡ ranges_now plan (past steps)
-  pub values : parts.controls.values ≡ now verdicts plan (past steps)
-  pub grabs : parts.controls.grabs ≡ grabbed plan (past steps)
-  pub frames : parts.frames ≡ frames verdicts plan (past steps)
-  pub events : (fh : FhId) → AreEvents verdicts plan (past steps) fh (events_of parts.events fh.0)
-
--- So many steps of all were replayed, no more than a device keeps, and they made the parts.
-pub record IsReplay (verdicts : Verdicts) (plan : PlanData) (all : History) (count : ℕ) (parts : Parts) : Type 0 where
-  pub plans : IsPlan plan
+-- So many steps of all were replayed, no more than a device keeps, and they made the state.
+pub record IsReplay (verdicts : Verdicts) (plan : PlanData) (all : History) (count : ℕ) (state : StateData) : Type 0 where
   pub within : count ≤ length all
   pub few : count ≤ MAX_STEPS
-  pub made : HaveComeAbout verdicts plan (take count all) parts
+  pub made : IsMade verdicts plan (take count all) state
 
 -- What was put aside are the first steps of a history, with what they make of the device.
 abbrev pub IsProgressOf : Verdicts → PlanData → History → ProgressData → Type 0
-IsProgressOf verdicts plan all made = IsReplay verdicts plan all made.count made.parts
+IsProgressOf verdicts plan all made = IsReplay verdicts plan all made.count made.state
 
 -- What was put aside is a replay: as many steps as were replayed there, the first ones of all, and what they made.
 pub record IsAside (verdicts : Verdicts) (replay : ReplayData) (aside : ProgressData) : Type 0 where
   pub many : aside.count ≡ length replay.steps
-  pub made : HaveComeAbout verdicts replay.plan replay.steps aside.parts
+  pub made : IsMade verdicts replay.plan replay.steps aside.state
   pub first : IsProgressOf verdicts replay.plan replay.all aside
 
 -- a step that is replayed where what it gives the controls was judged: the pairs of a set and of a store, and the range of a range change

@@ -22,7 +22,8 @@ use Rattle.device_history.specs.Values.{now}
 use Rattle.device_history.specs.Flags.{flags_now}
 use Rattle.device_history.specs.Snapshots.{frames}
 use Rattle.device_history.specs.Forecasts.{forecast}
-use Rattle.history_audit.specs.Replay.{Parts, ProgressData}
+use Rattle.device_parts.specs.State.{StateData}
+use Rattle.history_audit.specs.Replay.{ProgressData}
 
 -- an open file handle, with the events that wait for it, in order, and the number of its next event
 pub record OpenEvents : Type 0 where
@@ -61,15 +62,15 @@ open_with fh kept = record { fh = record { 0 = fh }; waiting = kept.waiting; nex
 abbrev pub open_events : EventsData → List (ℕ × ℕ) → List OpenEvents
 open_events events handles = map (λ h. open_with h.0 (events_of events h.0)) handles
 
--- what parts show, with the flags and the forecasts that they make
-abbrev pub shown_of : Parts → List Flags → List Forecast → ScratchData
-shown_of parts flags forecasts = record {
-  ranges = parts.controls.ranges;
-  values = parts.controls.values;
+-- what a state shows, with the flags and the forecasts that it makes
+abbrev pub shown_of : StateData → List Flags → List Forecast → ScratchData
+shown_of state flags forecasts = record {
+  ranges = state.controls.ranges;
+  values = state.controls.values;
   flags = flags;
-  frames = parts.frames;
+  frames = state.frames;
   forecasts = forecasts;
-  events = open_events parts.events parts.file_handles;
+  events = open_events state.events state.file_handles;
 }
 
 -- what is listed of a file handle, where it is open

@@ -20,33 +20,24 @@ mod plain;
 use crate::progress::Progress;
 use crate::scratch::Scratch;
 use ctrl_calls::Driver;
-use ctrl_clusters::{Controls, Moment};
-use ctrl_events::Events;
+use ctrl_clusters::Moment;
 use ctrl_handlers::Plan;
 use ctrl_types::FhId;
 use device_history::{MAX_STEPS, Step};
-use frame_queue::Frames;
+use device_parts::State;
 use history::Entry;
-use indexmap::IndexMap;
 use std::alloc::{AllocError, Global};
 use std::marker::Model;
 
 /// A history that is replayed, step by step, and what its first steps made of a device. Contracts see it as the plan, the steps that were
-/// replayed, and all that there are: open file handles, ranges, values, grabs, requests and their queue are what the replayed steps make of them,
-/// at every moment.
+/// replayed, and all that there are: its state is what the replayed steps make of a device, at every moment.
 pub struct Replay<'a, D: Driver> {
     plan: &'a Plan<D>,
     steps: &'a [Entry<Step>],
     // how many were replayed
     count: usize,
-    // the open file handles, each with its handler, in the order of their opening
-    file_handles: IndexMap<u32, u32>,
-    // the present ranges, values and grabs
-    controls: Controls,
-    // the media requests, and the queue of frames
-    frames: Frames,
-    // the events of file handles
-    events: Events,
+    // what they made
+    state: State,
     alloc: Global,
 }
 
@@ -60,7 +51,7 @@ impl<'a, D: Driver> Model for Replay<'a, D> {
 
     ghost view = { λ r. record { plan = r.plan.now; steps = take r.count r.steps.now; all = r.steps.now } };
 
-    ghost invariant = { λ r. IsReplay D.verdict r.plan.now r.steps.now r.count (record { file_handles = r.file_handles.entries; controls = r.controls; frames = r.frames; events = r.events }) };
+    ghost invariant = { λ r. IsReplay D.verdict r.plan.now r.steps.now r.count r.state };
 }
 
 impl<'a, D: Driver> Drop for Replay<'a, D> {
@@ -69,10 +60,7 @@ impl<'a, D: Driver> Drop for Replay<'a, D> {
             plan: _,
             steps: _,
             count: _,
-            file_handles: _,
-            controls: _,
-            frames: _,
-            events: _,
+            state: _,
             alloc: _,
         } = self;
     }
@@ -93,18 +81,12 @@ impl<'a, D: Driver> Replay<'a, D> {
     ) -> Result<Replay<'a, D>, AllocError>
         ensures { IfOk result (λ r. r ≡ record { plan = plan.now; steps = []; all = steps.now }) }
     {
-        let controls = Controls::of_plan(alloc, plan)?;
-        let Ok(frames) = Frames::new(alloc, plan.controls().len() as u32) else {
-            return Err(AllocError);
-        };
+        let state = State::new(alloc, plan)?;
         Ok(Replay {
             plan,
             steps,
             count: 0,
-            file_handles: IndexMap::new(alloc),
-            controls,
-            frames,
-            events: Events::new(alloc),
+            state,
             alloc,
         })
     }
@@ -124,21 +106,12 @@ impl<'a, D: Driver> Replay<'a, D> {
         requires { IsProgressOf D.verdict plan.now steps.now made }
         ensures { result ≡ record { plan = plan.now; steps = take made.count steps.now; all = steps.now } }
     {
-        let Progress {
-            count,
-            file_handles,
-            controls,
-            frames,
-            events,
-        } = made;
+        let Progress { count, state } = made;
         Replay {
             plan,
             steps,
             count,
-            file_handles,
-            controls,
-            frames,
-            events,
+            state,
             alloc,
         }
     }
@@ -229,19 +202,10 @@ impl<'a, D: Driver> Replay<'a, D> {
             plan: _,
             steps: _,
             count,
-            file_handles,
-            controls,
-            frames,
-            events,
+            state,
             alloc: _,
         } = self;
-        Progress {
-            count,
-            file_handles,
-            controls,
-            frames,
-            events,
-        }
+        Progress { count, state }
     }
 
     // The present moment.
@@ -251,14 +215,14 @@ impl<'a, D: Driver> Replay<'a, D> {
         ensures values { result.values.now ≡ now D.verdict self.now.plan (past self.now.steps) }
         ensures grabs { result.grabs.now ≡ grabbed self.now.plan (past self.now.steps) }
     {
-        self.controls.at(self.plan)
+        self.state.at(self.plan)
     }
 
     // The handler of a file handle, if it is open.
     fn handler_of(&self, fh: FhId) -> Option<u32>
         ensures { result ≡ handler_of (past self.now.steps) fh }
     {
-        self.file_handles.get(&fh.0).copied()
+        self.state.handler_of(fh)
     }
 
     // Whether no further step is kept. What is always so of the plan is said here, too.

@@ -19,7 +19,7 @@ use std::marker::Model;
 /// for it and the number of its next event; and as what was replayed, from which an audit can go on.
 #[derive(Drop)]
 pub struct Scratch {
-    // the parts that the steps made; the grabs are seen in the flags alone
+    // the state that the steps made; its grabs are seen in the flags alone
     made: Progress,
     // by control
     flags: Vec<Flags>,
@@ -31,13 +31,13 @@ impl Model for Scratch {
 
     ghost Value = { AuditedData };
 
-    ghost view = { λ s. record { shown = shown_of s.made.parts s.flags.items s.forecasts.forecasts; made = s.made } };
+    ghost view = { λ s. record { shown = shown_of s.made.state s.flags.items s.forecasts.forecasts; made = s.made } };
 }
 
 impl Scratch {
-    // These parts, with the flags and the forecasts that they make.
+    // This state, with the flags and the forecasts that they make.
     pub(crate) fn of(made: Progress, flags: Vec<Flags>, forecasts: Board) -> Scratch
-        ensures { result ≡ record { shown = shown_of made.parts flags.items forecasts.forecasts; made = made } }
+        ensures { result ≡ record { shown = shown_of made.state flags.items forecasts.forecasts; made = made } }
     {
         Scratch {
             made,
@@ -62,14 +62,14 @@ impl Scratch {
     pub fn ranges(&self) -> &Ranges
         ensures { result.now ≡ self.now.shown.ranges }
     {
-        self.made.controls.ranges()
+        self.made.state.controls().ranges()
     }
 
     /// The present values, one for each control, in the order of the plan's numbers. It takes no memory.
     pub fn values(&self) -> &[CtrlValue]
         ensures { result.now ≡ self.now.shown.values }
     {
-        self.made.controls.values()
+        self.made.state.controls().values()
     }
 
     /// The present flags, likewise. It takes no memory.
@@ -83,7 +83,7 @@ impl Scratch {
     pub fn frames(&self) -> &Frames
         ensures { result.now ≡ self.now.shown.frames }
     {
-        &self.made.frames
+        self.made.state.frames()
     }
 
     /// What the queued frames will have, in the order of the queue. It takes no memory.
@@ -150,8 +150,8 @@ impl Scratch {
         ensures { IsTrue result ↔ (self.now.shown.events ≡ open_events events.now file_handles.now.entries) }
     {
         are_events(
-            &self.made.file_handles,
-            &self.made.events,
+            self.made.state.file_handles(),
+            self.made.state.events(),
             file_handles,
             events,
         )

@@ -2,13 +2,11 @@
 //! forecasts that are kept of it, and to the events of file handles.
 #![tactic(auto)]
 
-mod copies;
 mod raising;
 mod ranging;
 mod requests_and_events;
 mod with_forecasts;
 
-pub use copies::{copied_grabs, copied_values};
 pub use raising::{raise_step, raise_touched};
 pub use ranging::change_range;
 pub use requests_and_events::change_requests_and_events;

@@ -24,7 +24,6 @@ use ctrl_types::{Check, Pair, Refusal, RequestId};
 use device_history::{Reply, Step, refused};
 use history::Entry;
 use std::alloc::AllocError;
-use step_effects::raise_touched;
 
 // A frame that can begin: its request, and what is applied of what it asks for.
 #[derive(Drop)]
@@ -76,7 +75,7 @@ impl<D: Driver> Device<D> {
         ensures first { IfOk result (λ request. first_of (queue (past self.now.steps)) ≡ Some request.0) }
         ensures check { result_err result ≡ begin_check (frames D.verdict self.now.plan (past self.now.steps)) }
     {
-        self.frames.next_frame()
+        self.state.frames().next_frame()
     }
 
     // What a request asks for, which the caller owes to be there.
@@ -84,7 +83,7 @@ impl<D: Driver> Device<D> {
         requires { is_some (state (past self.now.steps) request.0) ≡ true }
         ensures { result.now ≡ asked_of self.now.plan (past self.now.steps) request.0 }
     {
-        self.frames.requests().pairs_of(request)
+        self.state.frames().requests().pairs_of(request)
     }
 
     // What the begin of the first frame in the queue applies.
@@ -115,7 +114,10 @@ impl<D: Driver> Device<D> {
             values,
             refused,
         } = forecast;
-        let change = self.controls.to_values(&self.plan, values.as_slice());
+        let change = self
+            .state
+            .controls()
+            .to_values(&self.plan, values.as_slice());
         notify_between(
             &change,
             applied.as_slice(),
@@ -123,16 +125,13 @@ impl<D: Driver> Device<D> {
             &mut self.words,
             &mut self.work,
         );
-        raise_touched(
-            &change,
+        let buffer = self.state.begin(
+            &self.plan,
+            request,
+            values.into_vec(),
             applied.as_slice(),
-            None,
             named.as_slice(),
-            &mut self.events,
         );
-        self.controls
-            .replace_within(&self.plan, values.into_vec(), named.as_slice());
-        let (_, buffer) = self.frames.begin(applied.as_slice());
         self.steps.push_reserved(Entry {
             seat,
             step: Step::Begin { request },

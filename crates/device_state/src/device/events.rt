@@ -27,7 +27,7 @@ impl<D: Driver> Device<D> {
     pub fn subscribed(&self, fh: FhId, control: u32) -> Option<SubFlags>
         ensures { result ≡ subscribed (past self.now.steps) fh control }
     {
-        self.events.subscribed(fh, control)
+        self.state.events().subscribed(fh, control)
     }
 
     /// The event at a place of those that wait for a file handle, with its control's number, for a driver's own use (Linux userspace API, "ioctl
@@ -39,7 +39,7 @@ impl<D: Driver> Device<D> {
     pub fn waiting(&self, fh: FhId, place: usize) -> Option<(u32, Event)>
         ensures { result ≡ event_at (pending D.verdict self.now.plan (past self.now.steps) fh) place }
     {
-        self.events.waiting(fh, place)
+        self.state.events().waiting(fh, place)
     }
 
     /// The number of the next event that is raised for a file handle, for a driver's own use (Linux userspace API, "ioctl VIDIOC_DQEVENT"): how
@@ -49,7 +49,7 @@ impl<D: Driver> Device<D> {
     pub fn next_sequence(&self, fh: FhId) -> u32
         ensures { result ≡ next_sequence D.verdict self.now.plan (past self.now.steps) fh }
     {
-        self.events.next_sequence(fh)
+        self.state.events().next_sequence(fh)
     }
 
     /// Takes the first event that waits for a file handle, as `handle` on `Ask::Take` of it does (Linux userspace API, "ioctl VIDIOC_DQEVENT"): what

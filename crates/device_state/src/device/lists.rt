@@ -32,7 +32,6 @@ use device_history::{PairList, Reply, Step, meant, refused, spoken, state_check,
 use history::Entry;
 use std::alloc::AllocError;
 use std::mem;
-use step_effects::raise_touched;
 
 impl<D: Driver> Device<D> {
     /// Gets controls, as `handle` on `Ask::GetCtrls` of these fields at any seat does (Linux userspace API, "ioctl
@@ -217,7 +216,7 @@ impl<D: Driver> Device<D> {
     fn request_check(&self, writes: bool, request: RequestId) -> Option<Check>
         ensures { result ≡ request_check writes (request_now D.verdict self.now request) }
     {
-        match self.frames.requests().state(request) {
+        match self.state.frames().requests().state(request) {
             Some(state) => state_check(writes, state),
             None => Some(Check::ListRequestMissing),
         }
@@ -259,7 +258,7 @@ impl<D: Driver> Device<D> {
         ensures long { length result.now ≡ length self.now.plan.controls }
     {
         match request {
-            Some(request) => self.frames.requests().snapshot_of(request),
+            Some(request) => self.state.frames().requests().snapshot_of(request),
             None => self.values(),
         }
     }
@@ -293,7 +292,7 @@ impl<D: Driver> Device<D> {
         ensures { result.now ≡ earlier_pairs self.now.plan (past self.now.steps) request }
     {
         match request {
-            Some(request) => self.frames.requests().pairs_of(request),
+            Some(request) => self.state.frames().requests().pairs_of(request),
             None => &[],
         }
     }
@@ -465,41 +464,23 @@ impl<D: Driver> Device<D> {
         ensures ok { OnOk result (SetsAll D.verdict D.told self.old self.new seat fh touch) }
         ensures err { OnErr result (self.new ≡ self.old) }
     {
-        let values = self.controls.lend_values(self.alloc)?;
-        self.write_list(seat, fh, touch, values)
-    }
-
-    // The same, with the values once more.
-    fn write_list(
-        &mut self,
-        seat: u32,
-        fh: FhId,
-        touch: Touched,
-        mut values: Vec<CtrlValue>,
-    ) -> Result<ControlList, AllocError>
-        requires settable { CanBeSet D.verdict self.old.plan (past self.old.steps) fh None touch }
-        requires fresh { self.old.work.told ≡ 0 }
-        requires copied { values.items ≡ now D.verdict self.old.plan (past self.old.steps) }
-        ensures answers { IfOk result (λ controls. controls ≡ touch.answers) }
-        ensures ok { OnOk result (SetsAll D.verdict D.told self.old self.new seat fh touch) }
-        ensures err { OnErr result (self.new ≡ self.old) }
-    {
         self.steps.reserve(1)?;
+        let mut values = self.state.reserve_values(self.alloc)?;
         notify_changed(
-            &self.controls.at(&self.plan),
+            &self.state.at(&self.plan),
             touch.pairs(),
             touch.new_rows(),
             &mut self.words,
             &mut self.work,
         );
         write_rows(&self.plan, &mut values, touch.rows());
-        let change = self.controls.to_values(&self.plan, values.as_slice());
         let clusters = touch.clusters();
+        self.state
+            .set(&self.plan, fh, touch.pairs(), clusters, values);
         let mut work = Work::new();
-        self.board.renew(&change.after(), clusters, &mut work);
+        self.board
+            .renew(&self.state.at(&self.plan), clusters, &mut work);
         self.work.asked = self.work.asked.saturating_add(work.asked);
-        raise_touched(&change, touch.pairs(), Some(fh), clusters, &mut self.events);
-        self.controls.replace_within(&self.plan, values, clusters);
         let (controls, pairs) = touch.into_parts(&mut self.room);
         self.steps.push_reserved(Entry {
             seat,

@@ -17,7 +17,6 @@ use ctrl_types::{Check, Refusal};
 use device_history::{Reply, Step, refused};
 use history::Entry;
 use std::alloc::AllocError;
-use step_effects::change_range;
 
 impl<D: Driver> Device<D> {
     // Answers an ask for another range of a control.
@@ -78,21 +77,15 @@ impl<D: Driver> Device<D> {
         ensures err { OnErr result (self.new ≡ self.old) }
     {
         self.steps.reserve(1)?;
-        let before = self.controls.value(control);
-        change_range(
-            &self.plan,
-            &mut self.controls,
-            control,
-            changed,
-            &mut self.events,
-        );
+        let before = self.state.controls().value(control);
+        self.state.modify_range(&self.plan, control, changed);
         let cluster = self.plan.cluster_of(control);
-        let after = self.controls.at(&self.plan);
+        let after = self.state.at(&self.plan);
         self.board.rejudge(&after, &[cluster], &mut self.work);
         notify_cluster(
             &after,
             cluster,
-            !before.is_same(&self.controls.value(control)),
+            !before.is_same(&self.state.controls().value(control)),
             &mut self.words,
             &mut self.work,
         );

@@ -27,7 +27,6 @@ use device_history::{Ask, Reply, Step, refused};
 use frame_queue::RequestState;
 use history::Entry;
 use std::alloc::AllocError;
-use step_effects::change_with_forecasts;
 
 impl<D: Driver> Device<D> {
     /// A request's state, for a driver's own use (Linux userspace API, "Request API"): that in which the last step that names it left it;
@@ -38,7 +37,7 @@ impl<D: Driver> Device<D> {
     pub fn state_of(&self, request: RequestId) -> Result<RequestState, Errno>
         ensures { result ≡ state_answer (request_now D.verdict self.now request) }
     {
-        self.frames.requests().state_of(request)
+        self.state.frames().requests().state_of(request)
     }
 
     /// The number of a request's buffer, where it was given one since it was made, or made as new, for a driver's own use. Refused by check 19
@@ -48,7 +47,7 @@ impl<D: Driver> Device<D> {
     pub fn buffer_of(&self, request: RequestId) -> Result<Option<u32>, Errno>
         ensures { result ≡ buffer_answer (request_now D.verdict self.now request) }
     {
-        self.frames.requests().buffer_of(request)
+        self.state.frames().requests().buffer_of(request)
     }
 
     /// What a request asks for, for a driver's own use: of each control the last pair that was stored since the request was made, or made
@@ -58,7 +57,7 @@ impl<D: Driver> Device<D> {
     pub fn asked(&self, request: RequestId) -> Result<&[Pair], Errno>
         ensures { MatchResult result (λ pairs. asked_answer (request_now D.verdict self.now request) ≡ Ok pairs.now) (λ errno. asked_answer (request_now D.verdict self.now request) ≡ Err errno) }
     {
-        self.frames.requests().asked(request)
+        self.state.frames().requests().asked(request)
     }
 
     /// The value of a control in the snapshot of a complete request, for a driver's own use: of a control that the request asks for and
@@ -71,7 +70,7 @@ impl<D: Driver> Device<D> {
     pub fn snapshot(&self, request: RequestId, control: u32) -> Result<CtrlValue, Errno>
         ensures { result ≡ value_answer (length self.now.plan.controls) control (request_now D.verdict self.now request) }
     {
-        self.frames.requests().snapshot(request, control)
+        self.state.frames().requests().snapshot(request, control)
     }
 
     /// The request that waits at a place of the queue, for a driver's own use: the queued ones, in the order of their last queueing; none
@@ -81,7 +80,7 @@ impl<D: Driver> Device<D> {
     pub fn queued(&self, place: usize) -> Option<RequestId>
         ensures { option_map (λ id. id.0) result ≡ slice_get (queue (past self.now.steps)) place }
     {
-        self.frames.queued(place)
+        self.state.frames().queued(place)
     }
 
     /// How many requests wait, for a driver's own use: no more than steps are kept. It takes no memory.
@@ -89,49 +88,52 @@ impl<D: Driver> Device<D> {
         ensures count { result ≡ length (queue (past self.now.steps)) }
         ensures few { result ≤ MAX_STEPS }
     {
-        self.frames.queue_len()
+        self.state.frames().queue_len()
     }
 
     /// The request whose frame is being made, for a driver's own use; none where none is. It takes no memory.
     pub fn running(&self) -> Option<RequestId>
         ensures { option_map (λ id. id.0) result ≡ running (past self.now.steps) }
     {
-        self.frames.running()
+        self.state.frames().running()
     }
 
     // Why no further request is made.
     pub(super) fn alloc_refusal(&self) -> Option<Check>
         ensures { result ≡ alloc_check (requests D.verdict self.now.plan (past self.now.steps)) }
     {
-        self.frames.requests().alloc_refusal()
+        self.state.frames().requests().alloc_refusal()
     }
 
     // Why a request takes no buffer.
     pub(super) fn buffer_refusal(&self, request: RequestId, buffer: u32) -> Option<Check>
         ensures { result ≡ buffer_check (requests D.verdict self.now.plan (past self.now.steps)) buffer (request_now D.verdict self.now request) }
     {
-        self.frames.requests().buffer_refusal(request, buffer)
+        self.state
+            .frames()
+            .requests()
+            .buffer_refusal(request, buffer)
     }
 
     // Why a request isn't queued.
     pub(super) fn queue_refusal(&self, request: RequestId) -> Option<Check>
         ensures { result ≡ queue_check (request_now D.verdict self.now request) }
     {
-        self.frames.requests().queue_refusal(request)
+        self.state.frames().requests().queue_refusal(request)
     }
 
     // Why a request is neither made as new nor let go.
     pub(super) fn clear_refusal(&self, request: RequestId) -> Option<Check>
         ensures { result ≡ clear_check (request_now D.verdict self.now request) }
     {
-        self.frames.requests().clear_refusal(request)
+        self.state.frames().requests().clear_refusal(request)
     }
 
     // Why a request isn't taken from the queue.
     pub(super) fn cancel_refusal(&self, request: RequestId) -> Option<Check>
         ensures { result ≡ cancel_check (request_now D.verdict self.now request) }
     {
-        self.frames.cancel_refusal(request)
+        self.state.frames().cancel_refusal(request)
     }
 
     // The request whose frame is being made, or why no frame is ended.
@@ -139,7 +141,7 @@ impl<D: Driver> Device<D> {
         ensures running { IfOk result (λ request. running (past self.now.steps) ≡ Some request.0) }
         ensures check { result_err result ≡ complete_check (frames D.verdict self.now.plan (past self.now.steps)) }
     {
-        match self.frames.running() {
+        match self.state.frames().running() {
             Some(request) => Ok(request),
             None => Err(Check::NoFrameRunning),
         }
@@ -208,15 +210,9 @@ impl<D: Driver> Device<D> {
         let number = self.steps.len() as u32;
         self.steps.reserve(1)?;
         let mut work = Work::new();
-        let changed = change_with_forecasts(
-            &self.controls.at(&self.plan),
-            number,
-            &step,
-            &mut self.frames,
-            &mut self.events,
-            &mut self.board,
-            &mut work,
-        );
+        let changed = self
+            .state
+            .change_with_forecasts(&self.plan, number, &step, &mut self.board, &mut work);
         self.work.asked = self.work.asked.saturating_add(work.asked);
         match changed {
             Ok(()) => {

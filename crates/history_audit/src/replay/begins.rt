@@ -1,7 +1,8 @@
 //! The begin of a frame.
 
-ghost use Rattle.std.specs.Prelude.{◌≡◌, true, false, is_some, length, IfOk, OnOk, OnErr};
+ghost use Rattle.std.specs.Prelude.{◌≡◌, true, false, is_some, IfOk, OnOk, OnErr};
 ghost use Rattle.history.specs.Past.{past};
+ghost use Rattle.ctrl_forecast.specs.Boards.{named_clusters};
 ghost use Rattle.device_history.specs.declared.ask.Step.TheVariants as steps;
 ghost use Rattle.device_history.specs.Refusals.{is_full};
 ghost use Rattle.device_history.specs.Requests.{asked as asked_of, state};
@@ -10,10 +11,9 @@ ghost use Rattle.history_audit.specs.Replay.{AddsNext, IsNextStep, MayBeNext};
 
 use super::Replay;
 use ctrl_calls::{Driver, Work};
-use ctrl_forecast::{Overlaid, applied, overlay};
+use ctrl_forecast::{Board, ClusterList, Forecast, Queued, applied};
 use ctrl_types::{Pair, RequestId};
 use std::alloc::AllocError;
-use step_effects::raise_step;
 
 impl<'a, D: Driver> Replay<'a, D> {
     // Begins the frame of a request.
@@ -24,19 +24,22 @@ impl<'a, D: Driver> Replay<'a, D> {
         ensures ok { OnOk result (AddsNext self.old self.new) }
         ensures err { OnErr result (self.new ≡ self.old) }
     {
-        let overlaid = self.lay(request)?;
+        let (forecast, clusters) = self.lay(request)?;
         let given = applied(
             self.alloc,
             self.plan,
-            overlaid.values.as_slice(),
-            overlaid.refused.as_slice(),
+            forecast.values.as_slice(),
+            forecast.refused.as_slice(),
             self.asked_by(request),
         )?;
-        let Overlaid { values, refused: _ } = overlaid;
-        let change = self.controls.to_values(self.plan, values.as_slice());
-        raise_step(&change, given.as_slice(), None, &mut self.events);
-        self.controls.replace_values(values.into_vec());
-        self.frames.begin(given.as_slice());
+        let values = forecast.values.into_vec();
+        self.state.begin(
+            self.plan,
+            request,
+            values,
+            given.as_slice(),
+            clusters.as_slice(),
+        );
         self.count += 1;
         Ok(())
     }
@@ -46,17 +49,20 @@ impl<'a, D: Driver> Replay<'a, D> {
         requires { is_some (state (past self.now.steps) request.0) ≡ true }
         ensures { result.now ≡ asked_of self.now.plan (past self.now.steps) request.0 }
     {
-        self.frames.requests().pairs_of(request)
+        self.state.frames().requests().pairs_of(request)
     }
 
-    // Lays what a request asks for, which the caller owes to be there, over the present values.
-    fn lay(&self, request: RequestId) -> Result<Overlaid, AllocError>
+    // What the frame of a request, which the caller owes to be there, has where it begins now, and the clusters that it names.
+    fn lay(&self, request: RequestId) -> Result<(Forecast, ClusterList), AllocError>
         requires { is_some (state (past self.now.steps) request.0) ≡ true }
-        ensures values { IfOk result (λ o. o.values ≡ begun_values D.verdict self.now.plan (past self.now.steps) request.0) }
-        ensures refused { IfOk result (λ o. o.refused ≡ begun_refused D.verdict self.now.plan (past self.now.steps) request.0) }
-        ensures long { IfOk result (λ o. length o.values ≡ length self.now.plan.controls) }
+        ensures values { IfOk result (λ laid. laid.0.values ≡ begun_values D.verdict self.now.plan (past self.now.steps) request.0) }
+        ensures refused { IfOk result (λ laid. laid.0.refused ≡ begun_refused D.verdict self.now.plan (past self.now.steps) request.0) }
+        ensures clusters { IfOk result (λ laid. laid.1 ≡ named_clusters self.now.plan (asked_of self.now.plan (past self.now.steps) request.0)) }
     {
+        // (the number of the buffer changes none of these)
+        let frame = Queued::new(request, 0, self.asked_by(request));
         let mut work = Work::new();
-        overlay(self.alloc, &self.at(), self.asked_by(request), &mut work)
+        let mut board = Board::compute(self.alloc, &self.at(), &[frame], &mut work)?;
+        Ok(board.begin())
     }
 }

@@ -53,7 +53,7 @@ impl<'a, D: Driver> Replay<'a, D> {
     fn queued_frames(&self) -> Result<Vec<Queued<'_>>, AllocError>
         ensures { IfOk result (λ all. all.items ≡ queued_frames self.now.plan (past self.now.steps)) }
     {
-        let mut all = Vec::with_capacity(self.alloc, self.frames.queue_len())?;
+        let mut all = Vec::with_capacity(self.alloc, self.state.frames().queue_len())?;
         while let Some(request) = self.queued(all.len()) {
             all.push_reserved(self.queued_frame(request));
         }
@@ -65,7 +65,7 @@ impl<'a, D: Driver> Replay<'a, D> {
         ensures request { option_map (λ id. id.0) result ≡ slice_get (queue (past self.now.steps)) place }
         ensures holds { IfSome result (λ id. is_some (buffer_in (request_of D.verdict self.now.plan (past self.now.steps) id.0)) ≡ true) }
     {
-        self.frames.queued(place)
+        self.state.frames().queued(place)
     }
 
     // The queued frame of a request, which the caller owes to be there and to hold a buffer.
@@ -75,7 +75,7 @@ impl<'a, D: Driver> Replay<'a, D> {
     {
         Queued::new(
             request,
-            self.frames.number_of(request),
+            self.state.frames().number_of(request),
             self.asked_by(request),
         )
     }

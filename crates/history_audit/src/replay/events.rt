@@ -32,7 +32,7 @@ impl<'a, D: Driver> Replay<'a, D> {
     pub(super) fn waits_first(&self, fh: FhId, control: u32) -> bool
         ensures { result ≡ is_number (first_control (pending D.verdict self.now.plan (past self.now.steps) fh)) control }
     {
-        match self.events.waiting(fh, 0) {
+        match self.state.events().waiting(fh, 0) {
             Some((first, _)) => first == control,
             None => false,
         }

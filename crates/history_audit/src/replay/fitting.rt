@@ -30,10 +30,12 @@ impl<'a, D: Driver> Replay<'a, D> {
         requires { is_judged step.now ≡ false }
         ensures { result ≡ fits_parts D.verdict self.now.plan (past self.now.steps) step.now }
     {
-        let requests = self.frames.requests();
+        let frames = self.state.frames();
+        let requests = frames.requests();
         match step {
             Step::OpenFh { handler } => {
-                self.plan.has_handler(*handler) && self.file_handles.len() < MAX_FILE_HANDLES
+                self.plan.has_handler(*handler)
+                    && self.state.file_handles().len() < MAX_FILE_HANDLES
             }
             Step::CloseFh { fh } => self.handler_of(*fh).is_some(),
             Step::Grab { control, .. } => *control < self.plan.control_count(),
@@ -43,10 +45,10 @@ impl<'a, D: Driver> Replay<'a, D> {
             }
             Step::Queue { request } => requests.queue_refusal(*request).is_none(),
             Step::Begin { request } => {
-                self.frames.running().is_none() && self.frames.queued(0) == Some(*request)
+                frames.running().is_none() && frames.queued(0) == Some(*request)
             }
-            Step::Complete { request } => self.frames.running() == Some(*request),
-            Step::Cancel { request } => self.frames.cancel_refusal(*request).is_none(),
+            Step::Complete { request } => frames.running() == Some(*request),
+            Step::Cancel { request } => frames.cancel_refusal(*request).is_none(),
             Step::StreamOff => true,
             Step::Reinit { request } => requests.clear_refusal(*request).is_none(),
             Step::Free { request } => requests.clear_refusal(*request).is_none(),

@@ -24,7 +24,6 @@ use ctrl_lists::{ControlList, MAX_ENTRIES, Room, Touched, View, plan_set};
 use ctrl_types::{Check, ExtControl, FhId, Flags, Pair, RequestId, Which};
 use device_history::Step;
 use std::alloc::AllocError;
-use step_effects::{copied_values, raise_step};
 
 impl<'a, D: Driver> Replay<'a, D> {
     // Replays a set.
@@ -63,11 +62,10 @@ impl<'a, D: Driver> Replay<'a, D> {
         ensures ok { OnOk result (AddsNext self.old self.new) }
         ensures err { OnErr result (self.new ≡ self.old) }
     {
-        let mut values = copied_values(self.alloc, self.controls.values())?;
+        let mut values = self.state.reserve_values(self.alloc)?;
         write_rows(self.plan, &mut values, touch.rows());
-        let change = self.controls.to_values(self.plan, values.as_slice());
-        raise_step(&change, touch.pairs(), Some(fh), &mut self.events);
-        self.controls.replace_values(values);
+        self.state
+            .set(self.plan, fh, touch.pairs(), touch.clusters(), values);
         self.count += 1;
         Ok(())
     }
@@ -114,14 +112,15 @@ impl<'a, D: Driver> Replay<'a, D> {
     fn store_refusal(&self, request: RequestId) -> Option<Check>
         ensures { result ≡ store_check (request_of D.verdict self.now.plan (past self.now.steps) request.0) }
     {
-        self.frames.requests().store_refusal(request)
+        self.state.frames().requests().store_refusal(request)
     }
 
     // The handler of the first open file handle whose handler shows pairs.
     fn storer(&self, pairs: &[Pair]) -> Option<u32>
         ensures { result ≡ option_map (λ h. h.1) (first_storer self.now.plan pairs.now (opened (past self.now.steps))) }
     {
-        self.file_handles
+        self.state
+            .file_handles()
             .values()
             .copied()
             .find(|handler| self.shows_pairs(*handler, pairs))

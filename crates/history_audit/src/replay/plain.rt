@@ -15,7 +15,6 @@ use ctrl_settle::Ctrl;
 use ctrl_types::FhId;
 use device_history::Step;
 use std::alloc::AllocError;
-use step_effects::{change_range, change_requests_and_events, copied_grabs, raise_step};
 
 impl<'a, D: Driver> Replay<'a, D> {
     // Opens a file handle.
@@ -26,7 +25,7 @@ impl<'a, D: Driver> Replay<'a, D> {
         ensures ok { OnOk result (AddsNext self.old self.new) }
         ensures err { OnErr result (self.new ≡ self.old) }
     {
-        self.file_handles.insert(self.count as u32, handler)?;
+        self.state.open(self.count as u32, handler)?;
         self.count += 1;
         Ok(())
     }
@@ -38,8 +37,7 @@ impl<'a, D: Driver> Replay<'a, D> {
         requires follows { MayBeNext D.verdict self.old (steps.CloseFh fh) }
         ensures { AddsNext self.old self.new }
     {
-        self.file_handles.shift_remove(&fh.0);
-        self.events.drop_fh(fh);
+        self.state.close(fh);
         self.count += 1;
     }
 
@@ -51,11 +49,8 @@ impl<'a, D: Driver> Replay<'a, D> {
         ensures ok { OnOk result (AddsNext self.old self.new) }
         ensures err { OnErr result (self.new ≡ self.old) }
     {
-        let mut grabs = copied_grabs(self.alloc, self.controls.grabs())?;
-        grabs[control as usize] = on;
-        let change = self.controls.to_grabs(self.plan, grabs.as_slice());
-        raise_step(&change, &[], None, &mut self.events);
-        self.controls.grab(control, on);
+        let room = self.state.reserve_grab(self.alloc)?;
+        self.state.grab(self.plan, control, on, room);
         self.count += 1;
         Ok(())
     }
@@ -81,13 +76,7 @@ impl<'a, D: Driver> Replay<'a, D> {
         let Ok(changed) = ctrl.with_range(min, max, apart, default_value) else {
             return false;
         };
-        change_range(
-            self.plan,
-            &mut self.controls,
-            control,
-            changed,
-            &mut self.events,
-        );
+        self.state.modify_range(self.plan, control, changed);
         self.count += 1;
         true
     }
@@ -99,7 +88,7 @@ impl<'a, D: Driver> Replay<'a, D> {
         if control >= self.plan.control_count() {
             return None;
         }
-        Some(self.controls.range(control))
+        Some(self.state.controls().range(control))
     }
 
     // Makes a step that leaves file handles, ranges, values and grabs.
@@ -112,14 +101,7 @@ impl<'a, D: Driver> Replay<'a, D> {
         ensures ok { OnOk result (AddsNext self.old self.new) }
         ensures err { OnErr result (self.new ≡ self.old) }
     {
-        let number = self.count as u32;
-        change_requests_and_events(
-            &self.controls.at(self.plan),
-            number,
-            step,
-            &mut self.frames,
-            &mut self.events,
-        )?;
+        self.state.change(self.plan, self.count as u32, step)?;
         self.count += 1;
         Ok(())
     }

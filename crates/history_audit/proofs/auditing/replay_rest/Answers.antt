@@ -1,7 +1,7 @@
-use Rattle.std.proofs.Common.{◌≡◌, ℕ, length, ap, sym, subst, ◌∙◌, arith}
+use Rattle.std.proofs.Common.{ℕ, length, ap, sym, subst, ◌∙◌, arith}
 use Rattle.history_audit.specs.Fault.{StopsAt}
 use Rattle.history_audit.specs.Replay.{ReplayData}
-use Rattle.history_audit.proofs.MadeLemmas.{at, taken_many}
+use Rattle.history_audit.proofs.MadeLemmas.{taken_many}
 use Rattle.history_audit.proofs.AuditLemmas.{aside_of, audit_next, audit_stops, audited_legal, audited_scratch, next_there, rest_starts, stays_there}
 use Rattle.history_audit.proofs.auditing.replay_rest.Goals as goal
 

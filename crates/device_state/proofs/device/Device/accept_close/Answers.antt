@@ -1,4 +1,4 @@
-use Rattle.std.proofs.Common.{List, [], ◌∷◌, ◌++◌, ◌≡◌, None, sym, ap, subst, ◌∙◌}
+use Rattle.std.proofs.Common.{List, [], ◌∷◌, ◌++◌, ◌≡◌, length, None, sym, ap, subst, ◌∙◌}
 use Rattle.history.specs.declared.entry.Entry.{Entry}
 use Rattle.history.specs.Past.{past}
 use Rattle.device_history.specs.declared.ask.Step.{Step}
@@ -16,6 +16,6 @@ invariant_of-self-2 g c =
     let entry : Entry Step = record { seat = c.args.seat; step = CloseFh c.args.fh } in
     let accepted : step_check (past device.steps.items) (through (past device.steps.items) c.args.fh None) ≡ None =
     subst (λ (d : DeviceData). step_check (past d.steps) (through (past d.steps) c.args.fh None) ≡ None) (sym c.self.view_is) c.requires in
-    kept_close _ _ device.plan device.steps.items _ _ _ _ c.args.seat c.args.fh c.self.invariant accepted
+    kept_close g.D.Validates.verdict g.D.Notifies.told device.plan device.steps.items _ _ c.close.new.self c.args.seat c.args.fh c.self.invariant accepted
     (c.push_reserved.ensures.items ∙ ap (λ (s : List (Entry Step)). s ++ entry ∷ []) c.reserve.ensures.items)
-    c.shift_remove.ensures.entries c.drop_fh.ensures
+    (c.close.ensures.makes (length device.steps.items) g.D.Validates.verdict device.plan) c.close.ensures.controls

@@ -24,16 +24,17 @@ use Rattle.device_history.specs.Forecasts.{queued_frames}
 use Rattle.device_history.proofs.RangeLemmas.{ranges_more, ranges_own}
 use Rattle.device_state.specs.Device.{cluster_asks}
 use Rattle.device_state.specs.Ranging.{range_step, values_then}
+use Rattle.device_parts.proofs.CoverLemmas.{set_apart}
 use Rattle.device_state.proofs.BoardLemmas.{board_own, board_same}
-use Rattle.device_state.proofs.KeptLemmas.{numbered, ranges_kept}
+use Rattle.device_state.proofs.KeptLemmas.{ranges_kept, ready}
 use Rattle.device_state.proofs.RangingLemmas.{counted_alone, kept_range, range_known, ranges_ranged, told_alone, values_ranged}
-use Rattle.device_state.proofs.RenewLemmas.{set_apart}
 use Rattle.device_state.proofs.device.Device.accept_range.Goals as goal
 
--- what is kept fits the plan, before and afterwards
-pub change_range-requires-clause-plan : goal.change_range-requires-clause-plan
-change_range-requires-clause-plan g c = ranges_kept g.D.Validates.verdict g.D.Notifies.told c.self.inside.plan c.self.inside.steps.items _ c.self.invariant
+-- the state is ready for a step
+pub modify_range-requires-clause-ready : goal.modify_range-requires-clause-ready
+modify_range-requires-clause-ready g c = ready g.D.Validates.verdict g.D.Notifies.told c.self.inside.plan c.self.inside.steps.items _ c.self.invariant
 
+-- what is kept fits the plan afterwards
 pub at-after-requires : goal.at-after-requires
 at-after-requires g c =
     let device = c.self.inside in
@@ -42,7 +43,7 @@ at-after-requires g c =
     let ranged = rw (← c.self.view_is) at c.requires.ranged in
     subst (AreControlsOf device.plan)
     (ranges_more device.plan entry P
-    ∙ sym (ranges_ranged device.plan P c.args.control c.args.changed device.controls.ranges c.change_range.new.controls.ranges ranged c.self.invariant.ranges (ap (λ (m : ControlsData). m.ranges) c.change_range.ensures.controls)))
+    ∙ sym (ranges_ranged device.plan P c.args.control c.args.changed device.state.controls.ranges c.modify_range.new.self.controls.ranges ranged c.self.invariant.made.ranges (ap (λ (m : ControlsData). m.ranges) c.modify_range.ensures.controls)))
     (ranges_own device.plan (entry ∷ P))
 
 -- the control is there
@@ -50,41 +51,37 @@ pub value-before-requires : goal.value-before-requires
 value-before-requires g c =
     let device = c.self.inside in
     let known = range_known device.plan (past device.steps.items) c.args.control c.args.changed (rw (← c.self.view_is) at c.requires.ranged) in
-    omega (arith, known, (ranges_kept g.D.Validates.verdict g.D.Notifies.told device.plan device.steps.items _ c.self.invariant).many)
+    omega (arith, known, (ranges_kept g.D.Validates.verdict g.D.Notifies.told device.plan device.steps.items _ c.self.invariant).many, ap (λ (m : ControlsData). length m.ranges) c.controls.ensures)
 
 pub value-requires : goal.value-requires
 value-requires g c =
     let device = c.self.inside in
     let known = range_known device.plan (past device.steps.items) c.args.control c.args.changed (rw (← c.self.view_is) at c.requires.ranged) in
-    let stays : length c.change_range.new.controls.ranges ≡ length device.controls.ranges =
-    ap (λ (m : ControlsData). length m.ranges) c.change_range.ensures.controls ∙ length-set device.controls.ranges c.args.control c.args.changed in
-    omega (arith, known, stays, (ranges_kept g.D.Validates.verdict g.D.Notifies.told device.plan device.steps.items _ c.self.invariant).many)
-
--- there are numbers
-pub change_range-requires-clause-numbers : goal.change_range-requires-clause-numbers
-change_range-requires-clause-numbers g c = numbered g.D.Validates.verdict g.D.Notifies.told c.self.inside.plan c.self.inside.steps.items _ c.self.invariant
+    let stays : length c.modify_range.new.self.controls.ranges ≡ length device.state.controls.ranges =
+    ap (λ (m : ControlsData). length m.ranges) c.modify_range.ensures.controls ∙ length-set device.state.controls.ranges c.args.control c.args.changed in
+    omega (arith, known, stays, (ranges_kept g.D.Validates.verdict g.D.Notifies.told device.plan device.steps.items _ c.self.invariant).many, ap (λ (m : ControlsData). length m.ranges) c.controls-2.ensures)
 
 -- ranges and values differ in the control's cluster alone
 pub rejudge-requires-clause-kept : goal.rejudge-requires-clause-kept
 rejudge-requires-clause-kept g c =
     let device = c.self.inside in
     let P : List (Entry Step) = past device.steps.items in
-    let v : CtrlValue = settled_anew c.args.changed (value_at device.controls.values c.args.control) in
-    let given = c.change_range.ensures.controls in
+    let v : CtrlValue = settled_anew c.args.changed (value_at device.state.controls.values c.args.control) in
+    let given = c.modify_range.ensures.controls in
     rw (c.at-after.ensures.plan, c.at-after.ensures.ranges, c.at-after.ensures.values, c.at-after.ensures.grabs)
     ((
-      device.controls.ranges,
-      device.controls.values,
-      device.controls.grabs,
-      board_own g.D.Validates.verdict device.plan (ranges_now device.plan P) device.controls.ranges (now g.D.Validates.verdict device.plan P) device.controls.values (grabbed device.plan P) device.controls.grabs (queued_frames device.plan P) device.board
-          c.self.invariant.board c.self.invariant.ranges c.self.invariant.values c.self.invariant.grabs,
+      device.state.controls.ranges,
+      device.state.controls.values,
+      device.state.controls.grabs,
+      board_own g.D.Validates.verdict device.plan (ranges_now device.plan P) device.state.controls.ranges (now g.D.Validates.verdict device.plan P) device.state.controls.values (grabbed device.plan P) device.state.controls.grabs (queued_frames device.plan P) device.board
+          c.self.invariant.board c.self.invariant.made.ranges c.self.invariant.made.values c.self.invariant.made.grabs,
       record {
-        many = sym (ap (λ (m : ControlsData). length m.values) given ∙ length-set device.controls.values c.args.control v);
+        many = sym (ap (λ (m : ControlsData). length m.values) given ∙ length-set device.state.controls.values c.args.control v);
         ranges_stay = λ d apart.
-            set_apart device.plan device.controls.ranges no_control c.args.control c.cluster_of-cluster.result c.args.changed d c.cluster_of-cluster.ensures.cluster apart
+            set_apart device.plan device.state.controls.ranges no_control c.args.control c.cluster_of-cluster.result c.args.changed d c.cluster_of-cluster.ensures.cluster apart
             ∙ sym (ap (λ (m : ControlsData). get_or m.ranges d no_control) given);
         values_stay = λ d apart.
-            set_apart device.plan device.controls.values zero_value c.args.control c.cluster_of-cluster.result v d c.cluster_of-cluster.ensures.cluster apart
+            set_apart device.plan device.state.controls.values zero_value c.args.control c.cluster_of-cluster.result v d c.cluster_of-cluster.ensures.cluster apart
             ∙ sym (ap (λ (m : ControlsData). value_at m.values d) given);
         grabs_stay = λ d apart. ap (λ (m : ControlsData). is_grabbed m.grabs d) (sym given);
       },
@@ -101,14 +98,14 @@ pub notify_cluster-requires-clause-words : goal.notify_cluster-requires-clause-w
 notify_cluster-requires-clause-words g c = rw c.at-after.ensures.plan c.self.invariant.words.each
 
 -- whether the value differs
-differs : (g : _) (c : goal.After-push_reserved g) → not c.is_same.result ≡ not (is_same (value_at c.self.inside.controls.values c.args.control) (value_at c.change_range.new.controls.values c.args.control))
+differs : (g : _) (c : goal.After-push_reserved g) → not c.is_same.result ≡ not (is_same (value_at c.self.inside.state.controls.values c.args.control) (value_at c.modify_range.new.self.controls.values c.args.control))
 differs g c =
-    ap not c.is_same.ensures ∙ ap (λ (x : CtrlValue). not (is_same x c.value.result)) c.value-before.ensures
-    ∙ ap (λ (x : CtrlValue). not (is_same (value_at c.self.inside.controls.values c.args.control) x)) c.value.ensures
+    ap not c.is_same.ensures ∙ ap (λ (x : CtrlValue). not (is_same x c.value.result)) (c.value-before.ensures ∙ ap (λ (m : ControlsData). value_at m.values c.args.control) c.controls.ensures)
+    ∙ ap (λ (x : CtrlValue). not (is_same (value_at c.self.inside.state.controls.values c.args.control) x)) (c.value.ensures ∙ ap (λ (m : ControlsData). value_at m.values c.args.control) c.controls-2.ensures)
 
 -- the cluster's word, of its row of the values afterwards
 spoken : (g : _) (c : goal.After-push_reserved g)
-    → IsNotified g.D.Notifies.told c.self.inside.plan c.cluster_of-cluster.result (not c.is_same.result) (row_of c.change_range.new.controls.values (members c.self.inside.plan c.cluster_of-cluster.result)) c.self.inside.words.items c.notify_cluster.new.words.items
+    → IsNotified g.D.Notifies.told c.self.inside.plan c.cluster_of-cluster.result (not c.is_same.result) (row_of c.modify_range.new.self.controls.values (members c.self.inside.plan c.cluster_of-cluster.result)) c.self.inside.words.items c.notify_cluster.new.words.items
 spoken g c = rw (c.at-after.ensures.plan, c.at-after.ensures.values) at c.notify_cluster.ensures.words
 
 -- the step
@@ -145,14 +142,13 @@ invariant_of-self-2 g c =
     let changed : Control = c.args.changed in
     let entry : Entry Step = record { seat = c.args.seat; step = range_step control changed } in
     let ranged = rw (← c.self.view_is) at c.requires.ranged in
-    let v : CtrlValue = settled_anew changed (value_at device.controls.values control) in
-    kept_range g.D.Validates.verdict g.D.Notifies.told device.plan device.steps.items _ _ c.change_range.new.controls _ _ _ c.args.seat control changed c.self.invariant ranged (pushed g c)
-    c.change_range.ensures.controls
-    (told_alone g.D.Notifies.told device.plan device.controls.values c.change_range.new.controls.values control c.cluster_of-cluster.result v _ device.words.items c.notify_cluster.new.words.items c.self.invariant.plans.is_plan c.cluster_of-cluster.ensures.cluster
-    (ap (λ (m : ControlsData). m.values) c.change_range.ensures.controls) (differs g c) (spoken g c))
-    (c.change_range.ensures.events g.D.Validates.verdict entry P changed.minimum changed.maximum changed.step changed.default_value refl
-    (ranged.its_own ∙ ap (λ (cs : List Control). with_range (control_in cs control) changed.minimum changed.maximum changed.step changed.default_value) (sym c.self.invariant.ranges))
-    c.self.invariant.ranges c.self.invariant.values c.self.invariant.grabs)
+    let v : CtrlValue = settled_anew changed (value_at device.state.controls.values control) in
+    kept_range g.D.Validates.verdict g.D.Notifies.told device.plan device.steps.items _ _ c.modify_range.new.self _ _ c.args.seat control changed c.self.invariant ranged (pushed g c)
+    (c.modify_range.ensures.makes (length device.steps.items) changed.minimum changed.maximum changed.step changed.default_value
+    (ranged.its_own ∙ ap (λ (cs : List Control). with_range (control_in cs control) changed.minimum changed.maximum changed.step changed.default_value) (sym c.self.invariant.made.ranges)))
+    c.modify_range.ensures.controls
+    (told_alone g.D.Notifies.told device.plan device.state.controls.values c.modify_range.new.self.controls.values control c.cluster_of-cluster.result v _ device.words.items c.notify_cluster.new.words.items c.self.invariant.plans.is_plan c.cluster_of-cluster.ensures.cluster
+    (ap (λ (m : ControlsData). m.values) c.modify_range.ensures.controls) (differs g c) (spoken g c))
     ((rw c.at-after.ensures.plan at c.rejudge.ensures.frames) ∙ board_same g.D.Validates.verdict device.plan c.at-after.ensures.ranges c.at-after.ensures.values c.at-after.ensures.grabs refl)
 
 -- the control's own cluster is told where its value differs, and the frames that name it are judged anew
@@ -164,10 +160,10 @@ returns-clause-ok g c =
     let changed : Control = c.args.changed in
     let k : ℕ = c.cluster_of-cluster.result in
     let ranged = rw (← c.self.view_is) at c.requires.ranged in
-    let v : CtrlValue = settled_anew changed (value_at device.controls.values control) in
-    let set : c.change_range.new.controls.values ≡ slice_set device.controls.values control v = ap (λ (m : ControlsData). m.values) c.change_range.ensures.controls in
-    let then : c.change_range.new.controls.values ≡ values_then g.D.Validates.verdict device.plan P (range_step control changed) =
-    values_ranged g.D.Validates.verdict device.plan P control changed device.controls.values c.change_range.new.controls.values ranged c.self.invariant.values set in
+    let v : CtrlValue = settled_anew changed (value_at device.state.controls.values control) in
+    let set : c.modify_range.new.self.controls.values ≡ slice_set device.state.controls.values control v = ap (λ (m : ControlsData). m.values) c.modify_range.ensures.controls in
+    let then : c.modify_range.new.self.controls.values ≡ values_then g.D.Validates.verdict device.plan P (range_step control changed) =
+    values_ranged g.D.Validates.verdict device.plan P control changed device.state.controls.values c.modify_range.new.self.controls.values ranged c.self.invariant.made.values set in
     let fresh : c.rejudge.new.work.told ≡ 0 = c.rejudge.ensures.told ∙ (rw (← c.self.view_is) at c.requires.fresh) in
     let told : c.notify_cluster.new.work.told ≡ after_change device.plan k (not c.is_same.result) c.rejudge.new.work.told =
     ap (λ (w : Work). w.told) c.notify_cluster.ensures.work ∙ ap (λ (p : PlanData). after_change p k (not c.is_same.result) c.rejudge.new.work.told) c.at-after.ensures.plan in
@@ -176,12 +172,12 @@ returns-clause-ok g c =
       plan = refl;
       steps = pushed g c;
       words =
-          rw (c.self.invariant.values, then)
-          at (told_alone g.D.Notifies.told device.plan device.controls.values c.change_range.new.controls.values control k v _ device.words.items c.notify_cluster.new.words.items c.self.invariant.plans.is_plan c.cluster_of-cluster.ensures.cluster
+          rw (c.self.invariant.made.values, then)
+          at (told_alone g.D.Notifies.told device.plan device.state.controls.values c.modify_range.new.self.controls.values control k v _ device.words.items c.notify_cluster.new.words.items c.self.invariant.plans.is_plan c.cluster_of-cluster.ensures.cluster
           set (differs g c) (spoken g c));
       notified =
-          rw (c.self.invariant.values, then)
-          at (counted_alone device.plan device.controls.values c.change_range.new.controls.values control k v _ c.notify_cluster.new.work.told c.rejudge.new.work.told c.self.invariant.plans.is_plan c.cluster_of-cluster.ensures.cluster
+          rw (c.self.invariant.made.values, then)
+          at (counted_alone device.plan device.state.controls.values c.modify_range.new.self.controls.values control k v _ c.notify_cluster.new.work.told c.rejudge.new.work.told c.self.invariant.plans.is_plan c.cluster_of-cluster.ensures.cluster
           set (differs g c) fresh told);
       asked = omega (
         arith,

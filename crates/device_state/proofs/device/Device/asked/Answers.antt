@@ -9,4 +9,4 @@ returns g c =
     let device = c.self.inside in
     rw (← c.self.view_is)
     (subst (λ (o : Option RequestData). MatchResult c.asked.result (λ pairs. asked_answer o ≡ Ok pairs.now) (λ errno. asked_answer o ≡ Err errno))
-    (found g.D.Validates.verdict g.D.Notifies.told device.plan device.steps.items _ c.args.request.0 c.self.invariant _ c.requests.ensures) c.asked.ensures)
+    (found g.D.Validates.verdict g.D.Notifies.told device.plan device.steps.items _ c.args.request.0 c.self.invariant _ c.frames.ensures _ c.requests.ensures) c.asked.ensures)

@@ -13,5 +13,5 @@ returns g c =
     rw (← c.self.view_is)
     (c.buffer_refusal.ensures
     ∙ ap (λ (rs : RequestsData). buffer_check rs.all c.args.buffer (find c.requests.result.now.all c.args.request.0)) c.requests.ensures
-    ∙ ap (λ (f : FramesData). buffer_check f.requests.all c.args.buffer (find c.requests.result.now.all c.args.request.0)) c.self.invariant.frames
-    ∙ ap (buffer_check (requests g.D.Validates.verdict device.plan (past device.steps.items)) c.args.buffer) (found g.D.Validates.verdict g.D.Notifies.told device.plan device.steps.items _ c.args.request.0 c.self.invariant _ c.requests.ensures))
+    ∙ ap (λ (f : FramesData). buffer_check f.requests.all c.args.buffer (find c.requests.result.now.all c.args.request.0)) (c.frames.ensures ∙ c.self.invariant.made.frames)
+    ∙ ap (buffer_check (requests g.D.Validates.verdict device.plan (past device.steps.items)) c.args.buffer) (found g.D.Validates.verdict g.D.Notifies.told device.plan device.steps.items _ c.args.request.0 c.self.invariant _ c.frames.ensures _ c.requests.ensures))

@@ -6,4 +6,4 @@ use Rattle.device_state.proofs.device.Device.clear_refusal.Goals as goal
 pub returns : goal.returns
 returns g c =
     let device = c.self.inside in
-    rw (← c.self.view_is) (c.clear_refusal.ensures ∙ ap clear_check (found g.D.Validates.verdict g.D.Notifies.told device.plan device.steps.items _ c.args.request.0 c.self.invariant _ c.requests.ensures))
+    rw (← c.self.view_is) (c.clear_refusal.ensures ∙ ap clear_check (found g.D.Validates.verdict g.D.Notifies.told device.plan device.steps.items _ c.args.request.0 c.self.invariant _ c.frames.ensures _ c.requests.ensures))

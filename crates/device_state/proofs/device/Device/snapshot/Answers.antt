@@ -11,5 +11,5 @@ returns g c =
     rw (← c.self.view_is)
     (c.snapshot.ensures
     ∙ ap (λ (rs : RequestsData). value_answer rs.controls c.args.control (find c.requests.result.now.all c.args.request.0)) c.requests.ensures
-    ∙ ap (λ (f : FramesData). value_answer f.requests.controls c.args.control (find c.requests.result.now.all c.args.request.0)) c.self.invariant.frames
-    ∙ ap (value_answer (length device.plan.controls) c.args.control) (found g.D.Validates.verdict g.D.Notifies.told device.plan device.steps.items _ c.args.request.0 c.self.invariant _ c.requests.ensures))
+    ∙ ap (λ (f : FramesData). value_answer f.requests.controls c.args.control (find c.requests.result.now.all c.args.request.0)) (c.frames.ensures ∙ c.self.invariant.made.frames)
+    ∙ ap (value_answer (length device.plan.controls) c.args.control) (found g.D.Validates.verdict g.D.Notifies.told device.plan device.steps.items _ c.args.request.0 c.self.invariant _ c.frames.ensures _ c.requests.ensures))

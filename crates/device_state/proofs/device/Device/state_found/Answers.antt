@@ -10,7 +10,7 @@ use Rattle.device_state.proofs.device.Device.state_found.Goals as goal
 pub returns-in-Some : goal.returns-in-Some
 returns-in-Some g c =
     let device = c.self.inside in
-    let same = found g.D.Validates.verdict g.D.Notifies.told device.plan device.steps.items _ c.args.request.0 c.self.invariant _ c.requests.ensures in
+    let same = found g.D.Validates.verdict g.D.Notifies.told device.plan device.steps.items _ c.args.request.0 c.self.invariant _ c.frames.ensures _ c.requests.ensures in
     rw (← c.self.view_is)
     (ap (λ (o : Option RequestState). ok_or o RequestMissing)
     (c.in-Some.ensures ∙ ap (option_map (λ (q : RequestData). q.state)) same ∙ state_is g.D.Validates.verdict device.plan (past device.steps.items) c.args.request.0))
@@ -18,7 +18,7 @@ returns-in-Some g c =
 pub returns-in-None : goal.returns-in-None
 returns-in-None g c =
     let device = c.self.inside in
-    let same = found g.D.Validates.verdict g.D.Notifies.told device.plan device.steps.items _ c.args.request.0 c.self.invariant _ c.requests.ensures in
+    let same = found g.D.Validates.verdict g.D.Notifies.told device.plan device.steps.items _ c.args.request.0 c.self.invariant _ c.frames.ensures _ c.requests.ensures in
     rw (← c.self.view_is)
     (ap (λ (o : Option RequestState). ok_or o RequestMissing)
     (c.in-None.ensures ∙ ap (option_map (λ (q : RequestData). q.state)) same ∙ state_is g.D.Validates.verdict device.plan (past device.steps.items) c.args.request.0))

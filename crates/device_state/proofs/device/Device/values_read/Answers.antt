@@ -8,19 +8,19 @@ use Rattle.device_state.proofs.device.Device.values_read.Goals as goal
 pub snapshot_of-requires : goal.snapshot_of-requires
 snapshot_of-requires g c =
     let device = c.self.inside in
-    let same = found g.D.Validates.verdict g.D.Notifies.told device.plan device.steps.items _ c.in-Some.request.0 c.self.invariant _ c.requests.ensures in
+    let same = found g.D.Validates.verdict g.D.Notifies.told device.plan device.steps.items _ c.in-Some.request.0 c.self.invariant _ c.frames.ensures _ c.requests.ensures in
     rw same (granted _ (rw (← c.self.view_is, c.in-Some.is) at c.requires))
 
 pub returns-in-Some-clause-values : goal.returns-in-Some-clause-values
 returns-in-Some-clause-values g c =
     let device = c.self.inside in
-    let same = found g.D.Validates.verdict g.D.Notifies.told device.plan device.steps.items _ c.in-Some.request.0 c.self.invariant _ c.requests.ensures in
+    let same = found g.D.Validates.verdict g.D.Notifies.told device.plan device.steps.items _ c.in-Some.request.0 c.self.invariant _ c.frames.ensures _ c.requests.ensures in
     rw (← c.self.view_is, c.in-Some.is) (snapshot_is g.D.Validates.verdict device.plan (past device.steps.items) c.in-Some.request.0 c.snapshot_of.result.now (sym (ap snapshot_answer same) ∙ c.snapshot_of.ensures))
 
 pub returns-in-Some-clause-long : goal.returns-in-Some-clause-long
 returns-in-Some-clause-long g c =
     let device = c.self.inside in
-    let same = found g.D.Validates.verdict g.D.Notifies.told device.plan device.steps.items _ c.in-Some.request.0 c.self.invariant _ c.requests.ensures in
+    let same = found g.D.Validates.verdict g.D.Notifies.told device.plan device.steps.items _ c.in-Some.request.0 c.self.invariant _ c.frames.ensures _ c.requests.ensures in
     rw (← c.self.view_is)
     (ap length (snapshot_is g.D.Validates.verdict device.plan (past device.steps.items) c.in-Some.request.0 c.snapshot_of.result.now (sym (ap snapshot_answer same) ∙ c.snapshot_of.ensures))
     ∙ snapshot_each g.D.Validates.verdict device.plan (past device.steps.items) c.in-Some.request.0)

@@ -1,5 +1,6 @@
 use Rattle.std.proofs.Common.{◌∙◌, Option, ap, sym}
 use Rattle.std.specs.Option.{option_map_or}
+use Rattle.ctrl_events.specs.Events.{EventsData, events_of}
 use Rattle.history_audit.specs.Scratch.{OpenEvents}
 use Rattle.history_audit.proofs.ScratchLemmas.{listed_open, unlisted}
 use Rattle.history_audit.proofs.progress.Progress.next_sequence.Goals as goal
@@ -8,10 +9,10 @@ use Rattle.history_audit.proofs.progress.Progress.next_sequence.Goals as goal
 pub returns-in-Some : goal.returns-in-Some
 returns-in-Some c =
     rw (← c.self.view_is)
-    (c.next_sequence.ensures ∙ sym (ap (λ (o : Option OpenEvents). option_map_or (λ (e : OpenEvents). e.next) o 0) (listed_open c.self.inside.events c.self.inside.file_handles.entries c.args.fh c.in-Some.field-0.now c.in-Some.ensures.value)))
+    (c.next_sequence.ensures ∙ ap (λ (d : EventsData). (events_of d c.args.fh.0).next) c.events.ensures
+    ∙ sym (ap (λ (o : Option OpenEvents). option_map_or (λ (e : OpenEvents). e.next) o 0) (listed_open c.self.inside.state.events c.self.inside.state.file_handles c.args.fh c.in-Some.field-0 c.in-Some.ensures)))
 
 -- it isn't
 pub returns-in-None : goal.returns-in-None
 returns-in-None c =
-    rw (← c.self.view_is)
-    (sym (ap (λ (o : Option OpenEvents). option_map_or (λ (e : OpenEvents). e.next) o 0) (unlisted c.self.inside.events c.self.inside.file_handles.entries c.args.fh c.in-None.ensures.value)))
+    rw (← c.self.view_is) (sym (ap (λ (o : Option OpenEvents). option_map_or (λ (e : OpenEvents). e.next) o 0) (unlisted c.self.inside.state.events c.self.inside.state.file_handles c.args.fh c.in-None.ensures)))

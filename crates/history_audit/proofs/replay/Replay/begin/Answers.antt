@@ -1,21 +1,27 @@
-use Rattle.std.proofs.Common.{◌≡◌, ◌<◌, ℕ, List, length, take, refl, ap, sym, subst, ◌∙◌}
+use Rattle.std.proofs.Common.{◌≡◌, ◌<◌, ℕ, Some, List, [], ◌∷◌, length, take, slice_get, ap, sym, subst, ◌∙◌}
 use Rattle.std.specs.List.{All}
 use Rattle.history.specs.declared.entry.Entry.{Entry}
 use Rattle.history.specs.Past.{past}
 use Rattle.ctrl_types.specs.declared.ids.Pair.{Pair}
-use Rattle.ctrl_clusters.specs.ControlsData.{ControlsData}
 use Rattle.ctrl_clusters.specs.Rows.{Values}
+use Rattle.ctrl_clusters.proofs.OverlayLemmas.{length_overlay}
 use Rattle.ctrl_forecast.specs.Applied.{applied_pairs}
 use Rattle.req_book.proofs.SettingLemmas.{known_latest}
-use Rattle.frame_queue.specs.Frames.{FramesData, after_begin}
+use Rattle.frame_queue.specs.Frames.{FramesData}
 use Rattle.device_history.specs.declared.ask.Step.{Step}
 use Rattle.device_history.specs.declared.ask.Step.TheVariants as steps
-use Rattle.device_history.specs.Requests.{since, stored}
-use Rattle.device_history.specs.Snapshots.{begun_pairs, begun_refused, begun_values}
+use Rattle.device_history.specs.Frames.{first_of, queue}
+use Rattle.device_history.specs.Grabs.{grabbed}
+use Rattle.device_history.specs.Ranges.{ranges_now}
+use Rattle.device_history.specs.Requests.{asked, since, stored}
+use Rattle.device_history.specs.Snapshots.{begun_refused, begun_values}
+use Rattle.device_history.specs.Values.{now}
 use Rattle.device_history.proofs.FitLemmas.{fits}
-use Rattle.step_effects.proofs.FitLemmas.{begin_passes}
+use Rattle.device_history.proofs.PresentLemmas.{length_now}
+use Rattle.device_parts.proofs.CoverLemmas.{named_cover}
+use Rattle.device_parts.proofs.MakesLemmas.{asked_made, begun_applied, begun_laid}
 use Rattle.history_audit.proofs.FollowLemmas.{begin_there}
-use Rattle.history_audit.proofs.MadeLemmas.{behind_next, numbered, ranges_there, replay_raise}
+use Rattle.history_audit.proofs.MadeLemmas.{behind_next, replay_makes, replay_ready}
 use Rattle.history_audit.proofs.replay.Replay.begin.Goals as goal
 
 -- the request is there
@@ -27,7 +33,12 @@ asked_by-requires g c = begin_there g.D.Validates.verdict c.args.self.now.plan (
 
 -- there is a value for each control
 pub applied-requires-clause-values : goal.applied-requires-clause-values
-applied-requires-clause-values g c = ap length c.as_slice.ensures ∙ (rw (← c.self.view_is) at c.in_ok-overlaid.ensures.long)
+applied-requires-clause-values g c =
+    let r = c.self.inside in
+    let P : List (Entry Step) = past (take r.count r.steps.now) in
+    ap length (c.as_slice.ensures ∙ (rw (← c.self.view_is) at c.in_ok-forecast.ensures.values))
+    ∙ length_overlay g.D.Validates.verdict r.plan.now (ranges_now r.plan.now P) (now g.D.Validates.verdict r.plan.now P) (grabbed r.plan.now P) (asked r.plan.now P c.args.request.0)
+    ∙ length_now g.D.Validates.verdict r.plan.now P
 
 -- it asks for controls that are there
 pub applied-requires-clause-pairs : goal.applied-requires-clause-pairs
@@ -37,52 +48,62 @@ applied-requires-clause-pairs g c =
     subst (λ (l : List Pair). All (λ p. p.control < length r.plan.now.controls) l) (sym asks)
     (known_latest (length r.plan.now.controls) (stored c.args.request.0 (since c.args.request.0 (past (take r.count r.steps.now)))))
 
--- the ranges are of the plan's controls
-pub to_values-change-requires-clause-plan : goal.to_values-change-requires-clause-plan
-to_values-change-requires-clause-plan g c = ranges_there g.D.Validates.verdict c.self.inside.plan.now c.self.inside.steps.now c.self.inside.count _ c.self.invariant
+-- the state is ready for a step
+pub begin-requires-clause-ready : goal.begin-requires-clause-ready
+begin-requires-clause-ready g c = replay_ready g.D.Validates.verdict c.self.inside.plan.now c.self.inside.steps.now c.self.inside.count _ c.self.invariant
 
-pub to_values-change-requires-clause-values : goal.to_values-change-requires-clause-values
-to_values-change-requires-clause-values g c =
+-- none runs, and it is the first that waits
+pub begin-requires-clause-free : goal.begin-requires-clause-free
+begin-requires-clause-free g c =
     let r = c.self.inside in
-    ap length c.as_slice-3.ensures ∙ (rw (← c.self.view_is) at c.in_ok-overlaid.ensures.long) ∙ sym (ranges_there g.D.Validates.verdict r.plan.now r.steps.now r.count _ c.self.invariant).many
+    ap (λ (f : FramesData). f.running) c.self.invariant.made.frames ∙ (fits g.D.Validates.verdict r.plan.now (past (take r.count r.steps.now)) (steps.Begin c.args.request) (rw (← c.self.view_is) at c.requires.follows)).0
 
--- there are numbers
-pub raise_step-requires : goal.raise_step-requires
-raise_step-requires g c = record { numbers = rw c.to_values-change.ensures.plan (numbered g.D.Validates.verdict c.self.inside.plan.now c.self.inside.steps.now c.self.inside.count _ c.self.invariant) }
-
--- a frame is queued, and none runs
-pub begin-requires : goal.begin-requires
-begin-requires g c =
+pub begin-requires-clause-first : goal.begin-requires-clause-first
+begin-requires-clause-first g c =
     let r = c.self.inside in
     let fit = fits g.D.Validates.verdict r.plan.now (past (take r.count r.steps.now)) (steps.Begin c.args.request) (rw (← c.self.view_is) at c.requires.follows) in
-    begin_passes g.D.Validates.verdict r.plan.now (past (take r.count r.steps.now)) r.frames c.args.request.0 c.self.invariant.made.frames fit.0 fit.1
+    ap (λ (f : FramesData). slice_get f.queue 0) c.self.invariant.made.frames ∙ at_first (queue (past (take r.count r.steps.now))) c.args.request.0 fit.1
+  where
+    at_first : (ids : List ℕ) (n : ℕ) → first_of ids ≡ Some n → slice_get ids 0 ≡ Some n
+    at_first [] n h = cc
+    at_first (k ∷ ids) n h = h
 
--- the values are those after the begin, its frame is being made, and those are told for whom something changed
-pub invariant_of-self : goal.invariant_of-self
-invariant_of-self g c =
+-- the clusters that it names cover what it asks for
+pub begin-requires-clause-cover : goal.begin-requires-clause-cover
+begin-requires-clause-cover g c =
+    let r = c.self.inside in
+    let made = c.self.invariant.made in
+    let named = rw (← c.self.view_is) at c.in_ok-forecast.ensures.clusters in
+    let asks = asked_made g.D.Validates.verdict r.plan.now (take r.count r.steps.now) r.state.frames c.args.request made.frames made.legal (rw (← c.self.view_is) at c.requires.follows) in
+    rw (c.as_slice-4.ensures, named, asks) (named_cover r.plan.now (asked r.plan.now (past (take r.count r.steps.now)) c.args.request.0))
+
+-- the values are what that makes of those before it
+pub begin-requires-clause-laid : goal.begin-requires-clause-laid
+begin-requires-clause-laid g c =
+    let r = c.self.inside in
+    c.into_vec-values.ensures ∙ (rw (← c.self.view_is) at c.in_ok-forecast.ensures.values)
+    ∙ sym (begun_laid g.D.Validates.verdict r.plan.now (take r.count r.steps.now) r.state c.args.request c.self.invariant.made (rw (← c.self.view_is) at c.requires.follows))
+
+pub begin-requires-clause-applied : goal.begin-requires-clause-applied
+begin-requires-clause-applied g c =
     let r = c.self.inside in
     let P : List (Entry Step) = past (take r.count r.steps.now) in
     let n : ℕ = c.args.request.0 in
-    let made = c.self.invariant.made in
-    let values = rw (← c.self.view_is) at c.in_ok-overlaid.ensures.values in
-    let refused = rw (← c.self.view_is) at c.in_ok-overlaid.ensures.refused in
+    let values = rw (← c.self.view_is) at c.in_ok-forecast.ensures.values in
+    let refused = rw (← c.self.view_is) at c.in_ok-forecast.ensures.refused in
     let asks = rw (← c.self.view_is) at c.asked_by.ensures in
-    let given : c.in_ok-given.given.items ≡ begun_pairs g.D.Validates.verdict r.plan.now P n =
-    c.in_ok-given.ensures
+    c.as_slice-3.ensures.value ∙ c.in_ok-given.ensures
     ∙ ap (λ (v : Values). applied_pairs r.plan.now v c.as_slice-2.result.now c.asked_by.result.now) (c.as_slice.ensures ∙ values)
     ∙ ap (λ (l : List ℕ). applied_pairs r.plan.now (begun_values g.D.Validates.verdict r.plan.now P n) l c.asked_by.result.now) (c.as_slice-2.ensures ∙ refused)
-    ∙ ap (λ (ps : List Pair). applied_pairs r.plan.now (begun_values g.D.Validates.verdict r.plan.now P n) (begun_refused g.D.Validates.verdict r.plan.now P n) ps) asks in
-    let controls : c.replace_values.new.self ≡ record r.controls { values = begun_values g.D.Validates.verdict r.plan.now P n } =
-    c.replace_values.ensures.new ∙ ap (λ (v : Values). record r.controls { values = v }) (c.into_vec.ensures ∙ values) in
-    replay_raise g.D.Validates.verdict r.plan.now c.to_values-change.result.before.plan.now r.steps.now r.count _ _ (steps.Begin c.args.request) _ _ _ _ c.self.invariant
-    (rw (← c.self.view_is) at c.requires.next) (rw (← c.self.view_is) at c.requires.room) (rw (← c.self.view_is) at c.requires.follows) made.file_handles
-    (ap (λ (d : ControlsData). d.ranges) controls ∙ made.ranges) (ap (λ (d : ControlsData). d.values) controls) (ap (λ (d : ControlsData). d.grabs) controls ∙ made.grabs)
-    (c.begin.ensures.frames
-    ∙ ap (after_begin r.frames) (c.as_slice-5.ensures.value ∙ given)
-    ∙ ap (λ (f : FramesData). after_begin f (begun_pairs g.D.Validates.verdict r.plan.now P n)) made.frames)
-    c.to_values-change.ensures.plan c.to_values-change.ensures.before
-    (c.to_values-change.ensures.after ∙ ap (λ (v : Values). record r.controls { values = v }) (c.as_slice-3.ensures ∙ values) ∙ sym controls)
-    (c.as_slice-4.ensures.value ∙ given, refl) c.raise_step.ensures
+    ∙ ap (λ (ps : List Pair). applied_pairs r.plan.now (begun_values g.D.Validates.verdict r.plan.now P n) (begun_refused g.D.Validates.verdict r.plan.now P n) ps) asks
+    ∙ sym (begun_applied g.D.Validates.verdict r.plan.now (take r.count r.steps.now) r.state c.args.request c.self.invariant.made (rw (← c.self.view_is) at c.requires.follows))
+
+-- the state is what the begin makes of it
+pub invariant_of-self : goal.invariant_of-self
+invariant_of-self g c =
+    let r = c.self.inside in
+    replay_makes g.D.Validates.verdict r.plan.now r.steps.now r.count r.state _ (steps.Begin c.args.request) c.self.invariant (rw (← c.self.view_is) at c.requires.next) (rw (← c.self.view_is) at c.requires.room) (rw (← c.self.view_is) at c.requires.follows)
+    (c.begin.ensures.makes r.count)
 
 -- one more step was replayed
 pub returns-clause-ok : goal.returns-clause-ok

@@ -1,18 +1,13 @@
-use Rattle.std.proofs.Common.{w64, ◌≡◌, ℕ, List, take, slice_set, refl, ap, sym, ◌∙◌}
+use Rattle.std.proofs.Common.{w64, ℕ, List, take, refl, ap, sym, ◌∙◌}
 use Rattle.std.proofs.Math.Facts.{to_z-of_z}
 use Rattle.history.specs.declared.entry.Entry.{Entry}
 use Rattle.history.specs.Past.{past}
 use Rattle.ctrl_settle.specs.Control.{Control, with_range}
-use Rattle.ctrl_settle.specs.Settle.{settled_anew}
 use Rattle.ctrl_handlers.specs.Plan.{control_in}
-use Rattle.ctrl_clusters.specs.ControlsData.{ControlsData}
-use Rattle.ctrl_clusters.specs.Ranges.{modified}
-use Rattle.ctrl_clusters.specs.Rows.{value_at}
 use Rattle.device_history.specs.declared.ask.Step.{Step}
 use Rattle.device_history.specs.declared.ask.Step.TheVariants as steps
-use Rattle.device_history.specs.Ranges.{control_with_range, ranges_now}
 use Rattle.history_audit.proofs.FollowLemmas.{given_own, range_beyond, range_follows, range_full, range_refused}
-use Rattle.history_audit.proofs.MadeLemmas.{behind_next, numbered, ranges_there, replay_add, replayed_false, replayed_true}
+use Rattle.history_audit.proofs.MadeLemmas.{behind_next, replay_makes, replay_ready, replayed_false, replayed_true}
 use Rattle.history_audit.proofs.replay.Replay.modify.Goals as goal
 
 -- no further step is kept
@@ -35,35 +30,24 @@ returns-in_default-with_range g c =
     (given_own c.in-Some.ctrl.now _ c.args.min _ c.args.max _ c.args.apart c.args.default_value _ (to_z-of_z {w = w64} {z = c.args.min} c.ranges.min) (to_z-of_z {w = w64} {z = c.args.max} c.ranges.max) (to_z-of_z {w = w64} {z = c.args.default_value} c.ranges.default_value) c.in-Some.ensures.1)
     c.in_default-with_range.ensures.ok.1) refl
 
--- the ranges are of the plan's controls
-pub change_range-requires-clause-plan : goal.change_range-requires-clause-plan
-change_range-requires-clause-plan g c = ranges_there g.D.Validates.verdict c.self.inside.plan.now c.self.inside.steps.now c.self.inside.count _ c.self.invariant
+-- the state is ready for a step
+pub modify_range-requires-clause-ready : goal.modify_range-requires-clause-ready
+modify_range-requires-clause-ready g c = replay_ready g.D.Validates.verdict c.self.inside.plan.now c.self.inside.steps.now c.self.inside.count _ c.self.invariant
 
--- there are numbers
-pub change_range-requires-clause-numbers : goal.change_range-requires-clause-numbers
-change_range-requires-clause-numbers g c = numbered g.D.Validates.verdict c.self.inside.plan.now c.self.inside.steps.now c.self.inside.count _ c.self.invariant
-
--- it has this range now, its value is settled by it, and what differs is told
+-- it has this range now
 pub invariant_of-self : goal.invariant_of-self
 invariant_of-self g c =
     let r = c.self.inside in
-    let made = c.self.invariant.made in
     let P : List (Entry Step) = past (take r.count r.steps.now) in
     let n : ℕ = c.args.control in
     let there = rw (← c.self.view_is) at c.in-Some.ensures in
     let given =
     given_own c.in-Some.ctrl.now _ c.args.min _ c.args.max _ c.args.apart c.args.default_value _ (to_z-of_z {w = w64} {z = c.args.min} c.ranges.min) (to_z-of_z {w = w64} {z = c.args.max} c.ranges.max) (to_z-of_z {w = w64} {z = c.args.default_value} c.ranges.default_value) there.1 in
-    let own : c.in-Ok.changed ≡ control_with_range (ranges_now r.plan.now P) n c.args.min c.args.max c.args.apart c.args.default_value = c.in-Ok.ensures.value ∙ given in
-    replay_add g.D.Validates.verdict r.plan.now r.steps.now r.count _ _ (steps.ModifyRange n c.args.min c.args.max c.args.apart c.args.default_value) c.self.invariant
+    replay_makes g.D.Validates.verdict r.plan.now r.steps.now r.count r.state _ (steps.ModifyRange n c.args.min c.args.max c.args.apart c.args.default_value) c.self.invariant
     (rw (← c.self.view_is) at c.requires) (rw (← c.self.view_is) at (sym c.is_full.ensures.full ∙ c.if-is_full.false))
     (range_follows g.D.Validates.verdict r.plan.now P n c.args.min c.args.max c.args.apart c.args.default_value _ (rw (← c.self.view_is) at (sym c.is_full.ensures.full ∙ c.if-is_full.false)) there.0 given (c.in-Ok.ensures.ok.0 refl))
-    made.file_handles
-    (ap (λ (d : ControlsData). d.ranges) c.change_range.ensures.controls ∙ (λ i. modified (made.ranges i) n (own i)))
-    (ap (λ (d : ControlsData). d.values) c.change_range.ensures.controls ∙ (λ i. slice_set (made.values i) n (settled_anew (own i) (value_at (made.values i) n))))
-    (ap (λ (d : ControlsData). d.grabs) c.change_range.ensures.controls ∙ made.grabs)
-    made.frames
-    (λ e is. c.change_range.ensures.events g.D.Validates.verdict e P c.args.min c.args.max c.args.apart c.args.default_value is
-    (own ∙ ap (λ (l : List Control). with_range (control_in l n) c.args.min c.args.max c.args.apart c.args.default_value) (sym made.ranges)) made.ranges made.values made.grabs)
+    (c.modify_range.ensures.makes r.count c.args.min c.args.max c.args.apart c.args.default_value
+    (c.in-Ok.ensures.value ∙ given ∙ ap (λ (l : List Control). with_range (control_in l n) c.args.min c.args.max c.args.apart c.args.default_value) (sym c.self.invariant.made.ranges)))
 
 -- one more step was replayed
 pub returns : goal.returns

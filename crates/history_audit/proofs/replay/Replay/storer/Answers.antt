@@ -19,8 +19,8 @@ pub returns : goal.returns
 returns g c =
     let r = c.self.inside in
     let found = find_from_yields_List (λ h. shows_pairs r.plan.now h c.args.pairs.now) _ _ c.find.result c.find.ensures.ran
-    (YieldsList-from_copied (YieldsList-at c.copied.ensures.source (YieldsList-from_rest (values r.file_handles) c.values.ensures.rest))) (λ x b q k. search (rules, tests)) in
+    (YieldsList-from_copied (YieldsList-at c.copied.ensures.source (YieldsList-from_rest (values c.file_handles.result.now) c.values.ensures.rest))) (λ x b q k. search (rules, tests)) in
     rw (← c.self.view_is)
     (sym (itself c.find.result) ∙ found
-    ∙ ap (λ (os : List (ℕ × ℕ)). first_that (λ h. shows_pairs r.plan.now h c.args.pairs.now) (map (λ o. o.1) os)) c.self.invariant.made.file_handles
+    ∙ ap (λ (os : List (ℕ × ℕ)). first_that (λ h. shows_pairs r.plan.now h c.args.pairs.now) (map (λ o. o.1) os)) (c.file_handles.ensures ∙ c.self.invariant.made.file_handles)
     ∙ by_handlers r.plan.now c.args.pairs.now (opened (past (take r.count r.steps.now))))

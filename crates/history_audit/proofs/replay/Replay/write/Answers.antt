@@ -1,16 +1,20 @@
-use Rattle.std.proofs.Common.{length, take, refl, ap, sym, ◌∙◌}
+use Rattle.std.proofs.Common.{List, length, take, ap, sym, subst, ◌∙◌}
 use Rattle.history.specs.Past.{past}
-use Rattle.ctrl_clusters.specs.ControlsData.{ControlsData}
-use Rattle.ctrl_clusters.specs.Rows.{Values}
-use Rattle.ctrl_clusters.proofs.NewRowLemmas.{length_written}
+use Rattle.ctrl_types.specs.declared.ids.Pair.{Pair}
 use Rattle.device_history.specs.declared.ask.Step.TheVariants as steps
-use Rattle.history_audit.proofs.MadeLemmas.{behind_next, numbered, ranges_there, replay_raise, values_there}
-use Rattle.history_audit.proofs.WriteLemmas.{set_rows, set_makes}
+use Rattle.device_history.proofs.PresentLemmas.{length_now}
+use Rattle.device_parts.specs.Makes.{Makes}
+use Rattle.device_parts.specs.State.{IsReady, StateData}
+use Rattle.device_parts.proofs.MakesLemmas.{laid_made}
+use Rattle.history_audit.proofs.MadeLemmas.{behind_next, replay_makes, replay_ready}
+use Rattle.history_audit.proofs.WriteLemmas.{set_cover, set_makes, set_rows}
 use Rattle.history_audit.proofs.replay.Replay.write.Goals as goal
 
 -- there is a value for each control
 pub write_rows-requires-clause-values : goal.write_rows-requires-clause-values
-write_rows-requires-clause-values g c = ap length (c.in_ok-values.ensures ∙ c.values.ensures.values) ∙ values_there g.D.Validates.verdict c.self.inside.plan.now c.self.inside.steps.now c.self.inside.count _ c.self.invariant
+write_rows-requires-clause-values g c =
+    let r = c.self.inside in
+    ap length c.in_ok-values.ensures.room ∙ ap length c.self.invariant.made.values ∙ length_now g.D.Validates.verdict r.plan.now (past (take r.count r.steps.now))
 
 -- the rows are of other clusters each
 pub write_rows-requires-clause-rows : goal.write_rows-requires-clause-rows
@@ -18,33 +22,35 @@ write_rows-requires-clause-rows g c =
     let r = c.self.inside in
     rw c.rows.ensures (set_rows g.D.Validates.verdict r.plan.now (past (take r.count r.steps.now)) c.args.fh c.args.touch.now.pairs c.args.touch.now (rw (← c.self.view_is) at c.requires.touched))
 
--- the ranges are of the plan's controls
-pub to_values-change-requires-clause-plan : goal.to_values-change-requires-clause-plan
-to_values-change-requires-clause-plan g c = ranges_there g.D.Validates.verdict c.self.inside.plan.now c.self.inside.steps.now c.self.inside.count _ c.self.invariant
+-- the state is ready for a step
+pub set-requires-clause-ready : goal.set-requires-clause-ready
+set-requires-clause-ready g c =
+    subst (λ (s : StateData). IsReady c.self.inside.plan.now s) (sym c.in_ok-values.ensures.same) (replay_ready g.D.Validates.verdict c.self.inside.plan.now c.self.inside.steps.now c.self.inside.count _ c.self.invariant)
 
-pub to_values-change-requires-clause-values : goal.to_values-change-requires-clause-values
-to_values-change-requires-clause-values g c =
-    ap length (c.as_slice.ensures.value ∙ c.write_rows.ensures) ∙ length_written c.self.inside.plan.now c.in_ok-values.values.items c.rows.result.now ∙ ap length c.in_ok-values.ensures ∙ c.values.ensures.many
+-- the clusters of the rows cover the pairs
+pub set-requires-clause-cover : goal.set-requires-clause-cover
+set-requires-clause-cover g c =
+    let r = c.self.inside in
+    rw (c.clusters.ensures, c.pairs.ensures)
+    (set_cover g.D.Validates.verdict r.plan.now (past (take r.count r.steps.now)) c.args.fh c.args.touch.now.pairs c.args.touch.now c.self.invariant.made.plans (rw (← c.self.view_is) at c.requires.touched))
 
--- there are numbers
-pub raise_step-requires : goal.raise_step-requires
-raise_step-requires g c = record { numbers = rw c.to_values-change.ensures.plan (numbered g.D.Validates.verdict c.self.inside.plan.now c.self.inside.steps.now c.self.inside.count _ c.self.invariant) }
-
--- the values are what the set lays over them, and those are told for whom something changed
-pub invariant_of-self : goal.invariant_of-self
-invariant_of-self g c =
+-- the values are what the set lays over those before it
+pub set-requires-clause-laid : goal.set-requires-clause-laid
+set-requires-clause-laid g c =
     let r = c.self.inside in
     let made = c.self.invariant.made in
-    let laid =
-    set_makes g.D.Validates.verdict r.plan.now (past (take r.count r.steps.now)) c.args.fh c.args.touch.now.pairs c.args.touch.now c.rows.result.now c.in_ok-values.values.items _ c.self.invariant.plans
-    (rw (← c.self.view_is) at c.requires.touched) c.rows.ensures (c.in_ok-values.ensures ∙ c.values.ensures.values ∙ made.values) c.write_rows.ensures in
-    replay_raise g.D.Validates.verdict r.plan.now c.to_values-change.result.before.plan.now r.steps.now r.count _ _ (steps.Set c.args.fh c.args.touch.now.pairs) _ _ _ _ c.self.invariant
-    (rw (← c.self.view_is) at c.requires.next) (rw (← c.self.view_is) at c.requires.room) (rw (← c.self.view_is) at c.requires.follows) made.file_handles
-    (ap (λ (d : ControlsData). d.ranges) c.replace_values.ensures.new ∙ made.ranges) (ap (λ (d : ControlsData). d.values) c.replace_values.ensures.new ∙ laid)
-    (ap (λ (d : ControlsData). d.grabs) c.replace_values.ensures.new ∙ made.grabs) made.frames
-    c.to_values-change.ensures.plan c.to_values-change.ensures.before
-    (c.to_values-change.ensures.after ∙ ap (λ (v : Values). record r.controls { values = v }) c.as_slice.ensures.value ∙ sym c.replace_values.ensures.new)
-    (c.pairs.ensures, refl) c.raise_step.ensures
+    rw (c.in_ok-values.ensures.same, c.pairs.ensures)
+    (set_makes g.D.Validates.verdict r.plan.now (past (take r.count r.steps.now)) c.args.fh c.args.touch.now.pairs c.args.touch.now c.rows.result.now c.in_ok-values.values.items _ made.plans (rw (← c.self.view_is) at c.requires.touched) c.rows.ensures
+    (c.in_ok-values.ensures.room ∙ made.values) c.write_rows.ensures
+    ∙ sym (laid_made g.D.Validates.verdict r.plan.now (past (take r.count r.steps.now)) r.state.controls c.args.touch.now.pairs made.ranges made.values made.grabs))
+
+-- the state is what the set makes of it
+pub invariant_of-self-2 : goal.invariant_of-self-2
+invariant_of-self-2 g c =
+    let r = c.self.inside in
+    replay_makes g.D.Validates.verdict r.plan.now r.steps.now r.count r.state _ (steps.Set c.args.fh c.args.touch.now.pairs) c.self.invariant (rw (← c.self.view_is) at c.requires.next) (rw (← c.self.view_is) at c.requires.room) (rw (← c.self.view_is) at c.requires.follows)
+    (subst (λ (s : StateData). Makes g.D.Validates.verdict r.plan.now r.count (steps.Set c.args.fh c.args.touch.now.pairs) s c.set.new.self) c.in_ok-values.ensures.same
+    (subst (λ (ps : List Pair). Makes g.D.Validates.verdict r.plan.now r.count (steps.Set c.args.fh ps) c.reserve_values.new.self c.set.new.self) c.pairs.ensures (c.set.ensures.makes r.count)))
 
 -- one more step was replayed
 pub returns-clause-ok : goal.returns-clause-ok

@@ -1,0 +1,12 @@
+pub use Rattle.history.specs.Past
+pub use Rattle.ctrl_calls.specs.Meanings
+pub use Rattle.ctrl_handlers.specs.Plan
+pub use Rattle.ctrl_clusters.specs.Rows
+pub use Rattle.ctrl_events.specs.Events
+pub use Rattle.frame_queue.specs.Frames
+pub use Rattle.device_history.specs.Steps
+pub use Rattle.device_history.specs.Legal
+pub use Rattle.step_effects.specs.Leaving
+pub use Rattle.step_effects.specs.Sources
+pub mod State
+pub mod Makes

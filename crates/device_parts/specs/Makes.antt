@@ -1,0 +1,38 @@
+-- What one more step makes of a state (of this project).
+use Rattle.std.specs.Prelude.{◌≡◌, ◌++◌, ℕ, ◌<◌, ◌∷◌, [], false, nat_eq, List, length}
+use Rattle.std.specs.List.{All, list_any}
+use Rattle.history.specs.declared.entry.Entry.{Entry}
+use Rattle.history.specs.Past.{past}
+use Rattle.ctrl_calls.specs.Meanings.{Verdicts}
+use Rattle.ctrl_types.specs.declared.ids.Pair.{Pair}
+use Rattle.ctrl_handlers.specs.Plan.{PlanData, members}
+use Rattle.ctrl_clusters.specs.ControlsData.{ControlsData}
+use Rattle.ctrl_clusters.specs.Overlay.{is_touched, overlay, refused_clusters}
+use Rattle.ctrl_clusters.specs.Rows.{Values}
+use Rattle.ctrl_forecast.specs.Applied.{applied_pairs}
+use Rattle.device_history.specs.declared.ask.Step.{Step}
+use Rattle.device_history.specs.Steps.{History}
+use Rattle.device_history.specs.Legal.{MayFollow}
+use Rattle.device_parts.specs.State.{IsMade, StateData}
+
+-- A step makes one state of another: whatever steps made the old one, where this one may follow them as the one of its number, all of them made the new one.
+abbrev pub Makes : Verdicts → PlanData → ℕ → Step → StateData → StateData → Type 0
+Makes verdicts plan number step old new = (steps : History) (e : Entry Step) → length steps ≡ number → e.step ≡ step → IsMade verdicts plan steps old
+    → MayFollow verdicts plan (past steps) step → IsMade verdicts plan (steps ++ e ∷ []) new
+
+-- the same of a step that makes the same on any device
+abbrev pub MakesEverywhere : ℕ → Step → StateData → StateData → Type 0
+MakesEverywhere number step old new = (verdicts : Verdicts) (plan : PlanData) → Makes verdicts plan number step old new
+
+-- pairs laid over the values of controls, under their ranges and grabs
+abbrev pub laid : Verdicts → PlanData → ControlsData → List Pair → Values
+laid verdicts plan controls pairs = overlay verdicts plan controls.ranges controls.values controls.grabs pairs
+
+-- what is applied of them: those whose cluster isn't refused, each with its value afterwards
+abbrev pub applied : Verdicts → PlanData → ControlsData → List Pair → List Pair
+applied verdicts plan controls pairs = applied_pairs plan (laid verdicts plan controls pairs) (refused_clusters verdicts plan controls.ranges controls.values controls.grabs pairs) pairs
+
+-- Some clusters of a plan, among them each that has a member among the pairs.
+pub record Cover (plan : PlanData) (clusters : List ℕ) (pairs : List Pair) : Type 0 where
+  pub known : All (λ k. k < length plan.clusters) clusters
+  pub others : (k : ℕ) → k < length plan.clusters → list_any (nat_eq k) clusters ≡ false → is_touched pairs (members plan k) ≡ false
