@@ -58,7 +58,7 @@ with_bounds info bytes =
     (with_low query.MAXIMUM info.maximum
     (with_low query.MINIMUM info.minimum bytes)))
 
--- the same where they are told: a heading, a 64-bit number and an array have no bounds there
+-- with the bounds where they are told: a heading, a 64-bit number and an array have none there
 abbrev pub with_bounds_told : CtrlInfo → List ℕ → List ℕ
 with_bounds_told info bytes = if has_bounds info.kind && not (is_heading info.id info.flags) then with_bounds info bytes else bytes
 
@@ -87,7 +87,7 @@ abbrev pub with_dimension : Kind → ℕ → List ℕ → List ℕ
 with_dimension U8 elems bytes = with_u32 ext.DIMS elems (with_u32 ext.NR_OF_DIMS 1 bytes)
 with_dimension _ elems bytes = bytes
 
--- the same where they are told: a heading has no bounds
+-- with the 64-bit bounds where they are told: a heading has none
 abbrev pub with_wide_bounds_told : CtrlInfo → List ℕ → List ℕ
 with_wide_bounds_told info bytes = if is_heading info.id info.flags then bytes else with_wide_bounds info bytes
 
@@ -127,7 +127,7 @@ with_event_bounds e bytes =
     (with_low (event.U + change.MAXIMUM) e.maximum
     (with_low (event.U + change.MINIMUM) e.minimum bytes)))
 
--- the same where they are told: a heading has no bounds
+-- with the bounds of an event where they are told: a heading has none
 abbrev pub with_event_bounds_told : Event → List ℕ → List ℕ
 with_event_bounds_told e bytes = if is_heading e.id e.flags then bytes else with_event_bounds e bytes
 

@@ -64,7 +64,7 @@ head_of_reply (replies.Frame request buffer refused) = accepted request.0 buffer
 head_of_reply (replies.Forecast row) = accepted row.request.0 row.buffer (counted (length row.refused))
 head_of_reply _ = accepted 0 0 0
 
--- the same of every answer
+-- the head of an answer, be it a reply or a fault
 abbrev pub head_of : Answer → Head
 head_of (Ok reply) = head_of_reply reply
 head_of (Err fault) = errno_alone (errno_number fault.errno)

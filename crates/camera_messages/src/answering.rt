@@ -181,7 +181,7 @@ fn head_of(answer: &Result<Reply, Fault>) -> Head
     }
 }
 
-// The same where the ask was accepted.
+// The head of the answer to an ask that was accepted.
 fn head_of_reply(reply: &Reply) -> Head
     ensures { result ≡ head_of_reply reply.now }
 {

@@ -50,7 +50,7 @@ impl Lines {
         }
     }
 
-    /// The same names, for file handles of a fresh device on the same handlers; one that isn't open any more is none.
+    /// These names, for file handles of a fresh device on the same handlers; one that isn't open any more is none.
     pub(crate) fn carried<D: Driver>(
         &self,
         alloc: Global,

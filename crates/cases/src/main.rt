@@ -168,7 +168,7 @@ fn said_of(alloc: Global, file: &[u8]) -> Result<Vec<u8>, AllocError> {
     Ok(said)
 }
 
-// The same on the sample device.
+// Whether a case on the sample device prints what it should.
 fn is_same_on_sample<R: AllocGlobal + Threads + Wait + Print + Sync>(
     rt: &R,
     known: &ControlWords,

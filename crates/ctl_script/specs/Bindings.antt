@@ -47,7 +47,7 @@ has_name names name = is_some (get is_same names.ids name)
 abbrev pub ids_in : Names → Name → ℕ
 ids_in names name = unwrap_or (get is_same names.ids name) 4294967295
 
--- the same of both tables: there is room for the binding, and what all names stand for
+-- of both tables: there is room for the binding, and what all names stand for
 abbrev pub is_entered : Bindings → Binding → Bool
 is_entered names None = true
 is_entered names (FileHandle name) = has_name names.file_handles name

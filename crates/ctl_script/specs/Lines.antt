@@ -7,7 +7,7 @@ use Rattle.std.specs.Borrow.{Bor}
 abbrev pub lines_in : List ℕ → List (List ℕ)
 lines_in text = slice_split (λ b. b == 10) text
 
--- the same of what stands behind a line feed, where there is one
+-- the lines of what stands behind a line feed, where there is one
 abbrev pub lines_behind : Option (Bor (List ℕ)) → List (List ℕ)
 lines_behind None = []
 lines_behind (Some text) = lines_in text.now

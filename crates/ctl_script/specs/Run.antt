@@ -135,7 +135,7 @@ module _ (verdicts : Verdicts) (tells : Words) where
   HasEnded known unread left old new said outcome = ((script : Script) × HasScript known unread left script × WasRun script old new said outcome)
       ⊎ ((said ≡ []) × (new ≡ old) × IsUnread unread outcome)
 
-  -- The same, and its reply lines were printed, and then such more, unless the writer failed.
+  -- It has ended so, its reply lines were printed, and then such more, unless the writer failed.
   abbrev pub HasPrinted : List ControlWord → Option (List ℕ) → Option (List ℕ) → DeviceData → DeviceData → Outcome → List ℕ → Option (List ℕ) → Option (List ℕ) → Type 0
   HasPrinted known unread left old new outcome more before after =
       (said : List Said) × HasEnded known unread left old new said outcome × (outcome ≢ WriteFault → Appends before after (reply_lines said ++ more))

@@ -318,7 +318,7 @@ call_on verdicts session name h fh request number bytes =
     else if number == calls.VIDIOC_DQEVENT then sized event.SIZE bytes (take_call fh bytes)
     else refused NO_CALL bytes
 
--- the same on any: one that isn't open is refused first
+-- a call through any file handle: one that isn't open is refused first
 abbrev pub call_by : Verdicts → SessionData → (CtrlInfo → List ℕ) → FhId → Option RequestId → ℕ → List ℕ → Option ℕ → Meaning
 call_by verdicts session name fh request number bytes None = refused (errno_number EBADF) bytes
 call_by verdicts session name fh request number bytes (Some h) = call_on verdicts session name h fh request number bytes

@@ -24,7 +24,7 @@ form_of_kind Integer64 elems = Wide
 form_of_kind U8 elems = Array (min elems MAX_ELEMENTS)
 form_of_kind _ elems = Narrow
 
--- the same of a control that is shown; where none is, the narrow field
+-- what the entry of a control that is shown has its value in; where none is, the narrow field
 abbrev pub form_of_shown : Option Control → Form
 form_of_shown None = Narrow
 form_of_shown (Some ctrl) = form_of_kind ctrl.kind (elems_of ctrl)

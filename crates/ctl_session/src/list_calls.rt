@@ -75,7 +75,7 @@ impl<D: Driver> Session<D> {
         self.formed_list(forms.as_slice(), fh, request, access, arg)
     }
 
-    // The same, with the forms of its entries.
+    // Answers such a list, of whose entries the forms are known.
     fn formed_list(
         &mut self,
         forms: &[Form],

@@ -104,7 +104,8 @@ impl<D: Driver> Session<D> {
         self.followers.as_slice()
     }
 
-    /// What refused the last call, or the last ask; none where it was accepted, or where nothing was asked of the device.
+    /// What refused the last call, or the last ask; none where it was accepted, or refused by what the device isn't asked for: a file handle that isn't open, a struct of another
+    /// size, a payload. A list of too many entries, and want of room for the answers of ranges, are refusals.
     pub fn refusal(&self) -> Option<Refusal> {
         self.refusal
     }
@@ -137,7 +138,7 @@ impl<D: Driver> Session<D> {
         }
     }
 
-    // The same, with what refuses it.
+    // Answers an ask, or says what refuses it.
     fn answer(&mut self, ask: &Ask) -> Result<Reply, Refusal>
         ensures { Asked D.verdict self.old self.new ask.now (published ask.now result) }
     {

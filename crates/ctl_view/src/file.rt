@@ -82,7 +82,7 @@ fn device_in<R: AllocGlobal + Print + Eprint>(
     }
 }
 
-// The same, where each of its faults is said, and what it may not mean.
+// Reads a device file, and says each of its faults, and what it may not mean.
 fn checked<R: AllocGlobal + Print + Eprint>(
     rt: &R,
     path: &str,

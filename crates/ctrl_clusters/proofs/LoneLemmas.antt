@@ -1,5 +1,5 @@
 -- Rows that members take fit: an array is alone in its cluster.
-use Rattle.std.proofs.Common.{◌≡◌, ◌≢◌, ◌∙◌, ◌⊎◌, inl, inr, ℕ, zero, suc, ◌<◌, ◌≤◌, ◌+◌, ◌==◌, ◌&&◌, ◌||◌, ℤ, Bool, true, false, nat_eq, nat_le, nat_lt, List, [], ◌∷◌, ◌++◌, length, map, take, get_or, set, Option, None, Some, is_some, Result, Ok, Err, refl, sym, ap, subst, arith}
+use Rattle.std.proofs.Common.{◌≡◌, ◌≢◌, ◌∙◌, ◌⊎◌, inl, inr, ℕ, zero, suc, ◌<◌, ◌≤◌, ◌+◌, ◌==◌, ◌&&◌, ◌||◌, ℤ, Bool, true, false, nat_le, nat_lt, List, [], ◌∷◌, ◌++◌, length, map, take, get_or, set, Option, None, Some, is_some, Result, Ok, Err, refl, sym, ap, subst, arith}
 use Rattle.std.specs.List.{All, list_all, list_any}
 use Rattle.std.proofs.lemmas.Bool.{le-leb}
 use Rattle.std.proofs.lemmas.Bool.Decides.{leb_tells, eqb_tells}
@@ -7,7 +7,6 @@ use Rattle.std.proofs.lemmas.List.{take_more, take_more_set}
 use Rattle.std.proofs.lemmas.List.Elements.{All-cons, All-get_or, All-head, All-nil, All-tail}
 use Rattle.ctrl_types.proofs.ValueLemmas.{Decides-same, same_self}
 use Rattle.ctrl_types.specs.Checks.{with_errno}
-use Rattle.ctrl_types.specs.Values.{is_same}
 use Rattle.ctrl_types.specs.declared.check.Check.{Check}
 use Rattle.ctrl_types.specs.declared.errno.Errno.{Errno}
 use Rattle.ctrl_types.specs.declared.kind.Kind.{Kind}

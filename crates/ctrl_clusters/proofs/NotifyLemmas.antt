@@ -1,10 +1,9 @@
 -- Which clusters are notified, and the words afterwards.
-use Rattle.std.proofs.Common.{◌≡◌, ◌≢◌, ℕ, zero, suc, cond, add-one, add-zero, zero-add, ◌<◌, ◌≤◌, ◌==◌, ◌+◌, ◌-◌, ◌^◌, ◌&&◌, ◌||◌, not, Bool, true, false, List, [], ◌∷◌, length, None, Some, is_some, Option, refl, sym, ap, subst, ◌∙◌, arith, slice_index, ◌++◌, below_more, ◌⊎◌, inl, inr, count_by, nat_eq, eq-eqb}
-use Rattle.std.specs.List.{list_any, range_with_len, sum_by}
+use Rattle.std.proofs.Common.{◌≡◌, ◌≢◌, ℕ, zero, suc, cond, add-one, add-zero, zero-add, ◌<◌, ◌≤◌, ◌==◌, ◌+◌, ◌-◌, ◌^◌, ◌&&◌, ◌||◌, not, Bool, true, false, List, [], ◌∷◌, length, None, Some, is_some, Option, refl, sym, ap, subst, ◌∙◌, arith, slice_index, ◌++◌, below_more, ◌⊎◌, inl, inr, count_by}
+use Rattle.std.specs.List.{range_with_len, sum_by}
 use Rattle.std.proofs.lemmas.List.Sums.{sum_by-cons, count_by-le-length}
 use Rattle.std.proofs.lemmas.List.{length-map}
 use Rattle.std.proofs.lemmas.List.FromFn.{length-range_with_len}
-use Rattle.std.proofs.lemmas.Bool.{false≢true}
 use Rattle.std.proofs.lemmas.Bool.Decides.{eqb_tells}
 use Rattle.std.proofs.lemmas.Grind.{common_steps}
 use Rattle.ctrl_types.proofs.ValueLemmas.{Decides-same}
@@ -20,10 +19,8 @@ use Rattle.ctrl_handlers.specs.Plan.{PlanData, control, calls_of, members}
 use Rattle.ctrl_handlers.proofs.ClusterLemmas.{or_false, or_false_right}
 use Rattle.ctrl_clusters.specs.Rows.{Values, value_at, row_of}
 use Rattle.ctrl_clusters.specs.Overlay.{is_among}
-use Rattle.ctrl_clusters.specs.NewRows.{clusters_of, row_among}
-use Rattle.ctrl_clusters.specs.Changes.{is_changed, row_changes, cluster_changes, members_change}
+use Rattle.ctrl_clusters.specs.Changes.{is_changed, row_changes, members_change}
 use Rattle.ctrl_clusters.specs.Notified.{MaySay, HasWord, HaveWords, AreNotified, IsNotified, notified_count, after_change}
-use Rattle.ctrl_clusters.specs.declared.new_row.NewRow.{NewRow}
 
 -- what isn't changed has its value already
 same_value : (plan : PlanData) (values : Values) (pairs : List Pair) (c : ℕ) (value : CtrlValue) → is_changed plan values pairs c value ≡ false → value_at values c ≡ value
@@ -42,15 +39,6 @@ same_row plan values pairs (c ∷ cs) (v ∷ vs) long h =
     let first : value_at values c ≡ v = same_value plan values pairs c v (or_false (is_changed plan values pairs c v) (row_changes plan values pairs cs vs) h) in
     let rest : row_of values cs ≡ vs = same_row plan values pairs cs vs (omega (arith, long)) (or_false_right (is_changed plan values pairs c v) (row_changes plan values pairs cs vs) h) in
     rw (first, rest) refl
-
--- the row changes the next member, or one of the others
-pub changes_none : (plan : PlanData) (values : Values) (pairs : List Pair) (cs : List ℕ) → row_changes plan values pairs cs [] ≡ false
-changes_none plan values pairs [] = refl
-changes_none plan values pairs (c ∷ cs) = refl
-
--- a cluster that gets no row doesn't change
-pub changes_not : (plan : PlanData) (values : Values) (pairs : List Pair) (rows : List NewRow) (k : ℕ) → row_among rows k ≡ None → cluster_changes plan values pairs rows k ≡ false
-changes_not plan values pairs rows k none = rw none (changes_none plan values pairs (members plan k))
 
 -- the same as of all clusters, of those below a number
 pub record AreNotifiedBelow (says : Words) (plan : PlanData) (changed : ℕ → Bool) (rows : ℕ → List CtrlValue) (n : ℕ) (old new : List ℕ) : Type 0 where
@@ -212,20 +200,3 @@ work_past plan changed a b old work order few none before =
     let all : a + (b - a) ≡ b = omega (arith, order) in
     work_still plan changed a (b - a) old work (omega (arith, order, few)) (λ k no_less below. none k no_less (omega (arith, below, order))) before
     ∙ ap (λ (m : ℕ). record old { told = notified_below plan changed m }) all
-
--- a cluster that no row is of doesn't change
-pub changes_not_among : (plan : PlanData) (values : Values) (pairs : List Pair) (rows : List NewRow) (k : ℕ) → list_any (nat_eq k) (clusters_of rows) ≡ false → cluster_changes plan values pairs rows k ≡ false
-changes_not_among plan values pairs rows k none = changes_not plan values pairs rows k (no_row rows none)
-  where
-    no_row : (rs : List NewRow) → list_any (nat_eq k) (clusters_of rs) ≡ false → row_among rs k ≡ None
-    no_row [] h = refl
-    no_row (r ∷ rs) h =
-        let apart : (r.cluster == k) ≡ false = eq_turned k r.cluster (or_false (nat_eq k r.cluster) (list_any (nat_eq k) (clusters_of rs)) h) in
-        rw apart (no_row rs (or_false_right (nat_eq k r.cluster) (list_any (nat_eq k) (clusters_of rs)) h))
-      where
-        eq_turned : (a b : ℕ) → nat_eq a b ≡ false → (b == a) ≡ false
-        eq_turned a b h = by (eqb_tells b a)
-          where
-            by : ((b == a) ≡ true × (b ≡ a)) ⊎ ((b == a) ≡ false × (b ≢ a)) → (b == a) ≡ false
-            by (inr t) = t.0
-            by (inl t) = absurd (false≢true (sym h ∙ eq-eqb a b (sym t.1)))

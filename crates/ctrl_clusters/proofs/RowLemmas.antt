@@ -98,12 +98,6 @@ given_here members row c i v within there is has left =
     given_next members row c i within there ∙ rw (eq-eqb (get_or members i 0) c is) (ap Some (get_or_from_slice_get row i v zero_value has)) in
     sym found ∙ left
 
--- the row changes the next member, or one of the others
-pub changes_next : (plan : PlanData) (values : Values) (pairs : List Pair) (members : List ℕ) (row : List CtrlValue) (i : ℕ) → i < length members → i < length row
-    → row_changes plan values pairs (drop i members) (drop i row)
-    ≡ (is_changed plan values pairs (get_or members i 0) (value_at row i) || row_changes plan values pairs (drop (i + 1) members) (drop (i + 1) row))
-changes_next plan values pairs members row i within there = rw (drop_more members i 0 within, drop_more row i zero_value there) refl
-
 -- the next member is changed, or one of the others
 pub moved_next : (plan : PlanData) (values after : Values) (pairs : List Pair) (members : List ℕ) (i : ℕ) → i < length members
     → row_changes plan values pairs (drop i members) (row_of after (drop i members))

@@ -9,8 +9,6 @@ use Rattle.ctrl_types.specs.declared.ids.Pair.{Pair}
 use Rattle.ctrl_handlers.specs.Plan.{PlanData, control, members}
 use Rattle.ctrl_clusters.specs.Rows.{Values, value_at, row_of}
 use Rattle.ctrl_clusters.specs.Overlay.{is_among}
-use Rattle.ctrl_clusters.specs.NewRows.{row_or_empty}
-use Rattle.ctrl_clusters.specs.declared.new_row.NewRow.{NewRow}
 
 -- A control that gets a value where pairs are laid over values is changed where the value differs, or where the control acts on each write
 -- and is among the pairs.
@@ -23,10 +21,6 @@ abbrev pub row_changes : PlanData → Values → List Pair → List ℕ → List
 row_changes plan values pairs [] row = false
 row_changes plan values pairs (c ∷ cs) [] = false
 row_changes plan values pairs (c ∷ cs) (v ∷ vs) = is_changed plan values pairs c v || row_changes plan values pairs cs vs
-
--- whether the row that a cluster gets, where it gets one, changes a member
-abbrev pub cluster_changes : PlanData → Values → List Pair → List NewRow → ℕ → Bool
-cluster_changes plan values pairs rows k = row_changes plan values pairs (members plan k) (row_or_empty rows k)
 
 -- whether a member of a cluster is changed, from the values before to those after
 abbrev pub members_change : PlanData → Values → Values → List Pair → ℕ → Bool

@@ -39,10 +39,6 @@ written plan values rows = map (value_written plan values rows) (range_with_len 
 abbrev pub one_row : ℕ → List CtrlValue → List NewRow
 one_row k row = record { cluster = k; row = row } ∷ []
 
--- the row that a cluster gets; an empty one where it gets none
-abbrev pub row_or_empty : List NewRow → ℕ → List CtrlValue
-row_or_empty rows k = unwrap_or (row_among rows k) []
-
 -- the values, where members have those of a row
 abbrev pub with_row : Values → List ℕ → List CtrlValue → Values
 with_row values [] row = values

@@ -28,7 +28,7 @@ pub use judging::{judge, validated_row};
 pub use moment::Moment;
 pub use new_row::NewRow;
 pub use new_rows::NewRows;
-pub use notifying::{first_words, notify_between, notify_changed, notify_cluster};
+pub use notifying::{first_words, notify_between, notify_cluster};
 pub use present_flags::{flags_under, flags_with};
 pub use ranges::Ranges;
 pub use rising::next_number;

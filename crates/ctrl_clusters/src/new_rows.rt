@@ -1,9 +1,7 @@
 ghost use Rattle.std.specs.Prelude.{◌≡◌, ◌<◌, ◌≤◌, ◌++◌, ◌∷◌, [], false, length, is_some, option_map, OnOk};
 ghost use Rattle.ctrl_clusters.specs.NewRows.{clusters_of, row_among};
-ghost use Rattle.ctrl_clusters.specs.Rising.{IsNext};
 
 use crate::new_row::NewRow;
-use crate::rising::next_number;
 use ctrl_calls::RowValues;
 use std::alloc::{AllocError, Global};
 use std::marker::Model;
@@ -98,19 +96,6 @@ impl NewRows {
         ensures { option_map (λ row. row.now) result ≡ row_among self.now.rows cluster }
     {
         row_among(self.rows.as_slice(), cluster)
-    }
-
-    /// The least cluster from a number on that gets a row, or the end, where none does (of this project).
-    ///
-    /// - `from`: the least number that counts.
-    /// - `end`: what is answered where no cluster from there on and below it gets a row; the caller owes `from` at least.
-    ///
-    /// It takes no memory and refuses nothing.
-    pub fn next_cluster(&self, from: u32, end: u32) -> u32
-        requires { from ≤ end }
-        ensures { IsNext (clusters_of self.now.rows) from end result }
-    {
-        next_number(self.clusters(), from, end)
     }
 
     /// The clusters that the rows are of, in the order of the rows (of this project). It takes no memory and refuses nothing.

@@ -4,72 +4,18 @@ ghost use Rattle.std.specs.Prelude.{◌≡◌, ◌<◌, ℕ, false, length, nat_
 ghost use Rattle.std.specs.List.{list_any};
 ghost use Rattle.ctrl_handlers.specs.Plan.{calls_of, members};
 ghost use Rattle.ctrl_clusters.specs.Rows.{row_of};
-ghost use Rattle.ctrl_clusters.specs.NewRows.{AreNewRows, row_or_empty};
-ghost use Rattle.ctrl_clusters.specs.Changes.{row_changes, cluster_changes};
 ghost use Rattle.ctrl_clusters.specs.Moments.{moved};
 ghost use Rattle.ctrl_clusters.specs.Notified.{MaySay, HaveWords, AreNotified, IsNotified, notified_count, notifier_count, after_notifying, after_change};
 
 use crate::change::Change;
-use crate::changes::{is_any_changed, row_changes};
+use crate::changes::is_any_changed;
 use crate::moment::Moment;
-use crate::new_rows::NewRows;
 use crate::rising::next_number;
 use crate::writing::present_row;
-use ctrl_calls::{Driver, RowValues, Work, tell, tell_row};
+use ctrl_calls::{Driver, Work, tell_row};
 use ctrl_handlers::Plan;
-use ctrl_types::{CtrlValue, Pair};
+use ctrl_types::Pair;
 use std::alloc::{AllocError, Global};
-
-/// Notifies each cluster that gets a row which changes a member of its new row, in rising number of the clusters, and keeps the words
-/// (Linux driver API, "V4L2 Controls", "Adding Notify Callbacks"; words are of this project).
-///
-/// - `before`: the moment before.
-/// - `pairs`: what was laid over its values.
-/// - `rows`: the rows that the clusters get; the caller owes that each is of another cluster of the plan, and has a value for each member.
-/// - `words`: the words; the caller owes one for each cluster.
-/// - `work`: its count `told`, which the caller owes to be 0, is then the number of notifiers that were called.
-///
-/// It takes no memory and refuses nothing.
-pub fn notify_changed<D: Driver>(
-    before: &Moment<D>,
-    pairs: &[Pair],
-    rows: &NewRows,
-    words: &mut Vec<u64>,
-    work: &mut Work,
-)
-    requires words { length words.old.items ≡ length before.now.plan.now.clusters }
-    requires rows { AreNewRows before.now.plan.now rows.now.rows }
-    requires fresh { work.old.told ≡ 0 }
-    ensures words { AreNotified D.told before.now.plan.now (cluster_changes before.now.plan.now before.now.values.now pairs.now rows.now.rows) (row_or_empty rows.now.rows) words.old.items words.new.items }
-    ensures work { work.new ≡ record work.old { told = notified_count before.now.plan.now (cluster_changes before.now.plan.now before.now.values.now pairs.now rows.now.rows) } }
-{
-    let end = before.plan.cluster_count();
-    let mut next = rows.next_cluster(0, end);
-    while next < end {
-        notify_touched(before, pairs, rows, next, words, work);
-        next = rows.next_cluster(next + 1, end);
-    }
-}
-
-// Notifies a cluster of its new row, where it gets one that changes a member.
-fn notify_touched<D: Driver>(
-    before: &Moment<D>,
-    pairs: &[Pair],
-    rows: &NewRows,
-    cluster: u32,
-    words: &mut Vec<u64>,
-    work: &mut Work,
-)
-    requires known { cluster < length before.now.plan.now.clusters }
-    requires words { length words.old.items ≡ length before.now.plan.now.clusters }
-    requires rows { AreNewRows before.now.plan.now rows.now.rows }
-    ensures words { IsNotified D.told before.now.plan.now cluster (cluster_changes before.now.plan.now before.now.values.now pairs.now rows.now.rows cluster) (row_or_empty rows.now.rows cluster) words.old.items words.new.items }
-    ensures work { work.new ≡ record work.old { told = after_change before.now.plan.now cluster (cluster_changes before.now.plan.now before.now.values.now pairs.now rows.now.rows cluster) work.old.told } }
-{
-    if let Some(row) = rows.among(cluster) {
-        notify_of(before, pairs, row, cluster, words, work);
-    }
-}
 
 /// Notifies each cluster with a changed member of its row of the values afterwards, in rising number of the clusters, and keeps the words
 /// (Linux driver API, "V4L2 Controls", "Adding Notify Callbacks"; words are of this project). A member is changed where it has another value
@@ -118,45 +64,6 @@ fn notify_moved<D: Driver>(
 {
     let changed = is_any_changed(change, pairs, change.before.plan.members(cluster));
     notify_cluster(&change.after(), cluster, changed, words, work);
-}
-
-// Notifies a cluster of a row that it gets, where the row changes a member.
-fn notify_of<D: Driver>(
-    before: &Moment<D>,
-    pairs: &[Pair],
-    row: &RowValues,
-    cluster: u32,
-    words: &mut Vec<u64>,
-    work: &mut Work,
-)
-    requires known { cluster < length before.now.plan.now.clusters }
-    requires row { length row.now ≡ length (members before.now.plan.now cluster) }
-    requires words { length words.old.items ≡ length before.now.plan.now.clusters }
-    ensures words { IsNotified D.told before.now.plan.now cluster (row_changes before.now.plan.now before.now.values.now pairs.now (members before.now.plan.now cluster) row.now) row.now words.old.items words.new.items }
-    ensures work { work.new ≡ record work.old { told = after_change before.now.plan.now cluster (row_changes before.now.plan.now before.now.values.now pairs.now (members before.now.plan.now cluster) row.now) work.old.told } }
-{
-    let members = before.plan.members(cluster);
-    let changed = row_changes(before, pairs, members, row);
-    notify_where(before.plan, words, cluster, changed, row, work);
-}
-
-// Notifies a cluster of its new row, where the row changes a member, and keeps the word.
-fn notify_where<D: Driver>(
-    plan: &Plan<D>,
-    words: &mut Vec<u64>,
-    cluster: u32,
-    changed: bool,
-    row: &RowValues,
-    work: &mut Work,
-)
-    requires known { cluster < length plan.now.clusters }
-    requires each { length words.old.items ≡ length plan.now.clusters }
-    ensures words { IsNotified D.told plan.now cluster changed row.now words.old.items words.new.items }
-    ensures work { work.new ≡ record work.old { told = after_change plan.now cluster changed work.old.told } }
-{
-    if changed {
-        words[cluster as usize] = notify(plan, cluster, row, work);
-    }
 }
 
 /// Notifies one cluster of its row of the present values, where a member changed, and keeps the word (Linux driver API, "V4L2 Controls", "Adding
@@ -221,17 +128,6 @@ fn notify_present<D: Driver>(at: &Moment<D>, cluster: u32, work: &mut Work) -> u
     let members = at.plan.members(cluster);
     match at.plan.notifier(cluster) {
         Some(notifier) => tell_row(notifier, present_row(at.values, members), work),
-        None => 0,
-    }
-}
-
-// Notifies a cluster of a row, and answers the word; 0 where it has no notifier.
-fn notify<D: Driver>(plan: &Plan<D>, cluster: u32, row: &RowValues, work: &mut Work) -> u64
-    ensures word { MaySay D.told (calls_of plan.now cluster).notifier row.now result }
-    ensures work { work.new ≡ record work.old { told = after_notifying (calls_of plan.now cluster).notifier work.old.told } }
-{
-    match plan.notifier(cluster) {
-        Some(notifier) => tell(notifier, row, work),
         None => 0,
     }
 }

@@ -19,7 +19,7 @@ use Rattle.ctrl_forecast.proofs.ReadyLemmas.{named_within}
 use Rattle.ctrl_raises.specs.Within.{DifferWithin}
 use Rattle.device_parts.specs.Makes.{Cover, laid}
 
--- the same, of what is equal
+-- where nothing differs outside of clusters, nothing does between what is equal to it
 pub within_same : (plan plan' : PlanData) (clusters : List ℕ) (before before' after after' : ControlsData) (pairs : List Pair) → plan ≡ plan' → before ≡ before' → after ≡ after'
     → DifferWithin plan' clusters before' after' pairs → DifferWithin plan clusters before after pairs
 within_same plan plan' clusters before before' after after' pairs p b a is = rw (p, b, a) is

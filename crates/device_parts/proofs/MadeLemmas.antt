@@ -25,6 +25,7 @@ use Rattle.device_history.proofs.EventLemmas.{events_add, events_start}
 use Rattle.device_history.proofs.FrameLaw.{frames_start, frames_add}
 use Rattle.device_history.proofs.RaiseLaw.{numbers_left}
 use Rattle.device_history.proofs.PastLemmas.{opened_add, opened_fresh, now_add, legal_add}
+use Rattle.device_history.proofs.PresentLemmas.{length_grabbed, length_now}
 use Rattle.device_history.proofs.GrabLemmas.{grabbed_start, grabbed_add}
 use Rattle.device_history.proofs.RangeLemmas.{ranges_add, ranges_own, ranges_start}
 use Rattle.device_parts.specs.State.{IsMade, IsReady, IsStart, StateData}
@@ -68,6 +69,11 @@ made_fresh verdicts plan steps state made =
 -- a state that steps made is ready for one more, where that is kept
 pub made_ready : (verdicts : Verdicts) (plan : PlanData) (steps : History) (state : StateData) → IsMade verdicts plan steps state → length steps ≤ MAX_STEPS → IsReady plan state
 made_ready verdicts plan steps state made few = record {
-  ranges = subst (AreControlsOf plan) (sym made.ranges) (ranges_own plan (past steps));
+  ranges = own;
+  valued = ap length made.values ∙ length_now verdicts plan (past steps) ∙ sym own.many;
+  held = ap length made.grabs ∙ length_grabbed plan (past steps) ∙ sym own.many;
   numbers = λ j. numbers_left verdicts plan (past steps) (record { 0 = j }) (events_of state.events j) made.plans (omega (arith, length_past steps, few)) (made.events (record { 0 = j }));
 }
+  where
+    own : AreControlsOf plan state.controls.ranges
+    own = subst (AreControlsOf plan) (sym made.ranges) (ranges_own plan (past steps))

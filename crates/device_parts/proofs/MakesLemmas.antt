@@ -37,13 +37,13 @@ use Rattle.device_history.proofs.RequestLemmas.{first_queued}
 use Rattle.device_history.proofs.PastLemmas.{opened_rising, drops_one, now_more}
 use Rattle.device_history.proofs.GrabLemmas.{grabbed_more}
 use Rattle.device_history.proofs.RangeLemmas.{ranges_more}
-use Rattle.step_effects.specs.Leaving.{leaves_controls}
-use Rattle.step_effects.specs.QueuedFrames.{pairs_in}
-use Rattle.step_effects.specs.Sources.{IsSourceOf}
-use Rattle.step_effects.proofs.FitLemmas.{found}
-use Rattle.step_effects.proofs.LeavingLemmas.{opened_controls_left, grabbed_controls_left, values_left, ranges_left, given_controls_left}
+use Rattle.device_parts.specs.Leaving.{leaves_controls}
+use Rattle.device_parts.specs.QueuedFrames.{pairs_in}
+use Rattle.device_parts.specs.Sources.{IsSourceOf}
+use Rattle.device_parts.proofs.FitLemmas.{found}
+use Rattle.device_parts.proofs.LeavingLemmas.{opened_controls_left, grabbed_controls_left, values_left, ranges_left, given_controls_left}
 use Rattle.device_parts.specs.State.{IsMade, StateData}
-use Rattle.device_parts.specs.Makes.{Makes, MakesEverywhere, applied, laid}
+use Rattle.device_parts.specs.Makes.{Makes, MakesEverywhere, applied_over, laid}
 use Rattle.device_parts.proofs.MadeLemmas.{made_add}
 
 -- what both of two facts of a success say
@@ -158,7 +158,7 @@ begun_laid verdicts plan steps state r made may =
     λ i. overlay verdicts plan (made.ranges i) (made.values i) (made.grabs i) (asks i)
 
 pub begun_applied : (verdicts : Verdicts) (plan : PlanData) (steps : History) (state : StateData) (r : RequestId) → IsMade verdicts plan steps state → MayFollow verdicts plan (past steps) (kinds.Begin r)
-    → applied verdicts plan state.controls (pairs_in (find state.frames.requests.all r.0)) ≡ begun_pairs verdicts plan (past steps) r.0
+    → applied_over verdicts plan state.controls (pairs_in (find state.frames.requests.all r.0)) ≡ begun_pairs verdicts plan (past steps) r.0
 begun_applied verdicts plan steps state r made may =
     let asks = asked_made verdicts plan steps state.frames r made.frames made.legal may in
     let values = begun_laid verdicts plan steps state r made may in
@@ -166,7 +166,7 @@ begun_applied verdicts plan steps state r made may =
 
 -- the begin of a frame
 pub makes_begin : (verdicts : Verdicts) (plan of : PlanData) (number : ℕ) (r : RequestId) (given : List Pair) (old new : StateData) (before after : ControlsData)
-    → given ≡ applied verdicts plan old.controls (pairs_in (find old.frames.requests.all r.0)) → new.file_handles ≡ old.file_handles
+    → given ≡ applied_over verdicts plan old.controls (pairs_in (find old.frames.requests.all r.0)) → new.file_handles ≡ old.file_handles
     → new.controls ≡ record old.controls { values = laid verdicts plan old.controls (pairs_in (find old.frames.requests.all r.0)) } → new.frames ≡ after_begin old.frames given
     → of ≡ plan → before ≡ old.controls → after ≡ new.controls
     → ((verdicts : Verdicts) (e : Entry Step) (older : Past) → AreAround verdicts of e older before after → IsSourceOf verdicts of older e.step given None

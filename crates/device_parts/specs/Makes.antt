@@ -20,7 +20,7 @@ abbrev pub Makes : Verdicts → PlanData → ℕ → Step → StateData → Stat
 Makes verdicts plan number step old new = (steps : History) (e : Entry Step) → length steps ≡ number → e.step ≡ step → IsMade verdicts plan steps old
     → MayFollow verdicts plan (past steps) step → IsMade verdicts plan (steps ++ e ∷ []) new
 
--- the same of a step that makes the same on any device
+-- a step makes one state of another on any device, whatever its validators answer
 abbrev pub MakesEverywhere : ℕ → Step → StateData → StateData → Type 0
 MakesEverywhere number step old new = (verdicts : Verdicts) (plan : PlanData) → Makes verdicts plan number step old new
 
@@ -29,8 +29,8 @@ abbrev pub laid : Verdicts → PlanData → ControlsData → List Pair → Value
 laid verdicts plan controls pairs = overlay verdicts plan controls.ranges controls.values controls.grabs pairs
 
 -- what is applied of them: those whose cluster isn't refused, each with its value afterwards
-abbrev pub applied : Verdicts → PlanData → ControlsData → List Pair → List Pair
-applied verdicts plan controls pairs = applied_pairs plan (laid verdicts plan controls pairs) (refused_clusters verdicts plan controls.ranges controls.values controls.grabs pairs) pairs
+abbrev pub applied_over : Verdicts → PlanData → ControlsData → List Pair → List Pair
+applied_over verdicts plan controls pairs = applied_pairs plan (laid verdicts plan controls pairs) (refused_clusters verdicts plan controls.ranges controls.values controls.grabs pairs) pairs
 
 -- Some clusters of a plan, among them each that has a member among the pairs.
 pub record Cover (plan : PlanData) (clusters : List ℕ) (pairs : List Pair) : Type 0 where

@@ -46,7 +46,9 @@ pub record IsMade (verdicts : Verdicts) (plan : PlanData) (steps : History) (sta
   pub frames : state.frames ≡ frames verdicts plan (past steps)
   pub events : (fh : FhId) → AreEvents verdicts plan (past steps) fh (events_of state.events fh.0)
 
--- A state that a step can change: its controls are the plan's, and there is a number for each event that one step raises.
+-- A state that a step can change: its controls are the plan's, each with a value and a grab, and there is a number for each event that one step raises.
 pub record IsReady (plan : PlanData) (state : StateData) : Type 0 where
   pub ranges : AreControlsOf plan state.controls.ranges
+  pub valued : length state.controls.values ≡ length state.controls.ranges
+  pub held : length state.controls.grabs ≡ length state.controls.ranges
   pub numbers : (j : ℕ) → (events_of state.events j).next + length plan.controls ≤ 4294967295

@@ -18,7 +18,8 @@ use std::marker::Model;
 
 /// The state of a device, which the steps of its history make: the open file handles, the present ranges, values and grabs, the requests with their queue, and the
 /// events of file handles. Contracts see these four parts. Who owns it says of which steps it is made; each method makes one more step of it, as `Makes` says, where the
-/// caller has seen to it that nothing refuses the step.
+/// caller has seen to it that nothing refuses the step. It is ready for one of a plan where its ranges are of the plan's controls, with a value and a grab for each, and the number
+/// of each file handle's next event is at most 4294967295 less the number of controls; a state that at most 1,000,000 steps of the plan made is.
 #[derive(Drop)]
 pub struct State {
     // the open file handles, each with its handler, in the order of their opening

@@ -224,7 +224,7 @@ set_accepted verdicts plan older fh which request list view answers opens read p
     ∙ ap (λ (l : List ExtControl). Ok (Controls l)) (sym (is ∙ ap (λ (v : ViewData). entries_judged verdicts plan v list) read))
 
 -- what refuses an ask that is no list
-refusal_alone : (verdicts : Verdicts) (plan : PlanData) (older : Past) (ask : Ask) → is_list ask ≡ false → refusal_of verdicts plan older ask ≡ option_map whole (check_of verdicts plan older ask)
+pub refusal_alone : (verdicts : Verdicts) (plan : PlanData) (older : Past) (ask : Ask) → is_list ask ≡ false → refusal_of verdicts plan older ask ≡ option_map whole (check_of verdicts plan older ask)
 refusal_alone verdicts plan older (asks.GetCtrls fh which request list) alone = cc
 refusal_alone verdicts plan older (asks.SetCtrls fh which request list) alone = cc
 refusal_alone verdicts plan older (asks.TryCtrls fh which request list) alone = cc

@@ -44,7 +44,7 @@ pub own_fault : (verdicts : Verdicts) (device : DeviceData) (fault : AuditFault)
 own_fault verdicts device (faults.NotLegal index) legal is = absurd (stops_nowhere verdicts device.plan device.steps index legal is)
 own_fault verdicts device faults.Memory legal is = refl
 
--- the same is alike
+-- what is equal is alike
 same_alike : {a b : FramesData} → a ≡ b → IsLike a b
 same_alike is = record {
   requests = record { controls = ap (λ (f : FramesData). f.requests.controls) is; requests = ap (λ (f : FramesData). map compared f.requests.all) is };

@@ -1,6 +1,5 @@
 -- The begin of a frame: what it is answered, and what it leaves.
 use Rattle.std.proofs.Common.{◌≡◌, ℕ, false, List, [], ◌∷◌, ◌++◌, ◌<◌, length, map, drop, slice_get, subst, Option, None, Some, Result, Ok, Err, refl, ap, sym, ◌∙◌, arith, inl, inr}
-use Rattle.std.specs.List.{list_any}
 use Rattle.std.proofs.lemmas.List.{length-map}
 use Rattle.history.specs.Past.{past}
 use Rattle.ctrl_types.specs.Checks.{with_errno}
@@ -23,7 +22,6 @@ use Rattle.frame_queue.specs.Frames.{FramesData, begin_answer, buffer_number, ne
 use Rattle.device_history.specs.declared.ask.Ask.TheVariants as asks
 use Rattle.device_history.specs.declared.ask.Reply.{Reply}
 use Rattle.device_history.specs.declared.ask.Reply.TheVariants.{Frame}
-use Rattle.device_history.specs.declared.ask.Step.{Step}
 use Rattle.device_history.specs.declared.ask.Step.TheVariants.{Begin}
 use Rattle.device_history.specs.Steps.{History, Past}
 use Rattle.device_history.specs.Refusals.{fault_of, is_full, refused, stepped, stepped_with}
@@ -31,19 +29,19 @@ use Rattle.device_history.specs.Frames.{first_of, queue, running}
 use Rattle.device_history.specs.Values.{now}
 use Rattle.device_history.specs.Snapshots.{begun_pairs, begun_refused, begun_values, frames, requests}
 use Rattle.device_history.specs.RequestAnswers.{begin_frame_answer, frame_reply}
-use Rattle.device_history.specs.Answers.{MayAnswer, step_of, taken}
+use Rattle.device_history.specs.Answers.{MayAnswer, step_of}
 use Rattle.device_history.specs.Legal.{MayFollow}
 use Rattle.ctrl_clusters.proofs.OverlayLemmas.{length_overlay}
 use Rattle.device_history.specs.Grabs.{grabbed}
 use Rattle.device_history.specs.Requests.{asked}
 use Rattle.device_history.proofs.PresentLemmas.{length_now}
-use Rattle.device_history.proofs.WordLemmas.{changed_row}
-use Rattle.device_state.specs.Beginning.{BeginsAll, IsBegun, begin_changes}
-use Rattle.device_state.specs.Device.{DeviceData, Handles, step_changes}
+use Rattle.device_state.specs.Beginning.{IsBegun}
+use Rattle.device_state.specs.Changed.{IsChangedBy}
+use Rattle.device_state.specs.Device.{DeviceData, Handles}
 use Rattle.device_parts.specs.Makes.{Makes}
 use Rattle.device_parts.specs.State.{StateData}
 use Rattle.device_state.specs.Kept.{Caches, IsKept}
-use Rattle.device_state.proofs.HandleLemmas.{at_rest}
+use Rattle.device_state.proofs.HandleLemmas.{at_rest, handles_changed}
 use Rattle.device_state.proofs.BoardLemmas.{board_after}
 use Rattle.device_state.proofs.ForecastLemmas.{forecast_each, none_within}
 use Rattle.device_history.proofs.StretchLemmas.{begun_row}
@@ -53,7 +51,6 @@ use Rattle.ctrl_forecast.specs.declared.board.Forecast.{Forecast}
 use Rattle.ctrl_clusters.specs.Overlay.{overlay}
 use Rattle.device_history.specs.Forecasts.{board, forecast, queued_frame, queued_frames}
 use Rattle.device_state.proofs.KeptLemmas.{kept_makes, set_room}
-use Rattle.device_state.proofs.SetLemmas.{notified_same}
 
 -- what a begin is answered by its queue, where none runs
 answered_first : (verdicts : Verdicts) (plan : PlanData) (older : Past) (r : ℕ) → running older ≡ None → first_of (queue older) ≡ Some r
@@ -186,30 +183,10 @@ kept_begin verdicts told plan entries entries' caches state b words applied seat
     (begin_follows verdicts plan (past entries) r.0 begun.free begun.first begun.room) s makes
     (words_between told plan caches.state.controls.values state.controls.values applied caches.words words kept.words renewed) popped
 
--- what a begin changes of the members of a cluster
-begin_changing : (verdicts : Verdicts) (plan : PlanData) (older : Past) (r j : ℕ) (reply : Reply) → first_of (queue older) ≡ Some r
-    → list_any (step_changes verdicts plan older (taken verdicts plan older asks.Begin (Ok reply))) (members plan j) ≡ begin_changes verdicts plan older r j
-begin_changing verdicts plan older r j reply first =
-    ap (λ (o : Option Step). list_any (step_changes verdicts plan older o) (members plan j)) (begin_adds verdicts plan older r first)
-    ∙ changed_row plan (now verdicts plan older) (begun_values verdicts plan older r) (begun_pairs verdicts plan older r) (members plan j)
-
 -- a begin that is accepted
 pub handles_begin : (verdicts : Verdicts) (told : Words) (old between new : DeviceData) (work : Work) (seat r : ℕ) (reply : Reply) → between ≡ record old { work = work } → work ≡ at_rest
-    → first_of (queue (past old.steps)) ≡ Some r → begin_frame_answer verdicts old.plan (past old.steps) ≡ Ok reply → BeginsAll verdicts told between new seat r
-    → Handles verdicts old new seat asks.Begin (Ok reply)
+    → first_of (queue (past old.steps)) ≡ Some r → begin_frame_answer verdicts old.plan (past old.steps) ≡ Ok reply
+    → IsChangedBy verdicts told between new seat (Begin (record { 0 = r })) (begun_pairs verdicts old.plan (past old.steps) r) 0 → Handles verdicts old new seat asks.Begin (Ok reply)
 handles_begin verdicts told old between new work seat r reply begin rest first is does =
-    let done : BeginsAll verdicts told (record old { work = work }) new seat r = rw begin at does in
-    record {
-      plan = done.plan;
-      answers = inl (sym is);
-      refused = λ e. cc;
-      steps = done.steps ∙ rw (begin_adds verdicts old.plan (past old.steps) r first) refl;
-      words = λ j lt same. done.words.others j (λ _. sym (begin_changing verdicts old.plan (past old.steps) r j reply first) ∙ same);
-      notified =
-          ap (λ (w : Work). w.told) done.work
-          ∙ notified_same old.plan (begin_changes verdicts old.plan (past old.steps) r)
-          (λ k. list_any (step_changes verdicts old.plan (past old.steps) (taken verdicts old.plan (past old.steps) asks.Begin (Ok reply))) (members old.plan k))
-          (λ j lt. sym (begin_changing verdicts old.plan (past old.steps) r j reply first));
-      asked = omega (arith, ap (λ (w : Work). w.asked) done.work, ap (λ (w : Work). w.asked) rest);
-      asked_all = λ _. omega arith;
-    }
+    handles_changed verdicts told old between new work seat asks.Begin (Begin (record { 0 = r })) (begun_pairs verdicts old.plan (past old.steps) r) 0 reply begin (inl (sym is)) (begin_adds verdicts old.plan (past old.steps) r first) refl
+    (omega (arith, ap (λ (w : Work). w.asked) rest)) (omega arith) does

@@ -30,8 +30,8 @@ use Rattle.device_history.specs.Legal.{MayFollow}
 use Rattle.device_history.proofs.FrameLaw.{found_request}
 use Rattle.ctrl_lists.specs.Touched.{with_calls}
 use Rattle.device_state.specs.Device.{DeviceData, Handles, list_most, list_touches, may_ask, must_ask, with_step, step_changes}
-use Rattle.step_effects.specs.QueuedFrames.{asks_at_most}
-use Rattle.step_effects.specs.Leaving.{leaves_controls}
+use Rattle.device_parts.specs.QueuedFrames.{asks_at_most}
+use Rattle.device_parts.specs.Leaving.{leaves_controls}
 use Rattle.device_state.specs.Entering.{AddsStep}
 use Rattle.device_state.specs.Kept.{Caches, IsKept}
 use Rattle.device_state.proofs.HandleLemmas.{at_rest, asked_since, handles_asked, handles_set, told_since}
@@ -51,7 +51,7 @@ use Rattle.req_book.specs.declared.state.RequestState.TheVariants.{Idle, Queued,
 use Rattle.ctrl_types.specs.declared.value.CtrlValue.{CtrlValue}
 use Rattle.req_book.proofs.SettingLemmas.{snapshot_long}
 use Rattle.device_history.proofs.PresentLemmas.{length_now}
-use Rattle.step_effects.proofs.LeavingLemmas.{acted_controls_left}
+use Rattle.device_parts.proofs.LeavingLemmas.{acted_controls_left}
 
 -- a check refuses it
 pub entered_refused : (verdicts : Verdicts) (plan : PlanData) (older : Past) (words : List ℕ) (ask : Ask) (own : Option Check) (check : Check) (step : Step) (reply : Reply)

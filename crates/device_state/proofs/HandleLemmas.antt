@@ -1,5 +1,5 @@
 -- What a call does to the device: where it adds no step, where it opens or closes a file handle, where it sets controls.
-use Rattle.std.proofs.Common.{◌≡◌, ℕ, ◌<◌, ◌≤◌, ◌+◌, Bool, true, List, [], ◌∷◌, ◌++◌, length, Option, Some, None, Ok, Err, IsOk, OnOk, refl, ap, sym, subst, ◌∙◌, arith, inl}
+use Rattle.std.proofs.Common.{◌≡◌, ℕ, ◌≤◌, ◌+◌, Bool, true, List, length, Option, Some, None, Ok, Err, IsOk, OnOk, refl, ap, sym, subst, ◌∙◌, arith, inl}
 use Rattle.std.specs.List.{list_any}
 use Rattle.std.proofs.lemmas.List.{append-nil}
 use Rattle.history.specs.Past.{past}
@@ -22,7 +22,7 @@ use Rattle.device_history.specs.declared.ask.Reply.TheVariants.{Fh, Done, Contro
 use Rattle.device_history.specs.declared.ask.Step.TheVariants.{OpenFh, CloseFh, Set, Grab}
 use Rattle.ctrl_handlers.specs.Plan.{PlanData, cluster_of, members}
 use Rattle.ctrl_lists.specs.Touched.{TouchedData, none_where, touched}
-use Rattle.device_history.specs.Grabs.{grabbed, grab_check}
+use Rattle.device_history.specs.Grabs.{grab_check}
 use Rattle.device_history.specs.Steps.{Past}
 use Rattle.device_history.specs.Values.{now}
 use Rattle.device_history.specs.Refusals.{Answer, refused, step_check, stepped}
@@ -30,20 +30,20 @@ use Rattle.device_history.specs.Handles.{open_check, through}
 use Rattle.device_history.specs.RequestAnswers.{state_answer}
 use Rattle.device_history.specs.Queries.{query_answer, next_answer, told_answer}
 use Rattle.device_history.specs.Lists.{list_pairs, meant, set_list_answer, which_or}
-use Rattle.device_history.specs.Answers.{MayAnswer, answer_of, taken}
+use Rattle.device_history.specs.Answers.{MayAnswer, answer_of, step_of, taken}
 use Rattle.device_history.specs.Forecasts.{queued_frames}
-use Rattle.ctrl_forecast.specs.Forecasts.{named_by_frames}
+use Rattle.ctrl_forecast.specs.Forecasts.{QueuedData, named_by_frames}
 use Rattle.ctrl_clusters.specs.NewRows.{clusters_of}
 use Rattle.ctrl_types.specs.declared.refusal.Refusal.{Refusal}
 use Rattle.device_state.specs.Device.{DeviceData, Handles, forecast_asks, cluster_asks, list_most, list_touches, may_ask, must_ask, with_step, step_changes}
 use Rattle.device_state.proofs.BoundLemmas.{forecasts_asked, set_opened}
+use Rattle.device_state.specs.Changed.{IsChangedBy, moves, values_then}
 use Rattle.device_state.specs.Setting.{CanBeSet, SetsAll}
-use Rattle.ctrl_clusters.specs.Changes.{cluster_changes}
 use Rattle.ctrl_lists.specs.Touched.{judged_count, with_calls}
-use Rattle.device_history.proofs.PresentLemmas.{length_now}
-use Rattle.device_state.proofs.SettingLemmas.{own_judged, set_step}
-use Rattle.device_history.specs.Ranges.{ranges_now}
-use Rattle.device_state.proofs.SetLemmas.{changes_written, notified_none, notified_same}
+use Rattle.device_history.proofs.WordLemmas.{changed_row}
+use Rattle.device_state.proofs.SettingLemmas.{set_step}
+use Rattle.device_history.specs.Words.{changes, pairs_applied}
+use Rattle.device_state.proofs.SetLemmas.{notified_none, notified_same}
 use Rattle.device_state.proofs.StepLemmas.{own_refused, step_answered, step_refused}
 
 -- no call yet
@@ -235,15 +235,29 @@ pub handles_forecast : (verdicts : Verdicts) (old : DeviceData) (work : Work) (s
 handles_forecast verdicts old work seat place answer rest may =
     handles_none verdicts old work seat _ answer (ap (λ (w : Work). w.told) rest) (asked_at_rest work _ rest) (λ _. omega arith) (taken_forecast verdicts old.plan (past old.steps) place answer) may
 
--- what a set changes of the members of a cluster: what the row that it gets changes
-set_changing : (verdicts : Verdicts) (plan : PlanData) (older : Past) (fh : FhId) (which : ℕ) (request : Option RequestId) (list : List ExtControl) (touch : TouchedData) (reply : Reply)
-    → CanBeSet verdicts plan older fh (meant (which_or (which_of which)) request) touch → touch.pairs ≡ list_pairs plan older fh which list → meant (which_or (which_of which)) request ≡ None → (j : ℕ) → j < length plan.clusters
-    → list_any (step_changes verdicts plan older (taken verdicts plan older (asks.SetCtrls fh which request list) (Ok reply))) (members plan j)
-    ≡ cluster_changes plan (now verdicts plan older) touch.pairs touch.rows j
-set_changing verdicts plan older fh which request list touch reply sets own_pairs current j lt =
-    ap (λ (step : Step). list_any (step_changes verdicts plan older (Some step)) (members plan j)) (set_step (meant (which_or (which_of which)) request) fh (list_pairs plan older fh which list) current)
-    ∙ ap (λ (pairs : List Pair). list_any (step_changes verdicts plan older (Some (Set fh pairs))) (members plan j)) (sym own_pairs)
-    ∙ changes_written verdicts plan (ranges_now plan older) (now verdicts plan older) (grabbed plan older) touch.pairs touch.rows j sets.plans (length_now verdicts plan older) lt (own_judged verdicts plan older fh which request touch sets current) sets.free
+-- A call whose step gives controls values: what it owes is what its step changes.
+pub handles_changed : (verdicts : Verdicts) (told : Words) (old between new : DeviceData) (work : Work) (seat : ℕ) (ask : Ask) (step : Step) (applied : List Pair) (most : ℕ) (reply : Reply) → between ≡ record old { work = work }
+    → MayAnswer verdicts old.plan (past old.steps) old.words ask (Ok reply) → step_of verdicts old.plan (past old.steps) ask ≡ Some step → pairs_applied verdicts old.plan (past old.steps) step ≡ Some applied
+    → work.asked + most ≤ may_ask verdicts old.plan (past old.steps) ask (Ok reply) → with_calls (must_ask old.plan (past old.steps) ask) 0 ≤ new.work.asked → IsChangedBy verdicts told between new seat step applied most
+    → Handles verdicts old new seat ask (Ok reply)
+handles_changed verdicts told old between new work seat ask step applied most reply begin may adds acts bounded least does =
+    let done : IsChangedBy verdicts told (record old { work = work }) new seat step applied most = rw begin at does in
+    let changing : (k : ℕ) → list_any (step_changes verdicts old.plan (past old.steps) (step_of verdicts old.plan (past old.steps) ask)) (members old.plan k) ≡ moves verdicts old.plan (past old.steps) step applied k = λ k.
+    ap (λ (o : Option Step). list_any (step_changes verdicts old.plan (past old.steps) o) (members old.plan k)) adds
+    ∙ ap (λ (o : Option (List Pair)). list_any (changes old.plan (now verdicts old.plan (past old.steps)) (values_then verdicts old.plan (past old.steps) step) o) (members old.plan k)) acts
+    ∙ changed_row old.plan (now verdicts old.plan (past old.steps)) (values_then verdicts old.plan (past old.steps) step) applied (members old.plan k) in
+    record {
+      plan = done.plan;
+      answers = may;
+      refused = λ e. cc;
+      steps = done.steps ∙ rw adds refl;
+      words = λ k lt same. done.words.others k (λ _. sym (changing k) ∙ same);
+      notified =
+          done.notified
+          ∙ notified_same old.plan (moves verdicts old.plan (past old.steps) step applied) (λ k. list_any (step_changes verdicts old.plan (past old.steps) (step_of verdicts old.plan (past old.steps) ask)) (members old.plan k)) (λ k lt. sym (changing k));
+      asked = omega (arith, done.asked, bounded);
+      asked_all = λ _. least;
+    }
 
 -- a set that is accepted
 pub handles_set : (verdicts : Verdicts) (told : Words) (old between new : DeviceData) (start work : Work) (seat : ℕ) (fh : FhId) (which : ℕ) (request : Option RequestId) (list : List ExtControl) (touch : TouchedData) (controls : List ExtControl)
@@ -253,30 +267,17 @@ pub handles_set : (verdicts : Verdicts) (told : Words) (old between new : Device
     → Handles verdicts old new seat (asks.SetCtrls fh which request list) (Ok (Controls controls))
 handles_set verdicts told old between new start work seat fh which request list touch controls begin rest untold asked sets own_pairs accepted current reply all does =
     let done : SetsAll verdicts told (record old { work = work }) new seat fh touch = rw begin at does in
-    let changing = set_changing verdicts old.plan (past old.steps) fh which request list touch (Controls controls) sets own_pairs current in
+    let queued : List QueuedData = queued_frames old.plan (past old.steps) in
     let own : List ℕ = touched old.plan (list_pairs old.plan (past old.steps) fh which list) in
-    let clusters : clusters_of touch.rows ≡ own = sets.judged.each_once ∙ ap (touched old.plan) own_pairs in
     let passed = set_opened verdicts old.plan (past old.steps) fh which request list touch.answers accepted in
     let judged : work.asked ≤ start.asked + length own = subst (λ (o : Option Refusal). work.asked ≤ start.asked + none_where o (length own)) passed.1 asked in
-    let renewed : new.work.asked ≤ work.asked + forecast_asks old.plan (past old.steps) (which_or (which_of which)) own =
-    subst (λ (n : ℕ). new.work.asked ≤ work.asked + n) (sym (forecasts_asked verdicts old.plan (past old.steps) fh which request own passed.0 current))
-    (subst (λ (ks : List ℕ). new.work.asked ≤ work.asked + named_by_frames old.plan (queued_frames old.plan (past old.steps)) ks) clusters done.asked) in
-    record {
-      plan = done.plan;
-      answers = inl (ap (λ (l : List ExtControl). Ok (Controls l)) reply ∙ sym accepted);
-      refused = λ e. cc;
-      steps =
-          done.steps ∙ ap (λ (pairs : List Pair). old.steps ++ record { seat = seat; step = Set fh pairs } ∷ []) own_pairs
-          ∙ ap (λ (step : Step). old.steps ++ record { seat = seat; step = step } ∷ []) (sym (set_step (meant (which_or (which_of which)) request) fh (list_pairs old.plan (past old.steps) fh which list) current));
-      words = λ j lt same. done.words.others j (λ _. sym (changing j lt) ∙ same);
-      notified =
-          done.notified
-          ∙ notified_same old.plan (cluster_changes old.plan (now verdicts old.plan (past old.steps)) touch.pairs touch.rows)
-          (λ k. list_any (step_changes verdicts old.plan (past old.steps) (taken verdicts old.plan (past old.steps) (asks.SetCtrls fh which request list) (Ok (Controls controls)))) (members old.plan k)) (λ j lt. sym (changing j lt));
-      asked = subst (λ (o : Option Refusal). new.work.asked ≤ none_where o (length own + forecast_asks old.plan (past old.steps) (which_or (which_of which)) own)) (sym passed.1)
-          (omega (arith, renewed, asked_since start work _ rest judged));
-      asked_all = λ _. omega (arith, done.counted, all);
-    }
+    let renewed : named_by_frames old.plan queued (clusters_of touch.rows) ≡ forecast_asks old.plan (past old.steps) (which_or (which_of which)) own =
+    ap (named_by_frames old.plan queued) (sets.judged.each_once ∙ ap (touched old.plan) own_pairs) ∙ sym (forecasts_asked verdicts old.plan (past old.steps) fh which request own passed.0 current) in
+    handles_changed verdicts told old (record old { work = work }) new work seat (asks.SetCtrls fh which request list) (Set fh touch.pairs) touch.pairs (named_by_frames old.plan queued (clusters_of touch.rows)) (Controls controls) refl
+    (inl (ap (λ (l : List ExtControl). Ok (Controls l)) reply ∙ sym accepted))
+    (ap Some (set_step (meant (which_or (which_of which)) request) fh (list_pairs old.plan (past old.steps) fh which list) current) ∙ ap (λ (pairs : List Pair). Some (Set fh pairs)) (sym own_pairs)) refl
+    (subst (λ (o : Option Refusal). work.asked + named_by_frames old.plan queued (clusters_of touch.rows) ≤ none_where o (length own + forecast_asks old.plan (past old.steps) (which_or (which_of which)) own)) (sym passed.1)
+    (omega (arith, renewed, asked_since start work _ rest judged))) (omega (arith, done.1, all)) done.0
 
 -- an accepted list asked all that it must
 pub asked_all : (asked n : ℕ) (start : Work) → start ≡ at_rest → asked ≡ with_calls n start.asked → with_calls n 0 ≤ asked

@@ -10,14 +10,15 @@ use Rattle.history.proofs.Pasts.{length_past}
 use Rattle.ctrl_types.specs.declared.check.Check.TheVariants.{ControlMissing}
 use Rattle.ctrl_types.specs.declared.ids.FhId.{FhId}
 use Rattle.ctrl_calls.specs.Meanings.{Verdicts, Words}
-use Rattle.ctrl_handlers.specs.Plan.{IsFinished, PlanData}
-use Rattle.ctrl_clusters.specs.Changes.{cluster_changes}
+use Rattle.ctrl_handlers.specs.Plan.{IsFinished, PlanData, members}
+use Rattle.ctrl_clusters.specs.Changes.{members_change}
 use Rattle.ctrl_clusters.specs.ControlsData.{ControlsData}
-use Rattle.ctrl_clusters.specs.NewRows.{clusters_of, row_or_empty, written}
+use Rattle.ctrl_clusters.specs.NewRows.{clusters_of, written}
 use Rattle.ctrl_clusters.specs.Notified.{HaveWords, AreNotified}
-use Rattle.ctrl_clusters.specs.Rows.{AreControlsOf, Grabs, Values}
+use Rattle.ctrl_clusters.specs.Rows.{AreControlsOf, Grabs, Values, row_of}
+use Rattle.ctrl_clusters.proofs.NotifyLemmas.{words_between}
 use Rattle.ctrl_clusters.specs.declared.new_row.NewRow.{NewRow}
-use Rattle.ctrl_lists.specs.Touched.{TouchedData, AreJudged}
+use Rattle.ctrl_lists.specs.Touched.{TouchedData}
 use Rattle.ctrl_lists.proofs.TouchedLemmas.{touched_is}
 use Rattle.ctrl_forecast.specs.Boards.{BoardData, board_of, no_board}
 use Rattle.device_history.specs.declared.limits.TheConstants.{MAX_STEPS}
@@ -28,21 +29,22 @@ use Rattle.device_history.specs.Steps.{History, Past}
 use Rattle.device_history.specs.Handles.{open_check, through}
 use Rattle.device_history.specs.Ranges.{ranges_now}
 use Rattle.device_history.specs.Grabs.{grabbed, grab_check}
-use Rattle.device_history.specs.Values.{now, values_after}
+use Rattle.device_history.specs.Values.{now}
 use Rattle.device_history.specs.Refusals.{fault_of, is_full, step_check}
 use Rattle.device_history.specs.Legal.{MayFollow}
 use Rattle.device_history.proofs.PresentLemmas.{length_now}
-use Rattle.step_effects.specs.Leaving.{leaves_controls}
-use Rattle.step_effects.specs.QueuedFrames.{queued_after}
-use Rattle.step_effects.proofs.LeavingLemmas.{grabbed_controls_left, ranges_left, values_left}
+use Rattle.device_parts.specs.Leaving.{leaves_controls}
+use Rattle.device_parts.specs.QueuedFrames.{queued_after}
+use Rattle.device_parts.proofs.LeavingLemmas.{grabbed_controls_left, ranges_left, values_left}
 use Rattle.device_parts.specs.Makes.{Cover, Makes, laid}
 use Rattle.device_parts.specs.State.{IsMade, IsReady, StateData}
 use Rattle.device_parts.proofs.MadeLemmas.{made_fresh, made_ready}
 use Rattle.device_parts.proofs.MakesLemmas.{laid_made}
 use Rattle.device_state.specs.Kept.{Caches, IsKept}
+use Rattle.device_state.specs.Changed.{values_then}
 use Rattle.device_state.specs.Setting.{CanBeSet}
 use Rattle.device_state.proofs.BoardLemmas.{board_add, board_after, board_same, board_start, line_kept}
-use Rattle.device_state.proofs.SetLemmas.{laid_written, words_after}
+use Rattle.device_state.proofs.SetLemmas.{laid_written}
 use Rattle.device_state.proofs.StepLemmas.{step_answered, step_passes}
 
 -- a device without steps
@@ -77,7 +79,7 @@ kept_makes verdicts told plan steps steps' caches caches' e kept room may s make
 pub set_room : (steps : History) → is_full (past steps) ≡ false → length steps < MAX_STEPS
 set_room steps room = grind (arith, nat_tests, length_past steps, room)
 
--- the same words of the same values
+-- where the values stay, the words are such as were told of them
 same_words : (told : Words) (plan : PlanData) (words : List ℕ) (old new : ControlsData) → new ≡ old → HaveWords told plan old.values words → HaveWords told plan new.values words
 same_words told plan words old new is have = subst (λ (m : ControlsData). HaveWords told plan m.values words) (sym is) have
 
@@ -122,36 +124,33 @@ kept_grab verdicts told plan steps steps' caches state b seat c on kept accepted
     ∙ board_same verdicts plan (ap (λ (m : ControlsData). m.ranges) g ∙ kept.made.ranges) (ap (λ (m : ControlsData). m.values) g ∙ kept.made.values)
     (ap (λ (m : ControlsData). m.grabs) g ∙ ap (λ (gs : Grabs). slice_set gs c on) kept.made.grabs) (ap (λ (x : BoardData). x.queued) kept.board))
 
+-- the values that a set's rows make of the present ones are those of its step
+pub set_then : (verdicts : Verdicts) (plan : PlanData) (past : Past) (values : Values) (fh : FhId) (touch : TouchedData) → CanBeSet verdicts plan past fh None touch → values ≡ now verdicts plan past
+    → written plan values touch.rows ≡ values_then verdicts plan past (Set fh touch.pairs)
+set_then verdicts plan past values fh touch sets own =
+    ap (λ (v : Values). written plan v touch.rows) own ∙ sym (laid_written verdicts plan (ranges_now plan past) (now verdicts plan past) (grabbed plan past) touch.pairs touch.rows sets.plans sets.judged sets.free)
+
 -- a set
 pub kept_set : (verdicts : Verdicts) (told : Words) (plan : PlanData) (steps steps' : History) (caches : Caches) (state : StateData) (b : BoardData) (words : List ℕ) (seat : ℕ) (fh : FhId)
     (touch : TouchedData) → IsKept verdicts told plan steps caches → CanBeSet verdicts plan (past steps) fh None touch
     → steps' ≡ steps ++ record { seat = seat; step = Set fh touch.pairs } ∷ [] → Makes verdicts plan (length steps) (Set fh touch.pairs) caches.state state
     → state.controls ≡ record caches.state.controls { values = written plan caches.state.controls.values touch.rows }
-    → AreNotified told plan (cluster_changes plan caches.state.controls.values touch.pairs touch.rows) (row_or_empty touch.rows) caches.words words
+    → AreNotified told plan (members_change plan caches.state.controls.values state.controls.values touch.pairs) (λ k. row_of state.controls.values (members plan k)) caches.words words
     → b ≡ board_of verdicts plan state.controls.ranges state.controls.values state.controls.grabs caches.board.queued
     → IsKept verdicts told plan steps' (record caches { state = state; board = b; words = words })
 kept_set verdicts told plan steps steps' caches state b words seat fh touch kept sets s makes is retold renewed =
     let made = kept.made in
-    let controls : ControlsData = caches.state.controls in
-    let many : length controls.values ≡ length plan.controls = ap length made.values ∙ length_now verdicts plan (past steps) in
-    let present : AreJudged verdicts plan (ranges_now plan (past steps)) (now verdicts plan (past steps)) touch.pairs touch.pairs touch.rows = sets.judged in
-    let judged : AreJudged verdicts plan (ranges_now plan (past steps)) controls.values touch.pairs touch.pairs touch.rows =
-    subst (λ (v : Values). AreJudged verdicts plan (ranges_now plan (past steps)) v touch.pairs touch.pairs touch.rows) (sym made.values) present in
-    let v : state.controls.values ≡ written plan controls.values touch.rows = ap (λ (m : ControlsData). m.values) is in
-    let lays : state.controls.values ≡ values_after verdicts plan (past steps) (Set fh touch.pairs) (now verdicts plan (past steps)) =
-    v ∙ ap (λ (v : Values). written plan v touch.rows) made.values ∙ sym (laid_written verdicts plan (ranges_now plan (past steps)) (now verdicts plan (past steps)) (grabbed plan (past steps)) touch.pairs touch.rows sets.plans present sets.free) in
+    let lays : state.controls.values ≡ values_then verdicts plan (past steps) (Set fh touch.pairs) =
+    ap (λ (m : ControlsData). m.values) is ∙ set_then verdicts plan (past steps) caches.state.controls.values fh touch sets made.values in
     kept_makes verdicts told plan steps steps' caches (record caches { state = state; board = b; words = words }) (record { seat = seat; step = Set fh touch.pairs }) kept (set_room steps sets.room) sets.follows s makes
-    (subst (λ (v : Values). HaveWords told plan v words) (laid_written verdicts plan (ranges_now plan (past steps)) controls.values (grabbed plan (past steps)) touch.pairs touch.rows sets.plans judged sets.free ∙ sym v)
-    (words_after told verdicts plan (ranges_now plan (past steps)) controls.values (grabbed plan (past steps)) touch.pairs touch.rows caches.words words sets.plans many judged sets.free kept.words retold))
+    (words_between told plan caches.state.controls.values state.controls.values touch.pairs caches.words words kept.words retold)
     (renewed ∙ board_same verdicts plan (ap (λ (m : ControlsData). m.ranges) is ∙ made.ranges) lays (ap (λ (m : ControlsData). m.grabs) is ∙ made.grabs) (ap (λ (x : BoardData). x.queued) kept.board))
 
 -- what a set lays over the values
 pub set_lays : (verdicts : Verdicts) (plan : PlanData) (steps : History) (state : StateData) (values : Values) (fh : FhId) (touch : TouchedData) → IsMade verdicts plan steps state
     → CanBeSet verdicts plan (past steps) fh None touch → values ≡ written plan state.controls.values touch.rows → values ≡ laid verdicts plan state.controls touch.pairs
 set_lays verdicts plan steps state values fh touch made sets v =
-    v ∙ ap (λ (v : Values). written plan v touch.rows) made.values
-    ∙ sym (laid_written verdicts plan (ranges_now plan (past steps)) (now verdicts plan (past steps)) (grabbed plan (past steps)) touch.pairs touch.rows sets.plans sets.judged sets.free)
-    ∙ sym (laid_made verdicts plan (past steps) state.controls touch.pairs made.ranges made.values made.grabs)
+    v ∙ set_then verdicts plan (past steps) state.controls.values fh touch sets made.values ∙ sym (laid_made verdicts plan (past steps) state.controls touch.pairs made.ranges made.values made.grabs)
 
 -- the clusters of its rows cover its pairs
 pub set_cover : (verdicts : Verdicts) (plan : PlanData) (past : Past) (fh : FhId) (touch : TouchedData) → CanBeSet verdicts plan past fh None touch → Cover plan (clusters_of touch.rows) touch.pairs

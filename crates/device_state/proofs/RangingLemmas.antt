@@ -44,15 +44,16 @@ use Rattle.device_history.specs.Grabs.{grabbed}
 use Rattle.device_history.specs.Values.{now}
 use Rattle.device_history.specs.Words.{changes}
 use Rattle.device_history.proofs.WordLemmas.{changed_row}
-use Rattle.device_state.specs.Device.{DeviceData, Handles}
+use Rattle.device_state.specs.Device.{DeviceData, Handles, cluster_asks}
 use Rattle.device_parts.specs.Makes.{Makes}
 use Rattle.device_parts.specs.State.{StateData}
 use Rattle.device_state.specs.Kept.{Caches, IsKept}
-use Rattle.device_state.specs.Ranging.{GivesRange, IsRanged, range_step, values_then}
+use Rattle.device_state.specs.Changed.{IsChangedBy, values_then}
+use Rattle.device_state.specs.Ranging.{IsRanged, range_step}
 use Rattle.device_state.proofs.BoardLemmas.{board_same}
 use Rattle.device_state.proofs.KeptLemmas.{kept_makes, set_room}
-use Rattle.device_state.proofs.HandleLemmas.{at_rest}
-use Rattle.device_state.proofs.SetLemmas.{and_false, none_from, notified_same, unchanged}
+use Rattle.device_state.proofs.HandleLemmas.{at_rest, handles_changed}
+use Rattle.device_state.proofs.SetLemmas.{and_false, none_from, unchanged}
 use Rattle.device_state.proofs.StepLemmas.{step_answered, step_free, step_passes}
 
 -- a control that is there is no unknown one
@@ -266,21 +267,9 @@ kept_range verdicts told plan steps steps' caches state b words seat c changed k
 -- a range change that is accepted
 pub handles_range : (verdicts : Verdicts) (told : Words) (old between new : DeviceData) (work : Work) (seat c : ℕ) (low high : ℤ) (apart : ℕ) (default_value : ℤ) (changed : Control) → between ≡ record old { work = work } → work ≡ at_rest
     → range_answer old.plan (past old.steps) c low high apart default_value ≡ Ok Done → changed ≡ with_range (control_in (ranges_now old.plan (past old.steps)) c) low high apart default_value
-    → GivesRange verdicts told between new seat c changed → Handles verdicts old new seat (asks.ModifyRange c low high apart default_value) (Ok Done)
+    → IsChangedBy verdicts told between new seat (range_step c changed) [] (cluster_asks old.plan (past old.steps) (cluster_of old.plan c)) → Handles verdicts old new seat (asks.ModifyRange c low high apart default_value) (Ok Done)
 handles_range verdicts told old between new work seat c low high apart default_value changed begin rest accepted its_own does =
     let made : Control = with_range (control_in (ranges_now old.plan (past old.steps)) c) low high apart default_value in
-    let done : GivesRange verdicts told (record old { work = work }) new seat c made = rw (← begin, ← its_own) does in
-    let changing = λ (j : ℕ). changed_row old.plan (now verdicts old.plan (past old.steps)) (values_then verdicts old.plan (past old.steps) (range_step c made)) [] (members old.plan j) in
-    record {
-      plan = done.plan;
-      answers = inl (sym accepted);
-      refused = λ e. cc;
-      steps = done.steps;
-      words = λ j lt same. done.words.others j (λ _. sym (changing j) ∙ same);
-      notified =
-          done.notified
-          ∙ notified_same old.plan (members_change old.plan (now verdicts old.plan (past old.steps)) (values_then verdicts old.plan (past old.steps) (range_step c made)) [])
-          (λ k. list_any (changes old.plan (now verdicts old.plan (past old.steps)) (values_then verdicts old.plan (past old.steps) (range_step c made)) (Some [])) (members old.plan k)) (λ j lt. sym (changing j));
-      asked = omega (arith, done.asked, ap (λ (w : Work). w.asked) rest);
-      asked_all = λ _. omega arith;
-    }
+    let most : ℕ = cluster_asks old.plan (past old.steps) (cluster_of old.plan c) in
+    handles_changed verdicts told old between new work seat (asks.ModifyRange c low high apart default_value) (range_step c made) [] most Done begin (inl (sym accepted)) refl refl (omega (arith, ap (λ (w : Work). w.asked) rest)) (omega arith)
+    (subst (λ (x : Control). IsChangedBy verdicts told between new seat (range_step c x) [] most) its_own does)

@@ -28,7 +28,7 @@ use Rattle.device_history.specs.Values.{now}
 use Rattle.device_history.specs.Steps.{Past}
 use Rattle.device_state.proofs.SetLemmas.{changes_same}
 
--- the same, of what is equal
+-- where nothing differs outside of clusters, nothing does between what is equal to it
 pub within_same : (plan plan' : PlanData) (clusters clusters' : List ℕ) (before before' after after' : ControlsData) (pairs pairs' : List Pair) → plan ≡ plan' → clusters ≡ clusters' → before ≡ before' → after ≡ after' → pairs ≡ pairs'
     → DifferWithin plan' clusters' before' after' pairs' → DifferWithin plan clusters before after pairs
 within_same plan plan' clusters clusters' before before' after after' pairs pairs' p k b a ps is = rw (p, k, b, a, ps) is
@@ -44,7 +44,7 @@ begin_within verdicts plan controls refused pairs = record {
   unasked = λ k lt outside. applied_apart plan (overlay verdicts plan controls.ranges controls.values controls.grabs pairs) refused pairs (members plan k) (not_named plan pairs k lt outside);
 }
 
--- the same at the end of a history
+-- what it changes of a device behind a history
 pub begun_within : (verdicts : Verdicts) (plan : PlanData) (older : Past) (r : ℕ) (controls : ControlsData) → controls.ranges ≡ ranges_now plan older → controls.values ≡ now verdicts plan older → controls.grabs ≡ grabbed plan older
     → DifferWithin plan (named_clusters plan (asked plan older r)) controls (record controls { values = begun_values verdicts plan older r }) (begun_pairs verdicts plan older r)
 begun_within verdicts plan older r controls ranges values grabs =

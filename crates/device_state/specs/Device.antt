@@ -17,7 +17,7 @@ use Rattle.device_history.specs.Values.{now, values_after}
 use Rattle.device_history.specs.Words.{pairs_applied, changes}
 use Rattle.device_history.specs.Snapshots.{frames, request as request_of}
 use Rattle.ctrl_forecast.specs.Forecasts.{named_by_frames}
-use Rattle.step_effects.specs.QueuedFrames.{asks_at_most}
+use Rattle.device_parts.specs.QueuedFrames.{asks_at_most}
 use Rattle.device_history.specs.Forecasts.{queued_frames}
 use Rattle.device_history.specs.Refusals.{Answer}
 use Rattle.device_history.specs.Answers.{MayAnswer, taken}

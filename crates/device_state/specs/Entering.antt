@@ -12,11 +12,11 @@ use Rattle.device_history.specs.declared.ask.Step.{Step}
 use Rattle.device_history.specs.Steps.{Past}
 use Rattle.device_history.specs.Snapshots.{frames}
 use Rattle.device_history.specs.Forecasts.{queued_frames}
-use Rattle.step_effects.specs.QueuedFrames.{asks_at_most}
+use Rattle.device_parts.specs.QueuedFrames.{asks_at_most}
 use Rattle.device_history.specs.AskChecks.{index_of, refusal_of}
 use Rattle.device_history.specs.Refusals.{Answer, refused, step_check, stepped}
 use Rattle.device_history.specs.Answers.{answer_of, step_of, no_memory, MayLackMemory}
-use Rattle.step_effects.specs.Leaving.{NamesKnown, leaves_controls}
+use Rattle.device_parts.specs.Leaving.{NamesKnown, leaves_controls}
 use Rattle.device_state.specs.Device.{may_ask, must_ask}
 
 -- An ask that adds a step which leaves file handles, grabs, ranges and values: its own check refuses it, then that no further step is kept, and else it is answered

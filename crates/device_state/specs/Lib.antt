@@ -37,6 +37,7 @@ pub use Rattle.device_history.specs.Queries
 pub use Rattle.device_history.specs.Answers
 pub use Rattle.device_history.specs.Legal
 pub mod Device
+pub mod Changed
 pub mod Setting
 pub mod Entering
 pub mod Beginning

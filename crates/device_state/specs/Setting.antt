@@ -1,5 +1,5 @@
--- What an accepted list makes of the values, the words and the counts, one cluster after another (of this project).
-use Rattle.std.specs.Prelude.{◌≡◌, ◌<◌, ◌≤◌, ◌+◌, ℕ, length, false, ◌++◌, [], ◌∷◌, Option, None, Some}
+-- A list that can be set, and what accepting it does to a device (of this project).
+use Rattle.std.specs.Prelude.{◌≡◌, ◌<◌, ◌≤◌, ℕ, length, false, ◌++◌, Option, None, Some}
 use Rattle.std.specs.List.{All, list_any}
 use Rattle.history.specs.Past.{past}
 use Rattle.ctrl_types.specs.declared.ids.FhId.{FhId}
@@ -19,9 +19,8 @@ use Rattle.device_history.specs.Refusals.{is_full}
 use Rattle.device_history.specs.Legal.{MayFollow}
 use Rattle.device_history.specs.Lists.{earlier_pairs, pairs_step}
 use Rattle.device_state.specs.Device.{DeviceData, with_step}
-use Rattle.ctrl_clusters.specs.NewRows.{clusters_of, row_or_empty}
-use Rattle.ctrl_clusters.specs.Changes.{cluster_changes}
-use Rattle.ctrl_clusters.specs.Notified.{AreNotified, notified_count}
+use Rattle.ctrl_clusters.specs.NewRows.{clusters_of}
+use Rattle.device_state.specs.Changed.{IsChangedBy}
 
 -- A list that can be set, so that its rows can be written, or its pairs stored in the request that it speaks of: its pairs are laid behind what that asks
 -- for; each touched cluster gets a row; none of its controls is grabbed; there is room for a step, and its step may follow.
@@ -33,15 +32,10 @@ pub record CanBeSet (verdicts : Verdicts) (plan : PlanData) (older : Past) (fh :
   pub room : is_full older ≡ false
   pub follows : MayFollow verdicts plan older (pairs_step request fh touch.pairs)
 
--- What setting it does: it adds its step, and each cluster is told its row where the row changes a member.
-pub record SetsAll (verdicts : Verdicts) (told : Words) (old new : DeviceData) (seat : ℕ) (fh : FhId) (touch : TouchedData) : Type 0 where
-  pub plan : new.plan ≡ old.plan
-  pub steps : new.steps ≡ old.steps ++ record { seat = seat; step = Set fh touch.pairs } ∷ []
-  pub words : AreNotified told old.plan (cluster_changes old.plan (now verdicts old.plan (past old.steps)) touch.pairs touch.rows) (row_or_empty touch.rows) old.words new.words
-  pub notified : new.work.told ≡ notified_count old.plan (cluster_changes old.plan (now verdicts old.plan (past old.steps)) touch.pairs touch.rows)
-  -- the forecasts of the queued frames are renewed in the touched clusters
-  pub asked : new.work.asked ≤ old.work.asked + named_by_frames old.plan (queued_frames old.plan (past old.steps)) (clusters_of touch.rows)
-  pub counted : old.work.asked ≤ new.work.asked
+-- What setting it does: it changes the device by its step, and renews the forecasts of the queued frames in the touched clusters.
+abbrev pub SetsAll : Verdicts → Words → DeviceData → DeviceData → ℕ → FhId → TouchedData → Type 0
+SetsAll verdicts told old new seat fh touch =
+    IsChangedBy verdicts told old new seat (Set fh touch.pairs) touch.pairs (named_by_frames old.plan (queued_frames old.plan (past old.steps)) (clusters_of touch.rows)) × (old.work.asked ≤ new.work.asked)
 
 -- what accepting a list does: it stores the pairs in the request that it speaks of, or sets it
 abbrev pub SetsList : Verdicts → Words → DeviceData → DeviceData → ℕ → FhId → Option RequestId → TouchedData → Type 0

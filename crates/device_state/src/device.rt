@@ -218,7 +218,7 @@ impl<D: Driver> Device<D> {
         )
     }
 
-    /// How often the last call of `handle` or of a short form asked validators and told notifiers; zeros before the first.
+    /// How often the last call of `handle`, `ask`, `refusal` or a short form asked validators and told notifiers; zeros before the first.
     pub fn work(&self) -> Work
         ensures { result ≡ self.now.work }
     {
@@ -690,7 +690,7 @@ impl<D: Driver> Device<D> {
         }
     }
 
-    // The same, as the reply.
+    // The item at an index of a menu, as the reply.
     fn menu_item(&self, fh: FhId, id: CtrlId, index: u32) -> Result<Reply, Refusal>
         ensures answers { MayAnswer D.verdict self.now.plan (past self.now.steps) self.now.words (asks.MenuItem fh id index) (published (asks.MenuItem fh id index) result) }
         ensures why { IfErr result (MayRefuse D.verdict self.now (asks.MenuItem fh id index)) }
@@ -725,7 +725,7 @@ impl<D: Driver> Device<D> {
         }
     }
 
-    // The same, as the reply.
+    // The word that a cluster was told last, as the reply.
     fn word(&self, cluster: u32) -> Result<Reply, Refusal>
         ensures answer { published (asks.Told cluster) result ≡ told_answer self.now.plan self.now.words cluster }
         ensures why { IfErr result (MayRefuse D.verdict self.now (asks.Told cluster)) }

@@ -340,7 +340,7 @@ fn transcript(alloc: Global, run: &mut Run, text: &str) -> Option<String> {
     Some(said)
 }
 
-// The same of a fresh device behind so many ends of the stream, and where a range is to be owed, behind another one.
+// What the commands are answered by a fresh device behind so many ends of the stream, and where a range is to be owed, behind another one.
 fn transcript_behind(alloc: Global, steps: u32, is_owed: bool, text: &str) -> Option<String> {
     let mut run = begun(alloc)?;
     prepare(&mut run, steps, is_owed);

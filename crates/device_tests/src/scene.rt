@@ -56,7 +56,7 @@ pub fn device(alloc: Global, counters: &Counters) -> Result<Device<Counting>, Al
     }
 }
 
-/// The same of the array device, whose control 10 is an array.
+/// A fresh array device, whose control 10 is an array.
 pub fn array_device(alloc: Global, counters: &Counters) -> Result<Device<Counting>, AllocError> {
     match Device::new(alloc, array_plan(alloc, counters)?) {
         Ok(device) => Ok(device),

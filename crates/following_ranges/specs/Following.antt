@@ -39,7 +39,7 @@ abbrev pub ranges_due : Verdicts → List Follower → PlanData → Past → Lis
 ranges_due verdicts followers plan past =
     filter_map (due_for followers (ranges_now plan past) (now verdicts plan past)) (range_with_len 0 (length plan.controls))
 
--- the same of a device as it is: the range that is due for one control, and those that are due at all
+-- of a device as it is: the range that is due for one control, and those that are due at all
 abbrev pub due_now : Verdicts → List Follower → DeviceData → ℕ → Option RangeFor
 due_now verdicts followers device c = due_for followers (ranges_now device.plan (past device.steps)) (now verdicts device.plan (past device.steps)) c
 
@@ -71,11 +71,11 @@ is_accepted_change ask answer = is_ok answer && is_change ask
 abbrev pub are_asked : List Follower → Values → Values → Bool → Bool → Bool
 are_asked followers before after owed changed = have_moved followers before after || (owed && changed)
 
--- the same of a device as it is
+-- whether they are asked for behind an ask that left this device
 abbrev pub are_asked_now : Verdicts → List Follower → Values → DeviceData → Bool → Bool → Bool
 are_asked_now verdicts followers before device owed changed = are_asked followers before (now verdicts device.plan (past device.steps)) owed changed
 
--- the same of an ask that leaves a device as another one
+-- whether they are asked for behind an ask that left one device as another
 abbrev pub asks_behind : Verdicts → List Follower → DeviceData → DeviceData → Bool → Ask → Answer → Bool
 asks_behind verdicts followers old behind owed ask answer =
     are_asked followers (now verdicts old.plan (past old.steps)) (now verdicts old.plan (past behind.steps)) owed (is_accepted_change ask answer)

@@ -72,7 +72,7 @@ rows_known verdicts plan controls grabs values (q ∷ qs) zero row k h among =
     first gone is g = cc
 rows_known verdicts plan controls grabs values (q ∷ qs) (suc i) row k h among = rows_known verdicts plan controls grabs (overlay verdicts plan controls values grabs q.asked) qs i row k h among
 
--- the same of a device
+-- the row of a frame that a device has queued has a value for each control
 pub frame_long : (verdicts : Verdicts) (plan : PlanData) (older : Past) (i : ℕ) (row : Forecast) → slice_get (forecast verdicts plan older) i ≡ Some row → length row.values ≡ length plan.controls
 frame_long verdicts plan older i row h =
     rows_long verdicts plan (ranges_now plan older) (grabbed plan older) (now verdicts plan older) (queued_frames plan older) i row h ∙ length_now verdicts plan older

@@ -80,11 +80,11 @@ ranges_in device = ranges_now device.plan (past device.steps)
 abbrev pub grabs_in : DeviceData → Grabs
 grabs_in device = grabbed device.plan (past device.steps)
 
--- the same reason under the ranges and the grabs that a device has
+-- why a cluster is refused under the ranges and the grabs that a device has
 abbrev pub reason_over : DeviceData → Values → List Pair → ℕ → ClusterReason
 reason_over device values pairs k = cluster_reason device.plan (ranges_in device) values (grabs_in device) pairs k
 
--- the same of some members, where none is grabbed that is asked for
+-- why some members are, where none is grabbed that is asked for
 abbrev pub reason_of_row : DeviceData → Values → List Pair → List ℕ → ClusterReason
 reason_of_row device values pairs members = row_reason (taken_row (ranges_in device) values pairs members)
 
@@ -97,7 +97,7 @@ abbrev pub values_before_frame : Values → List Forecast → ℕ → Values
 values_before_frame present rows zero = present
 values_before_frame present rows (suc last) = unwrap_or (option_map (λ row. row.values) (slice_get rows last)) present
 
--- the same of a device
+-- the values before the frame at a place of a device's queue
 abbrev pub values_before : Verdicts → DeviceData → ℕ → Values
 values_before verdicts device place = values_before_frame (now verdicts device.plan (past device.steps)) (frames_in verdicts device) place
 

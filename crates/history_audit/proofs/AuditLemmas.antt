@@ -1,5 +1,5 @@
 -- What each try to replay an entry says of the whole history.
-use Rattle.std.proofs.Common.{◌≡◌, ℕ, suc, zero, ◌+◌, ◌<◌, ◌≤◌, true, false, [], ◌∷◌, length, take, get_or, slice_get, Some, Result, Ok, Err, IfOk, OnErr, Bool, refl, ap, sym, ◌∙◌, subst, arith}
+use Rattle.std.proofs.Common.{◌≡◌, ℕ, suc, zero, ◌+◌, ◌<◌, ◌≤◌, true, false, List, [], ◌∷◌, length, take, get_or, slice_get, Some, Result, Ok, Err, IfOk, OnErr, Bool, refl, ap, sym, ◌∙◌, subst, arith}
 use Rattle.std.proofs.lemmas.List.{take_all}
 use Rattle.std.proofs.lemmas.Option.{slice_get_read}
 use Rattle.history.specs.declared.entry.Entry.{Entry}
@@ -62,6 +62,20 @@ stays_there verdicts plan all old new n is h replays =
 pub aside_of : (verdicts : Verdicts) (plan : PlanData) (all : History) (n : ℕ) (replay : ReplayData) (made : ProgressData) → replay ≡ at plan all n → IsAside verdicts replay made → IsProgressOf verdicts plan all made
 aside_of verdicts plan all n replay made is aside = subst (λ (r : ReplayData). IsProgressOf verdicts r.plan r.all made) is aside.first
 
+-- of more than so many so many are taken
+taken_least : {X : Type 0} (xs : List X) (n least : ℕ) → least ≤ n → least ≤ length xs → least ≤ length (take n xs)
+taken_least [] zero least from within = omega (arith, within)
+taken_least [] (suc n) least from within = omega (arith, within)
+taken_least (x ∷ xs) zero least from within = omega (arith, from)
+taken_least (x ∷ xs) (suc n) zero from within = omega arith
+taken_least (x ∷ xs) (suc n) (suc least) from within = let rest = taken_least xs n least (omega (arith, from)) (omega (arith, within)) in omega (arith, rest)
+
+-- and has no fewer steps than were replayed at first
+pub no_fewer : (plan : PlanData) (all : History) (n least : ℕ) (replay : ReplayData) (made : ProgressData) → replay ≡ at plan all n → least ≤ length all → least ≤ n → made.count ≡ length replay.steps → least ≤ made.count
+no_fewer plan all n least replay made is within from many =
+    let same : length replay.steps ≡ length (take n all) = ap (λ (r : ReplayData). length r.steps) is in
+    omega (arith, many, same, taken_least all n least from within)
+
 -- one more was replayed
 pub audit_next : (verdicts : Verdicts) (plan : PlanData) (all : History) (old new : ReplayData) (n : ℕ) → old ≡ at plan all n → n < length all
     → ((e : Entry Step) → IsNextEntry old e → Replayed verdicts old new e true) → new ≡ at plan all (n + 1)
@@ -92,6 +106,10 @@ next_there plan all replay n is h =
 -- all were replayed
 all_replayed : (plan : PlanData) (all : History) (replay : ReplayData) (n : ℕ) → replay ≡ at plan all n → length all ≤ n → ◌≡◌ {A = ReplayData} replay (record { plan = plan; steps = all; all = all })
 all_replayed plan all replay n is h = is ∙ ap (λ (steps : History). (let d : ReplayData = record { plan = plan; steps = steps; all = all } in d)) (take_all n all h)
+
+-- what is put aside then are all
+pub whole_aside : (plan : PlanData) (all : History) (replay : ReplayData) (n : ℕ) (made : ProgressData) → replay ≡ at plan all n → length all ≤ n → made.count ≡ length replay.steps → made.count ≡ length all
+whole_aside plan all replay n made is h many = many ∙ ap (λ (r : ReplayData). length r.steps) (all_replayed plan all replay n is h)
 
 -- so the whole history is legal, and what was made is what it makes
 pub audited_legal : (verdicts : Verdicts) (plan : PlanData) (all : History) (replay : ReplayData) (n : ℕ) → replay ≡ at plan all n → length all ≤ n → IsLegal verdicts replay.plan (past replay.steps) → IsLegal verdicts plan (past all)

@@ -50,7 +50,7 @@ use Rattle.device_history.proofs.FreeIdLemmas.{free_unshown}
 use Rattle.history_audit.specs.Replay.{is_judged}
 use Rattle.history_audit.specs.Changing.{fits_parts, lacks}
 use Rattle.device_history.proofs.EventLemmas.{subscribes_known}
-use Rattle.step_effects.specs.Leaving.{NamesKnown}
+use Rattle.device_parts.specs.Leaving.{NamesKnown}
 
 both : (a b : Bool) → (a && b) ≡ true → (a ≡ true) × (b ≡ true)
 both true b h = (refl, h)

@@ -14,7 +14,7 @@ use Rattle.device_history.specs.Legal.{IsLegal}
 use Rattle.device_history.specs.Steps.{History, Past}
 use Rattle.device_history.specs.Requests.{asked, buffer, state}
 use Rattle.device_history.specs.Snapshots.{frames, request, request_in}
-use Rattle.step_effects.proofs.FitLemmas.{found}
+use Rattle.device_parts.proofs.FitLemmas.{found}
 
 -- the request under an id in the requests that a queue lends
 pub lent : (verdicts : Verdicts) (plan : PlanData) (entries : History) (kept : FramesData) (r : ℕ) → kept ≡ frames verdicts plan (past entries) → IsLegal verdicts plan (past entries) → (rs : RequestsData) → rs ≡ kept.requests

@@ -55,7 +55,7 @@ events_made verdicts plan past events handles is kept = each handles ∙ ap (λ 
 nothing : OpenEvents
 nothing = record { fh = record { 0 = 0 }; waiting = []; next = 0 }
 
--- the same is listed of one more
+-- of one more file handle both list what is equal
 pub alike_next : (own others : EventsData) (hs gs : List (ℕ × ℕ)) (i : ℕ) → i < length hs → i < length gs → slice_get (open_events own hs) i ≡ slice_get (open_events others gs) i
     → take i (open_events own hs) ≡ take i (open_events others gs) → take (i + 1) (open_events own hs) ≡ take (i + 1) (open_events others gs)
 alike_next own others hs gs i h g is so_far =

@@ -19,7 +19,7 @@ pub use Rattle.device_history.specs.Forecasts
 pub use Rattle.device_history.specs.Flags
 pub use Rattle.device_history.specs.Legal
 pub use Rattle.device_history.specs.Asking
-pub use Rattle.step_effects.specs.Leaving
+pub use Rattle.device_parts.specs.Leaving
 pub use Rattle.device_parts.specs.State
 pub mod Replay
 pub mod Scratch

@@ -1,5 +1,5 @@
 -- A replay: a history whose first steps were replayed, and the state that they made (of this project).
-use Rattle.std.specs.Prelude.{◌≡◌, ℕ, ◌≤◌, Bool, true, false, [], ◌∷◌, ◌++◌, length, take, Some, slice_get}
+use Rattle.std.specs.Prelude.{◌≡◌, ℕ, ◌≤◌, Bool, true, false, [], ◌∷◌, ◌++◌, length, take, Option, None, Some, slice_get}
 use Rattle.std.specs.Option.{option_map}
 use Rattle.history.specs.declared.entry.Entry.{Entry}
 use Rattle.history.specs.Past.{past}
@@ -11,6 +11,8 @@ use Rattle.device_history.specs.declared.limits.TheConstants.{MAX_STEPS}
 use Rattle.device_history.specs.Steps.{History}
 use Rattle.device_history.specs.Legal.{MayFollow}
 use Rattle.device_parts.specs.State.{IsMade, StateData}
+use Rattle.history_audit.specs.declared.fault.AuditFault.{AuditFault}
+use Rattle.history_audit.specs.declared.fault.AuditFault.TheVariants as faults
 
 -- what is replayed: the plan of the device, the steps that were replayed, and all that there are
 pub record ReplayData : Type 0 where
@@ -61,6 +63,22 @@ pub record IsReplay (verdicts : Verdicts) (plan : PlanData) (all : History) (cou
 -- What was put aside are the first steps of a history, with what they make of the device.
 abbrev pub IsProgressOf : Verdicts → PlanData → History → ProgressData → Type 0
 IsProgressOf verdicts plan all made = IsReplay verdicts plan all made.count made.state
+
+-- Something was put aside, and it has at least so many steps.
+abbrev pub HasAtLeast : ℕ → Option ProgressData → Type 0
+HasAtLeast least None = ⊥
+HasAtLeast least (Some back) = least ≤ back.count
+
+-- Where something was put aside before, what is handed back has as many steps, or more.
+abbrev pub LosesNothing : Option ProgressData → Option ProgressData → Type 0
+LosesNothing None back = Unit {0}
+LosesNothing (Some made) back = HasAtLeast made.count back
+
+-- Where a step may not follow, what was put aside are the steps before it.
+abbrev pub HasStopped : AuditFault → Option ProgressData → Type 0
+HasStopped (faults.NotLegal index) None = ⊥
+HasStopped (faults.NotLegal index) (Some back) = back.count ≡ index
+HasStopped faults.Memory back = Unit {0}
 
 -- What was put aside is a replay: as many steps as were replayed there, the first ones of all, and what they made.
 pub record IsAside (verdicts : Verdicts) (replay : ReplayData) (aside : ProgressData) : Type 0 where

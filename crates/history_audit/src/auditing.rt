@@ -1,8 +1,8 @@
-ghost use Rattle.std.specs.Prelude.{◌≡◌, IfOk, IfErr, IfSome, OnOk};
+ghost use Rattle.std.specs.Prelude.{◌≡◌, length, IfOk, IfErr, IfSome, OnOk};
 ghost use Rattle.history.specs.Past.{past};
 ghost use Rattle.device_history.specs.Legal.{IsLegal};
 ghost use Rattle.history_audit.specs.Fault.{IsFault};
-ghost use Rattle.history_audit.specs.Replay.{IsProgressOf};
+ghost use Rattle.history_audit.specs.Replay.{HasAtLeast, HasStopped, IsProgressOf, LosesNothing};
 ghost use Rattle.history_audit.specs.Scratch.{scratch};
 
 use crate::fault::AuditFault;
@@ -32,6 +32,7 @@ pub fn audit<D: Driver>(
     ensures legal { OnOk result (IsLegal D.verdict plan.now (past steps.now)) }
     ensures scratch { IfOk result (λ s. s.shown ≡ scratch D.verdict plan.now (past steps.now)) }
     ensures made { IfOk result (λ s. IsProgressOf D.verdict plan.now steps.now s.made) }
+    ensures whole { IfOk result (λ s. s.made.count ≡ length steps.now) }
     ensures fault { IfErr result (λ fault. IsFault D.verdict plan.now steps.now fault) }
 {
     match go_on(alloc, plan, steps, None) {
@@ -48,7 +49,8 @@ pub fn audit<D: Driver>(
 /// - `steps`: the history, oldest first; the caller owes that it begins with the steps that were replayed.
 /// - `made`: what an earlier audit put aside, if there was one, see `Scratch::put_aside`.
 ///
-/// Refused as `audit` is. What was replayed up to there is handed back, put aside, so that nothing is lost where a growth was refused.
+/// Refused as `audit` is. What was replayed up to there is handed back, put aside, so that nothing is lost where a growth was refused: with `NotLegal`, the steps before
+/// that place; with `Memory`, as many as had been put aside before, or more, and `None` only where nothing had been and not even the start could be made.
 pub fn go_on<D: Driver>(
     alloc: Global,
     plan: &Plan<D>,
@@ -61,6 +63,9 @@ pub fn go_on<D: Driver>(
     ensures made { IfOk result (λ s. IsProgressOf D.verdict plan.now steps.now s.made) }
     ensures fault { IfErr result (λ e. IsFault D.verdict plan.now steps.now e.1) }
     ensures aside { IfErr result (λ e. IfSome e.0 (IsProgressOf D.verdict plan.now steps.now)) }
+    ensures whole { IfOk result (λ s. s.made.count ≡ length steps.now) }
+    ensures kept { IfErr result (λ e. LosesNothing made e.0) }
+    ensures stopped { IfErr result (λ e. HasStopped e.1 e.0) }
 {
     match made {
         Some(made) => replay_rest(steps, Replay::resume(alloc, plan, steps, made)),
@@ -82,6 +87,9 @@ fn replay_rest<D: Driver>(
     ensures made { IfOk result (λ s. IsProgressOf D.verdict replay.entry.plan steps.now s.made) }
     ensures fault { IfErr result (λ e. IsFault D.verdict replay.entry.plan steps.now e.1) }
     ensures aside { IfErr result (λ e. IfSome e.0 (IsProgressOf D.verdict replay.entry.plan steps.now)) }
+    ensures whole { IfOk result (λ s. s.made.count ≡ length steps.now) }
+    ensures kept { IfErr result (λ e. HasAtLeast (length replay.entry.steps) e.0) }
+    ensures stopped { IfErr result (λ e. HasStopped e.1 e.0) }
 {
     let first = replay.replayed() as usize;
     for _ in first..steps.len() {

@@ -209,7 +209,7 @@ fn are_events(
     true
 }
 
-// The same of the file handles at a place.
+// Whether the file handle at a place is the same, with the same events.
 fn are_alike_at(
     own_handles: &IndexMap<u32, u32>,
     own_events: &Events,

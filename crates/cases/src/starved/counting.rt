@@ -88,7 +88,7 @@ impl Counts {
         }
     }
 
-    /// The same validator, but that it counts here.
+    /// A validator as the given one, but that it counts here.
     pub fn validator(
         &self,
         of: Option<&Validator<Data>>,
@@ -103,7 +103,7 @@ impl Counts {
         Ok(Some(Validator::new(limit.relation(), Judge { limit, asked })))
     }
 
-    /// The same notifier, but that it counts here.
+    /// A notifier as the given one, but that it counts here.
     pub fn notifier(
         &self,
         of: Option<&Notifier<Data>>,

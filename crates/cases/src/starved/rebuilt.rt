@@ -11,7 +11,7 @@ use std::alloc::{AllocError, Global};
 // No menu has more items.
 const MOST_ITEMS: u32 = 64;
 
-/// The same plan, but that its closures count there. The error is that a growth was refused. Where handlers add others in an order that isn't that of their numbers it may be another plan, which `is_alike` says.
+/// A plan as the given one, but that its closures count there. The error is that a growth was refused. Where handlers add others in an order that isn't that of their numbers it may be another plan, which `is_alike` says.
 pub fn rebuilt(
     alloc: Global,
     plan: &Plan<Data>,

@@ -11,17 +11,18 @@ ghost use Rattle.ctrl_clusters.specs.Rows.{value_at};
 ghost use Rattle.req_book.specs.Requests.{find};
 ghost use Rattle.frame_queue.specs.Frames.{after_begin, buffer_number};
 ghost use Rattle.device_history.specs.declared.ask.Step.TheVariants as steps;
-ghost use Rattle.step_effects.specs.QueuedFrames.{pairs_in};
+ghost use Rattle.device_parts.specs.QueuedFrames.{pairs_in};
 ghost use Rattle.device_parts.specs.State.{IsReady};
-ghost use Rattle.device_parts.specs.Makes.{Cover, Makes, applied, laid};
+ghost use Rattle.device_parts.specs.Makes.{Cover, Makes, applied_over, laid};
 
 use super::State;
+use crate::raising::raise_touched;
+use crate::ranging::change_range;
 use ctrl_calls::Driver;
 use ctrl_handlers::Plan;
 use ctrl_settle::Ctrl;
 use ctrl_types::{CtrlValue, FhId, Pair, RequestId};
 use std::alloc::{AllocError, Global};
-use step_effects::{change_range, raise_touched};
 
 impl State {
     /// The grabs once more, which `grab` takes (of this project). It changes nothing.
@@ -39,7 +40,7 @@ impl State {
     /// Grabs a control, or lets it go, and raises what that changes (Linux driver API, `v4l2_ctrl_grab`; Linux userspace API, "ioctl VIDIOC_DQEVENT"). It takes no memory
     /// and refuses nothing.
     ///
-    /// - `plan`: what the device is built of; the caller owes that the state is ready for a step of it.
+    /// - `plan`: what the device is built of; the caller owes that the state is ready for a step of it, as `State` says.
     /// - `control`: the number of a control; the caller owes one below `Plan::control_count`.
     /// - `on`: whether it is grabbed from now on.
     /// - `room`: the grabs once more, as `reserve_grab` lends them.
@@ -52,8 +53,6 @@ impl State {
         ensures frames { self.new.frames ≡ self.old.frames }
         ensures makes { (number : ℕ) → Makes D.verdict plan.now number (steps.Grab control on) self.old self.new }
     {
-        // there are as many as controls, as the contract of `grabs` says
-        let _many = self.controls.grabs();
         room[control as usize] = on;
         let change = self.controls.to_grabs(plan, room.as_slice());
         let cluster = plan.cluster_of(control);
@@ -76,7 +75,7 @@ impl State {
     /// Gives controls the values that a set makes of theirs, and raises what that changes (Linux userspace API, "Extended Controls API", "ioctl VIDIOC_DQEVENT"). It takes no
     /// memory and refuses nothing.
     ///
-    /// - `plan`: what the device is built of; the caller owes that the state is ready for a step of it.
+    /// - `plan`: what the device is built of; the caller owes that the state is ready for a step of it, as `State` says.
     /// - `fh`: the file handle whose set it is.
     /// - `pairs`: what is set.
     /// - `clusters`: some clusters in any order, each below `Plan::cluster_count`; the caller owes that each with a member among the pairs is one of them.
@@ -97,8 +96,6 @@ impl State {
         ensures frames { self.new.frames ≡ self.old.frames }
         ensures makes { (number : ℕ) → Makes D.verdict plan.now number (steps.Set fh pairs.now) self.old self.new }
     {
-        // there are as many as controls, as the contract of `values` says
-        let _many = self.controls.values();
         let change = self.controls.to_values(plan, values.as_slice());
         raise_touched(&change, pairs, Some(fh), clusters, &mut self.events);
         self.controls.replace_within(plan, values, clusters);
@@ -107,7 +104,7 @@ impl State {
     /// Begins the frame of the first request that waits: gives controls the values that it makes of theirs, raises what that changes, and has the request run; it answers the
     /// number of the request's buffer (Linux userspace API, "Request API", "ioctl VIDIOC_DQEVENT"; begins as calls are of this project). It takes no memory and refuses nothing.
     ///
-    /// - `plan`: what the device is built of; the caller owes that the state is ready for a step of it.
+    /// - `plan`: what the device is built of; the caller owes that the state is ready for a step of it, as `State` says.
     /// - `request`: the request; the caller owes that it is the first that waits, and that no other runs.
     /// - `values`: the values afterwards; the caller owes that they are what the request asks for laid over the present ones, cluster by cluster.
     /// - `given`: what is applied; the caller owes that it is what the request asks for in clusters that aren't refused, with the values afterwards.
@@ -126,15 +123,13 @@ impl State {
         requires first { slice_get self.old.frames.queue 0 ≡ Some request.0 }
         requires cover { Cover plan.now clusters.now (pairs_in (find self.old.frames.requests.all request.0)) }
         requires laid { values.items ≡ laid D.verdict plan.now self.old.controls (pairs_in (find self.old.frames.requests.all request.0)) }
-        requires applied { given.now ≡ applied D.verdict plan.now self.old.controls (pairs_in (find self.old.frames.requests.all request.0)) }
+        requires applied { given.now ≡ applied_over D.verdict plan.now self.old.controls (pairs_in (find self.old.frames.requests.all request.0)) }
         ensures number { result ≡ buffer_number (find self.old.frames.requests.all request.0) }
         ensures file_handles { self.new.file_handles ≡ self.old.file_handles }
         ensures controls { self.new.controls ≡ record self.old.controls { values = values.items } }
         ensures frames { self.new.frames ≡ after_begin self.old.frames given.now }
         ensures makes { (number : ℕ) → Makes D.verdict plan.now number (steps.Begin request) self.old self.new }
     {
-        // there are as many as controls, as the contract of `values` says
-        let _many = self.controls.values();
         let change = self.controls.to_values(plan, values.as_slice());
         raise_touched(&change, given, None, clusters, &mut self.events);
         self.controls.replace_within(plan, values, clusters);
@@ -145,7 +140,7 @@ impl State {
     /// Gives a control another range, settles its value by it, and raises what that changes (Linux driver API, `v4l2_ctrl_modify_range`; Linux userspace API, "ioctl
     /// VIDIOC_DQEVENT"). It takes no memory and refuses nothing.
     ///
-    /// - `plan`: what the device is built of; the caller owes that the state is ready for a step of it.
+    /// - `plan`: what the device is built of; the caller owes that the state is ready for a step of it, as `State` says.
     /// - `control`: the number of a control; the caller owes one below `Plan::control_count`.
     /// - `changed`: the control with its new range, as `Ctrl::with_range` makes it; the caller owes that its id, kind, flags, skipped items and number of elements are
     ///   those that it had.

@@ -7,19 +7,20 @@ ghost use Rattle.ctrl_forecast.specs.Boards.{board_of};
 ghost use Rattle.frame_queue.specs.Frames.{AreOnce};
 ghost use Rattle.device_history.specs.declared.ask.Step.TheVariants as steps;
 ghost use Rattle.device_history.specs.FrameSteps.{frames_changed};
-ghost use Rattle.step_effects.specs.Leaving.{FitsIn, NamesKnown, leaves_controls};
-ghost use Rattle.step_effects.specs.QueuedFrames.{asks_at_most, queued_after};
+ghost use Rattle.device_parts.specs.Leaving.{FitsIn, NamesKnown, leaves_controls};
+ghost use Rattle.device_parts.specs.QueuedFrames.{asks_at_most, counted_after, queued_after};
 ghost use Rattle.device_parts.specs.State.{IsReady};
 ghost use Rattle.device_parts.specs.Makes.{Makes, MakesEverywhere};
 
 use super::State;
+use crate::requests_and_events::change_requests_and_events;
+use crate::with_forecasts::change_with_forecasts;
 use ctrl_calls::{Driver, Work};
 use ctrl_forecast::Board;
 use ctrl_handlers::Plan;
 use ctrl_types::FhId;
 use device_history::Step;
 use std::alloc::AllocError;
-use step_effects::{change_requests_and_events, change_with_forecasts};
 
 impl State {
     /// Opens a file handle, the last (of this project).
@@ -55,7 +56,7 @@ impl State {
     /// Makes a step that leaves file handles and controls: one about requests but for the begin of a frame, or one about events (Linux userspace API, "Request API", "ioctl
     /// VIDIOC_SUBSCRIBE_EVENT, VIDIOC_UNSUBSCRIBE_EVENT", "ioctl VIDIOC_DQEVENT"). To make a request, to store pairs, to queue and to subscribe take memory.
     ///
-    /// - `plan`: what the device is built of; the caller owes that the state is ready for a step of it.
+    /// - `plan`: what the device is built of; the caller owes that the state is ready for a step of it, as `State` says.
     /// - `number`: the step's place in the history, which is the id of a request that it makes.
     /// - `step`: the step; the caller owes such a one, that nothing refuses.
     ///
@@ -90,7 +91,7 @@ impl State {
     /// - `plan`, `number`, `step`: as of `change`.
     /// - `board`: the queued frames, with what they will have at the present moment; the caller owes that no request is queued twice.
     /// - `work`: its count `asked` grows, where a frame is queued, by at most one for each cluster that it names; where one is cancelled, by at most one for each of these and
-    ///   each frame behind it that names the cluster too; else by none.
+    ///   each frame behind it that names the cluster too; else by none. Where no growth is refused, it grows by exactly those that the forecasts need.
     ///
     /// The error is that a growth was refused; nothing was changed then but `work`.
     pub fn change_with_forecasts<D: Driver>(
@@ -114,6 +115,7 @@ impl State {
         ensures err { OnErr result (self.new ≡ self.old) }
         ensures board_kept { OnErr result (board.new ≡ board.old) }
         ensures asked { work.new.asked ≤ work.old.asked + asks_at_most plan.now self.old.frames step.now board.old.queued }
+        ensures counted { OnOk result (work.new.asked ≡ counted_after D.verdict plan.now self.old.controls.ranges self.old.controls.values self.old.controls.grabs self.old.frames step.now board.old.queued work.old.asked) }
         ensures told { work.new.told ≡ work.old.told }
     {
         change_with_forecasts(

@@ -12,7 +12,9 @@ ghost use Rattle.device_history.specs.Refusals.{refused};
 ghost use Rattle.device_history.specs.RequestAnswers.{begin_frame_answer};
 ghost use Rattle.device_history.specs.Requests.{asked as asked_of, state};
 ghost use Rattle.device_history.specs.Snapshots.{begun_pairs, frames};
-ghost use Rattle.device_state.specs.Beginning.{BeginsAll, IsBegun};
+ghost use Rattle.device_history.specs.declared.ask.Step.TheVariants as steps;
+ghost use Rattle.device_state.specs.Beginning.{IsBegun};
+ghost use Rattle.device_state.specs.Changed.{IsChangedBy};
 ghost use Rattle.device_history.specs.AskChecks.{published};
 ghost use Rattle.device_state.specs.Device.{Handles, MayRefuse};
 
@@ -102,7 +104,7 @@ impl<D: Driver> Device<D> {
         requires begun { IsBegun D.verdict self.old.plan (past self.old.steps) begun.request.0 begun.applied.items }
         requires fresh { self.old.work.told ≡ 0 }
         ensures reply { IfOk result (λ reply. begin_frame_answer D.verdict self.old.plan (past self.old.steps) ≡ Ok reply) }
-        ensures ok { OnOk result (BeginsAll D.verdict D.told self.old self.new seat begun.request.0) }
+        ensures ok { OnOk result (IsChangedBy D.verdict D.told self.old self.new seat (steps.Begin begun.request) (begun_pairs D.verdict self.old.plan (past self.old.steps) begun.request.0) 0) }
         ensures err { OnErr result (self.new ≡ self.old) }
     {
         self.steps.reserve(1)?;

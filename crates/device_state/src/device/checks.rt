@@ -1,10 +1,11 @@
 //! What refuses an ask.
 
-ghost use Rattle.std.specs.Prelude.{◌≡◌, ◌≤◌, None, MatchOption};
+ghost use Rattle.std.specs.Prelude.{◌≡◌, ◌≤◌, false, None, MatchOption};
 ghost use Rattle.std.specs.Option.{option_map};
 ghost use Rattle.history.specs.Past.{past};
 ghost use Rattle.ctrl_types.specs.Refusals.{whole};
 ghost use Rattle.device_history.specs.declared.ask.Ask.TheVariants as asks;
+ghost use Rattle.device_history.specs.Answers.{is_list};
 ghost use Rattle.device_history.specs.AskChecks.{check_of, refusal_of};
 ghost use Rattle.device_state.specs.Device.{MayRefuse, may_judge};
 
@@ -17,7 +18,8 @@ use std::mem;
 
 impl<D: Driver> Device<D> {
     /// What refuses an ask, as `ask` would be refused now (of this project): the first check of docs/RULES.md that doesn't hold, and of a list the entry where it
-    /// doesn't; none where none refuses it. For a list memory is taken for the moment, so that want of memory, check 34, may stand in place of its other answers.
+    /// doesn't; none where none refuses it. For a list with entries memory is taken for the moment, so that want of memory, check 34, may stand in place of a check from 6 on,
+    /// or of none; every other ask is answered exactly, and takes none.
     ///
     /// - `ask`: what would be asked.
     ///
@@ -25,6 +27,7 @@ impl<D: Driver> Device<D> {
     /// touches are asked, each once at most.
     pub fn refusal(&mut self, ask: &Ask) -> Option<Refusal>
         ensures why { MatchOption result (refusal_of D.verdict self.old.plan (past self.old.steps) ask.now ≡ None) (MayRefuse D.verdict self.old ask.now) }
+        ensures exact { is_list ask.now ≡ false → result ≡ refusal_of D.verdict self.old.plan (past self.old.steps) ask.now }
         ensures kept { self.new ≡ record self.old { work = self.new.work } }
         ensures told { self.new.work.told ≡ 0 }
         ensures asked { self.new.work.asked ≤ may_judge D.verdict self.old.plan (past self.old.steps) ask.now }

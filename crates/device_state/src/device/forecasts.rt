@@ -67,7 +67,7 @@ impl<D: Driver> Device<D> {
         }
     }
 
-    // The same, as the reply.
+    // The row of a queued frame, as the reply.
     fn forecast_read(&self, place: u32) -> Result<Reply, Refusal>
         ensures answers { MayAnswer D.verdict self.now.plan (past self.now.steps) self.now.words (asks.Forecast place) (published (asks.Forecast place) result) }
         ensures why { IfErr result (MayRefuse D.verdict self.now (asks.Forecast place)) }

@@ -25,7 +25,7 @@ ghost use Rattle.device_state.specs.Setting.{CanBeSet, SetsAll, SetsList};
 
 use super::Device;
 use ctrl_calls::{Driver, Work};
-use ctrl_clusters::{Moment, notify_changed, write_rows};
+use ctrl_clusters::{Moment, notify_between, write_rows};
 use ctrl_lists::{ControlList, Room, Touched, View, plan_set, read_list, try_list};
 use ctrl_types::{Check, CtrlValue, Fault, FhId, Pair, Refusal, RequestId, Which};
 use device_history::{PairList, Reply, Step, meant, refused, spoken, state_check, writes_defaults};
@@ -466,15 +466,19 @@ impl<D: Driver> Device<D> {
     {
         self.steps.reserve(1)?;
         let mut values = self.state.reserve_values(self.alloc)?;
-        notify_changed(
-            &self.state.at(&self.plan),
+        write_rows(&self.plan, &mut values, touch.rows());
+        let clusters = touch.clusters();
+        let change = self
+            .state
+            .controls()
+            .to_values(&self.plan, values.as_slice());
+        notify_between(
+            &change,
             touch.pairs(),
-            touch.new_rows(),
+            clusters,
             &mut self.words,
             &mut self.work,
         );
-        write_rows(&self.plan, &mut values, touch.rows());
-        let clusters = touch.clusters();
         self.state
             .set(&self.plan, fh, touch.pairs(), clusters, values);
         let mut work = Work::new();

@@ -1,13 +1,15 @@
 //! How a device gives a control another range.
 
-ghost use Rattle.std.specs.Prelude.{◌≡◌, IfOk, OnOk, OnErr, IfErr};
+ghost use Rattle.std.specs.Prelude.{◌≡◌, [], IfOk, OnOk, OnErr, IfErr};
 ghost use Rattle.std.specs.Result.{result_err};
 ghost use Rattle.history.specs.Past.{past};
 ghost use Rattle.device_history.specs.declared.ask.Ask.TheVariants as asks;
 ghost use Rattle.device_history.specs.Ranges.{control_with_range, range_check, ranges_now};
 ghost use Rattle.device_history.specs.AskChecks.{published};
-ghost use Rattle.device_state.specs.Device.{Handles, MayRefuse};
-ghost use Rattle.device_state.specs.Ranging.{GivesRange, IsRanged};
+ghost use Rattle.ctrl_handlers.specs.Plan.{cluster_of};
+ghost use Rattle.device_state.specs.Changed.{IsChangedBy};
+ghost use Rattle.device_state.specs.Device.{Handles, MayRefuse, cluster_asks};
+ghost use Rattle.device_state.specs.Ranging.{IsRanged, range_step};
 
 use super::Device;
 use ctrl_calls::{Driver, Work};
@@ -73,7 +75,7 @@ impl<D: Driver> Device<D> {
     fn accept_range(&mut self, seat: u32, control: u32, changed: Ctrl) -> Result<(), AllocError>
         requires ranged { IsRanged self.old.plan (past self.old.steps) control changed }
         requires fresh { self.old.work.told ≡ 0 }
-        ensures ok { OnOk result (GivesRange D.verdict D.told self.old self.new seat control changed) }
+        ensures ok { OnOk result (IsChangedBy D.verdict D.told self.old self.new seat (range_step control changed) [] (cluster_asks self.old.plan (past self.old.steps) (cluster_of self.old.plan control))) }
         ensures err { OnErr result (self.new ≡ self.old) }
     {
         self.steps.reserve(1)?;
@@ -81,7 +83,6 @@ impl<D: Driver> Device<D> {
         self.state.modify_range(&self.plan, control, changed);
         let cluster = self.plan.cluster_of(control);
         let after = self.state.at(&self.plan);
-        self.board.rejudge(&after, &[cluster], &mut self.work);
         notify_cluster(
             &after,
             cluster,
@@ -89,6 +90,7 @@ impl<D: Driver> Device<D> {
             &mut self.words,
             &mut self.work,
         );
+        self.board.rejudge(&after, &[cluster], &mut self.work);
         self.steps.push_reserved(Entry {
             seat,
             step: Step::ModifyRange {

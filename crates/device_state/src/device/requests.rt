@@ -16,8 +16,8 @@ ghost use Rattle.device_history.specs.Snapshots.{frames, requests};
 ghost use Rattle.device_history.specs.AskChecks.{published};
 ghost use Rattle.device_state.specs.Device.{Handles, MayRefuse, request_now, with_step};
 ghost use Rattle.device_history.specs.Forecasts.{queued_frames};
-ghost use Rattle.step_effects.specs.QueuedFrames.{asks_at_most};
-ghost use Rattle.step_effects.specs.Leaving.{NamesKnown, leaves_controls};
+ghost use Rattle.device_parts.specs.QueuedFrames.{asks_at_most};
+ghost use Rattle.device_parts.specs.Leaving.{NamesKnown, leaves_controls};
 ghost use Rattle.device_state.specs.Entering.{AddsStep};
 
 use super::Device;

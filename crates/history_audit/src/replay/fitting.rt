@@ -5,7 +5,7 @@ ghost use Rattle.history.specs.Past.{past};
 ghost use Rattle.device_history.specs.Refusals.{is_full};
 ghost use Rattle.history_audit.specs.Changing.{fits_parts};
 ghost use Rattle.history_audit.specs.Replay.{MayBeNext, is_judged};
-ghost use Rattle.step_effects.specs.Leaving.{NamesKnown};
+ghost use Rattle.device_parts.specs.Leaving.{NamesKnown};
 
 use super::Replay;
 use ctrl_calls::Driver;

@@ -133,7 +133,7 @@ impl<'a, D: Driver> Replay<'a, D> {
         pairs.iter().all(|pair| self.shows_pair(handler, *pair))
     }
 
-    // The same of one pair.
+    // Whether it shows the control of one pair, and a list can name it.
     fn shows_pair(&self, handler: u32, pair: Pair) -> bool
         ensures { result ≡ shows_pair self.now.plan handler pair }
     {

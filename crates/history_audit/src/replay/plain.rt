@@ -7,7 +7,7 @@ ghost use Rattle.ctrl_handlers.specs.Plan.{control_in};
 ghost use Rattle.device_history.specs.Ranges.{ranges_now};
 ghost use Rattle.device_history.specs.Refusals.{is_full};
 ghost use Rattle.history_audit.specs.Replay.{AddsNext, IsNextStep, MayBeNext, TriesNext};
-ghost use Rattle.step_effects.specs.Leaving.{NamesKnown, leaves_controls};
+ghost use Rattle.device_parts.specs.Leaving.{NamesKnown, leaves_controls};
 
 use super::Replay;
 use ctrl_calls::Driver;

@@ -12,7 +12,7 @@ pub to_values-change-requires-clause-values : goal.to_values-change-requires-cla
 to_values-change-requires-clause-values g c =
     let s = c.self.inside in
     ap length (c.as_slice.ensures.value ∙ (rw (← c.self.view_is) at c.requires.laid)) ∙ length_overlay g.D.Validates.verdict c.args.plan.now s.controls.ranges s.controls.values s.controls.grabs c.args.pairs.now
-    ∙ ap length (sym c.values-many.ensures.values) ∙ c.values-many.ensures.many
+    ∙ (rw (← c.self.view_is) at c.requires.ready).valued
 
 -- nothing differs outside of the clusters
 pub raise_touched-requires-clause-within : goal.raise_touched-requires-clause-within

@@ -8,9 +8,9 @@ use Rattle.device_history.specs.Forecasts.{queued_frames}
 use Rattle.device_history.specs.Grabs.{grabbed}
 use Rattle.device_history.specs.Ranges.{ranges_now}
 use Rattle.device_history.specs.Values.{now}
-use Rattle.step_effects.specs.Leaving.{FitsIn}
+use Rattle.device_parts.specs.Leaving.{FitsIn}
 use Rattle.device_parts.specs.Makes.{Makes}
-use Rattle.step_effects.proofs.FitLemmas.{fits_in}
+use Rattle.device_parts.proofs.FitLemmas.{fits_in}
 use Rattle.device_state.proofs.BoardLemmas.{board_own, line_bound, queued_once}
 use Rattle.device_state.proofs.KeptLemmas.{kept_controls_left, ready}
 use Rattle.device_state.proofs.device.Device.accept.Goals as goal

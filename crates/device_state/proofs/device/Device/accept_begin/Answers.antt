@@ -1,4 +1,4 @@
-use Rattle.std.proofs.Common.{◌≡◌, ◌<◌, ℕ, Ok, Some, List, [], ◌∷◌, ◌++◌, length, slice_get, refl, ap, sym, subst, ◌∙◌}
+use Rattle.std.proofs.Common.{◌≡◌, ◌<◌, ℕ, Ok, Some, List, [], ◌∷◌, ◌++◌, length, slice_get, refl, ap, sym, subst, ◌∙◌, arith}
 use Rattle.history.specs.declared.entry.Entry.{Entry}
 use Rattle.history.specs.Past.{past}
 use Rattle.ctrl_types.specs.declared.ids.Pair.{Pair}
@@ -173,16 +173,17 @@ returns-clause-ok g c =
     let applied : c.as_slice-2.result.now ≡ begun_pairs g.D.Validates.verdict device.plan P c.args.begun.request.0 = c.as_slice-2.ensures.value ∙ begun.are_applied in
     let words : AreNotified g.D.Notifies.told change.result.before.plan.now (members_change change.result.before.plan.now change.result.before.values.now change.result.values.now c.as_slice-2.result.now)
     (λ k. row_of change.result.values.now (members change.result.before.plan.now k)) device.words.items c.notify_between.new.words.items = c.notify_between.ensures.words in
-    let counted : PlanData → Values → Values → List Pair → Work = λ p old new pairs. record device.work { told = notified_count p (members_change p old new pairs) } in
+    let counted : PlanData → Values → Values → List Pair → ℕ = λ p old new pairs. notified_count p (members_change p old new pairs) in
     rw (← c.self.view_is)
     (record {
       plan = refl;
       steps = c.push_reserved.ensures.items ∙ ap (λ (s : List (Entry Step)). s ++ entry ∷ []) c.reserve.ensures.items;
       words = rw (change.ensures.plan, before, values, applied) at words;
-      work =
-          c.notify_between.ensures.work
+      notified =
+          ap (λ (w : Work). w.told) c.notify_between.ensures.work
           ∙ ap (λ (p : PlanData). counted p change.result.before.values.now change.result.values.now c.as_slice-2.result.now) change.ensures.plan
           ∙ ap (λ (v : Values). counted device.plan v change.result.values.now c.as_slice-2.result.now) before
           ∙ ap (λ (v : Values). counted device.plan (now g.D.Validates.verdict device.plan P) v c.as_slice-2.result.now) values
           ∙ ap (counted device.plan (now g.D.Validates.verdict device.plan P) (begun_values g.D.Validates.verdict device.plan P c.args.begun.request.0)) applied;
+      asked = omega (arith, ap (λ (w : Work). w.asked) c.notify_between.ensures.work);
     })

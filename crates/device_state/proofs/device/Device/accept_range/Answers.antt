@@ -23,7 +23,8 @@ use Rattle.device_history.specs.Values.{now}
 use Rattle.device_history.specs.Forecasts.{queued_frames}
 use Rattle.device_history.proofs.RangeLemmas.{ranges_more, ranges_own}
 use Rattle.device_state.specs.Device.{cluster_asks}
-use Rattle.device_state.specs.Ranging.{range_step, values_then}
+use Rattle.device_state.specs.Changed.{values_then}
+use Rattle.device_state.specs.Ranging.{range_step}
 use Rattle.device_parts.proofs.CoverLemmas.{set_apart}
 use Rattle.device_state.proofs.BoardLemmas.{board_own, board_same}
 use Rattle.device_state.proofs.KeptLemmas.{ranges_kept, ready}
@@ -164,9 +165,9 @@ returns-clause-ok g c =
     let set : c.modify_range.new.self.controls.values ≡ slice_set device.state.controls.values control v = ap (λ (m : ControlsData). m.values) c.modify_range.ensures.controls in
     let then : c.modify_range.new.self.controls.values ≡ values_then g.D.Validates.verdict device.plan P (range_step control changed) =
     values_ranged g.D.Validates.verdict device.plan P control changed device.state.controls.values c.modify_range.new.self.controls.values ranged c.self.invariant.made.values set in
-    let fresh : c.rejudge.new.work.told ≡ 0 = c.rejudge.ensures.told ∙ (rw (← c.self.view_is) at c.requires.fresh) in
-    let told : c.notify_cluster.new.work.told ≡ after_change device.plan k (not c.is_same.result) c.rejudge.new.work.told =
-    ap (λ (w : Work). w.told) c.notify_cluster.ensures.work ∙ ap (λ (p : PlanData). after_change p k (not c.is_same.result) c.rejudge.new.work.told) c.at-after.ensures.plan in
+    let fresh : device.work.told ≡ 0 = rw (← c.self.view_is) at c.requires.fresh in
+    let told : c.rejudge.new.work.told ≡ after_change device.plan k (not c.is_same.result) device.work.told =
+    c.rejudge.ensures.told ∙ ap (λ (w : Work). w.told) c.notify_cluster.ensures.work ∙ ap (λ (p : PlanData). after_change p k (not c.is_same.result) device.work.told) c.at-after.ensures.plan in
     rw (← c.self.view_is)
     (record {
       plan = refl;
@@ -177,7 +178,7 @@ returns-clause-ok g c =
           set (differs g c) (spoken g c));
       notified =
           rw (c.self.invariant.made.values, then)
-          at (counted_alone device.plan device.state.controls.values c.modify_range.new.self.controls.values control k v _ c.notify_cluster.new.work.told c.rejudge.new.work.told c.self.invariant.plans.is_plan c.cluster_of-cluster.ensures.cluster
+          at (counted_alone device.plan device.state.controls.values c.modify_range.new.self.controls.values control k v _ c.rejudge.new.work.told device.work.told c.self.invariant.plans.is_plan c.cluster_of-cluster.ensures.cluster
           set (differs g c) fresh told);
       asked = omega (
         arith,

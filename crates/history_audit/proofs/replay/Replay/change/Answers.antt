@@ -1,6 +1,6 @@
 use Rattle.std.proofs.Common.{ℕ, take, subst}
-use Rattle.step_effects.specs.Leaving.{FitsIn}
-use Rattle.step_effects.proofs.FitLemmas.{fits_in}
+use Rattle.device_parts.specs.Leaving.{FitsIn}
+use Rattle.device_parts.proofs.FitLemmas.{fits_in}
 use Rattle.history_audit.proofs.MadeLemmas.{behind_next, replay_makes, replay_ready, taken_many}
 use Rattle.history_audit.proofs.replay.Replay.change.Goals as goal
 

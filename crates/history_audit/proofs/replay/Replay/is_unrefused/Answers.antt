@@ -6,7 +6,7 @@ use Rattle.req_book.specs.Requests.{RequestsData, find}
 use Rattle.req_book.specs.Refusals.{buffer_check, queue_check, clear_check}
 use Rattle.frame_queue.specs.Frames.{FramesData, cancel_check}
 use Rattle.device_history.specs.Snapshots.{requests}
-use Rattle.step_effects.proofs.FitLemmas.{found}
+use Rattle.device_parts.proofs.FitLemmas.{found}
 use Rattle.history_audit.proofs.FollowLemmas.{none_read}
 use Rattle.history_audit.proofs.ReadLemmas.{lent}
 use Rattle.history_audit.proofs.replay.Replay.is_unrefused.Goals as goal

@@ -1,7 +1,7 @@
 use Rattle.std.proofs.Common.{ℕ, take, ◌∙◌}
 use Rattle.history.specs.Past.{past}
 use Rattle.req_book.specs.Requests.{find}
-use Rattle.step_effects.proofs.FitLemmas.{found}
+use Rattle.device_parts.proofs.FitLemmas.{found}
 use Rattle.history_audit.proofs.ReadLemmas.{queued_holds}
 use Rattle.history_audit.proofs.replay.Replay.queued.Goals as goal
 

@@ -2,7 +2,7 @@ use Rattle.std.proofs.Common.{◌≡◌, Option, take, is_some, unwrap_or, ap, s
 use Rattle.history.specs.Past.{past}
 use Rattle.req_book.specs.Requests.{RequestData, buffer_in}
 use Rattle.device_history.specs.Requests.{asked, buffer}
-use Rattle.step_effects.proofs.FitLemmas.{found}
+use Rattle.device_parts.proofs.FitLemmas.{found}
 use Rattle.history_audit.proofs.ReadLemmas.{buffer_is, buffer_there}
 use Rattle.history_audit.proofs.replay.Replay.queued_frame.Goals as goal
 

@@ -1,9 +1,0 @@
-use Rattle.std.proofs.Common.{◌∙◌}
-use Rattle.ctrl_clusters.specs.Moments.{parts, parts_after}
-use Rattle.ctrl_events.specs.Events.{events_of}
-use Rattle.step_effects.proofs.RaisedLemmas.{raised_step}
-use Rattle.step_effects.proofs.raising.raise_step.Goals as goal
-
-pub returns : goal.returns
-returns g c verdicts e older around given fh =
-    c.raise_between.ensures fh.0 ∙ raised_step verdicts c.args.change.now.before.plan.now e older (parts c.args.change.now.before) (parts_after c.args.change.now) c.args.pairs.now c.args.from fh (events_of c.args.events.now fh.0) around given
