@@ -5,7 +5,6 @@ ghost use Rattle.ctrl_calls.specs.Meanings.{TellsBy};
 use crate::driver::Driver;
 use crate::relation::Relation;
 use crate::row::ClusterRow;
-use crate::row_values::RowValues;
 use crate::telling::Telling;
 use crate::work::Work;
 use std::marker::Model;
@@ -57,20 +56,10 @@ impl<D: Driver> Notifier<D> {
     }
 }
 
-/// Tells the notifier the row, the present values of its cluster's members in member order (Linux driver API, "V4L2
+/// Tells the notifier a row, the present values of its cluster's members in member order (Linux driver API, "V4L2
 /// Controls", "Adding Notify Callbacks"). Answers its word, one that the notifier's relation allows for the row (of this
-/// project). The closure is called once, with a `ClusterRow` of the values, and `told` of `work` grows by one; a full count
-/// stays as it is, and so does the other count.
-pub fn tell<D: Driver>(notifier: &Notifier<D>, row: &RowValues, work: &mut Work) -> u64
-    ensures told { D.told notifier.now row.now result }
-    ensures counted { work.new ≡ record work.old { told = one_more work.old.told } }
-{
-    work.told = work.told.saturating_add(1);
-    notifier.teller.tell(row.to_cluster_row())
-}
-
-/// Tells the notifier a row as `tell` does, one that was made for it of values that stand elsewhere (Linux driver API, "V4L2
-/// Controls", "Adding Notify Callbacks"); they may be of any form.
+/// project). The closure is called once, and `told` of `work` grows by one; a full count stays as it is, and so does the
+/// other count.
 pub fn tell_row<D: Driver>(notifier: &Notifier<D>, row: ClusterRow, work: &mut Work) -> u64
     ensures told { D.told notifier.now row result }
     ensures counted { work.new ≡ record work.old { told = one_more work.old.told } }

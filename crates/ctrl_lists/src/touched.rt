@@ -45,13 +45,6 @@ impl Touched {
         self.rows.as_slice()
     }
 
-    /// The same rows, each looked up under its cluster.
-    pub fn new_rows(&self) -> &NewRows
-        ensures { result.now.rows ≡ self.now.rows }
-    {
-        &self.rows
-    }
-
     /// What each entry is answered: its control's id, and the value that the control has in its cluster's row.
     pub fn answers(&self) -> &[ExtControl]
         ensures { result.now ≡ self.now.answers }
