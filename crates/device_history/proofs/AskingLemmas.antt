@@ -281,25 +281,14 @@ may_decided verdicts plan past step may = by may.0 may.1 may.2
     takes fh (Some c) h first adds = is (asks.Take fh) (own (steps.Take fh c) adds) h (ap (option_map (λ d. steps.Take fh d)) first ∙ adds)
 
     by : (ask : Ask) → refusal verdicts plan past ask ≡ None → step_of verdicts plan past ask ≡ Some step → Decided verdicts plan past step
-    by (asks.OpenFh handler) h adds = is (asks.OpenFh handler) (own _ adds) h adds
-    by (asks.CloseFh fh) h adds = is (asks.CloseFh fh) (own _ adds) h adds
     by (asks.GetCtrls fh which id list) h adds = nothing adds
     by (asks.SetCtrls fh which id list) h adds =
         subst (Decided verdicts plan past) (same_step (list_step plan past fh which id list) step adds)
         (set_decided verdicts plan past fh which id list
         (unrefused_set (fault_at_count (length list)) (first_refusal (set_checks verdicts plan past fh which id list)) (entries_judged verdicts plan (write_view verdicts plan past fh which id) list) h))
     by (asks.TryCtrls fh which id list) h adds = nothing adds
-    by (asks.Grab c on) h adds = is (asks.Grab c on) (own _ adds) h adds
-    by (asks.ModifyRange c low high apart default_value) h adds = is (asks.ModifyRange c low high apart default_value) (own _ adds) h adds
-    by asks.Alloc h adds = is asks.Alloc (own _ adds) h adds
-    by (asks.AddBuffer r number) h adds = is (asks.AddBuffer r number) (own _ adds) h adds
-    by (asks.Queue r) h adds = is (asks.Queue r) (own _ adds) h adds
     by asks.Begin h adds = is asks.Begin (begins (first_of (queue past)) adds) h adds
     by asks.Complete h adds = is asks.Complete (completes (running past) adds) h adds
-    by (asks.Cancel r) h adds = is (asks.Cancel r) (own _ adds) h adds
-    by asks.StreamOff h adds = is asks.StreamOff (own _ adds) h adds
-    by (asks.Reinit r) h adds = is (asks.Reinit r) (own _ adds) h adds
-    by (asks.Free r) h adds = is (asks.Free r) (own _ adds) h adds
     by (asks.Subscribe fh id flags) h adds = subscribes fh id flags (shown plan past fh id) refl h adds
     by (asks.Unsubscribe fh id) h adds = ends fh id (shown plan past fh id) refl h adds
     by (asks.Take fh) h adds = takes fh (first_control (pending verdicts plan past fh)) h refl adds
@@ -309,3 +298,4 @@ may_decided verdicts plan past step may = by may.0 may.1 may.2
     by (asks.NextId fh id) h adds = nothing adds
     by (asks.MenuItem fh id index) h adds = nothing adds
     by (asks.Told cluster) h adds = nothing adds
+    by ask h adds = is ask (own _ adds) h adds

@@ -44,31 +44,19 @@ found_by reply (Err check) past = refl
 
 -- so is it of each ask
 pub refused_by_checks : (verdicts : Verdicts) (plan : PlanData) (past : Past) (ask : Ask) → is_list ask ≡ false → refusal verdicts plan past ask ≡ option_map fault_by (check_of verdicts plan past ask)
-refused_by_checks verdicts plan past (asks.OpenFh handler) h = stepped_by _ past _
-refused_by_checks verdicts plan past (asks.CloseFh fh) h = stepped_by _ past _
 refused_by_checks verdicts plan past (asks.GetCtrls fh which request list) h = cc
 refused_by_checks verdicts plan past (asks.SetCtrls fh which request list) h = cc
 refused_by_checks verdicts plan past (asks.TryCtrls fh which request list) h = cc
-refused_by_checks verdicts plan past (asks.Grab c on) h = stepped_by _ past _
-refused_by_checks verdicts plan past (asks.ModifyRange c low high apart default_value) h = stepped_by _ past _
-refused_by_checks verdicts plan past asks.Alloc h = stepped_by _ past _
-refused_by_checks verdicts plan past (asks.AddBuffer r number) h = stepped_by _ past _
-refused_by_checks verdicts plan past (asks.Queue r) h = stepped_by _ past _
 refused_by_checks verdicts plan past asks.Begin h = found_by _ (next_frame (frames verdicts plan past)) past
-refused_by_checks verdicts plan past asks.Complete h = stepped_by _ past _
-refused_by_checks verdicts plan past (asks.Cancel r) h = stepped_by _ past _
 refused_by_checks verdicts plan past asks.StreamOff h = stepped_by None past _
-refused_by_checks verdicts plan past (asks.Reinit r) h = stepped_by _ past _
-refused_by_checks verdicts plan past (asks.Free r) h = stepped_by _ past _
 refused_by_checks verdicts plan past (asks.StateOf r) h = told_by _ (state_found past r)
 refused_by_checks verdicts plan past (asks.Forecast place) h = told_by _ (forecast_at verdicts plan past place)
-refused_by_checks verdicts plan past (asks.Subscribe fh id flags) h = stepped_by _ past _
-refused_by_checks verdicts plan past (asks.Unsubscribe fh id) h = stepped_by _ past _
 refused_by_checks verdicts plan past (asks.Take fh) h = found_by _ (first_event verdicts plan past fh) past
 refused_by_checks verdicts plan past (asks.Query fh id) h = told_by _ (control_shown plan past fh id)
 refused_by_checks verdicts plan past (asks.NextId fh id) h = told_by _ (id_behind plan past fh id)
 refused_by_checks verdicts plan past (asks.MenuItem fh id index) h = told_by _ (item_found plan past fh id index)
 refused_by_checks verdicts plan past (asks.Told cluster) h = told_by _ (word_of plan [] cluster)
+refused_by_checks verdicts plan past _ h = stepped_by _ past _
 
 -- a list, whose refusals are told so
 list_so : (ask : Ask) (fault : Refusal → Fault) (first : Option Refusal) (entries : List ExtControl) → ((r : Refusal) → fault r ≡ fault_for ask r)

@@ -69,22 +69,7 @@ numbered_gone fh (steps.Take f c) hs numbered = by (nat_eq f.0 fh.0)
     by : (b : Bool) → AreNumbered (cond b (withdrawn c ∷ hs) hs)
     by true = numbered
     by false = numbered
-numbered_gone fh (steps.OpenFh handler) hs numbered = numbered
-numbered_gone fh (steps.CloseFh f) hs numbered = numbered
-numbered_gone fh (steps.Set f pairs) hs numbered = numbered
-numbered_gone fh (steps.Grab c on) hs numbered = numbered
-numbered_gone fh (steps.ModifyRange c low high apart default_value) hs numbered = numbered
-numbered_gone fh steps.Alloc hs numbered = numbered
-numbered_gone fh (steps.Store r pairs) hs numbered = numbered
-numbered_gone fh (steps.Buffer r number) hs numbered = numbered
-numbered_gone fh (steps.Queue r) hs numbered = numbered
-numbered_gone fh (steps.Begin r) hs numbered = numbered
-numbered_gone fh (steps.Complete r) hs numbered = numbered
-numbered_gone fh (steps.Cancel r) hs numbered = numbered
-numbered_gone fh steps.StreamOff hs numbered = numbered
-numbered_gone fh (steps.Reinit r) hs numbered = numbered
-numbered_gone fh (steps.Free r) hs numbered = numbered
-numbered_gone fh (steps.Subscribe f c flags) hs numbered = numbered
+numbered_gone fh _ hs numbered = numbered
 
 pub numbered_all : (verdicts : Verdicts) (plan : PlanData) (past : Past) (fh : FhId) → AreNumbered (happened verdicts plan past fh)
 unfolding happened AreNumbered
@@ -190,22 +175,7 @@ gone_closed verdicts plan older fh (steps.Take f c) hs may shut = by (nat_eq f.0
     by : (b : Bool) → nat_eq f.0 fh.0 ≡ b → cond b (withdrawn c ∷ hs) hs ≡ hs
     by true is = absurd (true≢false (sym (takes_open verdicts plan older f c may) ∙ ap (λ (n : ℕ). is_open older (record { 0 = n })) (equal f.0 fh.0 is) ∙ shut))
     by false is = refl
-gone_closed verdicts plan older fh (steps.OpenFh handler) hs may shut = refl
-gone_closed verdicts plan older fh (steps.CloseFh f) hs may shut = refl
-gone_closed verdicts plan older fh (steps.Set f pairs) hs may shut = refl
-gone_closed verdicts plan older fh (steps.Grab c on) hs may shut = refl
-gone_closed verdicts plan older fh (steps.ModifyRange c low high apart default_value) hs may shut = refl
-gone_closed verdicts plan older fh steps.Alloc hs may shut = refl
-gone_closed verdicts plan older fh (steps.Store r pairs) hs may shut = refl
-gone_closed verdicts plan older fh (steps.Buffer r number) hs may shut = refl
-gone_closed verdicts plan older fh (steps.Queue r) hs may shut = refl
-gone_closed verdicts plan older fh (steps.Begin r) hs may shut = refl
-gone_closed verdicts plan older fh (steps.Complete r) hs may shut = refl
-gone_closed verdicts plan older fh (steps.Cancel r) hs may shut = refl
-gone_closed verdicts plan older fh steps.StreamOff hs may shut = refl
-gone_closed verdicts plan older fh (steps.Reinit r) hs may shut = refl
-gone_closed verdicts plan older fh (steps.Free r) hs may shut = refl
-gone_closed verdicts plan older fh (steps.Subscribe f c flags) hs may shut = refl
+gone_closed verdicts plan older fh _ hs may shut = refl
 
 -- what happened stays, where a step raises nothing and nothing is withdrawn
 happened_same : (verdicts : Verdicts) (plan : PlanData) (e : Entry Step) (older : Past) (fh : FhId) → all_raised_for verdicts plan e older fh ≡ [] → with_withdrawn fh e.step (happened verdicts plan older fh) ≡ happened verdicts plan older fh
@@ -263,24 +233,15 @@ closed_more verdicts plan e older fh f may shut none = by e.step refl
     closing false = none
 
     by : (step : Step) → e.step ≡ step → IsNothing (events_by verdicts plan e older fh step f)
-    by (steps.OpenFh handler) is = none
     by (steps.CloseFh g) is = closing (nat_eq g.0 fh.0)
     by (steps.Set g pairs) is = all _
     by (steps.Grab c on) is = all _
     by (steps.ModifyRange c low high apart default_value) is = all _
-    by steps.Alloc is = none
-    by (steps.Store r pairs) is = none
-    by (steps.Buffer r number) is = none
-    by (steps.Queue r) is = none
     by (steps.Begin r) is = all _
-    by (steps.Complete r) is = none
-    by (steps.Cancel r) is = none
-    by steps.StreamOff is = none
-    by (steps.Reinit r) is = none
-    by (steps.Free r) is = none
     by (steps.Subscribe g c flags) is = other g _ (subscribes_open verdicts plan older g c flags (subst (MayFollow verdicts plan older) is may))
     by (steps.Unsubscribe g c) is = other g _ (unsubscribes_open verdicts plan older g c (subst (MayFollow verdicts plan older) is may))
     by (steps.Take g c) is = other g _ (takes_open verdicts plan older g c (subst (MayFollow verdicts plan older) is may))
+    by _ is = none
 
 -- what a step without a subscription and without changes makes of an open file handle's happenings
 told_controls_left : (verdicts : Verdicts) (plan : PlanData) (e : Entry Step) (older : Past) (fh : FhId) → ChangesNoControl verdicts plan older e.step → ((c : ℕ) → subscribed_by fh c e.step ≡ None) → all_raised_for verdicts plan e older fh ≡ []
@@ -596,19 +557,11 @@ opened_more_events verdicts plan e older fh f plans legal may live are = by e.st
     by (steps.Set g pairs) is = raises _ is refl (λ c. refl) refl (λ c. refl)
     by (steps.Grab c on) is = raises _ is refl (λ d. refl) refl (λ d. refl)
     by (steps.ModifyRange c low high apart default_value) is = raises _ is refl (λ d. refl) refl (λ d. refl)
-    by steps.Alloc is = simple _ is refl (refl, refl, refl, refl) (λ c. refl) refl (λ c. refl)
-    by (steps.Store r pairs) is = simple _ is refl (refl, refl, refl, refl) (λ c. refl) refl (λ c. refl)
-    by (steps.Buffer r number) is = simple _ is refl (refl, refl, refl, refl) (λ c. refl) refl (λ c. refl)
-    by (steps.Queue r) is = simple _ is refl (refl, refl, refl, refl) (λ c. refl) refl (λ c. refl)
     by (steps.Begin r) is = raises _ is refl (λ c. refl) refl (λ c. refl)
-    by (steps.Complete r) is = simple _ is refl (refl, refl, refl, refl) (λ c. refl) refl (λ c. refl)
-    by (steps.Cancel r) is = simple _ is refl (refl, refl, refl, refl) (λ c. refl) refl (λ c. refl)
-    by steps.StreamOff is = simple _ is refl (refl, refl, refl, refl) (λ c. refl) refl (λ c. refl)
-    by (steps.Reinit r) is = simple _ is refl (refl, refl, refl, refl) (λ c. refl) refl (λ c. refl)
-    by (steps.Free r) is = simple _ is refl (refl, refl, refl, refl) (λ c. refl) refl (λ c. refl)
     by (steps.Subscribe g c0 flags) is = subscribes g c0 flags is (nat_eq g.0 fh.0) refl
     by (steps.Unsubscribe g d) is = ends g d is (nat_eq g.0 fh.0) refl
     by (steps.Take g c0) is = takes g c0 is (nat_eq g.0 fh.0) refl
+    by _ is = simple _ is refl (refl, refl, refl, refl) (λ c. refl) refl (λ c. refl)
 
 none_numbered : AreNumbered []
 unfolding AreNumbered
@@ -655,22 +608,7 @@ events_more verdicts plan e older fh f plans legal may are = by (is_open older f
     each : is_open older fh ≡ false → (step : Step) → e.step ≡ step → AreEvents verdicts plan (e ∷ older) fh (events_after verdicts plan e older fh f)
     each shut (steps.OpenFh handler) is = opens shut handler is (nat_eq fh.0 (length older)) refl
     each shut (steps.CloseFh g) is = closes_it shut g is (nat_eq g.0 fh.0) refl
-    each shut (steps.Set g pairs) is = same shut _ is refl
-    each shut (steps.Grab c on) is = same shut _ is refl
-    each shut (steps.ModifyRange c low high apart default_value) is = same shut _ is refl
-    each shut steps.Alloc is = same shut _ is refl
-    each shut (steps.Store r pairs) is = same shut _ is refl
-    each shut (steps.Buffer r number) is = same shut _ is refl
-    each shut (steps.Queue r) is = same shut _ is refl
-    each shut (steps.Begin r) is = same shut _ is refl
-    each shut (steps.Complete r) is = same shut _ is refl
-    each shut (steps.Cancel r) is = same shut _ is refl
-    each shut steps.StreamOff is = same shut _ is refl
-    each shut (steps.Reinit r) is = same shut _ is refl
-    each shut (steps.Free r) is = same shut _ is refl
-    each shut (steps.Subscribe g c0 flags) is = same shut _ is refl
-    each shut (steps.Unsubscribe g d) is = same shut _ is refl
-    each shut (steps.Take g c0) is = same shut _ is refl
+    each shut _ is = same shut _ is refl
 
     by : (b : Bool) → is_open older fh ≡ b → AreEvents verdicts plan (e ∷ older) fh (events_after verdicts plan e older fh f)
     by true live = opened_more_events verdicts plan e older fh f plans legal may live are

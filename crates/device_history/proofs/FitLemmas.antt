@@ -140,14 +140,12 @@ fits verdicts plan older step may = by may.0 may.1 may.2
     by : (ask : Ask) → refusal verdicts plan older ask ≡ None → step_of verdicts plan older ask ≡ Some step → FitsFrames verdicts plan older step
     by (asks.OpenFh handler) h adds = is _ tt adds
     by (asks.CloseFh fh) h adds = is _ tt adds
-    by (asks.GetCtrls fh which id list) h adds = nothing verdicts plan older step adds
     by (asks.SetCtrls fh which id list) h adds =
         is (pairs_step (meant (which_or (which_of which)) id) fh (list_pairs plan older fh which list))
         (fits_list verdicts plan older fh (which_or (which_of which)) id (list_pairs plan older fh which list)
         (meant_passes verdicts plan older fh which id true
         (list_opens _ (opening_checks verdicts plan older fh which id true) (write_checks verdicts plan (write_view verdicts plan older fh which id) true list ++ refused_if (is_full older) ListHistoryFull ∷ []) _ h)))
         adds
-    by (asks.TryCtrls fh which id list) h adds = nothing verdicts plan older step adds
     by (asks.Grab c on) h adds = is _ tt adds
     by (asks.ModifyRange c low high apart default_value) h adds = is _ tt adds
     by asks.Alloc h adds = is _ tt adds
@@ -159,15 +157,10 @@ fits verdicts plan older step may = by may.0 may.1 may.2
     by asks.StreamOff h adds = is _ tt adds
     by (asks.Reinit r) h adds = is (steps.Reinit r) (unrefused_step _ older _ h) adds
     by (asks.Free r) h adds = is (steps.Free r) (unrefused_step _ older _ h) adds
-    by (asks.StateOf r) h adds = nothing verdicts plan older step adds
-    by (asks.Forecast place) h adds = nothing verdicts plan older step adds
-    by (asks.Query fh id) h adds = nothing verdicts plan older step adds
-    by (asks.NextId fh id) h adds = nothing verdicts plan older step adds
-    by (asks.MenuItem fh id index) h adds = nothing verdicts plan older step adds
-    by (asks.Told cluster) h adds = nothing verdicts plan older step adds
     by (asks.Subscribe fh id flags) h adds = subscribes fh flags (shown plan older fh id) adds
     by (asks.Unsubscribe fh id) h adds = is _ tt adds
     by (asks.Take fh) h adds = takes fh (first_control (pending verdicts plan older fh)) adds
+    by _ h adds = nothing verdicts plan older step adds
 
 -- so does each step of a legal history
 pub all_fit : (verdicts : Verdicts) (plan : PlanData) (past : Past) → IsLegal verdicts plan past → AllFit verdicts plan past

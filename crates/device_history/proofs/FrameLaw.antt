@@ -77,23 +77,7 @@ request_start verdicts plan r = ap (option_map (request_in verdicts plan (past [
 -- a step makes no request with an earlier number
 not_earlier : (r n : ℕ) (step : Step) → r < n → list_any (nat_eq r) (made n step) ≡ false
 not_earlier r n steps.Alloc lt = let other : nat_eq r n ≡ false = grind (arith, nat_tests, lt) in rw other refl
-not_earlier r n (steps.OpenFh handler) lt = refl
-not_earlier r n (steps.CloseFh fh) lt = refl
-not_earlier r n (steps.Set fh pairs) lt = refl
-not_earlier r n (steps.Grab c on) lt = refl
-not_earlier r n (steps.ModifyRange c low high apart default_value) lt = refl
-not_earlier r n (steps.Store id pairs) lt = refl
-not_earlier r n (steps.Buffer id number) lt = refl
-not_earlier r n (steps.Queue id) lt = refl
-not_earlier r n (steps.Begin id) lt = refl
-not_earlier r n (steps.Complete id) lt = refl
-not_earlier r n (steps.Cancel id) lt = refl
-not_earlier r n steps.StreamOff lt = refl
-not_earlier r n (steps.Reinit id) lt = refl
-not_earlier r n (steps.Free id) lt = refl
-not_earlier r n (steps.Subscribe f c flags) lt = refl
-not_earlier r n (steps.Unsubscribe f c) lt = refl
-not_earlier r n (steps.Take f c) lt = refl
+not_earlier r n _ lt = refl
 
 older_freed : (verdicts : Verdicts) (plan : PlanData) (newer older : Past) (r : ℕ) → IsLegal verdicts plan (newer ++ older) → r < length older → request verdicts plan older r ≡ None → request verdicts plan (newer ++ older) r ≡ None
 unfolding IsLegal

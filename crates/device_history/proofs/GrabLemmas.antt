@@ -61,23 +61,7 @@ grabbed_more plan e older = by e.step refl
   where
     by : (step : Step) → e.step ≡ step → grabbed plan (e ∷ older) ≡ grabbed_after step (grabbed plan older)
     by (steps.Grab c on) is = rw is (one_held (grabs_made older) c on (length plan.controls))
-    by (steps.OpenFh handler) is = rw is refl
-    by (steps.ModifyRange c low high apart default_value) is = rw is refl
-    by (steps.CloseFh fh) is = rw is refl
-    by (steps.Set fh pairs) is = rw is refl
-    by steps.Alloc is = rw is refl
-    by (steps.Store r pairs) is = rw is refl
-    by (steps.Buffer r number) is = rw is refl
-    by (steps.Queue r) is = rw is refl
-    by (steps.Begin r) is = rw is refl
-    by (steps.Complete r) is = rw is refl
-    by (steps.Cancel r) is = rw is refl
-    by steps.StreamOff is = rw is refl
-    by (steps.Reinit r) is = rw is refl
-    by (steps.Free r) is = rw is refl
-    by (steps.Subscribe f c flags) is = rw is refl
-    by (steps.Unsubscribe f c) is = rw is refl
-    by (steps.Take f c) is = rw is refl
+    by _ is = rw is refl
 
 pub grabbed_add : (plan : PlanData) (steps : History) (e : Entry Step) → grabbed plan (past (steps ++ e ∷ [])) ≡ grabbed_after e.step (grabbed plan (past steps))
 grabbed_add plan steps e = rw (past_add steps e) (grabbed_more plan e (past steps))

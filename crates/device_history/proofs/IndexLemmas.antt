@@ -68,58 +68,25 @@ found_so reply (Ok x) past = stepped_so None past (reply x)
 found_so reply (Err check) past = plain check
 
 answer_so : (verdicts : Verdicts) (plan : PlanData) (past : Past) (words : List ℕ) (ask : Ask) → HasIndex (is_list ask) (answer_of verdicts plan past words ask)
-answer_so verdicts plan past words (asks.OpenFh handler) = stepped_so _ past _
-answer_so verdicts plan past words (asks.CloseFh fh) = stepped_so _ past _
 answer_so verdicts plan past words (asks.GetCtrls fh which request list) = faulty (fault_at_count (length list)) _ _ (at_count (length list))
 answer_so verdicts plan past words (asks.SetCtrls fh which request list) = faulty (fault_at_count (length list)) _ _ (at_count (length list))
 answer_so verdicts plan past words (asks.TryCtrls fh which request list) = faulty (fault_at_entry (length list)) _ _ (at_entry (length list))
-answer_so verdicts plan past words (asks.Grab c on) = stepped_so _ past _
-answer_so verdicts plan past words (asks.ModifyRange c low high apart default_value) = stepped_so _ past _
-answer_so verdicts plan past words asks.Alloc = stepped_so _ past _
-answer_so verdicts plan past words (asks.AddBuffer r number) = stepped_so _ past _
-answer_so verdicts plan past words (asks.Queue r) = stepped_so _ past _
 answer_so verdicts plan past words asks.Begin = found_so _ (next_frame (frames verdicts plan past)) past
-answer_so verdicts plan past words asks.Complete = stepped_so _ past _
-answer_so verdicts plan past words (asks.Cancel r) = stepped_so _ past _
 answer_so verdicts plan past words asks.StreamOff = stepped_so None past _
-answer_so verdicts plan past words (asks.Reinit r) = stepped_so _ past _
-answer_so verdicts plan past words (asks.Free r) = stepped_so _ past _
 answer_so verdicts plan past words (asks.StateOf r) = told_so _ (state_found past r)
 answer_so verdicts plan past words (asks.Forecast place) = told_so _ (forecast_at verdicts plan past place)
 answer_so verdicts plan past words (asks.Query fh id) = told_so _ (control_shown plan past fh id)
 answer_so verdicts plan past words (asks.NextId fh id) = told_so _ (id_behind plan past fh id)
 answer_so verdicts plan past words (asks.MenuItem fh id index) = told_so _ (item_found plan past fh id index)
 answer_so verdicts plan past words (asks.Told cluster) = told_so _ (word_of plan words cluster)
-answer_so verdicts plan past words (asks.Subscribe fh id flags) = stepped_so _ past _
-answer_so verdicts plan past words (asks.Unsubscribe fh id) = stepped_so _ past _
 answer_so verdicts plan past words (asks.Take fh) = found_so _ (first_event verdicts plan past fh) past
+answer_so verdicts plan past words _ = stepped_so _ past _
 
 lacking : (ask : Ask) → HasIndex (is_list ask) (no_memory ask)
-lacking (asks.OpenFh handler) = plain MemoryRefused
-lacking (asks.CloseFh fh) = plain MemoryRefused
 lacking (asks.GetCtrls fh which request list) = at MemoryRefused _
 lacking (asks.SetCtrls fh which request list) = at MemoryRefused _
 lacking (asks.TryCtrls fh which request list) = at MemoryRefused _
-lacking (asks.Grab c on) = plain MemoryRefused
-lacking (asks.ModifyRange c low high apart default_value) = plain MemoryRefused
-lacking asks.Alloc = plain MemoryRefused
-lacking (asks.AddBuffer r number) = plain MemoryRefused
-lacking (asks.Queue r) = plain MemoryRefused
-lacking asks.Begin = plain MemoryRefused
-lacking asks.Complete = plain MemoryRefused
-lacking (asks.Cancel r) = plain MemoryRefused
-lacking asks.StreamOff = plain MemoryRefused
-lacking (asks.Reinit r) = plain MemoryRefused
-lacking (asks.Free r) = plain MemoryRefused
-lacking (asks.StateOf r) = plain MemoryRefused
-lacking (asks.Forecast place) = plain MemoryRefused
-lacking (asks.Query fh id) = plain MemoryRefused
-lacking (asks.NextId fh id) = plain MemoryRefused
-lacking (asks.MenuItem fh id index) = plain MemoryRefused
-lacking (asks.Told cluster) = plain MemoryRefused
-lacking (asks.Subscribe fh id flags) = plain MemoryRefused
-lacking (asks.Unsubscribe fh id) = plain MemoryRefused
-lacking (asks.Take fh) = plain MemoryRefused
+lacking _ = plain MemoryRefused
 
 pub index_of_lists : (verdicts : Verdicts) (plan : PlanData) (past : Past) (words : List ℕ) (ask : Ask) (fault : Fault) → MayAnswer verdicts plan past words ask (Err fault) → is_some fault.index ≡ is_list ask
 unfolding HasIndex

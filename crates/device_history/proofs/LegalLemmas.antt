@@ -20,35 +20,12 @@ unrefused (Err fault) accepted = cc
 
 -- the words that were told don't matter to a refusal
 pub refusal_of : (verdicts : Verdicts) (plan : PlanData) (past : Past) (words : List ℕ) (ask : Ask) → fault_of (answer_of verdicts plan past words ask) ≡ refusal verdicts plan past ask
-refusal_of verdicts plan past words (asks.OpenFh handler) = refl
-refusal_of verdicts plan past words (asks.CloseFh fh) = refl
-refusal_of verdicts plan past words (asks.GetCtrls fh which request list) = refl
-refusal_of verdicts plan past words (asks.SetCtrls fh which request list) = refl
-refusal_of verdicts plan past words (asks.TryCtrls fh which request list) = refl
-refusal_of verdicts plan past words (asks.Grab c on) = refl
-refusal_of verdicts plan past words (asks.ModifyRange c low high apart default_value) = refl
-refusal_of verdicts plan past words asks.Alloc = refl
-refusal_of verdicts plan past words (asks.AddBuffer r number) = refl
-refusal_of verdicts plan past words (asks.Queue r) = refl
-refusal_of verdicts plan past words asks.Begin = refl
-refusal_of verdicts plan past words asks.Complete = refl
-refusal_of verdicts plan past words (asks.Cancel r) = refl
-refusal_of verdicts plan past words asks.StreamOff = refl
-refusal_of verdicts plan past words (asks.Reinit r) = refl
-refusal_of verdicts plan past words (asks.Free r) = refl
-refusal_of verdicts plan past words (asks.StateOf r) = refl
-refusal_of verdicts plan past words (asks.Forecast place) = refl
-refusal_of verdicts plan past words (asks.Query fh id) = refl
-refusal_of verdicts plan past words (asks.NextId fh id) = refl
-refusal_of verdicts plan past words (asks.MenuItem fh id index) = refl
 refusal_of verdicts plan past words (asks.Told cluster) = by (nat_le (length plan.clusters) cluster)
   where
     by : (b : Bool) → fault_of (replied_with (λ word. Word word) (cond b (Err ClusterMissing) (Ok (slice_index words cluster)))) ≡ fault_of (replied_with (λ word. Word word) (cond b (Err ClusterMissing) (Ok (slice_index [] cluster))))
     by true = refl
     by false = refl
-refusal_of verdicts plan past words (asks.Subscribe fh id flags) = refl
-refusal_of verdicts plan past words (asks.Unsubscribe fh id) = refl
-refusal_of verdicts plan past words (asks.Take fh) = refl
+refusal_of verdicts plan past words _ = refl
 
 -- the step that an ask adds where it is accepted may follow
 pub taken_follows : (verdicts : Verdicts) (plan : PlanData) (past : Past) (words : List ℕ) (ask : Ask) (reply : Reply) (step : Step) → MayAnswer verdicts plan past words ask (Ok reply) → step_of verdicts plan past ask ≡ Some step

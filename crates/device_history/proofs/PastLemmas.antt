@@ -98,23 +98,7 @@ below_filter n test (o ∷ os) h = by (test o) (below_filter n test os h.1)
 opening_below : (n : ℕ) (step : Step) → AreBelow (suc n) (opening n step)
 unfolding AreBelow
 opening_below n (steps.OpenFh handler) = (omega arith, tt)
-opening_below n (steps.CloseFh fh) = tt
-opening_below n (steps.Set fh pairs) = tt
-opening_below n (steps.Grab c on) = tt
-opening_below n (steps.ModifyRange c low high apart default_value) = tt
-opening_below n steps.Alloc = tt
-opening_below n (steps.Store r pairs) = tt
-opening_below n (steps.Buffer r number) = tt
-opening_below n (steps.Queue r) = tt
-opening_below n (steps.Begin r) = tt
-opening_below n (steps.Complete r) = tt
-opening_below n (steps.Cancel r) = tt
-opening_below n steps.StreamOff = tt
-opening_below n (steps.Reinit r) = tt
-opening_below n (steps.Free r) = tt
-opening_below n (steps.Subscribe f c flags) = tt
-opening_below n (steps.Unsubscribe f c) = tt
-opening_below n (steps.Take f c) = tt
+opening_below n _ = tt
 
 -- a file handle's id is the number of a step that was made
 ever_below : (past : Past) → AreBelow (length past) (ever_opened past)
@@ -178,22 +162,7 @@ opened_more e older = by e.step refl
     by : (step : Step) → e.step ≡ step → filter (λ h. not (is_closed (e ∷ older) h.0)) (ever_opened older ++ opening (length older) step) ≡ opened_after (length older) step (filter (λ h. not (is_closed older h.0)) (ever_opened older))
     by (steps.OpenFh handler) is = filter-append _ (ever_opened older) ((length older, handler) ∷ []) ∙ rw (closed_last e older, older_kept e older _ is) refl
     by (steps.CloseFh fh) is = filter-append _ (ever_opened older) [] ∙ append-nil _ ∙ older_kept e older _ is ∙ filter_both (λ h. nat_eq fh.0 h.0) (λ h. is_closed older h.0) (ever_opened older)
-    by (steps.Set fh pairs) is = filter-append _ (ever_opened older) [] ∙ append-nil _ ∙ older_kept e older _ is
-    by (steps.Grab c on) is = filter-append _ (ever_opened older) [] ∙ append-nil _ ∙ older_kept e older _ is
-    by (steps.ModifyRange c low high apart default_value) is = filter-append _ (ever_opened older) [] ∙ append-nil _ ∙ older_kept e older _ is
-    by steps.Alloc is = filter-append _ (ever_opened older) [] ∙ append-nil _ ∙ older_kept e older _ is
-    by (steps.Store r pairs) is = filter-append _ (ever_opened older) [] ∙ append-nil _ ∙ older_kept e older _ is
-    by (steps.Buffer r number) is = filter-append _ (ever_opened older) [] ∙ append-nil _ ∙ older_kept e older _ is
-    by (steps.Queue r) is = filter-append _ (ever_opened older) [] ∙ append-nil _ ∙ older_kept e older _ is
-    by (steps.Begin r) is = filter-append _ (ever_opened older) [] ∙ append-nil _ ∙ older_kept e older _ is
-    by (steps.Complete r) is = filter-append _ (ever_opened older) [] ∙ append-nil _ ∙ older_kept e older _ is
-    by (steps.Cancel r) is = filter-append _ (ever_opened older) [] ∙ append-nil _ ∙ older_kept e older _ is
-    by steps.StreamOff is = filter-append _ (ever_opened older) [] ∙ append-nil _ ∙ older_kept e older _ is
-    by (steps.Reinit r) is = filter-append _ (ever_opened older) [] ∙ append-nil _ ∙ older_kept e older _ is
-    by (steps.Free r) is = filter-append _ (ever_opened older) [] ∙ append-nil _ ∙ older_kept e older _ is
-    by (steps.Subscribe f c flags) is = filter-append _ (ever_opened older) [] ∙ append-nil _ ∙ older_kept e older _ is
-    by (steps.Unsubscribe f c) is = filter-append _ (ever_opened older) [] ∙ append-nil _ ∙ older_kept e older _ is
-    by (steps.Take f c) is = filter-append _ (ever_opened older) [] ∙ append-nil _ ∙ older_kept e older _ is
+    by _ is = filter-append _ (ever_opened older) [] ∙ append-nil _ ∙ older_kept e older _ is
 
 pub opened_add : (steps : History) (e : Entry Step) → opened (past (steps ++ e ∷ [])) ≡ opened_after (length steps) e.step (opened (past steps))
 opened_add steps e = rw (past_add steps e)
@@ -255,22 +224,7 @@ rising_filter test (o ∷ os) h = by (test o) (rising_filter test os h.1)
 after_rising : (n : ℕ) (step : Step) (os : List (ℕ × ℕ)) → AreRising os → AreBelow n os → AreRising (opened_after n step os)
 after_rising n (steps.OpenFh handler) os h b = rising_push n handler os h b
 after_rising n (steps.CloseFh fh) os h b = rising_filter _ os h
-after_rising n (steps.Set fh pairs) os h b = h
-after_rising n (steps.Grab c on) os h b = h
-after_rising n (steps.ModifyRange c low high apart default_value) os h b = h
-after_rising n steps.Alloc os h b = h
-after_rising n (steps.Store r pairs) os h b = h
-after_rising n (steps.Buffer r number) os h b = h
-after_rising n (steps.Queue r) os h b = h
-after_rising n (steps.Begin r) os h b = h
-after_rising n (steps.Complete r) os h b = h
-after_rising n (steps.Cancel r) os h b = h
-after_rising n steps.StreamOff os h b = h
-after_rising n (steps.Reinit r) os h b = h
-after_rising n (steps.Free r) os h b = h
-after_rising n (steps.Subscribe f c flags) os h b = h
-after_rising n (steps.Unsubscribe f c) os h b = h
-after_rising n (steps.Take f c) os h b = h
+after_rising n _ os h b = h
 
 -- the ids of the open file handles rise in the order of their opening
 pub opened_rising : (past : Past) → AreRising (opened past)
@@ -337,22 +291,7 @@ absent_push k n handler (o ∷ os) lt h = by (nat_eq k o.0) h (absent_push k n h
 after_absent : (n : ℕ) (step : Step) (k : ℕ) (os : List (ℕ × ℕ)) → k < n → lookup (nat_eq k) os ≡ None → lookup (nat_eq k) (opened_after n step os) ≡ None
 after_absent n (steps.OpenFh handler) k os lt h = absent_push k n handler os lt h
 after_absent n (steps.CloseFh fh) k os lt h = still_absent k _ os h
-after_absent n (steps.Set fh pairs) k os lt h = h
-after_absent n (steps.Grab c on) k os lt h = h
-after_absent n (steps.ModifyRange c low high apart default_value) k os lt h = h
-after_absent n steps.Alloc k os lt h = h
-after_absent n (steps.Store r pairs) k os lt h = h
-after_absent n (steps.Buffer r number) k os lt h = h
-after_absent n (steps.Queue r) k os lt h = h
-after_absent n (steps.Begin r) k os lt h = h
-after_absent n (steps.Complete r) k os lt h = h
-after_absent n (steps.Cancel r) k os lt h = h
-after_absent n steps.StreamOff k os lt h = h
-after_absent n (steps.Reinit r) k os lt h = h
-after_absent n (steps.Free r) k os lt h = h
-after_absent n (steps.Subscribe f c flags) k os lt h = h
-after_absent n (steps.Unsubscribe f c) k os lt h = h
-after_absent n (steps.Take f c) k os lt h = h
+after_absent n _ k os lt h = h
 
 older_gone : (newer older : Past) (fh : FhId) → fh.0 < length older → handler_of older fh ≡ None → handler_of (newer ++ older) fh ≡ None
 older_gone [] older fh lt h = h

@@ -24,23 +24,7 @@ length_now_after verdicts plan controls grabs (Some pairs) values = length_overl
 -- a range change leaves as many
 length_settled : (step : Step) (controls : List Control) (values : Values) → length (settled_after step controls values) ≡ length values
 length_settled (steps.ModifyRange c low high apart default_value) controls values = length-set values c _
-length_settled (steps.OpenFh handler) controls values = refl
-length_settled (steps.CloseFh fh) controls values = refl
-length_settled (steps.Set fh pairs) controls values = refl
-length_settled (steps.Grab c on) controls values = refl
-length_settled steps.Alloc controls values = refl
-length_settled (steps.Store r pairs) controls values = refl
-length_settled (steps.Buffer r number) controls values = refl
-length_settled (steps.Queue r) controls values = refl
-length_settled (steps.Begin r) controls values = refl
-length_settled (steps.Complete r) controls values = refl
-length_settled (steps.Cancel r) controls values = refl
-length_settled steps.StreamOff controls values = refl
-length_settled (steps.Reinit r) controls values = refl
-length_settled (steps.Free r) controls values = refl
-length_settled (steps.Subscribe f c flags) controls values = refl
-length_settled (steps.Unsubscribe f c) controls values = refl
-length_settled (steps.Take f c) controls values = refl
+length_settled _ controls values = refl
 
 -- so does any step
 pub length_values_after : (verdicts : Verdicts) (plan : PlanData) (older : Past) (step : Step) (values : Values) → length (values_after verdicts plan older step values) ≡ length values

@@ -63,11 +63,6 @@ others verdicts plan older r j off waits = by (eqb_tells r j)
 -- what a request asks for and its buffer stand while it is queued
 frame_stands : (verdicts : Verdicts) (plan : PlanData) (older : Past) (step : Step) (j : ℕ) → AllFit verdicts plan older → FitsFrames verdicts plan older step → is_there is_queued (state older j) ≡ true
     → frame_after plan older step j ≡ queued_frame plan older j
-frame_stands verdicts plan older (steps.OpenFh handler) j fit fits waits = rw (asked_same plan older j) refl
-frame_stands verdicts plan older (steps.CloseFh fh) j fit fits waits = rw (asked_same plan older j) refl
-frame_stands verdicts plan older (steps.Set fh pairs) j fit fits waits = rw (asked_same plan older j) refl
-frame_stands verdicts plan older (steps.Grab c on) j fit fits waits = rw (asked_same plan older j) refl
-frame_stands verdicts plan older (steps.ModifyRange c low high apart default_value) j fit fits waits = rw (asked_same plan older j) refl
 frame_stands verdicts plan older steps.Alloc j fit fits waits =
     let other : nat_eq (length older) j ≡ false = others verdicts plan older (length older) j (ap (is_in is_queued) (next_none verdicts plan older fit)) waits in
     rw (other, asked_same plan older j) refl
@@ -77,18 +72,10 @@ frame_stands verdicts plan older (steps.Store r pairs) j fit fits waits =
 frame_stands verdicts plan older (steps.Buffer r number) j fit fits waits =
     let other : nat_eq r.0 j ≡ false = others verdicts plan older r.0 j (idle_rests (request verdicts plan older r.0) (buffer_idle (requests verdicts plan older) number (request verdicts plan older r.0) fits)).0 waits in
     rw (other, asked_same plan older j) refl
-frame_stands verdicts plan older (steps.Queue r) j fit fits waits = rw (asked_same plan older j) refl
-frame_stands verdicts plan older (steps.Begin r) j fit fits waits = rw (asked_same plan older j) refl
-frame_stands verdicts plan older (steps.Complete r) j fit fits waits = rw (asked_same plan older j) refl
-frame_stands verdicts plan older (steps.Cancel r) j fit fits waits = rw (asked_same plan older j) refl
-frame_stands verdicts plan older steps.StreamOff j fit fits waits = rw (asked_same plan older j) refl
 frame_stands verdicts plan older (steps.Reinit r) j fit fits waits =
     let other : nat_eq r.0 j ≡ false = others verdicts plan older r.0 j (rests (request verdicts plan older r.0) fits).0 waits in
     rw (other, asked_same plan older j) refl
-frame_stands verdicts plan older (steps.Free r) j fit fits waits = rw (asked_same plan older j) refl
-frame_stands verdicts plan older (steps.Subscribe f c flags) j fit fits waits = rw (asked_same plan older j) refl
-frame_stands verdicts plan older (steps.Unsubscribe f c) j fit fits waits = rw (asked_same plan older j) refl
-frame_stands verdicts plan older (steps.Take f c) j fit fits waits = rw (asked_same plan older j) refl
+frame_stands verdicts plan older _ j fit fits waits = rw (asked_same plan older j) refl
 
 -- numbers that pass a test, of which two functions make the same
 same_frames : (f g : ℕ → QueuedData) (test : ℕ → Bool) (ids : List ℕ) → ((j : ℕ) → test j ≡ true → f j ≡ g j) → map f (filter test ids) ≡ map g (filter test ids)
@@ -154,24 +141,12 @@ frames_waiting verdicts plan e older fit fits = by e.step refl fits
         ∙ frames_but (queued_frame plan (e ∷ older)) (queued_frame plan older) (λ j. is_there is_queued (state older j)) r.0 (ever_queued older) (λ j h. frame_more plan e older j ∙ frame_stands verdicts plan older e.step j fit fits h) (λ j. refl)
 
     by : (step : Step) → e.step ≡ step → FitsFrames verdicts plan older step → queued_frames plan (e ∷ older) ≡ waiting_after plan older step (queued_frames plan older)
-    by (steps.OpenFh handler) is fits_it = same _ is refl
-    by (steps.CloseFh fh) is fits_it = same _ is refl
-    by (steps.Set fh pairs) is fits_it = same _ is refl
-    by (steps.Grab c held) is fits_it = same _ is refl
-    by (steps.ModifyRange c low high apart default_value) is fits_it = same _ is refl
-    by steps.Alloc is fits_it = same _ is refl
-    by (steps.Store r pairs) is fits_it = same _ is refl
-    by (steps.Buffer r number) is fits_it = same _ is refl
     by (steps.Queue r) is fits_it = queued r is
     by (steps.Begin r) is fits_it = begun r is fits_it
     by (steps.Complete r) is fits_it = same _ is (ap (λ (f : FramesData). f.queue) (complete_is (frames verdicts plan older) (now verdicts plan older) r.0 fits_it))
     by (steps.Cancel r) is fits_it = taken r is
     by steps.StreamOff is fits_it = ap (map (queued_frame plan (e ∷ older))) (turn steps.StreamOff is)
-    by (steps.Reinit r) is fits_it = same _ is refl
-    by (steps.Free r) is fits_it = same _ is refl
-    by (steps.Subscribe f c flags) is fits_it = same _ is refl
-    by (steps.Unsubscribe f c) is fits_it = same _ is refl
-    by (steps.Take f c) is fits_it = same _ is refl
+    by _ is fits_it = same _ is refl
 
 -- the same, of a list of entries
 pub waiting_add : (verdicts : Verdicts) (plan : PlanData) (entries : History) (e : Entry Step) → IsLegal verdicts plan (past entries) → MayFollow verdicts plan (past entries) e.step

@@ -22,24 +22,8 @@ with_last (Some r) ids = all_but r ids ++ r ∷ []
 
 queueing_below : (n : ℕ) (step : Step) → AreBelow (suc n) (queueing n step)
 unfolding AreBelow
-queueing_below n (steps.OpenFh handler) = tt
-queueing_below n (steps.CloseFh fh) = tt
-queueing_below n (steps.Set fh pairs) = tt
-queueing_below n (steps.Grab c on) = tt
-queueing_below n (steps.ModifyRange c low high apart default_value) = tt
-queueing_below n steps.Alloc = tt
-queueing_below n (steps.Store r pairs) = tt
-queueing_below n (steps.Buffer r number) = tt
 queueing_below n (steps.Queue r) = (omega arith, tt)
-queueing_below n (steps.Begin r) = tt
-queueing_below n (steps.Complete r) = tt
-queueing_below n (steps.Cancel r) = tt
-queueing_below n steps.StreamOff = tt
-queueing_below n (steps.Reinit r) = tt
-queueing_below n (steps.Free r) = tt
-queueing_below n (steps.Subscribe f c flags) = tt
-queueing_below n (steps.Unsubscribe f c) = tt
-queueing_below n (steps.Take f c) = tt
+queueing_below n _ = tt
 
 -- a queueing's number is that of a step that was made
 queueings_below : (past : Past) → AreBelow (length past) (queueings past)
@@ -81,24 +65,8 @@ ever_queued_more e older = by e.step refl
 
     by : (step : Step) → e.step ≡ step
         → map (λ q. q.1) (filter (λ q. not (is_queued_again (e ∷ older) q)) (queueings older ++ queueing (length older) step)) ≡ with_last (queued_by step) (map (λ q. q.1) left)
-    by (steps.OpenFh handler) is = ap (map (λ q. q.1)) (filter-append _ (queueings older) [] ∙ append-nil _ ∙ older_last e older _ is)
-    by (steps.CloseFh fh) is = ap (map (λ q. q.1)) (filter-append _ (queueings older) [] ∙ append-nil _ ∙ older_last e older _ is)
-    by (steps.Set fh pairs) is = ap (map (λ q. q.1)) (filter-append _ (queueings older) [] ∙ append-nil _ ∙ older_last e older _ is)
-    by (steps.Grab c on) is = ap (map (λ q. q.1)) (filter-append _ (queueings older) [] ∙ append-nil _ ∙ older_last e older _ is)
-    by (steps.ModifyRange c low high apart default_value) is = ap (map (λ q. q.1)) (filter-append _ (queueings older) [] ∙ append-nil _ ∙ older_last e older _ is)
-    by steps.Alloc is = ap (map (λ q. q.1)) (filter-append _ (queueings older) [] ∙ append-nil _ ∙ older_last e older _ is)
-    by (steps.Store r pairs) is = ap (map (λ q. q.1)) (filter-append _ (queueings older) [] ∙ append-nil _ ∙ older_last e older _ is)
-    by (steps.Buffer r number) is = ap (map (λ q. q.1)) (filter-append _ (queueings older) [] ∙ append-nil _ ∙ older_last e older _ is)
     by (steps.Queue r) is =
         let rest : filter (λ q. not (is_queued_again (e ∷ older) q)) (queueings older) ≡ filter (λ q. not (nat_eq r.0 q.1)) left = older_last e older _ is ∙ filter_both (λ q. nat_eq r.0 q.1) (λ q. is_queued_again older q) (queueings older) in
         ap (map (λ q. q.1)) (filter-append _ (queueings older) ((length older, r.0) ∷ []) ∙ ap₂ (λ qs b. qs ++ cond (not b) ((length older, r.0) ∷ []) []) rest (behind_last (queues r.0) e older))
         ∙ map-append (λ q. q.1) (filter (λ q. not (nat_eq r.0 q.1)) left) ((length older, r.0) ∷ []) ∙ ap (λ ids. ids ++ r.0 ∷ []) (requests_but r.0 left)
-    by (steps.Begin r) is = ap (map (λ q. q.1)) (filter-append _ (queueings older) [] ∙ append-nil _ ∙ older_last e older _ is)
-    by (steps.Complete r) is = ap (map (λ q. q.1)) (filter-append _ (queueings older) [] ∙ append-nil _ ∙ older_last e older _ is)
-    by (steps.Cancel r) is = ap (map (λ q. q.1)) (filter-append _ (queueings older) [] ∙ append-nil _ ∙ older_last e older _ is)
-    by steps.StreamOff is = ap (map (λ q. q.1)) (filter-append _ (queueings older) [] ∙ append-nil _ ∙ older_last e older _ is)
-    by (steps.Reinit r) is = ap (map (λ q. q.1)) (filter-append _ (queueings older) [] ∙ append-nil _ ∙ older_last e older _ is)
-    by (steps.Free r) is = ap (map (λ q. q.1)) (filter-append _ (queueings older) [] ∙ append-nil _ ∙ older_last e older _ is)
-    by (steps.Subscribe f c flags) is = ap (map (λ q. q.1)) (filter-append _ (queueings older) [] ∙ append-nil _ ∙ older_last e older _ is)
-    by (steps.Unsubscribe f c) is = ap (map (λ q. q.1)) (filter-append _ (queueings older) [] ∙ append-nil _ ∙ older_last e older _ is)
-    by (steps.Take f c) is = ap (map (λ q. q.1)) (filter-append _ (queueings older) [] ∙ append-nil _ ∙ older_last e older _ is)
+    by _ is = ap (map (λ q. q.1)) (filter-append _ (queueings older) [] ∙ append-nil _ ∙ older_last e older _ is)

@@ -53,22 +53,7 @@ raises_gone fh (steps.Take f c) hs = by (nat_eq f.0 fh.0)
     by : (b : Bool) → raises_in (cond b (withdrawn c ∷ hs) hs) ≡ raises_in hs
     by true = refl
     by false = refl
-raises_gone fh (steps.OpenFh handler) hs = refl
-raises_gone fh (steps.CloseFh f) hs = refl
-raises_gone fh (steps.Set f pairs) hs = refl
-raises_gone fh (steps.Grab c on) hs = refl
-raises_gone fh (steps.ModifyRange c low high apart default_value) hs = refl
-raises_gone fh steps.Alloc hs = refl
-raises_gone fh (steps.Store r pairs) hs = refl
-raises_gone fh (steps.Buffer r number) hs = refl
-raises_gone fh (steps.Queue r) hs = refl
-raises_gone fh (steps.Begin r) hs = refl
-raises_gone fh (steps.Complete r) hs = refl
-raises_gone fh (steps.Cancel r) hs = refl
-raises_gone fh steps.StreamOff hs = refl
-raises_gone fh (steps.Reinit r) hs = refl
-raises_gone fh (steps.Free r) hs = refl
-raises_gone fh (steps.Subscribe f c flags) hs = refl
+raises_gone fh _ hs = refl
 
 -- for a file handle at most as many events were raised as each step can raise
 raised_bound : (verdicts : Verdicts) (plan : PlanData) (past : Past) (fh : FhId) → length (raises verdicts plan past fh) ≤ length plan.controls * length past

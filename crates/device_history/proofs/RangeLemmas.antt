@@ -83,23 +83,7 @@ ranges_more plan e older = by e.step refl
     by : (step : Step) → e.step ≡ step → ranges_now plan (e ∷ older) ≡ ranges_after step (ranges_now plan older)
     by (steps.ModifyRange c low high apart default_value) is =
         rw is (one_ranged plan (ranges_made older) c (record { minimum = low; maximum = high; step = apart; default_value = default_value }))
-    by (steps.OpenFh handler) is = rw is refl
-    by (steps.CloseFh fh) is = rw is refl
-    by (steps.Set fh pairs) is = rw is refl
-    by (steps.Grab c on) is = rw is refl
-    by steps.Alloc is = rw is refl
-    by (steps.Store r pairs) is = rw is refl
-    by (steps.Buffer r number) is = rw is refl
-    by (steps.Queue r) is = rw is refl
-    by (steps.Begin r) is = rw is refl
-    by (steps.Complete r) is = rw is refl
-    by (steps.Cancel r) is = rw is refl
-    by steps.StreamOff is = rw is refl
-    by (steps.Reinit r) is = rw is refl
-    by (steps.Free r) is = rw is refl
-    by (steps.Subscribe f c flags) is = rw is refl
-    by (steps.Unsubscribe f c) is = rw is refl
-    by (steps.Take f c) is = rw is refl
+    by _ is = rw is refl
 
 pub ranges_add : (plan : PlanData) (steps : History) (e : Entry Step) → ranges_now plan (past (steps ++ e ∷ [])) ≡ ranges_after e.step (ranges_now plan (past steps))
 ranges_add plan steps e = ap (ranges_now plan) (past_add steps e) ∙ ranges_more plan e (past steps)
@@ -108,23 +92,7 @@ ranges_add plan steps e = ap (ranges_now plan) (past_add steps e) ∙ ranges_mor
 after_own : (plan : PlanData) (step : Step) (controls : List Control) → AreControlsOf plan controls → AreControlsOf plan (ranges_after step controls)
 after_own plan (steps.ModifyRange c low high apart default_value) controls own =
     modified_stay controls c (with_range (control_in controls c) low high apart default_value) (record { id = refl; kind = refl; flags = refl; skip = refl; elems = refl }) plan own
-after_own plan (steps.OpenFh handler) controls own = own
-after_own plan (steps.CloseFh fh) controls own = own
-after_own plan (steps.Set fh pairs) controls own = own
-after_own plan (steps.Grab c on) controls own = own
-after_own plan steps.Alloc controls own = own
-after_own plan (steps.Store r pairs) controls own = own
-after_own plan (steps.Buffer r number) controls own = own
-after_own plan (steps.Queue r) controls own = own
-after_own plan (steps.Begin r) controls own = own
-after_own plan (steps.Complete r) controls own = own
-after_own plan (steps.Cancel r) controls own = own
-after_own plan steps.StreamOff controls own = own
-after_own plan (steps.Reinit r) controls own = own
-after_own plan (steps.Free r) controls own = own
-after_own plan (steps.Subscribe f c flags) controls own = own
-after_own plan (steps.Unsubscribe f c) controls own = own
-after_own plan (steps.Take f c) controls own = own
+after_own plan _ controls own = own
 
 -- they are of the plan's controls
 pub ranges_own : (plan : PlanData) (past : Past) → AreControlsOf plan (ranges_now plan past)

@@ -319,11 +319,6 @@ clash h = cc
 -- a step that fits begins no frame of a request that is idle or queued behind it
 early_after : (verdicts : Verdicts) (plan : PlanData) (older : Past) (step : Step) (j : ℕ) → FitsFrames verdicts plan older step → (is_early (state older j) ≡ true → before_begin j older ≡ None)
     → is_early (state_after (length older) step j (state older j)) ≡ true → begin_after older step j ≡ None
-early_after verdicts plan older (steps.OpenFh handler) j fits rest early = rest early
-early_after verdicts plan older (steps.CloseFh fh) j fits rest early = rest early
-early_after verdicts plan older (steps.Set fh pairs) j fits rest early = rest early
-early_after verdicts plan older (steps.Grab c on) j fits rest early = rest early
-early_after verdicts plan older (steps.ModifyRange c low high apart default_value) j fits rest early = rest early
 early_after verdicts plan older steps.Alloc j fits rest early = by (eqb_tells (length older) j)
   where
     by : Tells (length older) j → begin_after older steps.Alloc j ≡ None
@@ -377,9 +372,7 @@ early_after verdicts plan older (steps.Free r) j fits rest early = by (eqb_tells
     by : Tells r.0 j → before_begin j older ≡ None
     by (inl same) = clash (rw same.0 at early)
     by (inr other) = rest (rw other.0 at early)
-early_after verdicts plan older (steps.Subscribe f c flags) j fits rest early = rest early
-early_after verdicts plan older (steps.Unsubscribe f c) j fits rest early = rest early
-early_after verdicts plan older (steps.Take f c) j fits rest early = rest early
+early_after verdicts plan older _ j fits rest early = rest early
 
 -- the frame of an idle or queued request was not begun since it was made, or made as new
 pub early_unbegun : (verdicts : Verdicts) (plan : PlanData) (older : Past) → AllFit verdicts plan older → (j : ℕ) → is_early (state older j) ≡ true → before_begin j older ≡ None
@@ -391,11 +384,6 @@ early_unbegun verdicts plan (e ∷ older) fit j early =
 -- what a step that fits makes of a request
 after_step : (verdicts : Verdicts) (plan : PlanData) (older : Past) (step : Step) → AllFit verdicts plan older → FitsFrames verdicts plan older step
     → (j : ℕ) → fields_after verdicts plan older step j ≡ request_after verdicts plan older (length older) step j (request verdicts plan older j)
-after_step verdicts plan older (steps.OpenFh handler) fit fits j = same_fields verdicts plan older (steps.OpenFh handler) j (λ s. rw (asked_same plan older j) refl)
-after_step verdicts plan older (steps.CloseFh fh) fit fits j = same_fields verdicts plan older (steps.CloseFh fh) j (λ s. rw (asked_same plan older j) refl)
-after_step verdicts plan older (steps.Set fh pairs) fit fits j = same_fields verdicts plan older (steps.Set fh pairs) j (λ s. rw (asked_same plan older j) refl)
-after_step verdicts plan older (steps.Grab c on) fit fits j = same_fields verdicts plan older (steps.Grab c on) j (λ s. rw (asked_same plan older j) refl)
-after_step verdicts plan older (steps.ModifyRange c low high apart default_value) fit fits j = same_fields verdicts plan older (steps.ModifyRange c low high apart default_value) j (λ s. rw (asked_same plan older j) refl)
 after_step verdicts plan older steps.Alloc fit fits j = made_request verdicts plan older j
 after_step verdicts plan older (steps.Store r pairs) fit fits j = stored_request verdicts plan older r pairs j (stored_idle verdicts plan older r.0 fits)
 after_step verdicts plan older (steps.Buffer r number) fit fits j = buffered_request verdicts plan older r number j (buffered_idle verdicts plan older (requests verdicts plan older) number r.0 fits)
@@ -408,9 +396,7 @@ after_step verdicts plan older (steps.Cancel r) fit fits j = cancelled_request v
 after_step verdicts plan older steps.StreamOff fit fits j = off_request verdicts plan older j
 after_step verdicts plan older (steps.Reinit r) fit fits j = renewed_request verdicts plan older r j (renewed_there verdicts plan older r.0 fits)
 after_step verdicts plan older (steps.Free r) fit fits j = freed_request verdicts plan older r j
-after_step verdicts plan older (steps.Subscribe f c flags) fit fits j = same_fields verdicts plan older (steps.Subscribe f c flags) j (λ s. rw (asked_same plan older j) refl)
-after_step verdicts plan older (steps.Unsubscribe f c) fit fits j = same_fields verdicts plan older (steps.Unsubscribe f c) j (λ s. rw (asked_same plan older j) refl)
-after_step verdicts plan older (steps.Take f c) fit fits j = same_fields verdicts plan older (steps.Take f c) j (λ s. rw (asked_same plan older j) refl)
+after_step verdicts plan older step fit fits j = same_fields verdicts plan older step j (λ s. rw (asked_same plan older j) refl)
 
 -- a request after one more entry
 pub request_more : (verdicts : Verdicts) (plan : PlanData) (e : Entry Step) (older : Past) → AllFit verdicts plan older → FitsFrames verdicts plan older e.step

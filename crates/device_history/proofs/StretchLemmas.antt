@@ -124,24 +124,14 @@ next_row verdicts plan e older i row fit fits on stood = by e.step refl fits on 
 
     by : (step : Step) → e.step ≡ step → FitsFrames verdicts plan older step → goes_on step ≡ true
         → slice_get (forecast verdicts plan older) (cond (is_some (begun_by step)) (suc i) i) ≡ Some row → slice_get (forecast verdicts plan (e ∷ older)) i ≡ Some row
-    by (steps.OpenFh handler) is fits_it on stood = same _ is refl refl refl refl stood
-    by (steps.CloseFh fh) is fits_it on stood = same _ is refl refl refl refl stood
     by (steps.Set fh pairs) is fits_it on stood = cc
     by (steps.Grab c on_it) is fits_it on stood = cc
     by (steps.ModifyRange c low high apart default_value) is fits_it on stood = cc
-    by steps.Alloc is fits_it on stood = same _ is refl refl refl refl stood
-    by (steps.Store r pairs) is fits_it on stood = same _ is refl refl refl refl stood
-    by (steps.Buffer r number) is fits_it on stood = same _ is refl refl refl refl stood
     by (steps.Queue r) is fits_it on stood = stays _ is (queued_frame plan older r.0 ∷ []) refl refl refl refl stood
     by (steps.Begin r) is fits_it on stood = begun r is fits_it stood
-    by (steps.Complete r) is fits_it on stood = same _ is refl refl refl refl stood
     by (steps.Cancel r) is fits_it on stood = cc
     by steps.StreamOff is fits_it on stood = cc
-    by (steps.Reinit r) is fits_it on stood = same _ is refl refl refl refl stood
-    by (steps.Free r) is fits_it on stood = same _ is refl refl refl refl stood
-    by (steps.Subscribe f c flags) is fits_it on stood = same _ is refl refl refl refl stood
-    by (steps.Unsubscribe f c) is fits_it on stood = same _ is refl refl refl refl stood
-    by (steps.Take f c) is fits_it on stood = same _ is refl refl refl refl stood
+    by _ is fits_it on stood = same _ is refl refl refl refl stood
 
 -- the rows of a forecast stand while a legal history goes on; each frame that is begun moves them up
 pub rows_stand : (verdicts : Verdicts) (plan : PlanData) (entries more : History) (i : ℕ) (row : Forecast) → IsLegal verdicts plan (past (entries ++ more)) → all_go_on more ≡ true
@@ -211,31 +201,12 @@ begin_unrefused verdicts plan older r may = by may.0 may.1 may.2
     takes fh (Some c) adds = cc
 
     by : (ask : Ask) → refusal verdicts plan older ask ≡ None → step_of verdicts plan older ask ≡ Some (steps.Begin r) → fault_of (begin_frame_answer verdicts plan older) ≡ None
-    by (asks.OpenFh handler) h adds = cc
-    by (asks.CloseFh fh) h adds = cc
-    by (asks.GetCtrls fh which id list) h adds = cc
     by (asks.SetCtrls fh which id entries) h adds = list (meant (which_or (which_of which)) id) fh (list_pairs plan older fh which entries) adds
-    by (asks.TryCtrls fh which id list) h adds = cc
-    by (asks.Grab c on) h adds = cc
-    by (asks.ModifyRange c low high apart default_value) h adds = cc
-    by asks.Alloc h adds = cc
-    by (asks.AddBuffer id number) h adds = cc
-    by (asks.Queue id) h adds = cc
     by asks.Begin h adds = h
     by asks.Complete h adds = ends (running older) adds
-    by (asks.Cancel id) h adds = cc
-    by asks.StreamOff h adds = cc
-    by (asks.Reinit id) h adds = cc
-    by (asks.Free id) h adds = cc
-    by (asks.StateOf id) h adds = cc
-    by (asks.Forecast place) h adds = cc
-    by (asks.Query fh id) h adds = cc
-    by (asks.NextId fh id) h adds = cc
-    by (asks.MenuItem fh id index) h adds = cc
-    by (asks.Told cluster) h adds = cc
     by (asks.Subscribe fh id flags) h adds = subscribes fh flags (shown plan older fh id) adds
-    by (asks.Unsubscribe fh id) h adds = cc
     by (asks.Take fh) h adds = takes fh (first_control (pending verdicts plan older fh)) adds
+    by _ h adds = cc
 
 -- what a begin that may follow is answered
 begin_replies : (verdicts : Verdicts) (plan : PlanData) (older : Past) (r : RequestId) → AllFit verdicts plan older → MayFollow verdicts plan older (steps.Begin r)

@@ -104,23 +104,7 @@ closed_by_none verdicts plan older fh c (steps.Subscribe f d flags) may shut = b
         let clash : is_open older fh ≡ true = subst (λ (g : FhId). is_open older g ≡ true) same (subscribes_open verdicts plan older f d flags may) in
         cc
     by false is = refl
-closed_by_none verdicts plan older fh c (steps.OpenFh handler) may shut = refl
-closed_by_none verdicts plan older fh c (steps.CloseFh f) may shut = refl
-closed_by_none verdicts plan older fh c (steps.Set f pairs) may shut = refl
-closed_by_none verdicts plan older fh c (steps.Grab d on) may shut = refl
-closed_by_none verdicts plan older fh c (steps.ModifyRange d low high apart default_value) may shut = refl
-closed_by_none verdicts plan older fh c steps.Alloc may shut = refl
-closed_by_none verdicts plan older fh c (steps.Store r pairs) may shut = refl
-closed_by_none verdicts plan older fh c (steps.Buffer r number) may shut = refl
-closed_by_none verdicts plan older fh c (steps.Queue r) may shut = refl
-closed_by_none verdicts plan older fh c (steps.Begin r) may shut = refl
-closed_by_none verdicts plan older fh c (steps.Complete r) may shut = refl
-closed_by_none verdicts plan older fh c (steps.Cancel r) may shut = refl
-closed_by_none verdicts plan older fh c steps.StreamOff may shut = refl
-closed_by_none verdicts plan older fh c (steps.Reinit r) may shut = refl
-closed_by_none verdicts plan older fh c (steps.Free r) may shut = refl
-closed_by_none verdicts plan older fh c (steps.Unsubscribe f d) may shut = refl
-closed_by_none verdicts plan older fh c (steps.Take f d) may shut = refl
+closed_by_none verdicts plan older fh c _ may shut = refl
 
 -- nothing subscribed a file handle that isn't open yet
 pub never_subscribed : (verdicts : Verdicts) (plan : PlanData) (past : Past) (fh : FhId) (c : ℕ) → IsLegal verdicts plan past → length past ≤ fh.0 → first_flags fh c (since_ended fh c past) ≡ None
@@ -217,22 +201,7 @@ subscribed_more verdicts plan e older fh c legal may = by e.step refl
     by : (step : Step) → e.step ≡ step → subscribed (e ∷ older) fh c ≡ subscribed_after step fh c (subscribed older fh c)
     by (steps.OpenFh handler) is = opens handler (nat_eq fh.0 (length older)) is refl
     by (steps.CloseFh f) is = closes_it f (nat_eq f.0 fh.0) is refl
-    by (steps.Set f pairs) is = stays _ is refl
-    by (steps.Grab d on) is = stays _ is refl
-    by (steps.ModifyRange d low high apart default_value) is = stays _ is refl
-    by steps.Alloc is = stays _ is refl
-    by (steps.Store r pairs) is = stays _ is refl
-    by (steps.Buffer r number) is = stays _ is refl
-    by (steps.Queue r) is = stays _ is refl
-    by (steps.Begin r) is = stays _ is refl
-    by (steps.Complete r) is = stays _ is refl
-    by (steps.Cancel r) is = stays _ is refl
-    by steps.StreamOff is = stays _ is refl
-    by (steps.Reinit r) is = stays _ is refl
-    by (steps.Free r) is = stays _ is refl
-    by (steps.Subscribe f d flags) is = stays _ is refl
-    by (steps.Unsubscribe f d) is = stays _ is refl
-    by (steps.Take f d) is = stays _ is refl
+    by _ is = stays _ is refl
 
 pub subscribed_start : (fh : FhId) (c : ℕ) → subscribed (past []) fh c ≡ None
 unfolding opened ever_opened

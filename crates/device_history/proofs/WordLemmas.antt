@@ -45,21 +45,7 @@ row_stays verdicts plan older (steps.Begin r) values cs h =
     unchanged_row plan values (overlay verdicts plan (ranges_now plan older) values (grabbed plan older) (asked plan older r.0)) (begun_pairs verdicts plan older r.0) cs h
 row_stays verdicts plan older (steps.ModifyRange c low high apart default_value) values cs h =
     unchanged_row plan values (settled_after (steps.ModifyRange c low high apart default_value) (ranges_now plan older) values) [] cs h
-row_stays verdicts plan older (steps.OpenFh handler) values cs h = refl
-row_stays verdicts plan older (steps.CloseFh fh) values cs h = refl
-row_stays verdicts plan older (steps.Grab c on) values cs h = refl
-row_stays verdicts plan older steps.Alloc values cs h = refl
-row_stays verdicts plan older (steps.Store r pairs) values cs h = refl
-row_stays verdicts plan older (steps.Buffer r number) values cs h = refl
-row_stays verdicts plan older (steps.Queue r) values cs h = refl
-row_stays verdicts plan older (steps.Complete r) values cs h = refl
-row_stays verdicts plan older (steps.Cancel r) values cs h = refl
-row_stays verdicts plan older steps.StreamOff values cs h = refl
-row_stays verdicts plan older (steps.Reinit r) values cs h = refl
-row_stays verdicts plan older (steps.Free r) values cs h = refl
-row_stays verdicts plan older (steps.Subscribe f c flags) values cs h = refl
-row_stays verdicts plan older (steps.Unsubscribe f c) values cs h = refl
-row_stays verdicts plan older (steps.Take f c) values cs h = refl
+row_stays verdicts plan older _ values cs h = refl
 
 -- a cluster of which no member changes keeps a word that it may have been told
 pub word_stays : (told : Words) (verdicts : Verdicts) (plan : PlanData) (entries : History) (e : Entry Step) (k word : ℕ)

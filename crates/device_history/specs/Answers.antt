@@ -67,24 +67,7 @@ MayLackMemory verdicts plan past (asks.StateOf r) = ⊥
 MayLackMemory verdicts plan past (asks.Query fh id) = ⊥
 MayLackMemory verdicts plan past (asks.NextId fh id) = ⊥
 MayLackMemory verdicts plan past (asks.Told cluster) = ⊥
-MayLackMemory verdicts plan past (asks.OpenFh handler) = IsOk (answer_of verdicts plan past [] (asks.OpenFh handler))
-MayLackMemory verdicts plan past (asks.CloseFh fh) = IsOk (answer_of verdicts plan past [] (asks.CloseFh fh))
-MayLackMemory verdicts plan past (asks.Grab c on) = IsOk (answer_of verdicts plan past [] (asks.Grab c on))
-MayLackMemory verdicts plan past (asks.ModifyRange c low high apart default_value) = IsOk (answer_of verdicts plan past [] (asks.ModifyRange c low high apart default_value))
-MayLackMemory verdicts plan past asks.Alloc = IsOk (answer_of verdicts plan past [] asks.Alloc)
-MayLackMemory verdicts plan past (asks.AddBuffer r number) = IsOk (answer_of verdicts plan past [] (asks.AddBuffer r number))
-MayLackMemory verdicts plan past (asks.Queue r) = IsOk (answer_of verdicts plan past [] (asks.Queue r))
-MayLackMemory verdicts plan past asks.Begin = IsOk (answer_of verdicts plan past [] asks.Begin)
-MayLackMemory verdicts plan past asks.Complete = IsOk (answer_of verdicts plan past [] asks.Complete)
-MayLackMemory verdicts plan past (asks.Cancel r) = IsOk (answer_of verdicts plan past [] (asks.Cancel r))
-MayLackMemory verdicts plan past asks.StreamOff = IsOk (answer_of verdicts plan past [] asks.StreamOff)
-MayLackMemory verdicts plan past (asks.Reinit r) = IsOk (answer_of verdicts plan past [] (asks.Reinit r))
-MayLackMemory verdicts plan past (asks.Free r) = IsOk (answer_of verdicts plan past [] (asks.Free r))
-MayLackMemory verdicts plan past (asks.Forecast place) = IsOk (answer_of verdicts plan past [] (asks.Forecast place))
-MayLackMemory verdicts plan past (asks.Subscribe fh id flags) = IsOk (answer_of verdicts plan past [] (asks.Subscribe fh id flags))
-MayLackMemory verdicts plan past (asks.Unsubscribe fh id) = IsOk (answer_of verdicts plan past [] (asks.Unsubscribe fh id))
-MayLackMemory verdicts plan past (asks.Take fh) = IsOk (answer_of verdicts plan past [] (asks.Take fh))
-MayLackMemory verdicts plan past (asks.MenuItem fh id index) = IsOk (answer_of verdicts plan past [] (asks.MenuItem fh id index))
+MayLackMemory verdicts plan past ask = IsOk (answer_of verdicts plan past [] ask)
 
 -- the entries of an ask that is one about a list
 abbrev pub list_of : Ask → Option (List ExtControl)

@@ -33,9 +33,6 @@ use Rattle.device_history.specs.Queries.{control_shown, id_behind, item_found, w
 abbrev pub check_of : Verdicts → PlanData → Past → Ask → Option Check
 check_of verdicts plan past (asks.OpenFh handler) = step_check past (open_check plan past handler)
 check_of verdicts plan past (asks.CloseFh fh) = step_check past (through past fh None)
-check_of verdicts plan past (asks.GetCtrls fh which request list) = None
-check_of verdicts plan past (asks.SetCtrls fh which request list) = None
-check_of verdicts plan past (asks.TryCtrls fh which request list) = None
 check_of verdicts plan past (asks.Grab c on) = step_check past (grab_check plan c)
 check_of verdicts plan past (asks.ModifyRange c low high apart default_value) = step_check past (range_check plan past c low high apart default_value)
 check_of verdicts plan past asks.Alloc = step_check past (alloc_check (requests verdicts plan past))
@@ -56,6 +53,7 @@ check_of verdicts plan past (asks.Query fh id) = result_err (control_shown plan 
 check_of verdicts plan past (asks.NextId fh id) = result_err (id_behind plan past fh id)
 check_of verdicts plan past (asks.MenuItem fh id index) = result_err (item_found plan past fh id index)
 check_of verdicts plan past (asks.Told cluster) = result_err (word_of plan [] cluster)
+check_of verdicts plan past _ = None
 
 -- What refuses an ask where memory suffices, as the law `refusals_by_checks` says: the first check that doesn't hold, and of a list the entry where it doesn't.
 abbrev pub refusal_of : Verdicts → PlanData → Past → Ask → Option Refusal

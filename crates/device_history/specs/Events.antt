@@ -51,23 +51,7 @@ changed verdicts plan e older c = changes_of (value_differs verdicts plan e olde
 -- the file handle whose set a change of a control is, where it hears of it only if its subscription allows feedback
 abbrev pub from_of : Step → Changes → ℕ → Option ℕ
 from_of (steps.Set from pairs) change c = needing_feedback (Some from.0) pairs change c
-from_of (steps.Begin r) change c = None
-from_of (steps.Grab d on) change c = None
-from_of (steps.ModifyRange d low high apart default_value) change c = None
-from_of (steps.OpenFh handler) change c = None
-from_of (steps.CloseFh fh) change c = None
-from_of steps.Alloc change c = None
-from_of (steps.Store r pairs) change c = None
-from_of (steps.Buffer r number) change c = None
-from_of (steps.Queue r) change c = None
-from_of (steps.Complete r) change c = None
-from_of (steps.Cancel r) change c = None
-from_of steps.StreamOff change c = None
-from_of (steps.Reinit r) change c = None
-from_of (steps.Free r) change c = None
-from_of (steps.Subscribe fh d flags) change c = None
-from_of (steps.Unsubscribe fh d) change c = None
-from_of (steps.Take fh d) change c = None
+from_of _ change c = None
 
 -- A subscriber hears of what a step changes of a control; but of what it sets itself only where feedback is allowed, where the flags change, or where
 -- the control wasn't in the list (ctrl_raises/specs/Raises, `needing_feedback`).

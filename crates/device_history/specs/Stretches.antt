@@ -14,19 +14,7 @@ goes_on (steps.Grab c on) = false
 goes_on (steps.ModifyRange c low high apart default_value) = false
 goes_on (steps.Cancel r) = false
 goes_on steps.StreamOff = false
-goes_on (steps.OpenFh handler) = true
-goes_on (steps.CloseFh fh) = true
-goes_on steps.Alloc = true
-goes_on (steps.Store r pairs) = true
-goes_on (steps.Buffer r number) = true
-goes_on (steps.Queue r) = true
-goes_on (steps.Begin r) = true
-goes_on (steps.Complete r) = true
-goes_on (steps.Reinit r) = true
-goes_on (steps.Free r) = true
-goes_on (steps.Subscribe fh c flags) = true
-goes_on (steps.Unsubscribe fh c) = true
-goes_on (steps.Take fh c) = true
+goes_on _ = true
 
 -- entries all of whose steps are such
 abbrev pub all_go_on : History → Bool

@@ -21,22 +21,7 @@ defaults plan = map default_of plan.controls
 abbrev pub pairs_asked : PlanData → Past → Step → Option (List Pair)
 pairs_asked plan older (steps.Set fh pairs) = Some pairs
 pairs_asked plan older (steps.Begin r) = Some (asked plan older r.0)
-pairs_asked plan older (steps.OpenFh handler) = None
-pairs_asked plan older (steps.CloseFh fh) = None
-pairs_asked plan older (steps.Grab c on) = None
-pairs_asked plan older (steps.ModifyRange c low high apart default_value) = None
-pairs_asked plan older steps.Alloc = None
-pairs_asked plan older (steps.Store r pairs) = None
-pairs_asked plan older (steps.Buffer r number) = None
-pairs_asked plan older (steps.Queue r) = None
-pairs_asked plan older (steps.Complete r) = None
-pairs_asked plan older (steps.Cancel r) = None
-pairs_asked plan older steps.StreamOff = None
-pairs_asked plan older (steps.Reinit r) = None
-pairs_asked plan older (steps.Free r) = None
-pairs_asked plan older (steps.Subscribe fh c flags) = None
-pairs_asked plan older (steps.Unsubscribe fh c) = None
-pairs_asked plan older (steps.Take fh c) = None
+pairs_asked plan older _ = None
 
 -- what pairs that are laid make of values, under ranges and grabs
 abbrev pub now_after : Verdicts → PlanData → List Control → Values → Grabs → Option (List Pair) → Values

@@ -15,22 +15,8 @@ use Rattle.device_history.specs.Snapshots.{begun_pairs}
 abbrev pub pairs_applied : Verdicts → PlanData → Past → Step → Option (List Pair)
 pairs_applied verdicts plan older (steps.Set fh pairs) = Some pairs
 pairs_applied verdicts plan older (steps.Begin r) = Some (begun_pairs verdicts plan older r.0)
-pairs_applied verdicts plan older (steps.OpenFh handler) = None
-pairs_applied verdicts plan older (steps.CloseFh fh) = None
-pairs_applied verdicts plan older (steps.Grab c on) = None
 pairs_applied verdicts plan older (steps.ModifyRange c low high apart default_value) = Some []
-pairs_applied verdicts plan older steps.Alloc = None
-pairs_applied verdicts plan older (steps.Store r pairs) = None
-pairs_applied verdicts plan older (steps.Buffer r number) = None
-pairs_applied verdicts plan older (steps.Queue r) = None
-pairs_applied verdicts plan older (steps.Complete r) = None
-pairs_applied verdicts plan older (steps.Cancel r) = None
-pairs_applied verdicts plan older steps.StreamOff = None
-pairs_applied verdicts plan older (steps.Reinit r) = None
-pairs_applied verdicts plan older (steps.Free r) = None
-pairs_applied verdicts plan older (steps.Subscribe fh c flags) = None
-pairs_applied verdicts plan older (steps.Unsubscribe fh c) = None
-pairs_applied verdicts plan older (steps.Take fh c) = None
+pairs_applied verdicts plan older _ = None
 
 -- whether a step changes a control, from the values before to those after, where these pairs were applied; a step that can change no value changes none
 abbrev pub changes : PlanData → Values → Values → Option (List Pair) → ℕ → Bool

@@ -52,15 +52,10 @@ fits_in verdicts plan entries kept step own legal may leaves known = by step (fi
     by steps.StreamOff fit may leaves known = tt
     by (steps.Reinit r) fit may leaves known = ap clear_check (found verdicts plan entries kept r.0 own legal) ∙ fit
     by (steps.Free r) fit may leaves known = ap clear_check (found verdicts plan entries kept r.0 own legal) ∙ fit
-    by (steps.OpenFh handler) fit may leaves known = cc
-    by (steps.CloseFh fh) fit may leaves known = cc
-    by (steps.Set fh pairs) fit may leaves known = cc
-    by (steps.Grab c on) fit may leaves known = cc
-    by (steps.ModifyRange c low high apart default_value) fit may leaves known = cc
-    by (steps.Begin r) fit may leaves known = cc
     by (steps.Subscribe f c flags) fit may leaves known = tt
     by (steps.Unsubscribe f c) fit may leaves known = tt
     by (steps.Take f c) fit may leaves known = tt
+    by _ fit may leaves known = cc
 
 -- a frame can begin where none runs and one waits
 pub begin_passes : (verdicts : Verdicts) (plan : PlanData) (older : Past) (kept : FramesData) (r : ℕ) → kept ≡ frames verdicts plan older → running older ≡ None → first_of (queue older) ≡ Some r → begin_check kept ≡ None

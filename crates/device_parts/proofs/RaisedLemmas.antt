@@ -48,21 +48,7 @@ raised_step verdicts plan e older before after pairs from fh f around given = by
     by (steps.Grab c on) is given =
         ap (λ (ps : List Pair). raised_between plan before after ps from fh.0 f) given.0 ∙ ap (λ (o : Option FhId). raised_between plan before after [] o fh.0 f) given.1
         ∙ grab_raises verdicts plan e older before after c on fh (range_with_len 0 (length plan.controls)) f is around ∙ sym (ap (λ (s : Step). events_by verdicts plan e older fh s f) is)
-    by (steps.ModifyRange c low high apart default_value) is given = absurd given
-    by steps.Alloc is given = absurd given
-    by (steps.Store r own) is given = absurd given
-    by (steps.Buffer r number) is given = absurd given
-    by (steps.Queue r) is given = absurd given
-    by (steps.Complete r) is given = absurd given
-    by (steps.Cancel r) is given = absurd given
-    by steps.StreamOff is given = absurd given
-    by (steps.Reinit r) is given = absurd given
-    by (steps.Free r) is given = absurd given
-    by (steps.OpenFh handler) is given = absurd given
-    by (steps.CloseFh g) is given = absurd given
-    by (steps.Subscribe g c flags) is given = absurd given
-    by (steps.Unsubscribe g c) is given = absurd given
-    by (steps.Take g c) is given = absurd given
+    by _ is given = absurd given
 
 -- what a subscription makes of them
 pub subscribed_step : (verdicts : Verdicts) (plan : PlanData) (e : Entry Step) (older : Past) (at : ControlsData) (g : FhId) (c : ℕ) (flags : SubFlags) (fh : FhId) (f : FileEvents)

@@ -10,24 +10,13 @@ use Rattle.device_history.specs.declared.ask.Step.TheVariants as steps
 
 -- a step that leaves file handles, grabs, ranges and values
 abbrev pub leaves_controls : Step → Bool
-leaves_controls steps.Alloc = true
-leaves_controls (steps.Store r pairs) = true
-leaves_controls (steps.Buffer r number) = true
-leaves_controls (steps.Queue r) = true
-leaves_controls (steps.Complete r) = true
-leaves_controls (steps.Cancel r) = true
-leaves_controls steps.StreamOff = true
-leaves_controls (steps.Reinit r) = true
-leaves_controls (steps.Free r) = true
-leaves_controls (steps.Subscribe fh c flags) = true
-leaves_controls (steps.Unsubscribe fh c) = true
-leaves_controls (steps.Take fh c) = true
 leaves_controls (steps.OpenFh handler) = false
 leaves_controls (steps.CloseFh fh) = false
 leaves_controls (steps.Set fh pairs) = false
 leaves_controls (steps.Grab c on) = false
 leaves_controls (steps.ModifyRange c low high apart default_value) = false
 leaves_controls (steps.Begin r) = false
+leaves_controls _ = true
 
 -- what a step stores, or subscribes to, are controls that are there
 abbrev pub NamesKnown : ℕ → Step → Type 0

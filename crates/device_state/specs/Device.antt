@@ -105,29 +105,7 @@ may_judge verdicts plan past _ = 0
 abbrev pub must_ask : PlanData → Past → Ask → ℕ
 must_ask plan past (asks.SetCtrls fh which request list) = judged_count plan (touched plan (list_pairs plan past fh which list))
 must_ask plan past (asks.TryCtrls fh which request list) = judged_count plan (touched plan (list_pairs plan past fh which list))
-must_ask plan past (asks.OpenFh handler) = 0
-must_ask plan past (asks.CloseFh fh) = 0
-must_ask plan past (asks.GetCtrls fh which request list) = 0
-must_ask plan past (asks.Grab c on) = 0
-must_ask plan past (asks.ModifyRange c low high apart default_value) = 0
-must_ask plan past asks.Alloc = 0
-must_ask plan past (asks.AddBuffer r number) = 0
-must_ask plan past (asks.Queue r) = 0
-must_ask plan past asks.Begin = 0
-must_ask plan past asks.Complete = 0
-must_ask plan past (asks.Cancel r) = 0
-must_ask plan past asks.StreamOff = 0
-must_ask plan past (asks.Reinit r) = 0
-must_ask plan past (asks.Free r) = 0
-must_ask plan past (asks.StateOf r) = 0
-must_ask plan past (asks.Forecast place) = 0
-must_ask plan past (asks.Subscribe fh id flags) = 0
-must_ask plan past (asks.Unsubscribe fh id) = 0
-must_ask plan past (asks.Take fh) = 0
-must_ask plan past (asks.Query fh id) = 0
-must_ask plan past (asks.NextId fh id) = 0
-must_ask plan past (asks.MenuItem fh id index) = 0
-must_ask plan past (asks.Told cluster) = 0
+must_ask plan past _ = 0
 
 -- what may refuse an ask: the first check that doesn't hold, or want of memory
 abbrev pub MayRefuse : Verdicts → DeviceData → Ask → Refusal → Type 0

@@ -43,21 +43,7 @@ abbrev can_move : Step → Bool
 can_move (steps.Set fh pairs) = true
 can_move (steps.Begin r) = true
 can_move (steps.ModifyRange c low high apart default_value) = true
-can_move (steps.OpenFh handler) = false
-can_move (steps.CloseFh fh) = false
-can_move (steps.Grab c on) = false
-can_move steps.Alloc = false
-can_move (steps.Store r pairs) = false
-can_move (steps.Buffer r number) = false
-can_move (steps.Queue r) = false
-can_move (steps.Complete r) = false
-can_move (steps.Cancel r) = false
-can_move steps.StreamOff = false
-can_move (steps.Reinit r) = false
-can_move (steps.Free r) = false
-can_move (steps.Subscribe fh c flags) = false
-can_move (steps.Unsubscribe fh c) = false
-can_move (steps.Take fh c) = false
+can_move _ = false
 
 -- whether an ask that takes a step can move one; one without a step, as a try and one that is refused, can't
 abbrev moves : Option Step → Bool
@@ -88,21 +74,7 @@ values_stay : (verdicts : Verdicts) (plan : PlanData) (older : Past) (step : Ste
 values_stay verdicts plan older (steps.Set fh pairs) values e = absurd (cc)
 values_stay verdicts plan older (steps.Begin r) values e = absurd (cc)
 values_stay verdicts plan older (steps.ModifyRange c low high apart default_value) values e = absurd (cc)
-values_stay verdicts plan older (steps.OpenFh handler) values e = refl
-values_stay verdicts plan older (steps.CloseFh fh) values e = refl
-values_stay verdicts plan older (steps.Grab c on) values e = refl
-values_stay verdicts plan older steps.Alloc values e = refl
-values_stay verdicts plan older (steps.Store r pairs) values e = refl
-values_stay verdicts plan older (steps.Buffer r number) values e = refl
-values_stay verdicts plan older (steps.Queue r) values e = refl
-values_stay verdicts plan older (steps.Complete r) values e = refl
-values_stay verdicts plan older (steps.Cancel r) values e = refl
-values_stay verdicts plan older steps.StreamOff values e = refl
-values_stay verdicts plan older (steps.Reinit r) values e = refl
-values_stay verdicts plan older (steps.Free r) values e = refl
-values_stay verdicts plan older (steps.Subscribe fh c flags) values e = refl
-values_stay verdicts plan older (steps.Unsubscribe fh c) values e = refl
-values_stay verdicts plan older (steps.Take fh c) values e = refl
+values_stay verdicts plan older _ values e = refl
 
 -- the values behind an ask that moves none
 now_stays : (verdicts : Verdicts) (plan : PlanData) (before : History) (seat : ℕ) (took : Option Step) → moves took ≡ false → now verdicts plan (past (before ++ entered seat took)) ≡ now verdicts plan (past before)
@@ -127,25 +99,7 @@ step_stays verdicts plan older (asks.ModifyRange c low high apart default_value)
 step_stays verdicts plan older asks.Complete e = mapped_stays (λ r. steps.Complete (record { 0 = r })) (running older) (λ r. refl)
 step_stays verdicts plan older (asks.Subscribe fh id flags) e = mapped_stays (λ c. steps.Subscribe fh c flags) (shown plan older fh id) (λ c. refl)
 step_stays verdicts plan older (asks.Take fh) e = mapped_stays (λ c. steps.Take fh c) (first_control (pending verdicts plan older fh)) (λ c. refl)
-step_stays verdicts plan older (asks.OpenFh handler) e = refl
-step_stays verdicts plan older (asks.CloseFh fh) e = refl
-step_stays verdicts plan older (asks.GetCtrls fh which request list) e = refl
-step_stays verdicts plan older (asks.TryCtrls fh which request list) e = refl
-step_stays verdicts plan older (asks.Grab c on) e = refl
-step_stays verdicts plan older asks.Alloc e = refl
-step_stays verdicts plan older (asks.AddBuffer r number) e = refl
-step_stays verdicts plan older (asks.Queue r) e = refl
-step_stays verdicts plan older (asks.Cancel r) e = refl
-step_stays verdicts plan older asks.StreamOff e = refl
-step_stays verdicts plan older (asks.Reinit r) e = refl
-step_stays verdicts plan older (asks.Free r) e = refl
-step_stays verdicts plan older (asks.StateOf r) e = refl
-step_stays verdicts plan older (asks.Forecast place) e = refl
-step_stays verdicts plan older (asks.Unsubscribe fh id) e = refl
-step_stays verdicts plan older (asks.Query fh id) e = refl
-step_stays verdicts plan older (asks.NextId fh id) e = refl
-step_stays verdicts plan older (asks.MenuItem fh id index) e = refl
-step_stays verdicts plan older (asks.Told cluster) e = refl
+step_stays verdicts plan older _ e = refl
 
 -- the step that an ask takes that is no accepted change, if any
 taken_stays : (verdicts : Verdicts) (plan : PlanData) (older : Past) (ask : Ask) (answer : Answer) → is_accepted_change ask answer ≡ false → moves (taken verdicts plan older ask answer) ≡ false

@@ -185,14 +185,11 @@ fits_may verdicts plan past (steps.OpenFh handler) plain room h =
     below : (a b : ℕ) → nat_lt a b ≡ true → nat_le b a ≡ false
     below a b h = grind (arith, nat_tests, h)
 fits_may verdicts plan past (steps.CloseFh fh) plain room h = (asks.CloseFh fh, free _ past _ (through_open past fh None h refl) room, refl)
-fits_may verdicts plan past (steps.Set fh pairs) plain room h = cc
 fits_may verdicts plan past (steps.Grab c on) plain room h = (asks.Grab c on, free _ past _ (grabs_free (nat_le (length plan.controls) c) (below c (length plan.controls) h)) room, refl)
   where
     below : (a b : ℕ) → nat_lt a b ≡ true → nat_le b a ≡ false
     below a b h = grind (arith, nat_tests, h)
-fits_may verdicts plan past (steps.ModifyRange c low high apart default_value) plain room h = cc
 fits_may verdicts plan past steps.Alloc plain room h = (asks.Alloc, free _ past _ (none_is _ h) room, refl)
-fits_may verdicts plan past (steps.Store r pairs) plain room h = cc
 fits_may verdicts plan past (steps.Buffer r number) plain room h = (asks.AddBuffer r number, free _ past _ (none_is _ h) room, refl)
 fits_may verdicts plan past (steps.Queue r) plain room h = (asks.Queue r, free _ past _ (none_is _ h) room, refl)
 fits_may verdicts plan past (steps.Begin r) plain room h =
@@ -218,6 +215,7 @@ fits_may verdicts plan past (steps.Unsubscribe fh None) plain room h =
 fits_may verdicts plan past (steps.Take fh c) plain room h =
     let is = number_is (first_control (pending verdicts plan past fh)) c h in
     (asks.Take fh, takes_free verdicts plan past fh c (waits_open verdicts plan past fh c is) room is, ap (option_map (λ d. steps.Take fh d)) is)
+fits_may verdicts plan past _ plain room h = cc
 
 -- and a step that may follow finds the parts so
 pub may_fits : (verdicts : Verdicts) (plan : PlanData) (past : Past) (step : Step) → is_judged step ≡ false → MayFollow verdicts plan past step → (is_full past ≡ false) × (fits_parts verdicts plan past step ≡ true)
@@ -351,19 +349,4 @@ begin_there verdicts plan past r may = ap is_some (first_queued past r.0 (fits v
 pub names_known : (verdicts : Verdicts) (plan : PlanData) (past : Past) (step : Step) → IsPlan plan → is_judged step ≡ false → MayFollow verdicts plan past step → NamesKnown (length plan.controls) step
 names_known verdicts plan past (steps.Store r pairs) plans plain may = cc
 names_known verdicts plan past (steps.Subscribe fh c flags) plans plain may = subscribes_known verdicts plan past fh c flags plans may
-names_known verdicts plan past steps.Alloc plans plain may = tt
-names_known verdicts plan past (steps.Buffer r number) plans plain may = tt
-names_known verdicts plan past (steps.Queue r) plans plain may = tt
-names_known verdicts plan past (steps.Complete r) plans plain may = tt
-names_known verdicts plan past (steps.Cancel r) plans plain may = tt
-names_known verdicts plan past steps.StreamOff plans plain may = tt
-names_known verdicts plan past (steps.Reinit r) plans plain may = tt
-names_known verdicts plan past (steps.Free r) plans plain may = tt
-names_known verdicts plan past (steps.OpenFh handler) plans plain may = tt
-names_known verdicts plan past (steps.CloseFh fh) plans plain may = tt
-names_known verdicts plan past (steps.Set fh pairs) plans plain may = tt
-names_known verdicts plan past (steps.Grab c on) plans plain may = tt
-names_known verdicts plan past (steps.ModifyRange c low high apart default_value) plans plain may = tt
-names_known verdicts plan past (steps.Begin r) plans plain may = tt
-names_known verdicts plan past (steps.Unsubscribe fh c) plans plain may = tt
-names_known verdicts plan past (steps.Take fh c) plans plain may = tt
+names_known verdicts plan past _ plans plain may = tt

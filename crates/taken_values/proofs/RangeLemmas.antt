@@ -70,23 +70,7 @@ sound_after : (verdicts : Verdicts) (plan : PlanData) (older : Past) (step : Ste
 sound_after verdicts plan older (steps.ModifyRange c low high apart default_value) may sound =
     let fits = range_fits verdicts plan older c low high apart default_value may in
     sound_set (ranges_now plan older) c (control_with_range (ranges_now plan older) c low high apart default_value) (subst (λ n. c < n) (sym (ranges_own plan older).many) fits.0) fits.1 sound
-sound_after verdicts plan older (steps.OpenFh handler) may sound = sound
-sound_after verdicts plan older (steps.CloseFh fh) may sound = sound
-sound_after verdicts plan older (steps.Set fh pairs) may sound = sound
-sound_after verdicts plan older (steps.Grab c on) may sound = sound
-sound_after verdicts plan older steps.Alloc may sound = sound
-sound_after verdicts plan older (steps.Store r pairs) may sound = sound
-sound_after verdicts plan older (steps.Buffer r number) may sound = sound
-sound_after verdicts plan older (steps.Queue r) may sound = sound
-sound_after verdicts plan older (steps.Begin r) may sound = sound
-sound_after verdicts plan older (steps.Complete r) may sound = sound
-sound_after verdicts plan older (steps.Cancel r) may sound = sound
-sound_after verdicts plan older steps.StreamOff may sound = sound
-sound_after verdicts plan older (steps.Reinit r) may sound = sound
-sound_after verdicts plan older (steps.Free r) may sound = sound
-sound_after verdicts plan older (steps.Subscribe fh c flags) may sound = sound
-sound_after verdicts plan older (steps.Unsubscribe fh c) may sound = sound
-sound_after verdicts plan older (steps.Take fh c) may sound = sound
+sound_after verdicts plan older _ may sound = sound
 
 -- nor after any legal history
 pub sound_now : (verdicts : Verdicts) (plan : PlanData) (older : Past) → IsPlan plan → IsLegal verdicts plan older → AreSound (ranges_now plan older)

@@ -62,21 +62,7 @@ after_step verdicts plan older (steps.ModifyRange d low high apart default_value
     anew_taken (ranges_now plan older) values d (control_with_range (ranges_now plan older) d low high apart default_value) c (subst (λ n. d < n) (sym (ranges_own plan older).many) fits.0) (subst (λ n. d < n) (sym many) fits.0) fits.1 own
 after_step verdicts plan older (steps.Set fh pairs) values c may sound many lt own = overlay_taken verdicts plan (ranges_now plan older) values (grabbed plan older) pairs c sound lt own
 after_step verdicts plan older (steps.Begin r) values c may sound many lt own = overlay_taken verdicts plan (ranges_now plan older) values (grabbed plan older) (asked plan older r.0) c sound lt own
-after_step verdicts plan older (steps.OpenFh handler) values c may sound many lt own = own
-after_step verdicts plan older (steps.CloseFh fh) values c may sound many lt own = own
-after_step verdicts plan older (steps.Grab d on) values c may sound many lt own = own
-after_step verdicts plan older steps.Alloc values c may sound many lt own = own
-after_step verdicts plan older (steps.Store r pairs) values c may sound many lt own = own
-after_step verdicts plan older (steps.Buffer r number) values c may sound many lt own = own
-after_step verdicts plan older (steps.Queue r) values c may sound many lt own = own
-after_step verdicts plan older (steps.Complete r) values c may sound many lt own = own
-after_step verdicts plan older (steps.Cancel r) values c may sound many lt own = own
-after_step verdicts plan older steps.StreamOff values c may sound many lt own = own
-after_step verdicts plan older (steps.Reinit r) values c may sound many lt own = own
-after_step verdicts plan older (steps.Free r) values c may sound many lt own = own
-after_step verdicts plan older (steps.Subscribe fh d flags) values c may sound many lt own = own
-after_step verdicts plan older (steps.Unsubscribe fh d) values c may sound many lt own = own
-after_step verdicts plan older (steps.Take fh d) values c may sound many lt own = own
+after_step verdicts plan older _ values c may sound many lt own = own
 
 -- at first each control has its default
 start_taken : (plan : PlanData) (c : ℕ) → AreSound plan.controls → c < length plan.controls → Takes plan.controls (defaults plan) c
