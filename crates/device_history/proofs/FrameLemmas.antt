@@ -51,11 +51,6 @@ nothing false = refl
 
 -- a step makes no request but that of an allocation
 pub after_none : (verdicts : Verdicts) (plan : PlanData) (older : Past) (n : ℕ) (step : Step) (r : ℕ) → list_any (nat_eq r) (made n step) ≡ false → request_after verdicts plan older n step r None ≡ None
-after_none verdicts plan older n (OpenFh handler) r none = refl
-after_none verdicts plan older n (CloseFh fh) r none = refl
-after_none verdicts plan older n (Set fh pairs) r none = refl
-after_none verdicts plan older n (Grab c on) r none = refl
-after_none verdicts plan older n (ModifyRange c low high apart default_value) r none = refl
 after_none verdicts plan older n Alloc r none = grind (arith, nat_tests, none)
 after_none verdicts plan older n (Store q pairs) r none = nothing (nat_eq q.0 r)
 after_none verdicts plan older n (Buffer q number) r none = nothing (nat_eq q.0 r)
@@ -63,12 +58,9 @@ after_none verdicts plan older n (Queue q) r none = nothing (nat_eq q.0 r)
 after_none verdicts plan older n (Begin q) r none = nothing (nat_eq q.0 r)
 after_none verdicts plan older n (Complete q) r none = nothing (nat_eq q.0 r)
 after_none verdicts plan older n (Cancel q) r none = nothing (nat_eq q.0 r)
-after_none verdicts plan older n StreamOff r none = refl
 after_none verdicts plan older n (Reinit q) r none = nothing (nat_eq q.0 r)
 after_none verdicts plan older n (Free q) r none = nothing (nat_eq q.0 r)
-after_none verdicts plan older n (Subscribe f c flags) r none = refl
-after_none verdicts plan older n (Unsubscribe f c) r none = refl
-after_none verdicts plan older n (Take f c) r none = refl
+after_none verdicts plan older n _ r none = refl
 
 -- what was never made isn't there
 pub never_made : (verdicts : Verdicts) (plan : PlanData) (past : Past) (r : ℕ) → AllFit verdicts plan past → list_any (nat_eq r) (ever_made past) ≡ false → request verdicts plan past r ≡ None
@@ -248,11 +240,6 @@ seen_same a b q p r s x y z = rw (x, y, z) refl
 -- a step that fits keeps the queue as it is to be
 after_kept : (verdicts : Verdicts) (plan : PlanData) (older : Past) (step : Step) → AllFit verdicts plan older → QueueFitsRequests (frames verdicts plan older) → FitsFrames verdicts plan older step
     → QueueFitsRequests (frames_after verdicts plan older (length older) step (frames verdicts plan older))
-after_kept verdicts plan older (OpenFh handler) fit kept fits = kept
-after_kept verdicts plan older (CloseFh fh) fit kept fits = kept
-after_kept verdicts plan older (Set fh pairs) fit kept fits = kept
-after_kept verdicts plan older (Grab c on) fit kept fits = kept
-after_kept verdicts plan older (ModifyRange c low high apart default_value) fit kept fits = kept
 after_kept verdicts plan older Alloc fit kept fits = added_kept (frames verdicts plan older) (length older) kept (find_request verdicts plan older (length older) fit ∙ next_none verdicts plan older fit)
 after_kept verdicts plan older (Store r pairs) fit kept fits = state_kept (frames verdicts plan older) r.0 (with_pairs (length plan.controls) pairs) kept (λ q. refl) (λ q. refl) (λ q h. h)
 after_kept verdicts plan older (Buffer r number) fit kept fits = state_kept (frames verdicts plan older) r.0 (with_buffer number) kept (λ q. refl) (λ q. refl) (λ q h. refl)
@@ -265,9 +252,7 @@ after_kept verdicts plan older (Cancel r) fit kept fits = cancelled_kept (frames
 after_kept verdicts plan older StreamOff fit kept fits = off_kept (now verdicts plan older) (frames verdicts plan older)
 after_kept verdicts plan older (Reinit r) fit kept fits = cleared_kept (frames verdicts plan older) r.0 kept (ap clear_check (find_request verdicts plan older r.0 fit) ∙ fits)
 after_kept verdicts plan older (Free r) fit kept fits = freed_kept (frames verdicts plan older) r.0 kept (ap clear_check (find_request verdicts plan older r.0 fit) ∙ fits)
-after_kept verdicts plan older (Subscribe f c flags) fit kept fits = kept
-after_kept verdicts plan older (Unsubscribe f c) fit kept fits = kept
-after_kept verdicts plan older (Take f c) fit kept fits = kept
+after_kept verdicts plan older _ fit kept fits = kept
 
 -- the requests, the queue and the running one after one more entry, where those before it are as they are to be
 frames_from : (verdicts : Verdicts) (plan : PlanData) (e : Entry Step) (older : Past) → AllFit verdicts plan older → QueueFitsRequests (frames verdicts plan older) → FitsFrames verdicts plan older e.step
@@ -317,11 +302,6 @@ frames_from verdicts plan e older fit kept fits = by e.step refl fits
         (one step is fits none r f same) (line step is ∙ q ∙ line_stays r rest.0) (turn step is ∙ b ∙ turn_stays r rest.1)
 
     by : (step : Step) → e.step ≡ step → FitsFrames verdicts plan older step → frames verdicts plan (e ∷ older) ≡ frames_after verdicts plan older (length older) step (frames verdicts plan older)
-    by (OpenFh handler) is fits = other _ is fits refl (λ j. refl) refl refl
-    by (CloseFh fh) is fits = other _ is fits refl (λ j. refl) refl refl
-    by (Set fh pairs) is fits = other _ is fits refl (λ j. refl) refl refl
-    by (Grab c on) is fits = other _ is fits refl (λ j. refl) refl refl
-    by (ModifyRange c low high apart default_value) is fits = other _ is fits refl (λ j. refl) refl refl
     by Alloc is fits =
         let none : request verdicts plan older (length older) ≡ None = next_none verdicts plan older fit in
         seen_same (rs (requests verdicts plan (e ∷ older))) (rs (requests verdicts plan older ++ new_request (length older) ∷ [])) (queue (e ∷ older)) (queue older) (running (e ∷ older)) (running older)
@@ -356,9 +336,7 @@ frames_from verdicts plan e older fit kept fits = by e.step refl fits
         seen_same (rs (requests verdicts plan (e ∷ older))) (rs (without r.0 (requests verdicts plan older))) (queue (e ∷ older)) (queue older) (running (e ∷ older)) (running older)
         (ap rs (requests_more verdicts plan e older _ is fit fits refl ∙ freed_listed (request verdicts plan older) (ever_made older) r.0 (request_named verdicts plan older)))
         (line _ is ∙ line_stays r.0 rest.0) (turn _ is ∙ turn_stays r.0 rest.1)
-    by (Subscribe f c flags) is fits = other _ is fits refl (λ j. refl) refl refl
-    by (Unsubscribe f c) is fits = other _ is fits refl (λ j. refl) refl refl
-    by (Take f c) is fits = other _ is fits refl (λ j. refl) refl refl
+    by _ is fits = other _ is fits refl (λ j. refl) refl refl
 
 -- the queue has exactly the requests that wait, and the running one runs, after each history whose steps fit
 pub frames_kept : (verdicts : Verdicts) (plan : PlanData) (past : Past) → AllFit verdicts plan past → QueueFitsRequests (frames verdicts plan past)

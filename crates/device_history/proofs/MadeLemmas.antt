@@ -16,24 +16,8 @@ use Rattle.device_history.specs.FrameSteps.{changed_if_named}
 
 -- the number that a step makes is its own
 made_own : (r n : ℕ) (step : Step) → nat_eq r n ≡ false → list_any (nat_eq r) (made n step) ≡ false
-made_own r n (OpenFh handler) off = refl
-made_own r n (CloseFh fh) off = refl
-made_own r n (Set fh pairs) off = refl
-made_own r n (Grab c on) off = refl
-made_own r n (ModifyRange c low high apart default_value) off = refl
 made_own r n Alloc off = or_from (nat_eq r n) false off refl
-made_own r n (Store q pairs) off = refl
-made_own r n (Buffer q number) off = refl
-made_own r n (Queue q) off = refl
-made_own r n (Begin q) off = refl
-made_own r n (Complete q) off = refl
-made_own r n (Cancel q) off = refl
-made_own r n StreamOff off = refl
-made_own r n (Reinit q) off = refl
-made_own r n (Free q) off = refl
-made_own r n (Subscribe f c flags) off = refl
-made_own r n (Unsubscribe f c) off = refl
-made_own r n (Take f c) off = refl
+made_own r n _ off = refl
 
 -- no request has a number from that of the next step on
 pub not_made : (past : Past) (r : ℕ) → length past ≤ r → list_any (nat_eq r) (ever_made past) ≡ false

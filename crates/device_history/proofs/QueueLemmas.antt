@@ -61,16 +61,10 @@ ended test off None = refl
 ended test off (Some s) = off s
 
 waits_not : (s : RequestState) → is_queued (ended_state s) ≡ false
-waits_not states.Idle = refl
-waits_not states.Queued = refl
-waits_not states.Running = refl
-waits_not states.Complete = refl
+waits_not _ = refl
 
 runs_not : (s : RequestState) → is_running (ended_state s) ≡ false
-runs_not states.Idle = refl
-runs_not states.Queued = refl
-runs_not states.Running = refl
-runs_not states.Complete = refl
+runs_not _ = refl
 
 -- a request is in a state after one more entry where the entry's step makes it so
 there_more : (test : RequestState → Bool) (e : Entry Step) (older : Past) (step : Step) → e.step ≡ step → (j : ℕ) → is_there test (state (e ∷ older) j) ≡ is_there test (state_after (length older) step j (state older j))
@@ -90,11 +84,6 @@ queue_more e older = rw (ever_queued_more e older) (by e.step refl)
         cut r test (λ j. is_there is_queued (state older j)) (ever_queued older) (λ j. there_more is_queued e older step is j ∙ same j ∙ named is_queued false r left (state older j) j off)
 
     by : (step : Step) → e.step ≡ step → filter test (with_last (queued_by step) (ever_queued older)) ≡ queue_after (length older) step (queue older)
-    by (OpenFh handler) is = alike test _ (ever_queued older) (there_more is_queued e older _ is)
-    by (CloseFh fh) is = alike test _ (ever_queued older) (there_more is_queued e older _ is)
-    by (Set fh pairs) is = alike test _ (ever_queued older) (there_more is_queued e older _ is)
-    by (Grab c on) is = alike test _ (ever_queued older) (there_more is_queued e older _ is)
-    by (ModifyRange c low high apart default_value) is = alike test _ (ever_queued older) (there_more is_queued e older _ is)
     by Alloc is = dropped Alloc is (length older) (Some states.Idle) refl (λ j. refl)
     by (Store r pairs) is = dropped _ is r.0 (Some states.Idle) refl (λ j. refl)
     by (Buffer r number) is = dropped _ is r.0 (Some states.Idle) refl (λ j. refl)
@@ -109,9 +98,7 @@ queue_more e older = rw (ever_queued_more e older) (by e.step refl)
     by StreamOff is = none_left test (ever_queued older) (λ j. there_more is_queued e older _ is j ∙ ended is_queued waits_not (state older j))
     by (Reinit r) is = dropped _ is r.0 (Some states.Idle) refl (λ j. refl)
     by (Free r) is = dropped _ is r.0 None refl (λ j. refl)
-    by (Subscribe f c flags) is = alike test _ (ever_queued older) (there_more is_queued e older _ is)
-    by (Unsubscribe f c) is = alike test _ (ever_queued older) (there_more is_queued e older _ is)
-    by (Take f c) is = alike test _ (ever_queued older) (there_more is_queued e older _ is)
+    by _ is = alike test _ (ever_queued older) (there_more is_queued e older _ is)
 
 -- the frame that is being made after one more entry
 pub running_more : (e : Entry Step) (older : Past) → running (e ∷ older) ≡ running_after (length older) e.step (running older)
@@ -143,11 +130,6 @@ running_more e older = by e.step refl
         left r (last_begun older) (λ j. there_more is_running e older step is j ∙ same_state j ∙ named is_running false r state_left (state older j) j none)
 
     by : (step : Step) → e.step ≡ step → if_running (e ∷ older) (option_or (begun_by step) (last_begun older)) ≡ running_after (length older) step (running older)
-    by (OpenFh handler) is = same (last_begun older) (there_more is_running e older _ is)
-    by (CloseFh fh) is = same (last_begun older) (there_more is_running e older _ is)
-    by (Set fh pairs) is = same (last_begun older) (there_more is_running e older _ is)
-    by (Grab c on) is = same (last_begun older) (there_more is_running e older _ is)
-    by (ModifyRange c low high apart default_value) is = same (last_begun older) (there_more is_running e older _ is)
     by Alloc is = dropped Alloc is (length older) (Some states.Idle) refl (λ j. refl)
     by (Store r pairs) is = dropped _ is r.0 (Some states.Idle) refl (λ j. refl)
     by (Buffer r number) is = dropped _ is r.0 (Some states.Idle) refl (λ j. refl)
@@ -161,6 +143,4 @@ running_more e older = by e.step refl
     by StreamOff is = off (last_begun older) (λ j. there_more is_running e older _ is j ∙ ended is_running runs_not (state older j))
     by (Reinit r) is = dropped _ is r.0 (Some states.Idle) refl (λ j. refl)
     by (Free r) is = dropped _ is r.0 None refl (λ j. refl)
-    by (Subscribe f c flags) is = same (last_begun older) (there_more is_running e older _ is)
-    by (Unsubscribe f c) is = same (last_begun older) (there_more is_running e older _ is)
-    by (Take f c) is = same (last_begun older) (there_more is_running e older _ is)
+    by _ is = same (last_begun older) (there_more is_running e older _ is)
