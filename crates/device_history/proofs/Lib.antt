@@ -8,6 +8,7 @@ pub mod FrameLemmas
 pub mod RangeLemmas
 pub mod GrabLemmas
 pub mod PastLemmas
+pub mod ControlsLemmas
 pub mod PresentLemmas
 pub mod ListLemmas
 pub mod WholeLemmas

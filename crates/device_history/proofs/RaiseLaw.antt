@@ -27,6 +27,7 @@ use Rattle.device_history.specs.declared.ask.Step.{Step}
 use Rattle.device_history.specs.declared.ask.Step.TheVariants as steps
 use Rattle.device_history.specs.declared.limits.TheConstants.{MAX_STEPS}
 use Rattle.device_history.specs.Steps.{History, Past}
+use Rattle.device_history.specs.Controls.{controls_now}
 use Rattle.device_history.specs.Ranges.{ranges_now}
 use Rattle.device_history.specs.Grabs.{grabbed}
 use Rattle.device_history.specs.Values.{now, values_after}
@@ -49,25 +50,14 @@ raised_same change change' told told' from from' fh (c ∷ cs) f one two three =
     ∙ ap (λ (x : Option ℕ). raised_all change told from fh cs (raised_one (change' c) (told' c) x fh c f)) (three c)
     ∙ raised_same change change' told told' from from' fh cs (raised_one (change' c) (told' c) (from' c) fh c f) one two three
 
-payload_same : (verdicts : Verdicts) (plan : PlanData) (past : Past) (at : ControlsData) → at.ranges ≡ ranges_now plan past → at.values ≡ now verdicts plan past → at.grabs ≡ grabbed plan past → (c : ℕ) → payload_at plan at c ≡ payload verdicts plan past c
-payload_same verdicts plan past at r v g c =
-    ap (λ (l : List Control). payload_of (control_in l c) (value_at at.values c) (flags_under plan at.values at.grabs c)) r
-    ∙ ap (λ (vs : Values). payload_of (control_in (ranges_now plan past) c) (value_at vs c) (flags_under plan vs at.grabs c)) v
-    ∙ ap (λ (gs : Grabs). payload_of (control_in (ranges_now plan past) c) (value_at (now verdicts plan past) c) (flags_under plan (now verdicts plan past) gs c)) g
+payload_same : (verdicts : Verdicts) (plan : PlanData) (past : Past) (at : ControlsData) → at ≡ controls_now verdicts plan past → (c : ℕ) → payload_at plan at c ≡ payload verdicts plan past c
+payload_same verdicts plan past at is c = ap (λ (m : ControlsData). payload_at plan m c) is
 
 changed_same : (verdicts : Verdicts) (plan : PlanData) (e : Entry Step) (older : Past) (before after : ControlsData) (pairs : List Pair) → AreAround verdicts plan e older before after → (c : ℕ)
     → is_changed plan (now verdicts plan older) pairs c (value_at (now verdicts plan (e ∷ older)) c) ≡ value_differs verdicts plan e older c → changed_between plan before after pairs c ≡ changed verdicts plan e older c
 changed_same verdicts plan e older before after pairs around c is =
-    ap (λ (vs : Values). changes_of (is_changed plan vs pairs c (value_at after.values c)) (differ (flags_under plan vs before.grabs c) (flags_under plan after.values after.grabs c)) ranged) around.old_values
-    ∙ ap (λ (gs : Grabs). changes_of (is_changed plan (now verdicts plan older) pairs c (value_at after.values c)) (differ (flags_under plan (now verdicts plan older) gs c) (flags_under plan after.values after.grabs c)) ranged) around.old_grabs
-    ∙ ap (λ (vs : Values). changes_of (is_changed plan (now verdicts plan older) pairs c (value_at vs c)) (differ (flags_now verdicts plan older c) (flags_under plan vs after.grabs c)) ranged) around.values
-    ∙ ap (λ (gs : Grabs). changes_of (is_changed plan (now verdicts plan older) pairs c (value_at (now verdicts plan (e ∷ older)) c)) (differ (flags_now verdicts plan older c) (flags_under plan (now verdicts plan (e ∷ older)) gs c)) ranged) around.grabs
-    ∙ ap (λ (b : Bool). changes_of b (differ (flags_now verdicts plan older c) (flags_now verdicts plan (e ∷ older) c)) ranged) is
-    ∙ ap (changes_of (value_differs verdicts plan e older c) (differ (flags_now verdicts plan older c) (flags_now verdicts plan (e ∷ older) c)))
-    (ap (λ (l : List Control). range_differs (control_in l c) (control_in after.ranges c)) around.old_ranges ∙ ap (λ (l : List Control). range_differs (control_in (ranges_now plan older) c) (control_in l c)) around.ranges)
-  where
-    ranged : Bool
-    ranged = range_differs (control_in before.ranges c) (control_in after.ranges c)
+    (λ i. changed_between plan (around.old i) (around.new i) pairs c)
+    ∙ ap (λ (b : Bool). changes_of b (differ (flags_now verdicts plan older c) (flags_now verdicts plan (e ∷ older) c)) (range_differs (control_in (ranges_now plan older) c) (control_in (ranges_now plan (e ∷ older)) c))) is
 
 -- raises between the moments around an entry
 raised_around : (verdicts : Verdicts) (plan : PlanData) (e : Entry Step) (older : Past) (before after : ControlsData) (pairs : List Pair) (from : Option ℕ) (fh : FhId) (cs : List ℕ) (f : FileEvents)
@@ -77,7 +67,7 @@ raised_around : (verdicts : Verdicts) (plan : PlanData) (e : Entry Step) (older 
 raised_around verdicts plan e older before after pairs from fh cs f around differs hears =
     raised_same _ (changed verdicts plan e older) _ (payload verdicts plan (e ∷ older)) _ (λ c. from_of e.step (changed verdicts plan e older c) c) fh.0 cs f
     (λ c. changed_same verdicts plan e older before after pairs around c (differs c))
-    (payload_same verdicts plan (e ∷ older) after around.ranges around.values around.grabs)
+    (payload_same verdicts plan (e ∷ older) after around.new)
     (λ c. ap (λ (x : Changes). needing_feedback from pairs x c) (changed_same verdicts plan e older before after pairs around c (differs c)) ∙ hears (changed verdicts plan e older c) c)
 
 -- The raises of a set.
@@ -128,8 +118,8 @@ range_raises verdicts plan e older before after d low high apart default_value f
     (λ change c. sym (ap (λ (s : Step). from_of s change c) is))
 
 -- What a subscription tells at once.
-pub subscribe_tells : (verdicts : Verdicts) (plan : PlanData) (e : Entry Step) (older : Past) (at : ControlsData) (c : ℕ) → at.ranges ≡ ranges_now plan (e ∷ older) → at.values ≡ now verdicts plan (e ∷ older) → at.grabs ≡ grabbed plan (e ∷ older) → payload_at plan at c ≡ payload verdicts plan (e ∷ older) c
-subscribe_tells verdicts plan e older at c r v g = payload_same verdicts plan (e ∷ older) at r v g c
+pub subscribe_tells : (verdicts : Verdicts) (plan : PlanData) (e : Entry Step) (older : Past) (at : ControlsData) (c : ℕ) → at ≡ controls_now verdicts plan (e ∷ older) → payload_at plan at c ≡ payload verdicts plan (e ∷ older) c
+subscribe_tells verdicts plan e older at c is = payload_same verdicts plan (e ∷ older) at is c
 
 -- There is a number for each raise of one more step.
 pub numbers_left : (verdicts : Verdicts) (plan : PlanData) (past : Past) (fh : FhId) (f : FileEvents) → IsPlan plan → length past ≤ MAX_STEPS → AreEvents verdicts plan past fh f → f.next + length plan.controls ≤ 4294967295

@@ -11,9 +11,7 @@ use Rattle.ctrl_raises.specs.Raises.{initial_changes, raised_all}
 use Rattle.device_history.specs.declared.ask.Step.{Step}
 use Rattle.device_history.specs.declared.ask.Step.TheVariants as steps
 use Rattle.device_history.specs.Steps.{Past}
-use Rattle.device_history.specs.Ranges.{ranges_now}
-use Rattle.device_history.specs.Grabs.{grabbed}
-use Rattle.device_history.specs.Values.{now}
+use Rattle.device_history.specs.Controls.{controls_now}
 use Rattle.device_history.specs.Subscriptions.{subscribed}
 use Rattle.device_history.specs.Events.{changed, from_of, next_sequence, payload, pending}
 
@@ -29,12 +27,8 @@ raised_by verdicts plan e older fh cs f = raised_all (changed verdicts plan e ol
 
 -- Two moments are those before and after an entry.
 pub record AreAround (verdicts : Verdicts) (plan : PlanData) (e : Entry Step) (older : Past) (before after : ControlsData) : Type 0 where
-  pub old_ranges : before.ranges ≡ ranges_now plan older
-  pub old_values : before.values ≡ now verdicts plan older
-  pub old_grabs : before.grabs ≡ grabbed plan older
-  pub ranges : after.ranges ≡ ranges_now plan (e ∷ older)
-  pub values : after.values ≡ now verdicts plan (e ∷ older)
-  pub grabs : after.grabs ≡ grabbed plan (e ∷ older)
+  pub old : before ≡ controls_now verdicts plan older
+  pub new : after ≡ controls_now verdicts plan (e ∷ older)
 
 -- where it is this file handle's, what is made of it
 abbrev pub where_own : FhId → FhId → FileEvents → FileEvents → FileEvents

@@ -30,7 +30,7 @@ last_grab_is_on past c = unwrap_or (lookup (nat_eq c) (grabs_made past)) false
 unfoldable pub grabbed : PlanData → Past → Grabs
 grabbed plan past = map (last_grab_is_on past) (range_with_len 0 (length plan.controls))
 
--- what a step makes of the grabs, as the law `grabbed_controls` says: a grab holds one control, or lets it go
+-- what a step makes of the grabs, as the law `present_controls` says: a grab holds one control, or lets it go
 abbrev pub grabbed_after : Step → Grabs → Grabs
 grabbed_after (Grab c on) grabs = slice_set grabs c on
 grabbed_after _ grabs = grabs

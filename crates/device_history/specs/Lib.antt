@@ -39,6 +39,7 @@ pub mod Ranges
 pub mod Grabs
 pub mod Requests
 pub mod Values
+pub mod Controls
 pub mod Flags
 pub mod Frames
 pub mod Snapshots

@@ -57,7 +57,7 @@ ranges_now plan past = map (control_now plan past) (range_with_len 0 (length pla
 abbrev pub control_with_range : List Control → ℕ → ℤ → ℤ → ℕ → ℤ → Control
 control_with_range controls c low high apart default_value = with_range (control_in controls c) low high apart default_value
 
--- what a step makes of them, as the law `present_ranges` says: a range change gives one control another range
+-- what a step makes of them, as the law `present_controls` says: a range change gives one control another range
 abbrev pub ranges_after : Step → List Control → List Control
 ranges_after (ModifyRange c low high apart default_value) controls = modified controls c (control_with_range controls c low high apart default_value)
 ranges_after _ controls = controls

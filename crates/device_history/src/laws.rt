@@ -14,7 +14,7 @@ ghost use Rattle.ctrl_types.specs.declared.value.CtrlValue.{CtrlValue};
 ghost use Rattle.ctrl_types.specs.declared.ids.FhId.{FhId};
 ghost use Rattle.ctrl_types.specs.declared.ids.RequestId.{RequestId};
 ghost use Rattle.ctrl_types.specs.declared.ids.Pair.{Pair};
-ghost use Rattle.ctrl_clusters.specs.ControlsData.{ControlsData};
+ghost use Rattle.ctrl_clusters.specs.ControlsData.{ControlsData, at_start};
 ghost use Rattle.device_history.specs.declared.ask.Ask.{Ask};
 ghost use Rattle.device_history.specs.declared.ask.Ask.TheVariants as asks;
 ghost use Rattle.device_history.specs.declared.ask.Reply.TheVariants.{Controls, Frame};
@@ -28,7 +28,8 @@ ghost use Rattle.ctrl_clusters.specs.Overlay.{row_after};
 ghost use Rattle.ctrl_clusters.specs.PresentFlags.{flags_under};
 ghost use Rattle.device_history.specs.Flags.{flags_now};
 ghost use Rattle.device_history.specs.Steps.{History, Past};
-ghost use Rattle.device_history.specs.Ranges.{ranges_after, ranges_now};
+ghost use Rattle.device_history.specs.Controls.{controls_after, controls_now};
+ghost use Rattle.device_history.specs.Ranges.{ranges_now};
 ghost use Rattle.device_history.specs.Refusals.{fault_by, fault_of};
 ghost use Rattle.device_history.specs.Handles.{opened, opened_after, handler_of};
 ghost use Rattle.device_history.specs.Values.{defaults, now, values_after};
@@ -71,20 +72,13 @@ pub fn closed_handles()
     ensures for_good { (steps more : History) (fh : FhId) → fh.0 < length steps → handler_of (past steps) fh ≡ None → handler_of (past (steps ++ more)) fh ≡ None }
 {}
 
-/// At first the ranges are the plan's; one more entry makes of them what its step makes of them. At every moment they are of the plan's controls: a range
-/// change leaves id, kind, flags, skipped items and the number of elements.
-#[tactic(auto, using(crate::proofs::RangeLemmas::ranges_start, crate::proofs::RangeLemmas::ranges_add))]
-pub fn present_ranges()
-    ensures start { (plan : PlanData) → ranges_now plan (past []) ≡ plan.controls }
-    ensures one_more { (plan : PlanData) (steps : History) (e : Entry Step) → ranges_now plan (past (steps ++ e ∷ [])) ≡ ranges_after e.step (ranges_now plan (past steps)) }
+/// At first the controls are as the plan has them: its ranges, the defaults, and no grabs; one more entry makes of ranges, values and grabs what its step makes of
+/// them. At every moment the ranges are of the plan's controls: a range change leaves id, kind, flags, skipped items and the number of elements.
+#[tactic(auto, using(crate::proofs::ControlsLemmas::controls_start, crate::proofs::ControlsLemmas::controls_add))]
+pub fn present_controls()
+    ensures start { (verdicts : Verdicts) (plan : PlanData) → controls_now verdicts plan (past []) ≡ at_start plan }
+    ensures one_more { (verdicts : Verdicts) (plan : PlanData) (steps : History) (e : Entry Step) → controls_now verdicts plan (past (steps ++ e ∷ [])) ≡ controls_after verdicts plan (past steps) e.step (controls_now verdicts plan (past steps)) }
     ensures own { (plan : PlanData) (older : Past) → AreControlsOf plan (ranges_now plan older) }
-{}
-
-/// At first the present values are the defaults; one more entry makes of them what its step makes of them.
-#[tactic(auto, using(crate::proofs::PastLemmas::now_start, crate::proofs::PastLemmas::now_add))]
-pub fn present_values()
-    ensures start { (verdicts : Verdicts) (plan : PlanData) → now verdicts plan (past []) ≡ defaults plan }
-    ensures one_more { (verdicts : Verdicts) (plan : PlanData) (steps : History) (e : Entry Step) → now verdicts plan (past (steps ++ e ∷ [])) ≡ values_after verdicts plan (past steps) e.step (now verdicts plan (past steps)) }
 {}
 
 /// A set of present values that is accepted is made whole: no cluster is refused, so that each has the row that its pairs make of it; and each entry is answered
@@ -96,13 +90,6 @@ pub fn whole_sets()
     ensures answers { (verdicts : Verdicts) (plan : PlanData) (older : Past) (fh : FhId) (which : ℕ) (request : Option RequestId) (list answers : List ExtControl) → IsPlan plan → meant (which_or (which_of which)) request ≡ None
         → set_list_answer verdicts plan older fh which request list ≡ Ok (Controls answers)
         → answers ≡ map (λ p. record { id = (control plan p.control).id; value = value_at (values_set verdicts plan older fh which list) p.control }) (list_pairs plan older fh which list) }
-{}
-
-/// At first no control is grabbed; one more entry makes of the grabs what its step makes of them.
-#[tactic(auto, using(crate::proofs::GrabLemmas::grabbed_start, crate::proofs::GrabLemmas::grabbed_add))]
-pub fn grabbed_controls()
-    ensures start { (plan : PlanData) → grabbed plan (past []) ≡ map (λ _. false) plan.controls }
-    ensures one_more { (plan : PlanData) (steps : History) (e : Entry Step) → grabbed plan (past (steps ++ e ∷ [])) ≡ grabbed_after e.step (grabbed plan (past steps)) }
 {}
 
 /// The present flags are those that the present values and the grabs make; one more entry makes of them what its step makes of
@@ -253,7 +240,7 @@ pub fn raised_events()
         → raised_all (changed_between plan before after []) (payload_at plan after) (λ c. needing_feedback None [] (changed_between plan before after [] c) c) fh.0 cs f ≡ raised_by verdicts plan e older fh cs f }
     ensures range { (verdicts : Verdicts) (plan : PlanData) (e : Entry Step) (older : Past) (before after : ControlsData) (d : ℕ) (low high : ℤ) (apart : ℕ) (default_value : ℤ) (fh : FhId) (cs : List ℕ) (f : FileEvents) → e.step ≡ ModifyRange d low high apart default_value → AreAround verdicts plan e older before after
         → raised_all (changed_between plan before after []) (payload_at plan after) (λ c. needing_feedback None [] (changed_between plan before after [] c) c) fh.0 cs f ≡ raised_by verdicts plan e older fh cs f }
-    ensures subscription { (verdicts : Verdicts) (plan : PlanData) (e : Entry Step) (older : Past) (at : ControlsData) (c : ℕ) → at.ranges ≡ ranges_now plan (e ∷ older) → at.values ≡ now verdicts plan (e ∷ older) → at.grabs ≡ grabbed plan (e ∷ older) → payload_at plan at c ≡ payload verdicts plan (e ∷ older) c }
+    ensures subscription { (verdicts : Verdicts) (plan : PlanData) (e : Entry Step) (older : Past) (at : ControlsData) (c : ℕ) → at ≡ controls_now verdicts plan (e ∷ older) → payload_at plan at c ≡ payload verdicts plan (e ∷ older) c }
 {}
 
 /// What is forecast is what a begin then makes, whichever seats make the steps, as long as no set of present values, no grab or release, no

@@ -6,7 +6,6 @@ use Rattle.history.specs.Past.{past}
 use Rattle.history.proofs.Pasts.{length_past}
 use Rattle.ctrl_calls.specs.Meanings.{Verdicts}
 use Rattle.ctrl_types.specs.declared.ids.FhId.{FhId}
-use Rattle.ctrl_clusters.specs.ControlsData.{ControlsData}
 use Rattle.ctrl_clusters.specs.Rows.{AreControlsOf}
 use Rattle.ctrl_events.specs.Events.{FileEvents, events_of}
 use Rattle.ctrl_handlers.specs.Plan.{IsPlan, PlanData}
@@ -14,9 +13,7 @@ use Rattle.device_history.specs.declared.ask.Step.{Step}
 use Rattle.device_history.specs.declared.limits.TheConstants.{MAX_STEPS}
 use Rattle.device_history.specs.Steps.{History}
 use Rattle.device_history.specs.Handles.{opened, ever_opened, opened_after}
-use Rattle.device_history.specs.Ranges.{ranges_after, ranges_now}
-use Rattle.device_history.specs.Grabs.{grabbed, grabbed_after}
-use Rattle.device_history.specs.Values.{now, values_after}
+use Rattle.device_history.specs.Controls.{controls_after, controls_now}
 use Rattle.device_history.specs.Snapshots.{frames}
 use Rattle.device_history.specs.FrameSteps.{frames_after}
 use Rattle.device_history.specs.EventSteps.{AreEvents, events_after}
@@ -24,39 +21,34 @@ use Rattle.device_history.specs.Legal.{IsLegal, MayFollow}
 use Rattle.device_history.proofs.EventLemmas.{events_add, events_start}
 use Rattle.device_history.proofs.FrameLaw.{frames_start, frames_add}
 use Rattle.device_history.proofs.RaiseLaw.{numbers_left}
-use Rattle.device_history.proofs.PastLemmas.{opened_add, opened_fresh, now_add, legal_add}
+use Rattle.device_history.proofs.PastLemmas.{opened_add, opened_fresh, legal_add}
+use Rattle.device_history.proofs.ControlsLemmas.{controls_add, controls_start, grabs_of, ranges_of, values_of}
 use Rattle.device_history.proofs.PresentLemmas.{length_grabbed, length_now}
-use Rattle.device_history.proofs.GrabLemmas.{grabbed_start, grabbed_add}
-use Rattle.device_history.proofs.RangeLemmas.{ranges_add, ranges_own, ranges_start}
+use Rattle.device_history.proofs.RangeLemmas.{ranges_own}
 use Rattle.device_parts.specs.State.{IsMade, IsReady, IsStart, StateData}
 
 -- what a device starts with is what no step makes
 pub made_start : (verdicts : Verdicts) (plan : PlanData) (state : StateData) → IsPlan plan → IsStart plan state → IsMade verdicts plan [] state
-unfolding IsLegal opened ever_opened now
+unfolding IsLegal opened ever_opened
 made_start verdicts plan state plans start = record {
   plans = plans;
   legal = tt;
   file_handles = start.file_handles;
-  ranges = ap (λ (d : ControlsData). d.ranges) start.controls ∙ sym (ranges_start plan);
-  values = ap (λ (d : ControlsData). d.values) start.controls;
-  grabs = ap (λ (d : ControlsData). d.grabs) start.controls ∙ sym (grabbed_start plan);
+  controls = start.controls ∙ sym (controls_start verdicts plan);
   frames = start.frames ∙ sym (frames_start verdicts plan);
   events = λ fh. subst (λ (k : FileEvents). AreEvents verdicts plan (past []) fh k) (sym (start.events fh.0)) (events_start verdicts plan fh);
 }
 
 -- one more entry of a step that may follow, with the parts that it makes
 pub made_add : (verdicts : Verdicts) (plan : PlanData) (steps : History) (old new : StateData) (e : Entry Step) → IsMade verdicts plan steps old → MayFollow verdicts plan (past steps) e.step
-    → new.file_handles ≡ opened_after (length steps) e.step (opened (past steps)) → new.controls.ranges ≡ ranges_after e.step (ranges_now plan (past steps))
-    → new.controls.values ≡ values_after verdicts plan (past steps) e.step (now verdicts plan (past steps)) → new.controls.grabs ≡ grabbed_after e.step (grabbed plan (past steps))
+    → new.file_handles ≡ opened_after (length steps) e.step (opened (past steps)) → new.controls ≡ controls_after verdicts plan (past steps) e.step (controls_now verdicts plan (past steps))
     → new.frames ≡ frames_after verdicts plan (past steps) (length steps) e.step (frames verdicts plan (past steps))
     → ((fh : FhId) → events_of new.events fh.0 ≡ events_after verdicts plan e (past steps) fh (events_of old.events fh.0)) → IsMade verdicts plan (steps ++ e ∷ []) new
-made_add verdicts plan steps old new e made may h r v g f ev = record {
+made_add verdicts plan steps old new e made may h c f ev = record {
   plans = made.plans;
   legal = legal_add verdicts plan steps e made.legal may;
   file_handles = h ∙ sym (opened_add steps e);
-  ranges = r ∙ sym (ranges_add plan steps e);
-  values = v ∙ sym (now_add verdicts plan steps e);
-  grabs = g ∙ sym (grabbed_add plan steps e);
+  controls = c ∙ sym (controls_add verdicts plan steps e);
   frames = f ∙ sym (frames_add verdicts plan steps e made.legal may);
   events = λ fh. subst (λ (k : FileEvents). AreEvents verdicts plan (past (steps ++ e ∷ [])) fh k) (sym (ev fh)) (events_add verdicts plan steps e fh (events_of old.events fh.0) made.plans made.legal may (made.events fh));
 }
@@ -70,10 +62,10 @@ made_fresh verdicts plan steps state made =
 pub made_ready : (verdicts : Verdicts) (plan : PlanData) (steps : History) (state : StateData) → IsMade verdicts plan steps state → length steps ≤ MAX_STEPS → IsReady plan state
 made_ready verdicts plan steps state made few = record {
   ranges = own;
-  valued = ap length made.values ∙ length_now verdicts plan (past steps) ∙ sym own.many;
-  held = ap length made.grabs ∙ length_grabbed plan (past steps) ∙ sym own.many;
+  valued = ap length (values_of made.controls) ∙ length_now verdicts plan (past steps) ∙ sym own.many;
+  held = ap length (grabs_of made.controls) ∙ length_grabbed plan (past steps) ∙ sym own.many;
   numbers = λ j. numbers_left verdicts plan (past steps) (record { 0 = j }) (events_of state.events j) made.plans (omega (arith, length_past steps, few)) (made.events (record { 0 = j }));
 }
   where
     own : AreControlsOf plan state.controls.ranges
-    own = subst (AreControlsOf plan) (sym made.ranges) (ranges_own plan (past steps))
+    own = subst (AreControlsOf plan) (sym (ranges_of made.controls)) (ranges_own plan (past steps))

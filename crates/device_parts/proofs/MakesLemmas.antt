@@ -24,24 +24,23 @@ use Rattle.device_history.specs.declared.ask.Step.{Step}
 use Rattle.device_history.specs.declared.ask.Step.TheVariants as kinds
 use Rattle.device_history.specs.Steps.{History, Past}
 use Rattle.device_history.specs.Handles.{opened, opened_after}
-use Rattle.device_history.specs.Ranges.{control_with_range, ranges_after, ranges_now}
-use Rattle.device_history.specs.Grabs.{grabbed, grabbed_after}
+use Rattle.device_history.specs.Controls.{controls_after, controls_now}
+use Rattle.device_history.specs.Ranges.{control_with_range, ranges_now}
 use Rattle.device_history.specs.Requests.{asked, state}
-use Rattle.device_history.specs.Values.{now, values_after}
+use Rattle.device_history.specs.Values.{now}
 use Rattle.device_history.specs.Snapshots.{begun_pairs, begun_values, frames, request, request_in}
 use Rattle.device_history.specs.FrameSteps.{frames_after, frames_changed}
 use Rattle.device_history.specs.EventSteps.{AreAround, events_after}
 use Rattle.device_history.specs.Legal.{IsLegal, MayFollow}
 use Rattle.device_history.proofs.FitLemmas.{fits}
 use Rattle.device_history.proofs.RequestLemmas.{first_queued}
-use Rattle.device_history.proofs.PastLemmas.{opened_rising, drops_one, now_more}
-use Rattle.device_history.proofs.GrabLemmas.{grabbed_more}
-use Rattle.device_history.proofs.RangeLemmas.{ranges_more}
+use Rattle.device_history.proofs.ControlsLemmas.{controls_more, values_of}
+use Rattle.device_history.proofs.PastLemmas.{opened_rising, drops_one}
 use Rattle.device_parts.specs.Leaving.{leaves_controls}
 use Rattle.device_parts.specs.QueuedFrames.{pairs_in}
 use Rattle.device_parts.specs.Sources.{IsSourceOf}
 use Rattle.device_parts.proofs.FitLemmas.{found}
-use Rattle.device_parts.proofs.LeavingLemmas.{opened_controls_left, grabbed_controls_left, values_left, ranges_left, given_controls_left}
+use Rattle.device_parts.proofs.LeavingLemmas.{controls_left, given_controls_left, opened_controls_left}
 use Rattle.device_parts.specs.State.{IsMade, StateData}
 use Rattle.device_parts.specs.Makes.{Makes, MakesEverywhere, applied_over, laid}
 use Rattle.device_parts.proofs.MadeLemmas.{made_add}
@@ -56,7 +55,7 @@ pub makes_open : (number handler : ℕ) (old new : StateData) → new ≡ record
 makes_open number handler old new is verdicts plan steps e many own made may = rw is
     (made_add verdicts plan steps old (record old { file_handles = old.file_handles ++ (number, handler) ∷ [] }) e made (rw own may)
     (rw own (ap (λ (os : List (ℕ × ℕ)). os ++ (number, handler) ∷ []) made.file_handles ∙ ap (λ (n : ℕ). opened (past steps) ++ (n, handler) ∷ []) (sym many)))
-    (rw own made.ranges) (rw own made.values) (rw own made.grabs) (rw own made.frames) (λ fh. rw own refl))
+    (rw own made.controls) (rw own made.frames) (λ fh. rw own refl))
 
 -- a close
 pub makes_close : (number : ℕ) (fh : FhId) (old new : StateData)
@@ -65,49 +64,38 @@ pub makes_close : (number : ℕ) (fh : FhId) (old new : StateData)
 makes_close number fh old new h c f ev verdicts plan steps e many own made may =
     made_add verdicts plan steps old new e made (rw own may)
     (rw own (h ∙ ap (remove_entry (nat_eq fh.0)) made.file_handles ∙ drops_one fh.0 (opened (past steps)) (opened_rising (past steps))))
-    (rw own (ap (λ (d : ControlsData). d.ranges) c ∙ made.ranges)) (rw own (ap (λ (d : ControlsData). d.values) c ∙ made.values)) (rw own (ap (λ (d : ControlsData). d.grabs) c ∙ made.grabs))
-    (rw own (f ∙ made.frames)) (λ j. rw own (ev j.0))
+    (rw own (c ∙ made.controls)) (rw own (f ∙ made.frames)) (λ j. rw own (ev j.0))
 
 -- a step that leaves file handles and controls
 pub makes_left : (verdicts : Verdicts) (plan : PlanData) (number : ℕ) (step : Step) (old new : StateData) → leaves_controls step ≡ true
     → new.file_handles ≡ old.file_handles → new.controls ≡ old.controls → new.frames ≡ frames_changed old.controls.values [] number step old.frames
-    → ((e : Entry Step) (older : Past) → e.step ≡ step → old.controls.ranges ≡ ranges_now plan older → old.controls.values ≡ now verdicts plan older → old.controls.grabs ≡ grabbed plan older
+    → ((e : Entry Step) (older : Past) → e.step ≡ step → old.controls ≡ controls_now verdicts plan older
     → (fh : FhId) → events_of new.events fh.0 ≡ events_after verdicts plan e older fh (events_of old.events fh.0)) → Makes verdicts plan number step old new
 makes_left verdicts plan number step old new leaves h c f ev steps e many own made may =
     made_add verdicts plan steps old new e made (rw own may)
     (rw own (h ∙ made.file_handles ∙ sym (opened_controls_left (length steps) step (opened (past steps)) leaves)))
-    (rw own (ap (λ (d : ControlsData). d.ranges) c ∙ made.ranges ∙ sym (ranges_left step (ranges_now plan (past steps)) leaves)))
-    (rw own (ap (λ (d : ControlsData). d.values) c ∙ made.values ∙ sym (values_left verdicts plan (past steps) step (now verdicts plan (past steps)) leaves)))
-    (rw own (ap (λ (d : ControlsData). d.grabs) c ∙ made.grabs ∙ sym (grabbed_controls_left step (grabbed plan (past steps)) leaves)))
+    (rw own (c ∙ made.controls ∙ sym (controls_left verdicts plan (past steps) step (controls_now verdicts plan (past steps)) leaves)))
     (rw own frames_are)
-    (ev e (past steps) own made.ranges made.values made.grabs)
+    (ev e (past steps) own made.controls)
   where
     frames_are : new.frames ≡ frames_after verdicts plan (past steps) (length steps) step (frames verdicts plan (past steps))
     frames_are =
         f ∙ ap (λ (n : ℕ). frames_changed old.controls.values [] n step old.frames) (sym many)
-        ∙ ap (λ (v : Values). frames_changed v [] (length steps) step old.frames) made.values
+        ∙ ap (λ (v : Values). frames_changed v [] (length steps) step old.frames) (values_of made.controls)
         ∙ ap (frames_changed (now verdicts plan (past steps)) [] (length steps) step) made.frames
         ∙ ap (λ (l : List Pair). frames_changed (now verdicts plan (past steps)) l (length steps) step (frames verdicts plan (past steps))) (sym (given_controls_left verdicts plan (past steps) step leaves))
 
 -- A step that changes controls and raises what differs between the moments before it and after it.
 makes_raise : (verdicts : Verdicts) (plan of : PlanData) (steps : History) (old new : StateData) (e : Entry Step) (before after : ControlsData) (pairs : List Pair) (from : Option FhId)
     → IsMade verdicts plan steps old → MayFollow verdicts plan (past steps) e.step → new.file_handles ≡ opened_after (length steps) e.step (opened (past steps))
-    → new.controls.ranges ≡ ranges_after e.step (ranges_now plan (past steps)) → new.controls.values ≡ values_after verdicts plan (past steps) e.step (now verdicts plan (past steps))
-    → new.controls.grabs ≡ grabbed_after e.step (grabbed plan (past steps)) → new.frames ≡ frames_after verdicts plan (past steps) (length steps) e.step (frames verdicts plan (past steps))
+    → new.controls ≡ controls_after verdicts plan (past steps) e.step (controls_now verdicts plan (past steps)) → new.frames ≡ frames_after verdicts plan (past steps) (length steps) e.step (frames verdicts plan (past steps))
     → IsSourceOf verdicts plan (past steps) e.step pairs from → of ≡ plan → before ≡ old.controls → after ≡ new.controls
     → ((verdicts : Verdicts) (e : Entry Step) (older : Past) → AreAround verdicts of e older before after → IsSourceOf verdicts of older e.step pairs from
     → (fh : FhId) → events_of new.events fh.0 ≡ events_after verdicts of e older fh (events_of old.events fh.0)) → IsMade verdicts plan (steps ++ e ∷ []) new
-makes_raise verdicts plan of steps old new e before after pairs from made may h r v g f source own was is raises = made_add verdicts plan steps old new e made may h r v g f raised
+makes_raise verdicts plan of steps old new e before after pairs from made may h c f source own was is raises = made_add verdicts plan steps old new e made may h c f raised
   where
     around : AreAround verdicts plan e (past steps) old.controls new.controls
-    around = record {
-      old_ranges = made.ranges;
-      old_values = made.values;
-      old_grabs = made.grabs;
-      ranges = r ∙ sym (ranges_more plan e (past steps));
-      values = v ∙ sym (now_more verdicts plan e (past steps));
-      grabs = g ∙ sym (grabbed_more plan e (past steps));
-    }
+    around = record { old = made.controls; new = c ∙ sym (controls_more verdicts plan e (past steps)) }
 
     raised : (fh : FhId) → events_of new.events fh.0 ≡ events_after verdicts plan e (past steps) fh (events_of old.events fh.0)
     raised =
@@ -121,13 +109,8 @@ pub makes_grab : (verdicts : Verdicts) (plan of : PlanData) (number c : ℕ) (on
     → ((verdicts : Verdicts) (e : Entry Step) (older : Past) → AreAround verdicts of e older before after → IsSourceOf verdicts of older e.step [] None
     → (fh : FhId) → events_of new.events fh.0 ≡ events_after verdicts of e older fh (events_of old.events fh.0)) → Makes verdicts plan number (kinds.Grab c on) old new
 makes_grab verdicts plan of number c on old new before after h is f own was will raises steps e many step made may =
-    makes_raise verdicts plan of steps old new e before after [] None made (rw step may) (rw step (h ∙ made.file_handles)) (rw step (ap (λ (d : ControlsData). d.ranges) is ∙ made.ranges)) (rw step (ap (λ (d : ControlsData). d.values) is ∙ made.values))
-    (rw step (ap (λ (d : ControlsData). d.grabs) is ∙ ap (λ (gs : Grabs). slice_set gs c on) made.grabs)) (rw step (f ∙ made.frames)) (rw step (refl, refl)) own was will raises
-
--- pairs laid over the controls of a history
-pub laid_made : (verdicts : Verdicts) (plan : PlanData) (older : Past) (controls : ControlsData) (pairs : List Pair) → controls.ranges ≡ ranges_now plan older → controls.values ≡ now verdicts plan older → controls.grabs ≡ grabbed plan older
-    → laid verdicts plan controls pairs ≡ overlay verdicts plan (ranges_now plan older) (now verdicts plan older) (grabbed plan older) pairs
-laid_made verdicts plan older controls pairs r v g = λ i. overlay verdicts plan (r i) (v i) (g i) pairs
+    makes_raise verdicts plan of steps old new e before after [] None made (rw step may) (rw step (h ∙ made.file_handles))
+    (rw step (is ∙ ap (λ (d : ControlsData). record d { grabs = slice_set d.grabs c on }) made.controls)) (rw step (f ∙ made.frames)) (rw step (refl, refl)) own was will raises
 
 -- a set
 pub makes_set : (verdicts : Verdicts) (plan of : PlanData) (number : ℕ) (from : FhId) (pairs : List Pair) (old new : StateData) (before after : ControlsData)
@@ -136,9 +119,8 @@ pub makes_set : (verdicts : Verdicts) (plan of : PlanData) (number : ℕ) (from 
     → ((verdicts : Verdicts) (e : Entry Step) (older : Past) → AreAround verdicts of e older before after → IsSourceOf verdicts of older e.step pairs (Some from)
     → (fh : FhId) → events_of new.events fh.0 ≡ events_after verdicts of e older fh (events_of old.events fh.0)) → Makes verdicts plan number (kinds.Set from pairs) old new
 makes_set verdicts plan of number from pairs old new before after h is f own was will raises steps e many step made may =
-    makes_raise verdicts plan of steps old new e before after pairs (Some from) made (rw step may) (rw step (h ∙ made.file_handles)) (rw step (ap (λ (d : ControlsData). d.ranges) is ∙ made.ranges))
-    (rw step (ap (λ (d : ControlsData). d.values) is ∙ laid_made verdicts plan (past steps) old.controls pairs made.ranges made.values made.grabs))
-    (rw step (ap (λ (d : ControlsData). d.grabs) is ∙ made.grabs)) (rw step (f ∙ made.frames)) (rw step (refl, refl)) own was will raises
+    makes_raise verdicts plan of steps old new e before after pairs (Some from) made (rw step may) (rw step (h ∙ made.file_handles))
+    (rw step (is ∙ ap (λ (d : ControlsData). record d { values = laid verdicts plan d pairs }) made.controls)) (rw step (f ∙ made.frames)) (rw step (refl, refl)) own was will raises
 
 -- what a request asks for whose frame may begin
 pub asked_made : (verdicts : Verdicts) (plan : PlanData) (steps : History) (kept : FramesData) (r : RequestId) → kept ≡ frames verdicts plan (past steps) → IsLegal verdicts plan (past steps) → MayFollow verdicts plan (past steps) (kinds.Begin r)
@@ -155,14 +137,13 @@ pub begun_laid : (verdicts : Verdicts) (plan : PlanData) (steps : History) (stat
     → laid verdicts plan state.controls (pairs_in (find state.frames.requests.all r.0)) ≡ begun_values verdicts plan (past steps) r.0
 begun_laid verdicts plan steps state r made may =
     let asks = asked_made verdicts plan steps state.frames r made.frames made.legal may in
-    λ i. overlay verdicts plan (made.ranges i) (made.values i) (made.grabs i) (asks i)
+    λ i. laid verdicts plan (made.controls i) (asks i)
 
 pub begun_applied : (verdicts : Verdicts) (plan : PlanData) (steps : History) (state : StateData) (r : RequestId) → IsMade verdicts plan steps state → MayFollow verdicts plan (past steps) (kinds.Begin r)
     → applied_over verdicts plan state.controls (pairs_in (find state.frames.requests.all r.0)) ≡ begun_pairs verdicts plan (past steps) r.0
 begun_applied verdicts plan steps state r made may =
     let asks = asked_made verdicts plan steps state.frames r made.frames made.legal may in
-    let values = begun_laid verdicts plan steps state r made may in
-    λ i. applied_pairs plan (values i) (refused_clusters verdicts plan (made.ranges i) (made.values i) (made.grabs i) (asks i)) (asks i)
+    λ i. applied_over verdicts plan (made.controls i) (asks i)
 
 -- the begin of a frame
 pub makes_begin : (verdicts : Verdicts) (plan of : PlanData) (number : ℕ) (r : RequestId) (given : List Pair) (old new : StateData) (before after : ControlsData)
@@ -172,9 +153,8 @@ pub makes_begin : (verdicts : Verdicts) (plan of : PlanData) (number : ℕ) (r :
     → ((verdicts : Verdicts) (e : Entry Step) (older : Past) → AreAround verdicts of e older before after → IsSourceOf verdicts of older e.step given None
     → (fh : FhId) → events_of new.events fh.0 ≡ events_after verdicts of e older fh (events_of old.events fh.0)) → Makes verdicts plan number (kinds.Begin r) old new
 makes_begin verdicts plan of number r given old new before after giving h is f own was will raises steps e many step made may =
-    makes_raise verdicts plan of steps old new e before after given None made (rw step may) (rw step (h ∙ made.file_handles)) (rw step (ap (λ (d : ControlsData). d.ranges) is ∙ made.ranges))
-    (rw step (ap (λ (d : ControlsData). d.values) is ∙ begun_laid verdicts plan steps old r made may)) (rw step (ap (λ (d : ControlsData). d.grabs) is ∙ made.grabs))
-    (rw step (f ∙ ap (after_begin old.frames) pairs ∙ ap (λ (k : FramesData). after_begin k (begun_pairs verdicts plan (past steps) r.0)) made.frames)) (rw step (pairs, refl)) own was will raises
+    makes_raise verdicts plan of steps old new e before after given None made (rw step may) (rw step (h ∙ made.file_handles))
+    (rw step (is ∙ (λ i. record (made.controls i) { values = laid verdicts plan (made.controls i) (asked_made verdicts plan steps old.frames r made.frames made.legal may i) }))) (rw step (f ∙ ap (after_begin old.frames) pairs ∙ ap (λ (k : FramesData). after_begin k (begun_pairs verdicts plan (past steps) r.0)) made.frames)) (rw step (pairs, refl)) own was will raises
   where
     pairs : given ≡ begun_pairs verdicts plan (past steps) r.0
     pairs = giving ∙ begun_applied verdicts plan steps old r made may
@@ -183,13 +163,12 @@ makes_begin verdicts plan of number r given old new before after giving h is f o
 pub makes_range : (verdicts : Verdicts) (plan : PlanData) (number c : ℕ) (changed : Control) (low high : ℤ) (apart : ℕ) (default_value : ℤ) (old new : StateData)
     → changed ≡ with_range (control_in old.controls.ranges c) low high apart default_value
     → new.file_handles ≡ old.file_handles → new.controls ≡ given_range old.controls c changed (settled_anew changed (value_at old.controls.values c)) → new.frames ≡ old.frames
-    → ((e : Entry Step) (older : Past) → e.step ≡ kinds.ModifyRange c low high apart default_value → old.controls.ranges ≡ ranges_now plan older → old.controls.values ≡ now verdicts plan older → old.controls.grabs ≡ grabbed plan older
+    → ((e : Entry Step) (older : Past) → e.step ≡ kinds.ModifyRange c low high apart default_value → old.controls ≡ controls_now verdicts plan older
     → (fh : FhId) → events_of new.events fh.0 ≡ events_after verdicts plan e older fh (events_of old.events fh.0)) → Makes verdicts plan number (kinds.ModifyRange c low high apart default_value) old new
 makes_range verdicts plan number c changed low high apart default_value old new is h controls f ev steps e many step made may =
     made_add verdicts plan steps old new e made (rw step may) (rw step (h ∙ made.file_handles))
-    (rw step (ap (λ (d : ControlsData). d.ranges) controls ∙ (λ i. modified (made.ranges i) c (own i))))
-    (rw step (ap (λ (d : ControlsData). d.values) controls ∙ (λ i. slice_set (made.values i) c (settled_anew (own i) (value_at (made.values i) c)))))
-    (rw step (ap (λ (d : ControlsData). d.grabs) controls ∙ made.grabs)) (rw step (f ∙ made.frames)) (ev e (past steps) step made.ranges made.values made.grabs)
+    (rw step (controls ∙ (λ i. given_range (made.controls i) c (own i) (settled_anew (own i) (value_at (made.controls i).values c)))))
+    (rw step (f ∙ made.frames)) (ev e (past steps) step made.controls)
   where
     own : changed ≡ control_with_range (ranges_now plan (past steps)) c low high apart default_value
-    own = is ∙ ap (λ (l : List Control). with_range (control_in l c) low high apart default_value) made.ranges
+    own = is ∙ ap (λ (d : ControlsData). with_range (control_in d.ranges c) low high apart default_value) made.controls

@@ -15,16 +15,12 @@ use Rattle.ctrl_types.specs.declared.sub_flags.SubFlags.{SubFlags}
 use Rattle.device_history.specs.declared.ask.Step.{Step}
 use Rattle.device_history.specs.declared.ask.Step.TheVariants as steps
 use Rattle.device_history.specs.Steps.{Past}
-use Rattle.device_history.specs.Ranges.{ranges_after, ranges_now}
-use Rattle.device_history.specs.Grabs.{grabbed, grabbed_after}
+use Rattle.device_history.specs.Controls.{controls_now}
 use Rattle.device_history.specs.Snapshots.{begun_pairs}
-use Rattle.device_history.specs.Values.{now, values_after}
 use Rattle.device_history.specs.EventSteps.{AreAround, events_after, events_by}
-use Rattle.device_history.proofs.EventLemmas.{values_controls_left}
-use Rattle.device_history.proofs.GrabLemmas.{grabbed_more}
+use Rattle.device_history.proofs.ControlsLemmas.{controls_stepped}
 use Rattle.device_history.proofs.RaiseLaw.{set_raises, begin_raises, grab_raises, subscribe_tells}
 use Rattle.device_parts.specs.Sources.{IsSourceOf}
-use Rattle.device_history.proofs.RangeLemmas.{ranges_more}
 
 -- the raises between two moments, where pairs were applied
 abbrev raised_between : PlanData → ControlsData → ControlsData → List Pair → Option FhId → ℕ → FileEvents → FileEvents
@@ -52,9 +48,9 @@ raised_step verdicts plan e older before after pairs from fh f around given = by
 
 -- what a subscription makes of them
 pub subscribed_step : (verdicts : Verdicts) (plan : PlanData) (e : Entry Step) (older : Past) (at : ControlsData) (g : FhId) (c : ℕ) (flags : SubFlags) (fh : FhId) (f : FileEvents)
-    → e.step ≡ steps.Subscribe g c flags → at.ranges ≡ ranges_now plan older → at.values ≡ now verdicts plan older → at.grabs ≡ grabbed plan older
+    → e.step ≡ steps.Subscribe g c flags → at ≡ controls_now verdicts plan older
     → only_at g.0 (after_subscribe c flags (initial_changes (control plan c).flags) (payload_at plan at c)) fh.0 f ≡ events_after verdicts plan e older fh f
-subscribed_step verdicts plan e older at g c flags fh f is r v gs =
+subscribed_step verdicts plan e older at g c flags fh f is now_is =
     ap (λ (x : Payload). only_at g.0 (after_subscribe c flags (initial_changes (control plan c).flags) x) fh.0 f)
-    (subscribe_tells verdicts plan e older at c (r ∙ sym (ranges_more plan e older ∙ ap (λ (s : Step). ranges_after s (ranges_now plan older)) is)) (v ∙ sym (values_controls_left verdicts plan e older (ap (λ (s : Step). values_after verdicts plan older s (now verdicts plan older)) is))) (gs ∙ sym (grabbed_more plan e older ∙ ap (λ (s : Step). grabbed_after s (grabbed plan older)) is)))
+    (subscribe_tells verdicts plan e older at c (now_is ∙ sym (controls_stepped verdicts plan e older _ is)))
     ∙ sym (ap (λ (s : Step). events_by verdicts plan e older fh s f) is)

@@ -10,10 +10,8 @@ use Rattle.ctrl_clusters.specs.Rows.{AreControlsOf}
 use Rattle.frame_queue.specs.Frames.{FramesData}
 use Rattle.device_history.specs.Steps.{History}
 use Rattle.device_history.specs.Handles.{opened}
-use Rattle.device_history.specs.Ranges.{ranges_now}
-use Rattle.device_history.specs.Grabs.{grabbed}
+use Rattle.device_history.specs.Controls.{controls_now}
 use Rattle.device_history.specs.Snapshots.{frames}
-use Rattle.device_history.specs.Values.{now}
 use Rattle.device_history.specs.EventSteps.{AreEvents}
 use Rattle.device_history.specs.Legal.{IsLegal}
 
@@ -40,9 +38,7 @@ pub record IsMade (verdicts : Verdicts) (plan : PlanData) (steps : History) (sta
   pub plans : IsPlan plan
   pub legal : IsLegal verdicts plan (past steps)
   pub file_handles : state.file_handles ≡ opened (past steps)
-  pub ranges : state.controls.ranges ≡ ranges_now plan (past steps)
-  pub values : state.controls.values ≡ now verdicts plan (past steps)
-  pub grabs : state.controls.grabs ≡ grabbed plan (past steps)
+  pub controls : state.controls ≡ controls_now verdicts plan (past steps)
   pub frames : state.frames ≡ frames verdicts plan (past steps)
   pub events : (fh : FhId) → AreEvents verdicts plan (past steps) fh (events_of state.events fh.0)
 

@@ -14,9 +14,7 @@ ghost use Rattle.ctrl_events.specs.Events.{events_of};
 ghost use Rattle.device_history.specs.declared.ask.Step.{Step as StepOf};
 ghost use Rattle.device_history.specs.declared.ask.Step.TheVariants as steps;
 ghost use Rattle.device_history.specs.Steps.{Past};
-ghost use Rattle.device_history.specs.Ranges.{ranges_now};
-ghost use Rattle.device_history.specs.Grabs.{grabbed};
-ghost use Rattle.device_history.specs.Values.{now};
+ghost use Rattle.device_history.specs.Controls.{controls_now};
 ghost use Rattle.device_history.specs.EventSteps.{events_after};
 
 use ctrl_calls::Driver;
@@ -41,7 +39,7 @@ pub(crate) fn change_range<D: Driver>(
     requires numbers { (j : ℕ) → (events_of events.old j).next + length plan.now.controls ≤ 4294967295 }
     ensures controls { controls.new ≡ given_range controls.old control changed (settled_anew changed (value_at controls.old.values control)) }
     ensures events { (verdicts : Verdicts) (e : EntryOf StepOf) (older : Past) (low high : ℤ) (apart : ℕ) (default_value : ℤ) → e.step ≡ steps.ModifyRange control low high apart default_value
-        → changed ≡ with_range (control_in controls.old.ranges control) low high apart default_value → controls.old.ranges ≡ ranges_now plan.now older → controls.old.values ≡ now verdicts plan.now older → controls.old.grabs ≡ grabbed plan.now older
+        → changed ≡ with_range (control_in controls.old.ranges control) low high apart default_value → controls.old ≡ controls_now verdicts plan.now older
         → (fh : FhIdOf) → events_of events.new fh.0 ≡ events_after verdicts plan.now e older fh (events_of events.old fh.0) }
 {
     let old = *controls.range(control);

@@ -5,12 +5,11 @@ ghost use Rattle.history.specs.declared.entry.Entry.{Entry as EntryOf};
 ghost use Rattle.ctrl_calls.specs.Meanings.{Verdicts};
 ghost use Rattle.ctrl_types.specs.declared.ids.FhId.{FhId as FhIdOf};
 ghost use Rattle.ctrl_events.specs.Events.{events_of, only_at};
+ghost use Rattle.ctrl_clusters.specs.Moments.{parts};
 ghost use Rattle.device_history.specs.declared.ask.Step.{Step as StepOf};
 ghost use Rattle.device_history.specs.declared.ask.Step.TheVariants as steps;
 ghost use Rattle.device_history.specs.Steps.{Past};
-ghost use Rattle.device_history.specs.Ranges.{ranges_now};
-ghost use Rattle.device_history.specs.Grabs.{grabbed};
-ghost use Rattle.device_history.specs.Values.{now};
+ghost use Rattle.device_history.specs.Controls.{controls_now};
 ghost use Rattle.device_history.specs.EventSteps.{unsubscribed_if_named, events_after};
 ghost use Rattle.device_history.specs.FrameSteps.{frames_changed};
 ghost use Rattle.device_parts.specs.Leaving.{FitsIn, NamesKnown, leaves_controls};
@@ -39,7 +38,7 @@ pub(crate) fn change_requests_and_events<D: Driver>(
     requires frames { frames.old.requests.controls ≡ length at.now.plan.now.controls }
     requires numbers { (j : ℕ) → (events_of events.old j).next + length at.now.plan.now.controls ≤ 4294967295 }
     ensures frames { OnOk result (frames.new ≡ frames_changed at.now.values.now [] number step.now frames.old) }
-    ensures events { OnOk result ((verdicts : Verdicts) (e : EntryOf StepOf) (older : Past) → e.step ≡ step.now → at.now.ranges.now ≡ ranges_now at.now.plan.now older → at.now.values.now ≡ now verdicts at.now.plan.now older → at.now.grabs.now ≡ grabbed at.now.plan.now older
+    ensures events { OnOk result ((verdicts : Verdicts) (e : EntryOf StepOf) (older : Past) → e.step ≡ step.now → parts at.now ≡ controls_now verdicts at.now.plan.now older
         → (fh : FhIdOf) → events_of events.new fh.0 ≡ events_after verdicts at.now.plan.now e older fh (events_of events.old fh.0)) }
     ensures frames_kept { OnErr result (frames.new ≡ frames.old) }
     ensures events_kept { OnErr result (events.new ≡ events.old) }
@@ -124,7 +123,7 @@ fn subscribe<D: Driver>(
 ) -> Result<(), AllocError>
     requires known { control < length at.now.plan.now.controls }
     requires numbers { (events_of events.old fh.0).next < 4294967295 }
-    ensures ok { OnOk result ((verdicts : Verdicts) (e : EntryOf StepOf) (older : Past) → e.step ≡ steps.Subscribe fh control flags → at.now.ranges.now ≡ ranges_now at.now.plan.now older → at.now.values.now ≡ now verdicts at.now.plan.now older → at.now.grabs.now ≡ grabbed at.now.plan.now older
+    ensures ok { OnOk result ((verdicts : Verdicts) (e : EntryOf StepOf) (older : Past) → e.step ≡ steps.Subscribe fh control flags → parts at.now ≡ controls_now verdicts at.now.plan.now older
         → (j : FhIdOf) → events_of events.new j.0 ≡ events_after verdicts at.now.plan.now e older j (events_of events.old j.0)) }
     ensures err { OnErr result (events.new ≡ events.old) }
 {

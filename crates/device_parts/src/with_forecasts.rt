@@ -11,11 +11,10 @@ ghost use Rattle.ctrl_forecast.specs.Touched.{touched_count};
 ghost use Rattle.req_book.specs.Requests.{buffer_in, find};
 ghost use Rattle.req_book.specs.Refusals.{queue_check};
 ghost use Rattle.frame_queue.specs.Frames.{AreOnce};
+ghost use Rattle.ctrl_clusters.specs.Moments.{parts};
 ghost use Rattle.device_history.specs.declared.ask.Step.{Step as StepOf};
 ghost use Rattle.device_history.specs.Steps.{Past};
-ghost use Rattle.device_history.specs.Ranges.{ranges_now};
-ghost use Rattle.device_history.specs.Grabs.{grabbed};
-ghost use Rattle.device_history.specs.Values.{now};
+ghost use Rattle.device_history.specs.Controls.{controls_now};
 ghost use Rattle.device_history.specs.EventSteps.{events_after};
 ghost use Rattle.device_history.specs.FrameSteps.{frames_changed};
 ghost use Rattle.device_parts.specs.QueuedFrames.{asks_at_most, counted_after, counted_queueing, counted_removing, frame_in, named_behind, queued_after};
@@ -50,7 +49,7 @@ pub(crate) fn change_with_forecasts<D: Driver>(
     requires board { board.old ≡ board_at D.verdict at.now board.old.queued }
     requires once { AreOnce (map (λ q. q.request.0) board.old.queued) }
     ensures frames { OnOk result (frames.new ≡ frames_changed at.now.values.now [] number step.now frames.old) }
-    ensures events { OnOk result ((verdicts : Verdicts) (e : EntryOf StepOf) (older : Past) → e.step ≡ step.now → at.now.ranges.now ≡ ranges_now at.now.plan.now older → at.now.values.now ≡ now verdicts at.now.plan.now older → at.now.grabs.now ≡ grabbed at.now.plan.now older
+    ensures events { OnOk result ((verdicts : Verdicts) (e : EntryOf StepOf) (older : Past) → e.step ≡ step.now → parts at.now ≡ controls_now verdicts at.now.plan.now older
         → (fh : FhIdOf) → events_of events.new fh.0 ≡ events_after verdicts at.now.plan.now e older fh (events_of events.old fh.0)) }
     ensures board { OnOk result (board.new ≡ board_at D.verdict at.now (queued_after frames.old step.now board.old.queued)) }
     ensures frames_kept { OnErr result (frames.new ≡ frames.old) }

@@ -12,19 +12,19 @@ use Rattle.device_parts.proofs.RangingLemmas.{moved, ranged_step}
 use Rattle.device_parts.proofs.ranging.change_range.Goals as goal
 
 pub returns-clause-events : goal.returns-clause-events
-returns-clause-events g c verdicts e older low high apart default_value is own r v gs fh =
+returns-clause-events g c verdicts e older low high apart default_value is own now_is fh =
     c.raise_range.ensures fh.0
     ∙ ap (λ (p : PlanData). raised p (parts c.at.result) c.range.result.now c.value-value.result) c.at.ensures.plan
     ∙ ap (λ (m : ControlsData). raised c.args.plan.now m c.range.result.now c.value-value.result) after
     ∙ ap (λ (x : Control). raised c.args.plan.now left x c.value-value.result) c.range.ensures
     ∙ ap (raised c.args.plan.now left (control_in d.ranges c.args.control)) c.value-value.ensures
-    ∙ ranged_step verdicts c.args.plan.now e older d.ranges d.values d.grabs c.args.control low high apart default_value c.args.changed fh (events_of c.args.events.now fh.0) is own r v gs
+    ∙ ranged_step verdicts c.args.plan.now e older d c.args.control low high apart default_value c.args.changed fh (events_of c.args.events.now fh.0) is own now_is
   where
     d : ControlsData
     d = c.args.controls.now
 
     left : ControlsData
-    left = moved d.ranges d.values d.grabs c.args.control c.args.changed
+    left = moved d c.args.control c.args.changed
 
     raised : PlanData → ControlsData → Control → CtrlValue → FileEvents
     raised p m x w =

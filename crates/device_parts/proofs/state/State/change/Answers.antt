@@ -1,12 +1,12 @@
 use Rattle.std.proofs.Common.{◌≡◌, [], refl, ap, subst, ◌∙◌}
+use Rattle.ctrl_clusters.specs.Moments.{parts}
 use Rattle.ctrl_clusters.specs.Rows.{Values}
 use Rattle.ctrl_events.specs.Events.{events_of}
 use Rattle.ctrl_handlers.specs.Plan.{PlanData}
 use Rattle.device_history.specs.EventSteps.{events_after}
 use Rattle.device_history.specs.FrameSteps.{frames_changed}
-use Rattle.device_history.specs.Grabs.{grabbed}
-use Rattle.device_history.specs.Ranges.{ranges_now}
-use Rattle.device_history.specs.Values.{now}
+use Rattle.device_history.specs.Controls.{controls_now}
+use Rattle.device_history.proofs.ControlsLemmas.{all_of}
 use Rattle.device_parts.proofs.MakesLemmas.{of_both, makes_left}
 use Rattle.device_parts.proofs.state.State.change.Goals as goal
 
@@ -17,8 +17,8 @@ returns-clause-makes g c = rw (← c.self.view_is)
     (λ frames events.
     makes_left g.D.Validates.verdict c.args.plan.now c.args.number c.args.step.now _ _ c.requires.leaves refl refl
     (frames ∙ ap (λ (v : Values). frames_changed v [] c.args.number c.args.step.now c.self.inside.frames) c.at.ensures.values)
-    (λ e older is rs vs gs fh.
+    (λ e older is now_is fh.
     subst
-    (λ (p : PlanData). c.at.result.ranges.now ≡ ranges_now p older → c.at.result.values.now ≡ now g.D.Validates.verdict p older → c.at.result.grabs.now ≡ grabbed p older
+    (λ (p : PlanData). parts c.at.result ≡ controls_now g.D.Validates.verdict p older
     → events_of c.change_requests_and_events.new.events fh.0 ≡ events_after g.D.Validates.verdict p e older fh (events_of c.self.inside.events fh.0))
-    c.at.ensures.plan (λ r v h. events g.D.Validates.verdict e older is r v h fh) (c.at.ensures.ranges ∙ rs) (c.at.ensures.values ∙ vs) (c.at.ensures.grabs ∙ gs))))
+    c.at.ensures.plan (λ same. events g.D.Validates.verdict e older is same fh) (all_of c.at.ensures.ranges c.at.ensures.values c.at.ensures.grabs ∙ now_is))))
