@@ -10,16 +10,17 @@ use Rattle.ctrl_handlers.specs.Plan.{PlanData}
 use Rattle.device_history.specs.declared.ask.Step.{Step}
 use Rattle.device_history.specs.declared.ask.Step.TheVariants as steps
 use Rattle.device_history.specs.Steps.{Past}
-use Rattle.ctrl_clusters.specs.Rows.{Grabs, Values}
+use Rattle.ctrl_clusters.specs.ControlsData.{ControlsData, as_one}
+use Rattle.ctrl_clusters.specs.Rows.{Values}
 use Rattle.device_history.specs.Ranges.{ranges_now, settled_after}
 use Rattle.device_history.specs.Grabs.{grabbed}
 use Rattle.ctrl_clusters.proofs.OverlayLemmas.{length_overlay}
 use Rattle.device_history.specs.Values.{pairs_asked, now, now_after, values_after}
 
 -- pairs that are laid leave as many values
-length_now_after : (verdicts : Verdicts) (plan : PlanData) (controls : List Control) (grabs : Grabs) (pairs : Option (List Pair)) (values : Values) → length (now_after verdicts plan controls values grabs pairs) ≡ length values
-length_now_after verdicts plan controls grabs None values = refl
-length_now_after verdicts plan controls grabs (Some pairs) values = length_overlay verdicts plan controls values grabs pairs
+length_now_after : (verdicts : Verdicts) (plan : PlanData) (c : ControlsData) (pairs : Option (List Pair)) → length (now_after verdicts plan c pairs) ≡ length c.values
+length_now_after verdicts plan c None = refl
+length_now_after verdicts plan c (Some pairs) = length_overlay verdicts plan c.ranges c.values c.grabs pairs
 
 -- a range change leaves as many
 length_settled : (step : Step) (controls : List Control) (values : Values) → length (settled_after step controls values) ≡ length values
@@ -29,8 +30,8 @@ length_settled _ controls values = refl
 -- so does any step
 pub length_values_after : (verdicts : Verdicts) (plan : PlanData) (older : Past) (step : Step) (values : Values) → length (values_after verdicts plan older step values) ≡ length values
 length_values_after verdicts plan older step values =
-    length_settled step (ranges_now plan older) (now_after verdicts plan (ranges_now plan older) values (grabbed plan older) (pairs_asked plan older step))
-    ∙ length_now_after verdicts plan (ranges_now plan older) (grabbed plan older) (pairs_asked plan older step) values
+    let c : ControlsData = as_one (ranges_now plan older) values (grabbed plan older) in
+    length_settled step c.ranges (now_after verdicts plan c (pairs_asked plan older step)) ∙ length_now_after verdicts plan c (pairs_asked plan older step)
 
 -- there is a value for each control of the plan
 pub length_now : (verdicts : Verdicts) (plan : PlanData) (past : Past) → length (now verdicts plan past) ≡ length plan.controls

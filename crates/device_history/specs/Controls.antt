@@ -17,4 +17,4 @@ controls_now verdicts plan past = as_one (ranges_now plan past) (now verdicts pl
 -- begin lay pairs over the values, a grab holds a control or lets it go; every other step leaves them.
 abbrev pub controls_after : Verdicts → PlanData → Past → Step → ControlsData → ControlsData
 controls_after verdicts plan older step c =
-    as_one (ranges_after step c.ranges) (settled_after step c.ranges (now_after verdicts plan c.ranges c.values c.grabs (pairs_asked plan older step))) (grabbed_after step c.grabs)
+    as_one (ranges_after step c.ranges) (settled_after step c.ranges (now_after verdicts plan c (pairs_asked plan older step))) (grabbed_after step c.grabs)

@@ -4,6 +4,7 @@ use Rattle.std.specs.Option.{ok_or}
 use Rattle.ctrl_types.specs.declared.check.Check.{Check}
 use Rattle.ctrl_types.specs.declared.check.Check.TheVariants.{NothingQueuedThere}
 use Rattle.ctrl_calls.specs.Meanings.{Verdicts}
+use Rattle.ctrl_clusters.specs.ControlsData.{ControlsData}
 use Rattle.ctrl_handlers.specs.Plan.{PlanData}
 use Rattle.ctrl_forecast.specs.Boards.{BoardData, board_of}
 use Rattle.ctrl_forecast.specs.Forecasts.{QueuedData, forecasts}
@@ -13,11 +14,9 @@ use Rattle.device_history.specs.declared.ask.Step.{Step}
 use Rattle.device_history.specs.declared.ask.Step.TheVariants as steps
 use Rattle.device_history.specs.Steps.{Past}
 use Rattle.device_history.specs.Refusals.{Answer, replied_with}
-use Rattle.device_history.specs.Ranges.{ranges_now}
-use Rattle.device_history.specs.Grabs.{grabbed}
+use Rattle.device_history.specs.Controls.{controls_now}
 use Rattle.device_history.specs.Requests.{asked, buffer}
 use Rattle.device_history.specs.Frames.{queue}
-use Rattle.device_history.specs.Values.{now}
 
 -- the frame of a request that is queued; in a legal history each one has a buffer, and 0 stands in else
 abbrev pub queued_frame : PlanData → Past → ℕ → QueuedData
@@ -36,14 +35,21 @@ waiting_after plan older (steps.Cancel r) frames = filter (λ q. not (nat_eq r.0
 waiting_after plan older steps.StreamOff frames = []
 waiting_after plan older _ frames = frames
 
--- What the queued frames will have: the first over the present values, each other over what the one before leaves, all under the present
--- ranges and grabs.
-abbrev pub forecast : Verdicts → PlanData → Past → List Forecast
-forecast verdicts plan past = forecasts verdicts plan (ranges_now plan past) (now verdicts plan past) (grabbed plan past) (queued_frames plan past)
+-- What frames that wait will have: the first over the values of these controls, each other over what the one before leaves, all under their ranges and grabs.
+abbrev pub forecasts_over : Verdicts → PlanData → ControlsData → List QueuedData → List Forecast
+forecasts_over verdicts plan c queued = forecasts verdicts plan c.ranges c.values c.grabs queued
 
--- the queued frames with that, as a board keeps them
+-- the same frames with that, as a board keeps them
+abbrev pub board_over : Verdicts → PlanData → ControlsData → List QueuedData → BoardData
+board_over verdicts plan c queued = board_of verdicts plan c.ranges c.values c.grabs queued
+
+-- what the queued frames will have, over the present controls
+abbrev pub forecast : Verdicts → PlanData → Past → List Forecast
+forecast verdicts plan past = forecasts_over verdicts plan (controls_now verdicts plan past) (queued_frames plan past)
+
+-- the queued frames with that
 abbrev pub board : Verdicts → PlanData → Past → BoardData
-board verdicts plan past = board_of verdicts plan (ranges_now plan past) (now verdicts plan past) (grabbed plan past) (queued_frames plan past)
+board verdicts plan past = board_over verdicts plan (controls_now verdicts plan past) (queued_frames plan past)
 
 -- the forecast at a place of the queue, where a frame is queued there
 abbrev pub forecast_at : Verdicts → PlanData → Past → ℕ → Result Forecast Check

@@ -38,6 +38,7 @@ pub mod Handles
 pub mod Ranges
 pub mod Grabs
 pub mod Requests
+pub mod Laid
 pub mod Values
 pub mod Controls
 pub mod Flags

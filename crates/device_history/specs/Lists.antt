@@ -31,7 +31,9 @@ use Rattle.device_history.specs.Ranges.{ranges_now}
 use Rattle.device_history.specs.Grabs.{grabbed}
 use Rattle.device_history.specs.Requests.{asked}
 use Rattle.device_history.specs.Snapshots.{request, snapshot}
-use Rattle.device_history.specs.Values.{now, now_after}
+use Rattle.device_history.specs.Controls.{controls_now}
+use Rattle.device_history.specs.Laid.{laid}
+use Rattle.device_history.specs.Values.{now}
 use Rattle.req_book.specs.Requests.{RequestData, is_idle, is_complete}
 
 -- a list that writes can't speak of the defaults
@@ -185,4 +187,4 @@ list_step plan past fh which request list = pairs_step (meant (which_or (which_o
 
 -- the present values once a list is set that speaks of no request
 abbrev pub values_set : Verdicts → PlanData → Past → FhId → ℕ → List ExtControl → Values
-values_set verdicts plan older fh which list = now_after verdicts plan (ranges_now plan older) (now verdicts plan older) (grabbed plan older) (Some (list_pairs plan older fh which list))
+values_set verdicts plan older fh which list = laid verdicts plan (controls_now verdicts plan older) (list_pairs plan older fh which list)

@@ -12,28 +12,26 @@ use Rattle.frame_queue.specs.Frames.{FramesData}
 use Rattle.ctrl_calls.specs.Meanings.{Verdicts}
 use Rattle.ctrl_handlers.specs.Plan.{PlanData}
 use Rattle.ctrl_clusters.specs.Rows.{Values}
-use Rattle.ctrl_clusters.specs.Overlay.{overlay, refused_clusters}
-use Rattle.ctrl_forecast.specs.Applied.{applied_pairs}
 use Rattle.device_history.specs.declared.ask.Step.{Step}
 use Rattle.device_history.specs.declared.ask.Step.TheVariants as steps
 use Rattle.device_history.specs.Steps.{Past}
-use Rattle.device_history.specs.Ranges.{ranges_now}
-use Rattle.device_history.specs.Grabs.{grabbed}
 use Rattle.device_history.specs.Requests.{state, is_there, makes_new, asked, buffer, ever_made}
 use Rattle.device_history.specs.Frames.{begun_by, queue, running}
 use Rattle.device_history.specs.Values.{now}
+use Rattle.device_history.specs.Controls.{controls_now}
+use Rattle.device_history.specs.Laid.{applied_over, laid, refused_over}
 
 -- the values that the begin of a request's frame makes of those before it
 abbrev pub begun_values : Verdicts → PlanData → Past → ℕ → Values
-begun_values verdicts plan older r = overlay verdicts plan (ranges_now plan older) (now verdicts plan older) (grabbed plan older) (asked plan older r)
+begun_values verdicts plan older r = laid verdicts plan (controls_now verdicts plan older) (asked plan older r)
 
 -- the clusters that it refuses
 abbrev pub begun_refused : Verdicts → PlanData → Past → ℕ → List ℕ
-begun_refused verdicts plan older r = refused_clusters verdicts plan (ranges_now plan older) (now verdicts plan older) (grabbed plan older) (asked plan older r)
+begun_refused verdicts plan older r = refused_over verdicts plan (controls_now verdicts plan older) (asked plan older r)
 
 -- what it applies: the controls that the request asks for and whose cluster isn't refused, with their values afterwards
 abbrev pub begun_pairs : Verdicts → PlanData → Past → ℕ → List Pair
-begun_pairs verdicts plan older r = applied_pairs plan (begun_values verdicts plan older r) (begun_refused verdicts plan older r) (asked plan older r)
+begun_pairs verdicts plan older r = applied_over verdicts plan (controls_now verdicts plan older) (asked plan older r)
 
 -- the history before the begin of a request's frame, where there was one since the request was made, or made as new
 unfoldable pub before_begin : ℕ → Past → Option Past

@@ -17,12 +17,13 @@ use Rattle.ctrl_forecast.specs.Boards.{named_clusters}
 use Rattle.ctrl_forecast.proofs.ApartLemmas.{applied_apart, not_named}
 use Rattle.ctrl_forecast.proofs.ReadyLemmas.{named_within}
 use Rattle.ctrl_raises.specs.Within.{DifferWithin}
-use Rattle.device_parts.specs.Makes.{Cover, laid}
+use Rattle.device_history.specs.Laid.{laid}
+use Rattle.device_parts.specs.Makes.{Cover}
 
 -- where nothing differs outside of clusters, nothing does between what is equal to it
-pub within_same : (plan plan' : PlanData) (clusters : List ℕ) (before before' after after' : ControlsData) (pairs : List Pair) → plan ≡ plan' → before ≡ before' → after ≡ after'
-    → DifferWithin plan' clusters before' after' pairs → DifferWithin plan clusters before after pairs
-within_same plan plan' clusters before before' after after' pairs p b a is = rw (p, b, a) is
+pub within_same : (plan plan' : PlanData) (clusters clusters' : List ℕ) (before before' after after' : ControlsData) (pairs pairs' : List Pair) → plan ≡ plan' → clusters ≡ clusters' → before ≡ before' → after ≡ after' → pairs ≡ pairs'
+    → DifferWithin plan' clusters' before' after' pairs' → DifferWithin plan clusters before after pairs
+within_same plan plan' clusters clusters' before before' after after' pairs pairs' p k b a ps is = rw (p, k, b, a, ps) is
 
 -- a control of another cluster is another control
 apart_other : (plan : PlanData) (c k d : ℕ) → cluster_of plan c ≡ Some k → is_in_one_of (k ∷ []) (cluster_of plan d) ≡ false → d ≢ c

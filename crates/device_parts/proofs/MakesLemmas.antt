@@ -42,7 +42,8 @@ use Rattle.device_parts.specs.Sources.{IsSourceOf}
 use Rattle.device_parts.proofs.FitLemmas.{found}
 use Rattle.device_parts.proofs.LeavingLemmas.{controls_left, given_controls_left, opened_controls_left}
 use Rattle.device_parts.specs.State.{IsMade, StateData}
-use Rattle.device_parts.specs.Makes.{Makes, MakesEverywhere, applied_over, laid}
+use Rattle.device_history.specs.Laid.{applied_over, laid}
+use Rattle.device_parts.specs.Makes.{Makes, MakesEverywhere}
 use Rattle.device_parts.proofs.MadeLemmas.{made_add}
 
 -- what both of two facts of a success say

@@ -6,10 +6,7 @@ use Rattle.history.specs.Past.{past}
 use Rattle.ctrl_calls.specs.Meanings.{Verdicts}
 use Rattle.ctrl_types.specs.declared.ids.Pair.{Pair}
 use Rattle.ctrl_handlers.specs.Plan.{PlanData, members}
-use Rattle.ctrl_clusters.specs.ControlsData.{ControlsData}
-use Rattle.ctrl_clusters.specs.Overlay.{is_touched, overlay, refused_clusters}
-use Rattle.ctrl_clusters.specs.Rows.{Values}
-use Rattle.ctrl_forecast.specs.Applied.{applied_pairs}
+use Rattle.ctrl_clusters.specs.Overlay.{is_touched}
 use Rattle.device_history.specs.declared.ask.Step.{Step}
 use Rattle.device_history.specs.Steps.{History}
 use Rattle.device_history.specs.Legal.{MayFollow}
@@ -23,14 +20,6 @@ Makes verdicts plan number step old new = (steps : History) (e : Entry Step) →
 -- a step makes one state of another on any device, whatever its validators answer
 abbrev pub MakesEverywhere : ℕ → Step → StateData → StateData → Type 0
 MakesEverywhere number step old new = (verdicts : Verdicts) (plan : PlanData) → Makes verdicts plan number step old new
-
--- pairs laid over the values of controls, under their ranges and grabs
-abbrev pub laid : Verdicts → PlanData → ControlsData → List Pair → Values
-laid verdicts plan controls pairs = overlay verdicts plan controls.ranges controls.values controls.grabs pairs
-
--- what is applied of them: those whose cluster isn't refused, each with its value afterwards
-abbrev pub applied_over : Verdicts → PlanData → ControlsData → List Pair → List Pair
-applied_over verdicts plan controls pairs = applied_pairs plan (laid verdicts plan controls pairs) (refused_clusters verdicts plan controls.ranges controls.values controls.grabs pairs) pairs
 
 -- Some clusters of a plan, among them each that has a member among the pairs.
 pub record Cover (plan : PlanData) (clusters : List ℕ) (pairs : List Pair) : Type 0 where

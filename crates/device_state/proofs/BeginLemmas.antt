@@ -134,31 +134,30 @@ rows_behind verdicts plan controls grabs values q qs = refl
 
 -- what is kept of the queued frames after a begin
 pub begun_board : (verdicts : Verdicts) (plan : PlanData) (older : Past) (r : ℕ) (old new : BoardData) → old ≡ board verdicts plan older → first_of (queue older) ≡ Some r
-    → new.queued ≡ drop 1 old.queued → new.named ≡ drop 1 old.named → new.forecasts ≡ drop 1 old.forecasts → new ≡ board_after verdicts plan (Begin (record { 0 = r })) older
+    → new.queued ≡ drop 1 old.queued → new.named ≡ drop 1 old.named → new.forecasts ≡ drop 1 old.forecasts
+    → new ≡ board_over verdicts plan (record (controls_now verdicts plan older) { values = begun_values verdicts plan older r }) (drop 1 (queued_frames plan older))
 begun_board verdicts plan older r old new own first q n f = by (queue older) refl first
   where
+    c : ControlsData
+    c = controls_now verdicts plan older
+
     parts : {a b : BoardData} → a.queued ≡ b.queued → a.named ≡ b.named → a.forecasts ≡ b.forecasts → a ≡ b
     parts x y z = rw (x, y, z) refl
 
-    by : (ids : List ℕ) → queue older ≡ ids → first_of ids ≡ Some r → new ≡ board_after verdicts plan (Begin (record { 0 = r })) older
+    by : (ids : List ℕ) → queue older ≡ ids → first_of ids ≡ Some r → new ≡ board_over verdicts plan (record c { values = begun_values verdicts plan older r }) (drop 1 (queued_frames plan older))
     by [] is h = cc
     by (j ∷ ids) is h =
         let same : j ≡ r = own_first j h in
-        let whole : old ≡ board_of verdicts plan (ranges_now plan older) (now verdicts plan older) (grabbed plan older) (queued_frame plan older j ∷ map (queued_frame plan older) ids) =
-        own ∙ ap (λ (js : List ℕ). board_of verdicts plan (ranges_now plan older) (now verdicts plan older) (grabbed plan older) (map (queued_frame plan older) js)) is in
+        let whole : old ≡ board_over verdicts plan c (queued_frame plan older j ∷ map (queued_frame plan older) ids) =
+        own ∙ ap (λ (js : List ℕ). board_over verdicts plan c (map (queued_frame plan older) js)) is in
         parts (q ∙ ap (λ (b : BoardData). drop 1 b.queued) own) (n ∙ ap (λ (b : BoardData). drop 1 b.named) whole ∙ ap (λ (js : List ℕ). map (λ x. named_clusters plan x.asked) (drop 1 (map (queued_frame plan older) js))) (sym is))
         (f ∙ ap (λ (b : BoardData). drop 1 b.forecasts) whole
-        ∙ behind j ids
-        ∙ ap (λ (k : ℕ). forecasts verdicts plan (ranges_now plan older) (overlay verdicts plan (ranges_now plan older) (now verdicts plan older) (grabbed plan older) (asked plan older k)) (grabbed plan older) (map (queued_frame plan older) ids)) same
-        ∙ ap (λ (js : List ℕ). forecasts verdicts plan (ranges_now plan older) (begun_values verdicts plan older r) (grabbed plan older) (drop 1 (map (queued_frame plan older) js))) (sym is))
+        ∙ rows_behind verdicts plan c.ranges c.grabs c.values (queued_frame plan older j) (map (queued_frame plan older) ids)
+        ∙ ap (λ (k : ℕ). forecasts verdicts plan c.ranges (laid verdicts plan c (asked plan older k)) c.grabs (map (queued_frame plan older) ids)) same
+        ∙ ap (λ (js : List ℕ). forecasts verdicts plan c.ranges (begun_values verdicts plan older r) c.grabs (drop 1 (map (queued_frame plan older) js))) (sym is))
       where
         own_first : (j : ℕ) → Some j ≡ Some r → j ≡ r
         own_first j h = cc
-
-        behind : (j : ℕ) (ids : List ℕ)
-            → drop 1 (forecasts verdicts plan (ranges_now plan older) (now verdicts plan older) (grabbed plan older) (queued_frame plan older j ∷ map (queued_frame plan older) ids))
-            ≡ forecasts verdicts plan (ranges_now plan older) (overlay verdicts plan (ranges_now plan older) (now verdicts plan older) (grabbed plan older) (asked plan older j)) (grabbed plan older) (map (queued_frame plan older) ids)
-        behind j ids = rows_behind verdicts plan (ranges_now plan older) (grabbed plan older) (now verdicts plan older) (queued_frame plan older j) (map (queued_frame plan older) ids)
 
 -- what the begin of the first frame that waits is answered by its queue, where none runs
 pub begin_answered : (f : FramesData) (r : ℕ) → f.running ≡ None → slice_get f.queue 0 ≡ Some r → begin_answer f ≡ Ok (r, buffer_number (find f.requests.all r))
@@ -177,11 +176,21 @@ pub kept_begin : (verdicts : Verdicts) (told : Words) (plan : PlanData) (entries
     → IsKept verdicts told plan entries caches → IsBegun verdicts plan (past entries) r.0 applied → entries' ≡ entries ++ record { seat = seat; step = Begin r } ∷ []
     → Makes verdicts plan (length entries) (Begin r) caches.state state
     → AreNotified told plan (members_change plan caches.state.controls.values state.controls.values applied) (λ k. row_of state.controls.values (members plan k)) caches.words words
-    → b ≡ board_after verdicts plan (Begin r) (past entries) → IsKept verdicts told plan entries' (record caches { state = state; board = b; words = words })
+    → b ≡ board_over verdicts plan (record (controls_now verdicts plan (past entries)) { values = begun_values verdicts plan (past entries) r.0 }) (drop 1 (queued_frames plan (past entries)))
+    → IsKept verdicts told plan entries' (record caches { state = state; board = b; words = words })
 kept_begin verdicts told plan entries entries' caches state b words applied seat r kept begun s makes renewed popped =
-    kept_makes verdicts told plan entries entries' caches (record caches { state = state; board = b; words = words }) (record { seat = seat; step = Begin r }) kept (set_room entries begun.room)
-    (begin_follows verdicts plan (past entries) r.0 begun.free begun.first begun.room) s makes
-    (words_between told plan caches.state.controls.values state.controls.values applied caches.words words kept.words renewed) popped
+    kept_makes verdicts told plan entries entries' caches (record caches { state = state; board = b; words = words }) e kept (set_room entries begun.room) may s makes
+    (words_between told plan caches.state.controls.values state.controls.values applied caches.words words kept.words renewed)
+    (drop 1 (queued_frames plan (past entries))) (popped ∙ board_same verdicts plan (sym (made.controls ∙ controls_add verdicts plan entries e)) refl) refl
+  where
+    e : Entry Step
+    e = record { seat = seat; step = Begin r }
+
+    may : MayFollow verdicts plan (past entries) (Begin r)
+    may = begin_follows verdicts plan (past entries) r.0 begun.free begun.first begun.room
+
+    made : IsMade verdicts plan (entries ++ e ∷ []) state
+    made = makes entries e refl refl kept.made may
 
 -- a begin that is accepted
 pub handles_begin : (verdicts : Verdicts) (told : Words) (old between new : DeviceData) (work : Work) (seat r : ℕ) (reply : Reply) → between ≡ record old { work = work } → work ≡ at_rest

@@ -33,13 +33,14 @@ use Rattle.device_history.specs.Values.{now}
 use Rattle.device_history.specs.Refusals.{fault_of, is_full, step_check}
 use Rattle.device_history.specs.Legal.{MayFollow}
 use Rattle.device_history.proofs.PresentLemmas.{length_now}
+use Rattle.device_history.proofs.ControlsLemmas.{grabs_of, ranges_of, values_of}
 use Rattle.device_parts.specs.Leaving.{leaves_controls}
 use Rattle.device_parts.specs.QueuedFrames.{queued_after}
 use Rattle.device_parts.proofs.LeavingLemmas.{grabbed_controls_left, ranges_left, values_left}
-use Rattle.device_parts.specs.Makes.{Cover, Makes, laid}
+use Rattle.device_history.specs.Laid.{laid}
+use Rattle.device_parts.specs.Makes.{Cover, Makes}
 use Rattle.device_parts.specs.State.{IsMade, IsReady, StateData}
 use Rattle.device_parts.proofs.MadeLemmas.{made_fresh, made_ready}
-use Rattle.device_parts.proofs.MakesLemmas.{laid_made}
 use Rattle.device_state.specs.Kept.{Caches, IsKept}
 use Rattle.device_state.specs.Changed.{values_then}
 use Rattle.device_state.specs.Setting.{CanBeSet}
@@ -66,14 +67,17 @@ kept_fresh verdicts told plan steps caches kept = made_fresh verdicts plan steps
 pub kept_makes : (verdicts : Verdicts) (told : Words) (plan : PlanData) (steps steps' : History) (caches caches' : Caches) (e : Entry Step)
     → IsKept verdicts told plan steps caches → length steps < MAX_STEPS → MayFollow verdicts plan (past steps) e.step → steps' ≡ steps ++ e ∷ []
     → Makes verdicts plan (length steps) e.step caches.state caches'.state → HaveWords told plan caches'.state.controls.values caches'.words
-    → caches'.board ≡ board_after verdicts plan e.step (past steps) → IsKept verdicts told plan steps' caches'
-kept_makes verdicts told plan steps steps' caches caches' e kept room may s makes w b = rw s (record {
+    → (queued : List QueuedData) → caches'.board ≡ board_over verdicts plan caches'.state.controls queued → queued ≡ waiting_after plan (past steps) e.step (queued_frames plan (past steps)) → IsKept verdicts told plan steps' caches'
+kept_makes verdicts told plan steps steps' caches caches' e kept room may s makes w queued b line = rw s (record {
   plans = kept.plans;
   few = omega (arith, length-append steps (e ∷ []));
-  made = makes steps e refl refl kept.made may;
-  board = b ∙ sym (board_add verdicts plan steps e kept.made.legal may);
+  made = made;
+  board = b ∙ board_same verdicts plan made.controls (line ∙ sym (waiting_add verdicts plan steps e kept.made.legal may));
   words = w;
 })
+  where
+    made : IsMade verdicts plan (steps ++ e ∷ []) caches'.state
+    made = makes steps e refl refl kept.made may
 
 -- where a list is set, one more step is kept
 pub set_room : (steps : History) → is_full (past steps) ≡ false → length steps < MAX_STEPS
@@ -89,7 +93,8 @@ pub kept_open : (verdicts : Verdicts) (told : Words) (plan : PlanData) (steps st
     → Makes verdicts plan (length steps) (OpenFh handler) caches.state state → state.controls ≡ caches.state.controls → IsKept verdicts told plan steps' (record caches { state = state })
 kept_open verdicts told plan steps steps' caches state seat handler kept accepted s makes same =
     kept_makes verdicts told plan steps steps' caches (record caches { state = state }) (record { seat = seat; step = OpenFh handler }) kept (set_room steps (step_passes (past steps) _ accepted).1)
-    (asks.OpenFh handler, ap fault_of (step_answered (past steps) _ _ accepted), refl) s makes (same_words told plan caches.words caches.state.controls state.controls same kept.words) kept.board
+    (asks.OpenFh handler, ap fault_of (step_answered (past steps) _ _ accepted), refl) s makes (same_words told plan caches.words caches.state.controls state.controls same kept.words)
+    (queued_frames plan (past steps)) (kept.board ∙ board_same verdicts plan (sym (same ∙ kept.made.controls)) refl) refl
 
 -- a close
 pub kept_close : (verdicts : Verdicts) (told : Words) (plan : PlanData) (steps steps' : History) (caches : Caches) (state : StateData) (seat : ℕ) (fh : FhId)
@@ -97,7 +102,8 @@ pub kept_close : (verdicts : Verdicts) (told : Words) (plan : PlanData) (steps s
     → Makes verdicts plan (length steps) (CloseFh fh) caches.state state → state.controls ≡ caches.state.controls → IsKept verdicts told plan steps' (record caches { state = state })
 kept_close verdicts told plan steps steps' caches state seat fh kept accepted s makes same =
     kept_makes verdicts told plan steps steps' caches (record caches { state = state }) (record { seat = seat; step = CloseFh fh }) kept (set_room steps (step_passes (past steps) _ accepted).1)
-    (asks.CloseFh fh, ap fault_of (step_answered (past steps) _ _ accepted), refl) s makes (same_words told plan caches.words caches.state.controls state.controls same kept.words) kept.board
+    (asks.CloseFh fh, ap fault_of (step_answered (past steps) _ _ accepted), refl) s makes (same_words told plan caches.words caches.state.controls state.controls same kept.words)
+    (queued_frames plan (past steps)) (kept.board ∙ board_same verdicts plan (sym (same ∙ kept.made.controls)) refl) refl
 
 -- the control that may be grabbed is there
 pub grab_known : (plan : PlanData) (steps : History) (c : ℕ) → step_check (past steps) (grab_check plan c) ≡ None → c < length plan.controls
@@ -114,15 +120,13 @@ grab_known plan steps c accepted = below c (length plan.controls) (by (nat_le (l
 pub kept_grab : (verdicts : Verdicts) (told : Words) (plan : PlanData) (steps steps' : History) (caches : Caches) (state : StateData) (b : BoardData) (seat c : ℕ) (on : Bool)
     → IsKept verdicts told plan steps caches → step_check (past steps) (grab_check plan c) ≡ None → steps' ≡ steps ++ record { seat = seat; step = Grab c on } ∷ []
     → Makes verdicts plan (length steps) (Grab c on) caches.state state → state.controls ≡ record caches.state.controls { grabs = slice_set caches.state.controls.grabs c on }
-    → b ≡ board_of verdicts plan state.controls.ranges state.controls.values state.controls.grabs caches.board.queued
+    → b ≡ board_over verdicts plan state.controls caches.board.queued
     → IsKept verdicts told plan steps' (record caches { state = state; board = b })
 kept_grab verdicts told plan steps steps' caches state b seat c on kept accepted s makes g renewed =
     kept_makes verdicts told plan steps steps' caches (record caches { state = state; board = b }) (record { seat = seat; step = Grab c on }) kept (set_room steps (step_passes (past steps) _ accepted).1)
     (asks.Grab c on, ap fault_of (step_answered (past steps) _ _ accepted), refl) s makes
     (subst (λ (vs : Values). HaveWords told plan vs caches.words) (sym (ap (λ (m : ControlsData). m.values) g)) kept.words)
-    (renewed
-    ∙ board_same verdicts plan (ap (λ (m : ControlsData). m.ranges) g ∙ kept.made.ranges) (ap (λ (m : ControlsData). m.values) g ∙ kept.made.values)
-    (ap (λ (m : ControlsData). m.grabs) g ∙ ap (λ (gs : Grabs). slice_set gs c on) kept.made.grabs) (ap (λ (x : BoardData). x.queued) kept.board))
+    caches.board.queued renewed (ap (λ (x : BoardData). x.queued) kept.board)
 
 -- the values that a set's rows make of the present ones are those of its step
 pub set_then : (verdicts : Verdicts) (plan : PlanData) (past : Past) (values : Values) (fh : FhId) (touch : TouchedData) → CanBeSet verdicts plan past fh None touch → values ≡ now verdicts plan past
@@ -134,23 +138,19 @@ set_then verdicts plan past values fh touch sets own =
 pub kept_set : (verdicts : Verdicts) (told : Words) (plan : PlanData) (steps steps' : History) (caches : Caches) (state : StateData) (b : BoardData) (words : List ℕ) (seat : ℕ) (fh : FhId)
     (touch : TouchedData) → IsKept verdicts told plan steps caches → CanBeSet verdicts plan (past steps) fh None touch
     → steps' ≡ steps ++ record { seat = seat; step = Set fh touch.pairs } ∷ [] → Makes verdicts plan (length steps) (Set fh touch.pairs) caches.state state
-    → state.controls ≡ record caches.state.controls { values = written plan caches.state.controls.values touch.rows }
     → AreNotified told plan (members_change plan caches.state.controls.values state.controls.values touch.pairs) (λ k. row_of state.controls.values (members plan k)) caches.words words
-    → b ≡ board_of verdicts plan state.controls.ranges state.controls.values state.controls.grabs caches.board.queued
+    → b ≡ board_over verdicts plan state.controls caches.board.queued
     → IsKept verdicts told plan steps' (record caches { state = state; board = b; words = words })
-kept_set verdicts told plan steps steps' caches state b words seat fh touch kept sets s makes is retold renewed =
-    let made = kept.made in
-    let lays : state.controls.values ≡ values_then verdicts plan (past steps) (Set fh touch.pairs) =
-    ap (λ (m : ControlsData). m.values) is ∙ set_then verdicts plan (past steps) caches.state.controls.values fh touch sets made.values in
+kept_set verdicts told plan steps steps' caches state b words seat fh touch kept sets s makes retold renewed =
     kept_makes verdicts told plan steps steps' caches (record caches { state = state; board = b; words = words }) (record { seat = seat; step = Set fh touch.pairs }) kept (set_room steps sets.room) sets.follows s makes
     (words_between told plan caches.state.controls.values state.controls.values touch.pairs caches.words words kept.words retold)
-    (renewed ∙ board_same verdicts plan (ap (λ (m : ControlsData). m.ranges) is ∙ made.ranges) lays (ap (λ (m : ControlsData). m.grabs) is ∙ made.grabs) (ap (λ (x : BoardData). x.queued) kept.board))
+    caches.board.queued renewed (ap (λ (x : BoardData). x.queued) kept.board)
 
 -- what a set lays over the values
 pub set_lays : (verdicts : Verdicts) (plan : PlanData) (steps : History) (state : StateData) (values : Values) (fh : FhId) (touch : TouchedData) → IsMade verdicts plan steps state
     → CanBeSet verdicts plan (past steps) fh None touch → values ≡ written plan state.controls.values touch.rows → values ≡ laid verdicts plan state.controls touch.pairs
 set_lays verdicts plan steps state values fh touch made sets v =
-    v ∙ set_then verdicts plan (past steps) state.controls.values fh touch sets made.values ∙ sym (laid_made verdicts plan (past steps) state.controls touch.pairs made.ranges made.values made.grabs)
+    v ∙ set_then verdicts plan (past steps) state.controls.values fh touch sets (values_of made.controls) ∙ sym (ap (λ (d : ControlsData). laid verdicts plan d touch.pairs) made.controls)
 
 -- the clusters of its rows cover its pairs
 pub set_cover : (verdicts : Verdicts) (plan : PlanData) (past : Past) (fh : FhId) (touch : TouchedData) → CanBeSet verdicts plan past fh None touch → Cover plan (clusters_of touch.rows) touch.pairs
@@ -163,15 +163,13 @@ set_cover verdicts plan past fh touch sets = record {
 pub kept_controls_left : (verdicts : Verdicts) (told : Words) (plan : PlanData) (steps steps' : History) (caches : Caches) (state : StateData) (b : BoardData) (seat : ℕ) (step : Step)
     → IsKept verdicts told plan steps caches → is_full (past steps) ≡ false → MayFollow verdicts plan (past steps) step → leaves_controls step ≡ true → steps' ≡ steps ++ record { seat = seat; step = step } ∷ []
     → Makes verdicts plan (length steps) step caches.state state → state.controls ≡ caches.state.controls
-    → b ≡ board_of verdicts plan caches.state.controls.ranges caches.state.controls.values caches.state.controls.grabs (queued_after caches.state.frames step caches.board.queued)
+    → b ≡ board_over verdicts plan caches.state.controls (queued_after caches.state.frames step caches.board.queued)
     → IsKept verdicts told plan steps' (record caches { state = state; board = b })
 kept_controls_left verdicts told plan steps steps' caches state b seat step kept room may leaves s makes same renewed =
     kept_makes verdicts told plan steps steps' caches (record caches { state = state; board = b }) (record { seat = seat; step = step }) kept (set_room steps room) may s makes
     (same_words told plan caches.words caches.state.controls state.controls same kept.words)
-    (renewed
-    ∙ board_same verdicts plan (kept.made.ranges ∙ sym (ranges_left step (ranges_now plan (past steps)) leaves)) (kept.made.values ∙ sym (values_left verdicts plan (past steps) step (now verdicts plan (past steps)) leaves))
-    (kept.made.grabs ∙ sym (grabbed_controls_left step (grabbed plan (past steps)) leaves))
-    (line_kept verdicts plan (past steps) step caches.state.frames caches.board.queued kept.made.legal may leaves kept.made.frames (ap (λ (x : BoardData). x.queued) kept.board)))
+    (queued_after caches.state.frames step caches.board.queued) (renewed ∙ board_same verdicts plan (sym same) refl)
+    (line_kept verdicts plan (past steps) step caches.state.frames caches.board.queued kept.made.legal may leaves kept.made.frames (ap (λ (x : BoardData). x.queued) kept.board))
 
 -- the state is ready for one more step
 pub ready : (verdicts : Verdicts) (told : Words) (plan : PlanData) (steps : History) (caches : Caches) → IsKept verdicts told plan steps caches → IsReady plan caches.state
@@ -183,4 +181,4 @@ ranges_kept verdicts told plan steps caches kept = (ready verdicts told plan ste
 
 -- there is a value for each control
 pub values_kept : (verdicts : Verdicts) (told : Words) (plan : PlanData) (steps : History) (caches : Caches) → IsKept verdicts told plan steps caches → length caches.state.controls.values ≡ length plan.controls
-values_kept verdicts told plan steps caches kept = ap length kept.made.values ∙ length_now verdicts plan (past steps)
+values_kept verdicts told plan steps caches kept = ap length (values_of kept.made.controls) ∙ length_now verdicts plan (past steps)

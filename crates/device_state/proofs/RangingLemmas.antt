@@ -44,6 +44,7 @@ use Rattle.device_history.specs.Grabs.{grabbed}
 use Rattle.device_history.specs.Values.{now}
 use Rattle.device_history.specs.Words.{changes}
 use Rattle.device_history.proofs.WordLemmas.{changed_row}
+use Rattle.device_history.proofs.ControlsLemmas.{grabs_of, ranges_of, values_of}
 use Rattle.device_state.specs.Device.{DeviceData, Handles, cluster_asks}
 use Rattle.device_parts.specs.Makes.{Makes}
 use Rattle.device_parts.specs.State.{StateData}
@@ -245,24 +246,14 @@ ranges_ranged plan older c changed ranges after is own set =
 pub kept_range : (verdicts : Verdicts) (told : Words) (plan : PlanData) (steps steps' : History) (caches : Caches) (state : StateData) (b : BoardData) (words : List ℕ) (seat c : ℕ) (changed : Control)
     → IsKept verdicts told plan steps caches → IsRanged plan (past steps) c changed → steps' ≡ steps ++ record { seat = seat; step = range_step c changed } ∷ []
     → Makes verdicts plan (length steps) (range_step c changed) caches.state state
-    → state.controls ≡ given_range caches.state.controls c changed (settled_anew changed (value_at caches.state.controls.values c))
     → AreNotified told plan (members_change plan caches.state.controls.values state.controls.values []) (λ k. row_of state.controls.values (members plan k)) caches.words words
-    → b ≡ board_of verdicts plan state.controls.ranges state.controls.values state.controls.grabs caches.board.queued
+    → b ≡ board_over verdicts plan state.controls caches.board.queued
     → IsKept verdicts told plan steps' (record caches { state = state; board = b; words = words })
-kept_range verdicts told plan steps steps' caches state b words seat c changed kept is s makes given retold renewed =
+kept_range verdicts told plan steps steps' caches state b words seat c changed kept is s makes retold renewed =
     kept_makes verdicts told plan steps steps' caches (record caches { state = state; board = b; words = words }) (record { seat = seat; step = range_step c changed }) kept (range_room plan steps c changed is)
     (asks.ModifyRange c changed.minimum changed.maximum changed.step changed.default_value, ap fault_of is.accepted, refl) s makes
     (words_between told plan caches.state.controls.values state.controls.values [] caches.words words kept.words retold)
-    (renewed ∙ board_same verdicts plan ranges_are values_are grabs_are (ap (λ (x : BoardData). x.queued) kept.board))
-  where
-    ranges_are : state.controls.ranges ≡ ranges_after (range_step c changed) (ranges_now plan (past steps))
-    ranges_are = ranges_ranged plan (past steps) c changed caches.state.controls.ranges state.controls.ranges is kept.made.ranges (ap (λ (m : ControlsData). m.ranges) given)
-
-    values_are : state.controls.values ≡ values_then verdicts plan (past steps) (range_step c changed)
-    values_are = values_ranged verdicts plan (past steps) c changed caches.state.controls.values state.controls.values is kept.made.values (ap (λ (m : ControlsData). m.values) given)
-
-    grabs_are : state.controls.grabs ≡ grabbed plan (past steps)
-    grabs_are = ap (λ (m : ControlsData). m.grabs) given ∙ kept.made.grabs
+    caches.board.queued renewed (ap (λ (x : BoardData). x.queued) kept.board)
 
 -- a range change that is accepted
 pub handles_range : (verdicts : Verdicts) (told : Words) (old between new : DeviceData) (work : Work) (seat c : ℕ) (low high : ℤ) (apart : ℕ) (default_value : ℤ) (changed : Control) → between ≡ record old { work = work } → work ≡ at_rest

@@ -28,29 +28,12 @@ use Rattle.device_history.specs.Values.{now}
 use Rattle.device_history.specs.Steps.{Past}
 use Rattle.device_state.proofs.SetLemmas.{changes_same}
 
--- where nothing differs outside of clusters, nothing does between what is equal to it
-pub within_same : (plan plan' : PlanData) (clusters clusters' : List ℕ) (before before' after after' : ControlsData) (pairs pairs' : List Pair) → plan ≡ plan' → clusters ≡ clusters' → before ≡ before' → after ≡ after' → pairs ≡ pairs'
-    → DifferWithin plan' clusters' before' after' pairs' → DifferWithin plan clusters before after pairs
-within_same plan plan' clusters clusters' before before' after after' pairs pairs' p k b a ps is = rw (p, k, b, a, ps) is
-
--- The begin of a frame changes the clusters that it names.
-pub begin_within : (verdicts : Verdicts) (plan : PlanData) (controls : ControlsData) (refused : List ℕ) (pairs : List Pair)
-    → DifferWithin plan (named_clusters plan pairs) controls (record controls { values = overlay verdicts plan controls.ranges controls.values controls.grabs pairs })
-    (applied_pairs plan (overlay verdicts plan controls.ranges controls.values controls.grabs pairs) refused pairs)
-begin_within verdicts plan controls refused pairs = record {
-  ranges_stay = λ c outside. refl;
-  values_stay = overlaid_apart verdicts plan controls.ranges controls.values controls.grabs pairs;
-  grabs_stay = λ c outside. refl;
-  unasked = λ k lt outside. applied_apart plan (overlay verdicts plan controls.ranges controls.values controls.grabs pairs) refused pairs (members plan k) (not_named plan pairs k lt outside);
-}
-
--- what it changes of a device behind a history
-pub begun_within : (verdicts : Verdicts) (plan : PlanData) (older : Past) (r : ℕ) (controls : ControlsData) → controls.ranges ≡ ranges_now plan older → controls.values ≡ now verdicts plan older → controls.grabs ≡ grabbed plan older
+-- What the begin of a frame changes lies in the clusters that it names.
+pub begun_within : (verdicts : Verdicts) (plan : PlanData) (older : Past) (r : ℕ) (controls : ControlsData) → controls ≡ controls_now verdicts plan older
     → DifferWithin plan (named_clusters plan (asked plan older r)) controls (record controls { values = begun_values verdicts plan older r }) (begun_pairs verdicts plan older r)
-begun_within verdicts plan older r controls ranges values grabs =
-    let same : as_one controls.ranges controls.values controls.grabs ≡ as_one (ranges_now plan older) (now verdicts plan older) (grabbed plan older) = rw (ranges, values, grabs) refl in
+begun_within verdicts plan older r controls same =
     subst (λ (m : ControlsData). DifferWithin plan (named_clusters plan (asked plan older r)) m (record m { values = begun_values verdicts plan older r }) (begun_pairs verdicts plan older r)) (sym same)
-    (begin_within verdicts plan (as_one (ranges_now plan older) (now verdicts plan older) (grabbed plan older)) (begun_refused verdicts plan older r) (asked plan older r))
+    (begin_within verdicts plan (controls_now verdicts plan older) (named_clusters plan (asked plan older r)) (begun_refused verdicts plan older r) (asked plan older r) (named_cover plan (asked plan older r)))
 
 -- Where nothing differs outside of some clusters, no member of another one is changed.
 pub unmoved : (plan : PlanData) (clusters : List ℕ) (before after : ControlsData) (pairs : List Pair) (k : ℕ) → IsPlan plan → DifferWithin plan clusters before after pairs → list_any (nat_eq k) clusters ≡ false

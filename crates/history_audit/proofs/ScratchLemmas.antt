@@ -20,6 +20,7 @@ use Rattle.ctrl_types.specs.declared.flags.Flags.{Flags}
 use Rattle.ctrl_forecast.specs.declared.board.Forecast.{Forecast}
 use Rattle.device_history.specs.Steps.{History}
 use Rattle.device_history.specs.Forecasts.{forecast}
+use Rattle.device_history.proofs.ControlsLemmas.{ranges_of, values_of}
 use Rattle.device_parts.specs.State.{IsMade, StateData}
 use Rattle.history_audit.specs.Scratch.{OpenEvents, ScratchData, all_events, all_flags, events_for, its_events, open_events, open_with, scratch, shown_of}
 use Rattle.history_audit.proofs.MadeLemmas.{taken_next}
@@ -87,4 +88,4 @@ pub shown_made : (verdicts : Verdicts) (plan : PlanData) (steps : History) (stat
     → flags ≡ all_flags verdicts plan (past steps) → rows ≡ forecast verdicts plan (past steps) → shown_of state flags rows ≡ scratch verdicts plan (past steps)
 shown_made verdicts plan steps state flags rows made f b =
     let events : open_events state.events state.file_handles ≡ all_events verdicts plan (past steps) = events_made verdicts plan (past steps) state.events state.file_handles made.file_handles made.events in
-    λ i. let s : ScratchData = record { ranges = made.ranges i; values = made.values i; flags = f i; frames = made.frames i; forecasts = b i; events = events i } in s
+    λ i. let s : ScratchData = record { ranges = (ranges_of made.controls) i; values = (values_of made.controls) i; flags = f i; frames = made.frames i; forecasts = b i; events = events i } in s

@@ -13,7 +13,8 @@ ghost use Rattle.frame_queue.specs.Frames.{after_begin, buffer_number};
 ghost use Rattle.device_history.specs.declared.ask.Step.TheVariants as steps;
 ghost use Rattle.device_parts.specs.QueuedFrames.{pairs_in};
 ghost use Rattle.device_parts.specs.State.{IsReady};
-ghost use Rattle.device_parts.specs.Makes.{Cover, Makes, applied_over, laid};
+ghost use Rattle.device_history.specs.Laid.{applied_over, laid};
+ghost use Rattle.device_parts.specs.Makes.{Cover, Makes};
 
 use super::State;
 use crate::raising::raise_touched;

@@ -21,4 +21,4 @@ returns-clause-makes g c = rw (← c.self.view_is)
     subst
     (λ (p : PlanData). parts c.at.result ≡ controls_now g.D.Validates.verdict p older
     → events_of c.change_requests_and_events.new.events fh.0 ≡ events_after g.D.Validates.verdict p e older fh (events_of c.self.inside.events fh.0))
-    c.at.ensures.plan (λ same. events g.D.Validates.verdict e older is same fh) (all_of c.at.ensures.ranges c.at.ensures.values c.at.ensures.grabs ∙ now_is))))
+    c.at.ensures.plan (λ same. events g.D.Validates.verdict e older is same fh) (all_of {a = parts c.at.result} {b = c.self.inside.controls} c.at.ensures.ranges c.at.ensures.values c.at.ensures.grabs ∙ now_is))))

@@ -2,7 +2,7 @@ use Rattle.std.proofs.Common.{◌≡◌, length, refl, ap, sym, subst, ◌∙◌
 use Rattle.ctrl_clusters.specs.ControlsData.{DifferIn}
 use Rattle.ctrl_clusters.specs.Rows.{Values}
 use Rattle.ctrl_clusters.proofs.OverlayLemmas.{length_overlay}
-use Rattle.device_parts.specs.Makes.{laid}
+use Rattle.device_history.specs.Laid.{laid}
 use Rattle.device_parts.proofs.CoverLemmas.{laid_apart, set_within, within_same}
 use Rattle.device_parts.proofs.MakesLemmas.{makes_set}
 use Rattle.device_parts.proofs.state.State.set.Goals as goal
@@ -18,8 +18,8 @@ to_values-change-requires-clause-values g c =
 pub raise_touched-requires-clause-within : goal.raise_touched-requires-clause-within
 raise_touched-requires-clause-within g c =
     let s = c.self.inside in
-    within_same _ c.args.plan.now c.args.clusters.now _ s.controls _ (record s.controls { values = laid g.D.Validates.verdict c.args.plan.now s.controls c.args.pairs.now }) c.args.pairs.now c.to_values-change.ensures.plan c.to_values-change.ensures.before
-    (c.to_values-change.ensures.after ∙ ap (λ (v : Values). record s.controls { values = v }) (c.as_slice.ensures.value ∙ (rw (← c.self.view_is) at c.requires.laid)))
+    within_same _ c.args.plan.now _ c.args.clusters.now _ s.controls _ (record s.controls { values = laid g.D.Validates.verdict c.args.plan.now s.controls c.args.pairs.now }) _ c.args.pairs.now c.to_values-change.ensures.plan refl c.to_values-change.ensures.before
+    (c.to_values-change.ensures.after ∙ ap (λ (v : Values). record s.controls { values = v }) (c.as_slice.ensures.value ∙ (rw (← c.self.view_is) at c.requires.laid))) refl
     (set_within g.D.Validates.verdict c.args.plan.now s.controls c.args.clusters.now c.args.pairs.now c.requires.cover)
 
 pub replace_within-requires-clause-within : goal.replace_within-requires-clause-within

@@ -8,6 +8,7 @@ use Rattle.device_history.specs.Forecasts.{queued_frames}
 use Rattle.device_history.specs.Grabs.{grabbed}
 use Rattle.device_history.specs.Ranges.{ranges_now}
 use Rattle.device_history.specs.Values.{now}
+use Rattle.device_history.proofs.ControlsLemmas.{grabs_of, ranges_of, values_of}
 use Rattle.device_parts.specs.Leaving.{FitsIn}
 use Rattle.device_parts.specs.Makes.{Makes}
 use Rattle.device_parts.proofs.FitLemmas.{fits_in}
@@ -36,8 +37,7 @@ change_with_forecasts-changed-requires-clause-board g c =
     let device = c.self.inside in
     let P : List (Entry Step) = past device.steps.items in
     let made = c.self.invariant.made in
-    board_own g.D.Validates.verdict device.plan (ranges_now device.plan P) device.state.controls.ranges (now g.D.Validates.verdict device.plan P) device.state.controls.values (grabbed device.plan P) device.state.controls.grabs (queued_frames device.plan P) device.board
-    c.self.invariant.board made.ranges made.values made.grabs
+    board_own g.D.Validates.verdict device.plan (queued_frames device.plan P) device.board c.self.invariant.board made.controls
 
 pub change_with_forecasts-changed-requires-clause-once : goal.change_with_forecasts-changed-requires-clause-once
 change_with_forecasts-changed-requires-clause-once g c =

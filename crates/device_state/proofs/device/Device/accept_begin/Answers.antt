@@ -23,8 +23,10 @@ use Rattle.ctrl_clusters.specs.Moments.{parts, parts_after}
 use Rattle.ctrl_forecast.specs.Boards.{named_clusters}
 use Rattle.ctrl_raises.specs.Within.{DifferWithin}
 use Rattle.device_history.specs.Requests.{asked}
+use Rattle.device_history.proofs.ControlsLemmas.{grabs_of, ranges_of, values_of}
 use Rattle.device_state.proofs.KeptLemmas.{ranges_kept, ready}
-use Rattle.device_state.proofs.WithinLemmas.{begun_within, first_named, unmoved, within_same}
+use Rattle.device_state.proofs.WithinLemmas.{begun_within, first_named, unmoved}
+use Rattle.device_parts.proofs.CoverLemmas.{within_same}
 use Rattle.device_state.proofs.device.Device.accept_begin.Goals as goal
 
 -- the first that waits
@@ -119,7 +121,7 @@ notify_between-requires-clause-touched g c =
     within_same _ device.plan _ (named_clusters device.plan (asked device.plan P c.args.begun.request.0)) _ device.state.controls _ (record device.state.controls { values = begun_values g.D.Validates.verdict device.plan P c.args.begun.request.0 }) _
     (begun_pairs g.D.Validates.verdict device.plan P c.args.begun.request.0) c.to_values-change.ensures.plan (c.as_slice-3.ensures ∙ named) (c.to_values-change.ensures.before ∙ c.controls.ensures)
     (c.to_values-change.ensures.after ∙ ap (λ (m : ControlsData). record m { values = c.as_slice.result.now }) c.controls.ensures ∙ ap (λ (vs : Values). record device.state.controls { values = vs }) (c.as_slice.ensures ∙ first.0)) (c.as_slice-2.ensures.value ∙ begun.are_applied)
-    (begun_within g.D.Validates.verdict device.plan P c.args.begun.request.0 device.state.controls c.self.invariant.made.ranges c.self.invariant.made.values c.self.invariant.made.grabs) in
+    (begun_within g.D.Validates.verdict device.plan P c.args.begun.request.0 device.state.controls c.self.invariant.made.controls) in
     λ k outside.
     unmoved c.to_values-change.result.before.plan.now c.as_slice-3.result.now (parts c.to_values-change.result.before) (parts_after c.to_values-change.result) c.as_slice-2.result.now k c.to_values-change.result.before.planned.is_plan within outside
 
@@ -168,7 +170,7 @@ returns-clause-ok g c =
     let begun = rw (← c.self.view_is) at c.requires.begun in
     let first =
     begun_first g.D.Validates.verdict device.plan P c.args.begun.request.0 c.begin-forecast.result.0 begun.free begun.first (sym (ap (λ (b : BoardData). slice_get b.forecasts 0) c.self.invariant.board) ∙ sym c.begin-forecast.ensures.first) in
-    let before : change.result.before.values.now ≡ now g.D.Validates.verdict device.plan P = ap (λ (m : ControlsData). m.values) (change.ensures.before ∙ c.controls.ensures) ∙ c.self.invariant.made.values in
+    let before : change.result.before.values.now ≡ now g.D.Validates.verdict device.plan P = ap (λ (m : ControlsData). m.values) (change.ensures.before ∙ c.controls.ensures) ∙ (values_of c.self.invariant.made.controls) in
     let values : change.result.values.now ≡ begun_values g.D.Validates.verdict device.plan P c.args.begun.request.0 = ap (λ (m : ControlsData). m.values) change.ensures.after ∙ c.as_slice.ensures ∙ first.0 in
     let applied : c.as_slice-2.result.now ≡ begun_pairs g.D.Validates.verdict device.plan P c.args.begun.request.0 = c.as_slice-2.ensures.value ∙ begun.are_applied in
     let words : AreNotified g.D.Notifies.told change.result.before.plan.now (members_change change.result.before.plan.now change.result.before.values.now change.result.values.now c.as_slice-2.result.now)

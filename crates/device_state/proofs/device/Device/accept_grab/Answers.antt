@@ -14,6 +14,7 @@ use Rattle.device_history.specs.Refusals.{step_check}
 use Rattle.device_history.specs.Ranges.{ranges_now}
 use Rattle.device_history.specs.Values.{now}
 use Rattle.device_history.specs.Forecasts.{queued_frames}
+use Rattle.device_history.proofs.ControlsLemmas.{grabs_of, ranges_of, values_of}
 use Rattle.device_parts.specs.Makes.{Makes}
 use Rattle.device_parts.specs.State.{IsReady, StateData}
 use Rattle.device_state.specs.Device.{DeviceData, cluster_asks}
@@ -51,8 +52,7 @@ rejudge-requires-clause-kept g c =
       device.state.controls.ranges,
       device.state.controls.values,
       device.state.controls.grabs,
-      board_own g.D.Validates.verdict device.plan (ranges_now device.plan P) device.state.controls.ranges (now g.D.Validates.verdict device.plan P) device.state.controls.values (grabbed device.plan P) device.state.controls.grabs (queued_frames device.plan P) device.board c.self.invariant.board
-          made.ranges made.values made.grabs,
+      board_own g.D.Validates.verdict device.plan (queued_frames device.plan P) device.board c.self.invariant.board made.controls,
       record {
         many = ap (λ (m : ControlsData). length m.values) (sym then);
         ranges_stay = λ d apart. ap (λ (m : ControlsData). control_in m.ranges d) (sym then);
@@ -80,7 +80,7 @@ invariant_of-self-2 g c =
     (c.push_reserved.ensures.items ∙ ap (λ (s : List (Entry Step)). s ++ entry ∷ []) c.reserve.ensures.items)
     (subst (λ (s : StateData). Makes g.D.Validates.verdict device.plan (length device.steps.items) (Grab c.args.control c.args.on) s c.grab.new.self) c.in_ok-room.ensures.same (c.grab.ensures.makes (length device.steps.items)))
     then
-    ((rw c.at.ensures.plan at c.rejudge.ensures.frames) ∙ board_same g.D.Validates.verdict device.plan c.at.ensures.ranges c.at.ensures.values c.at.ensures.grabs refl)
+    ((rw c.at.ensures.plan at c.rejudge.ensures.frames) ∙ board_same g.D.Validates.verdict device.plan (all_of {a = parts c.at.result} {b = c.grab.new.self.controls} c.at.ensures.ranges c.at.ensures.values c.at.ensures.grabs) refl)
 
 -- the frames that name the cluster are judged anew
 pub returns-clause-asked : goal.returns-clause-asked

@@ -21,14 +21,16 @@ use Rattle.device_history.specs.Grabs.{grabbed}
 use Rattle.device_history.specs.Ranges.{ranges_now}
 use Rattle.device_history.specs.Values.{now}
 use Rattle.device_history.specs.Forecasts.{queued_frames}
+use Rattle.device_history.proofs.ControlsLemmas.{grabs_of, ranges_of, values_of}
 use Rattle.ctrl_raises.specs.Within.{DifferWithin}
-use Rattle.device_parts.proofs.CoverLemmas.{set_within}
-use Rattle.device_parts.specs.Makes.{Makes, laid}
+use Rattle.device_parts.proofs.CoverLemmas.{set_within, within_same}
+use Rattle.device_history.specs.Laid.{laid}
+use Rattle.device_parts.specs.Makes.{Makes}
 use Rattle.device_parts.specs.State.{IsReady, StateData}
 use Rattle.device_state.proofs.BoardLemmas.{board_own, board_same}
 use Rattle.device_state.specs.Changed.{values_then}
 use Rattle.device_state.proofs.KeptLemmas.{kept_set, ranges_kept, ready, set_cover, set_lays, set_then, values_kept}
-use Rattle.device_state.proofs.WithinLemmas.{unmoved, within_same}
+use Rattle.device_state.proofs.WithinLemmas.{unmoved}
 use Rattle.device_state.proofs.RenewLemmas.{written_apart}
 use Rattle.device_state.proofs.SetLemmas.{new_rows}
 use Rattle.device_state.proofs.device.Device.accept_list.Goals as goal
@@ -121,10 +123,9 @@ invariant_of-self-2 g c =
     kept_set g.D.Validates.verdict g.D.Notifies.told device.plan device.steps.items _ _ c.set.new.self _ _ c.args.seat c.args.fh c.args.touch c.self.invariant settable (pushed g c)
     (subst (λ (s : StateData). Makes g.D.Validates.verdict device.plan (length device.steps.items) (Set c.args.fh c.args.touch.pairs) s c.set.new.self) c.in_ok-values.ensures.same
     (subst (λ (ps : List Pair). Makes g.D.Validates.verdict device.plan (length device.steps.items) (Set c.args.fh ps) c.reserve_values.new.self c.set.new.self) c.pairs-2.ensures (c.set.ensures.makes (length device.steps.items))))
-    (given_values device.state _ c.set.new.self.controls _ _ c.set.ensures.controls c.in_ok-values.ensures.same (rows_made device.plan device.state.controls.values _ _ _ c.args.touch.rows c.write_rows.ensures c.in_ok-values.ensures.room c.rows.ensures))
     (subst (λ (v : Values). AreNotified g.D.Notifies.told device.plan (members_change device.plan device.state.controls.values v c.args.touch.pairs) (λ k. row_of v (members device.plan k)) device.words.items c.notify_between.new.words.items) values
     (rw (change.ensures.plan, ap (λ (m : ControlsData). m.values) (change.ensures.before ∙ c.controls.ensures ∙ ap (λ (s : StateData). s.controls) c.in_ok-values.ensures.same), c.pairs.ensures) at words))
-    ((rw c.at.ensures.plan at c.renew.ensures.frames) ∙ board_same g.D.Validates.verdict device.plan c.at.ensures.ranges c.at.ensures.values c.at.ensures.grabs refl)
+    ((rw c.at.ensures.plan at c.renew.ensures.frames) ∙ board_same g.D.Validates.verdict device.plan (all_of {a = parts c.at.result} {b = c.set.new.self.controls} c.at.ensures.ranges c.at.ensures.values c.at.ensures.grabs) refl)
 
 -- the clusters of the rows are there
 pub renew-requires-clause-clusters : goal.renew-requires-clause-clusters
@@ -143,8 +144,7 @@ renew-requires-clause-kept g c =
     rw (c.at.ensures.plan, c.at.ensures.ranges, c.at.ensures.values, c.at.ensures.grabs, c.clusters-clusters.ensures, ap (λ (m : ControlsData). m.ranges) (given_values device.state _ c.set.new.self.controls _ _ c.set.ensures.controls c.in_ok-values.ensures.same (rows_made device.plan device.state.controls.values _ _ _ c.args.touch.rows c.write_rows.ensures c.in_ok-values.ensures.room c.rows.ensures)), ap (λ (m : ControlsData). m.grabs) (given_values device.state _ c.set.new.self.controls _ _ c.set.ensures.controls c.in_ok-values.ensures.same (rows_made device.plan device.state.controls.values _ _ _ c.args.touch.rows c.write_rows.ensures c.in_ok-values.ensures.room c.rows.ensures)))
     ((
       device.state.controls.values,
-      board_own g.D.Validates.verdict device.plan (ranges_now device.plan P) device.state.controls.ranges (now g.D.Validates.verdict device.plan P) device.state.controls.values (grabbed device.plan P) device.state.controls.grabs (queued_frames device.plan P) device.board
-          c.self.invariant.board made.ranges made.values made.grabs,
+      board_own g.D.Validates.verdict device.plan (queued_frames device.plan P) device.board c.self.invariant.board made.controls,
       record {
         many = sym (ap (λ (m : ControlsData). length m.values) (given_values device.state _ c.set.new.self.controls _ _ c.set.ensures.controls c.in_ok-values.ensures.same (rows_made device.plan device.state.controls.values _ _ _ c.args.touch.rows c.write_rows.ensures c.in_ok-values.ensures.room c.rows.ensures)) ∙ length_written device.plan device.state.controls.values rows);
         values_stay = λ d apart. written_apart device.plan device.state.controls.values rows d apart ∙ sym (ap (λ (m : ControlsData). value_at m.values d) (given_values device.state _ c.set.new.self.controls _ _ c.set.ensures.controls c.in_ok-values.ensures.same (rows_made device.plan device.state.controls.values _ _ _ c.args.touch.rows c.write_rows.ensures c.in_ok-values.ensures.room c.rows.ensures)));
@@ -169,9 +169,9 @@ returns-clause-ok g c =
     let P : List (Entry Step) = past device.steps.items in
     let change = c.to_values-change in
     let settable = rw (← c.self.view_is) at c.requires.settable in
-    let before : change.result.before.values.now ≡ now g.D.Validates.verdict device.plan P = ap (λ (m : ControlsData). m.values) (change.ensures.before ∙ c.controls.ensures ∙ ap (λ (s : StateData). s.controls) c.in_ok-values.ensures.same) ∙ c.self.invariant.made.values in
+    let before : change.result.before.values.now ≡ now g.D.Validates.verdict device.plan P = ap (λ (m : ControlsData). m.values) (change.ensures.before ∙ c.controls.ensures ∙ ap (λ (s : StateData). s.controls) c.in_ok-values.ensures.same) ∙ (values_of c.self.invariant.made.controls) in
     let values : change.result.values.now ≡ values_then g.D.Validates.verdict device.plan P (Set c.args.fh c.args.touch.pairs) =
-    ap (λ (m : ControlsData). m.values) change.ensures.after ∙ c.as_slice.ensures.value ∙ (rows_made device.plan device.state.controls.values _ _ _ c.args.touch.rows c.write_rows.ensures c.in_ok-values.ensures.room c.rows.ensures) ∙ set_then g.D.Validates.verdict device.plan P device.state.controls.values c.args.fh c.args.touch settable c.self.invariant.made.values in
+    ap (λ (m : ControlsData). m.values) change.ensures.after ∙ c.as_slice.ensures.value ∙ (rows_made device.plan device.state.controls.values _ _ _ c.args.touch.rows c.write_rows.ensures c.in_ok-values.ensures.room c.rows.ensures) ∙ set_then g.D.Validates.verdict device.plan P device.state.controls.values c.args.fh c.args.touch settable (values_of c.self.invariant.made.controls) in
     let words : AreNotified g.D.Notifies.told change.result.before.plan.now (members_change change.result.before.plan.now change.result.before.values.now change.result.values.now c.pairs.result.now)
     (λ k. row_of change.result.values.now (members change.result.before.plan.now k)) device.words.items c.notify_between.new.words.items = c.notify_between.ensures.words in
     let counted : PlanData → Values → Values → List Pair → ℕ = λ p old new pairs. notified_count p (members_change p old new pairs) in

@@ -22,6 +22,7 @@ use Rattle.device_history.specs.Ranges.{ranges_now}
 use Rattle.device_history.specs.Values.{now}
 use Rattle.device_history.specs.Forecasts.{queued_frames}
 use Rattle.device_history.proofs.RangeLemmas.{ranges_more, ranges_own}
+use Rattle.device_history.proofs.ControlsLemmas.{grabs_of, ranges_of, values_of}
 use Rattle.device_state.specs.Device.{cluster_asks}
 use Rattle.device_state.specs.Changed.{values_then}
 use Rattle.device_state.specs.Ranging.{range_step}
@@ -44,7 +45,7 @@ at-after-requires g c =
     let ranged = rw (← c.self.view_is) at c.requires.ranged in
     subst (AreControlsOf device.plan)
     (ranges_more device.plan entry P
-    ∙ sym (ranges_ranged device.plan P c.args.control c.args.changed device.state.controls.ranges c.modify_range.new.self.controls.ranges ranged c.self.invariant.made.ranges (ap (λ (m : ControlsData). m.ranges) c.modify_range.ensures.controls)))
+    ∙ sym (ranges_ranged device.plan P c.args.control c.args.changed device.state.controls.ranges c.modify_range.new.self.controls.ranges ranged (ranges_of c.self.invariant.made.controls) (ap (λ (m : ControlsData). m.ranges) c.modify_range.ensures.controls)))
     (ranges_own device.plan (entry ∷ P))
 
 -- the control is there
@@ -74,8 +75,7 @@ rejudge-requires-clause-kept g c =
       device.state.controls.ranges,
       device.state.controls.values,
       device.state.controls.grabs,
-      board_own g.D.Validates.verdict device.plan (ranges_now device.plan P) device.state.controls.ranges (now g.D.Validates.verdict device.plan P) device.state.controls.values (grabbed device.plan P) device.state.controls.grabs (queued_frames device.plan P) device.board
-          c.self.invariant.board c.self.invariant.made.ranges c.self.invariant.made.values c.self.invariant.made.grabs,
+      board_own g.D.Validates.verdict device.plan (queued_frames device.plan P) device.board c.self.invariant.board c.self.invariant.made.controls,
       record {
         many = sym (ap (λ (m : ControlsData). length m.values) given ∙ length-set device.state.controls.values c.args.control v);
         ranges_stay = λ d apart.
@@ -146,11 +146,10 @@ invariant_of-self-2 g c =
     let v : CtrlValue = settled_anew changed (value_at device.state.controls.values control) in
     kept_range g.D.Validates.verdict g.D.Notifies.told device.plan device.steps.items _ _ c.modify_range.new.self _ _ c.args.seat control changed c.self.invariant ranged (pushed g c)
     (c.modify_range.ensures.makes (length device.steps.items) changed.minimum changed.maximum changed.step changed.default_value
-    (ranged.its_own ∙ ap (λ (cs : List Control). with_range (control_in cs control) changed.minimum changed.maximum changed.step changed.default_value) (sym c.self.invariant.made.ranges)))
-    c.modify_range.ensures.controls
+    (ranged.its_own ∙ ap (λ (cs : List Control). with_range (control_in cs control) changed.minimum changed.maximum changed.step changed.default_value) (sym (ranges_of c.self.invariant.made.controls))))
     (told_alone g.D.Notifies.told device.plan device.state.controls.values c.modify_range.new.self.controls.values control c.cluster_of-cluster.result v _ device.words.items c.notify_cluster.new.words.items c.self.invariant.plans.is_plan c.cluster_of-cluster.ensures.cluster
     (ap (λ (m : ControlsData). m.values) c.modify_range.ensures.controls) (differs g c) (spoken g c))
-    ((rw c.at-after.ensures.plan at c.rejudge.ensures.frames) ∙ board_same g.D.Validates.verdict device.plan c.at-after.ensures.ranges c.at-after.ensures.values c.at-after.ensures.grabs refl)
+    ((rw c.at-after.ensures.plan at c.rejudge.ensures.frames) ∙ board_same g.D.Validates.verdict device.plan (all_of {a = parts c.at-after.result} {b = c.modify_range.new.self.controls} c.at-after.ensures.ranges c.at-after.ensures.values c.at-after.ensures.grabs) refl)
 
 -- the control's own cluster is told where its value differs, and the frames that name it are judged anew
 pub returns-clause-ok : goal.returns-clause-ok
@@ -164,7 +163,7 @@ returns-clause-ok g c =
     let v : CtrlValue = settled_anew changed (value_at device.state.controls.values control) in
     let set : c.modify_range.new.self.controls.values ≡ slice_set device.state.controls.values control v = ap (λ (m : ControlsData). m.values) c.modify_range.ensures.controls in
     let then : c.modify_range.new.self.controls.values ≡ values_then g.D.Validates.verdict device.plan P (range_step control changed) =
-    values_ranged g.D.Validates.verdict device.plan P control changed device.state.controls.values c.modify_range.new.self.controls.values ranged c.self.invariant.made.values set in
+    values_ranged g.D.Validates.verdict device.plan P control changed device.state.controls.values c.modify_range.new.self.controls.values ranged (values_of c.self.invariant.made.controls) set in
     let fresh : device.work.told ≡ 0 = rw (← c.self.view_is) at c.requires.fresh in
     let told : c.rejudge.new.work.told ≡ after_change device.plan k (not c.is_same.result) device.work.told =
     c.rejudge.ensures.told ∙ ap (λ (w : Work). w.told) c.notify_cluster.ensures.work ∙ ap (λ (p : PlanData). after_change p k (not c.is_same.result) device.work.told) c.at-after.ensures.plan in
@@ -173,11 +172,11 @@ returns-clause-ok g c =
       plan = refl;
       steps = pushed g c;
       words =
-          rw (c.self.invariant.made.values, then)
+          rw ((values_of c.self.invariant.made.controls), then)
           at (told_alone g.D.Notifies.told device.plan device.state.controls.values c.modify_range.new.self.controls.values control k v _ device.words.items c.notify_cluster.new.words.items c.self.invariant.plans.is_plan c.cluster_of-cluster.ensures.cluster
           set (differs g c) (spoken g c));
       notified =
-          rw (c.self.invariant.made.values, then)
+          rw ((values_of c.self.invariant.made.controls), then)
           at (counted_alone device.plan device.state.controls.values c.modify_range.new.self.controls.values control k v _ c.rejudge.new.work.told device.work.told c.self.invariant.plans.is_plan c.cluster_of-cluster.ensures.cluster
           set (differs g c) fresh told);
       asked = omega (

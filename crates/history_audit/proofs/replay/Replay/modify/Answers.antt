@@ -6,6 +6,7 @@ use Rattle.ctrl_settle.specs.Control.{Control, with_range}
 use Rattle.ctrl_handlers.specs.Plan.{control_in}
 use Rattle.device_history.specs.declared.ask.Step.{Step}
 use Rattle.device_history.specs.declared.ask.Step.TheVariants as steps
+use Rattle.device_history.proofs.ControlsLemmas.{ranges_of}
 use Rattle.history_audit.proofs.FollowLemmas.{given_own, range_beyond, range_follows, range_full, range_refused}
 use Rattle.history_audit.proofs.MadeLemmas.{behind_next, replay_makes, replay_ready, replayed_false, replayed_true}
 use Rattle.history_audit.proofs.replay.Replay.modify.Goals as goal
@@ -47,7 +48,7 @@ invariant_of-self g c =
     (rw (← c.self.view_is) at c.requires) (rw (← c.self.view_is) at (sym c.is_full.ensures.full ∙ c.if-is_full.false))
     (range_follows g.D.Validates.verdict r.plan.now P n c.args.min c.args.max c.args.apart c.args.default_value _ (rw (← c.self.view_is) at (sym c.is_full.ensures.full ∙ c.if-is_full.false)) there.0 given (c.in-Ok.ensures.ok.0 refl))
     (c.modify_range.ensures.makes r.count c.args.min c.args.max c.args.apart c.args.default_value
-    (c.in-Ok.ensures.value ∙ given ∙ ap (λ (l : List Control). with_range (control_in l n) c.args.min c.args.max c.args.apart c.args.default_value) (sym c.self.invariant.made.ranges)))
+    (c.in-Ok.ensures.value ∙ given ∙ ap (λ (l : List Control). with_range (control_in l n) c.args.min c.args.max c.args.apart c.args.default_value) (sym (ranges_of c.self.invariant.made.controls))))
 
 -- one more step was replayed
 pub returns : goal.returns

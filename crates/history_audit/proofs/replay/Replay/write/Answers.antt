@@ -3,9 +3,9 @@ use Rattle.history.specs.Past.{past}
 use Rattle.ctrl_types.specs.declared.ids.Pair.{Pair}
 use Rattle.device_history.specs.declared.ask.Step.TheVariants as steps
 use Rattle.device_history.proofs.PresentLemmas.{length_now}
+use Rattle.device_history.proofs.ControlsLemmas.{values_of}
 use Rattle.device_parts.specs.Makes.{Makes}
 use Rattle.device_parts.specs.State.{IsReady, StateData}
-use Rattle.device_parts.proofs.MakesLemmas.{laid_made}
 use Rattle.history_audit.proofs.MadeLemmas.{behind_next, replay_makes, replay_ready}
 use Rattle.history_audit.proofs.WriteLemmas.{set_cover, set_makes, set_rows}
 use Rattle.history_audit.proofs.replay.Replay.write.Goals as goal
@@ -14,7 +14,7 @@ use Rattle.history_audit.proofs.replay.Replay.write.Goals as goal
 pub write_rows-requires-clause-values : goal.write_rows-requires-clause-values
 write_rows-requires-clause-values g c =
     let r = c.self.inside in
-    ap length c.in_ok-values.ensures.room ∙ ap length c.self.invariant.made.values ∙ length_now g.D.Validates.verdict r.plan.now (past (take r.count r.steps.now))
+    ap length c.in_ok-values.ensures.room ∙ ap length (values_of c.self.invariant.made.controls) ∙ length_now g.D.Validates.verdict r.plan.now (past (take r.count r.steps.now))
 
 -- the rows are of other clusters each
 pub write_rows-requires-clause-rows : goal.write_rows-requires-clause-rows
@@ -41,8 +41,8 @@ set-requires-clause-laid g c =
     let made = c.self.invariant.made in
     rw (c.in_ok-values.ensures.same, c.pairs.ensures)
     (set_makes g.D.Validates.verdict r.plan.now (past (take r.count r.steps.now)) c.args.fh c.args.touch.now.pairs c.args.touch.now c.rows.result.now c.in_ok-values.values.items _ made.plans (rw (← c.self.view_is) at c.requires.touched) c.rows.ensures
-    (c.in_ok-values.ensures.room ∙ made.values) c.write_rows.ensures
-    ∙ sym (laid_made g.D.Validates.verdict r.plan.now (past (take r.count r.steps.now)) r.state.controls c.args.touch.now.pairs made.ranges made.values made.grabs))
+    (c.in_ok-values.ensures.room ∙ (values_of made.controls)) c.write_rows.ensures
+    ∙ sym (ap (λ (d : ControlsData). laid g.D.Validates.verdict r.plan.now d c.args.touch.now.pairs) made.controls))
 
 -- the state is what the set makes of it
 pub invariant_of-self-2 : goal.invariant_of-self-2
