@@ -8,7 +8,7 @@ use Rattle.ctrl_types.specs.declared.ids.RequestId.{RequestId}
 use Rattle.ctl_session.specs.Calls.{plan_in}
 use Rattle.ctl_session.specs.Session.{SessionData}
 use Rattle.camera_messages.specs.declared.message.Message.{Message}
-use Rattle.camera_messages.specs.declared.message.Message.TheVariants.{Open, Close, Call, Alloc, Free, AddBuffer, Queue, Reinit, Begin, Complete, StreamOff, State, Forecast, Controls, Values, Waits, Line, Why, Renew, Counts, Events}
+use Rattle.camera_messages.specs.declared.message.Message.TheVariants.{Call, Values, Waits, Line, Renew, Counts, Events}
 use Rattle.ioctl_bytes.specs.Fields.{u32_in}
 use Rattle.camera_messages.specs.declared.message.Numbers.{Numbers}
 use Rattle.camera_messages.specs.Reading.{IsReadAs, message_by}

@@ -36,7 +36,7 @@ use Rattle.device_history.specs.Flags.{flags_now}
 use Rattle.device_history.specs.Words.{pairs_applied}
 use Rattle.device_history.specs.Legal.{IsLegal, MayFollow}
 use Rattle.device_history.specs.Subscriptions.{first_flags, is_control, since_ended, subscribed, subscribed_after, subscribed_by}
-use Rattle.device_history.specs.Events.{changed, withdrawn_if_named, happened, heard, hears, initially, payload, pending, raises, raised_for, all_raised_for, with_withdrawn, with_raises, from_of}
+use Rattle.device_history.specs.Events.{changed, withdrawn_if_named, happened, heard, initially, payload, pending, raises, raised_for, all_raised_for, with_withdrawn, with_raises, from_of}
 use Rattle.device_history.specs.EventSteps.{AreEvents, unsubscribed_if_named, events_after, events_by, raised_by}
 use Rattle.ctrl_raises.specs.Raises.{initial_changes, raised_all, range_differs}
 use Rattle.device_history.specs.EventAnswers.{first_control}

@@ -19,7 +19,7 @@ use Rattle.req_book.specs.Refusals.{store_check, buffer_check, queue_check, clea
 use Rattle.frame_queue.specs.Frames.{FramesData, QueueFitsRequests, AreOnce, is_in, is_queued, is_running, after_begin, after_complete, ended_request, cancel_check}
 use Rattle.frame_queue.proofs.FrameLemmas.{queued_kept, begun_kept, completed_kept, cancelled_kept, off_kept, state_kept, rests, cleared_kept, freed_kept, added_kept}
 use Rattle.device_history.specs.declared.ask.Step.{Step}
-use Rattle.device_history.specs.declared.ask.Step.TheVariants.{OpenFh, CloseFh, Set, Grab, Alloc, Store, Buffer, Queue, Begin, Complete, Cancel, StreamOff, Reinit, Free, Subscribe, Unsubscribe, Take, ModifyRange}
+use Rattle.device_history.specs.declared.ask.Step.TheVariants.{Alloc, Store, Buffer, Queue, Begin, Complete, Cancel, StreamOff, Reinit, Free}
 use Rattle.device_history.specs.Steps.{Past}
 use Rattle.device_history.specs.Requests.{made, ever_made, state, last_state_left, is_off_since}
 use Rattle.device_history.specs.Frames.{all_but, queue, queue_after, last_begun, running, running_after, unless_equal, first_of}

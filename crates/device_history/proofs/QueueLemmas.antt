@@ -7,7 +7,7 @@ use Rattle.req_book.specs.declared.state.RequestState.{RequestState}
 use Rattle.req_book.specs.declared.state.RequestState.TheVariants as states
 use Rattle.frame_queue.specs.Frames.{is_queued, is_running}
 use Rattle.device_history.specs.declared.ask.Step.{Step}
-use Rattle.device_history.specs.declared.ask.Step.TheVariants.{OpenFh, CloseFh, Set, Grab, Alloc, Store, Buffer, Queue, Begin, Complete, Cancel, StreamOff, Reinit, Free, Subscribe, Unsubscribe, Take, ModifyRange}
+use Rattle.device_history.specs.declared.ask.Step.TheVariants.{Alloc, Store, Buffer, Queue, Begin, Complete, Cancel, StreamOff, Reinit, Free}
 use Rattle.device_history.specs.Steps.{Past}
 use Rattle.device_history.specs.Requests.{state, state_after, state_of_named, is_there, ended_state}
 use Rattle.device_history.specs.Frames.{all_but, begun_by, ever_queued, queue, queue_after, last_begun, if_running, running, running_after, unless_equal}

@@ -8,7 +8,6 @@ use Rattle.ctrl_types.specs.declared.changes.Changes.{Changes}
 use Rattle.ctrl_types.specs.declared.ids.FhId.{FhId}
 use Rattle.ctrl_calls.specs.Meanings.{Verdicts}
 use Rattle.ctrl_events.specs.declared.event.Payload.{Payload}
-use Rattle.ctrl_events.specs.Events.{raised}
 use Rattle.ctrl_events.specs.Pending.{Happening, withdrawn, raise, raises as raises_in}
 use Rattle.ctrl_handlers.specs.Plan.{PlanData, control}
 use Rattle.device_history.specs.declared.ask.Step.{Step}

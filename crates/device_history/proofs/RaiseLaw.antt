@@ -17,19 +17,16 @@ use Rattle.ctrl_events.specs.declared.event.Waiting.{Waiting}
 use Rattle.ctrl_events.specs.Pending.{Happening, raise, raises as raises_in}
 use Rattle.ctrl_events.specs.declared.event.Payload.{Payload}
 use Rattle.ctrl_events.specs.Events.{FileEvents}
-use Rattle.ctrl_settle.specs.Control.{Control}
 use Rattle.ctrl_handlers.specs.Plan.{IsPlan, PlanData, control, control_in}
 use Rattle.ctrl_clusters.specs.Changes.{is_changed}
-use Rattle.ctrl_clusters.specs.PresentFlags.{flags_under}
-use Rattle.ctrl_clusters.specs.Rows.{Grabs, Values, value_at}
-use Rattle.ctrl_raises.specs.Raises.{changed_between, changes_of, differ, needing_feedback, payload_at, raised_all, raised_one, payload_of, range_differs}
+use Rattle.ctrl_clusters.specs.Rows.{Values, value_at}
+use Rattle.ctrl_raises.specs.Raises.{changed_between, changes_of, differ, needing_feedback, payload_at, raised_all, raised_one, range_differs}
 use Rattle.device_history.specs.declared.ask.Step.{Step}
 use Rattle.device_history.specs.declared.ask.Step.TheVariants as steps
 use Rattle.device_history.specs.declared.limits.TheConstants.{MAX_STEPS}
 use Rattle.device_history.specs.Steps.{History, Past}
 use Rattle.device_history.specs.Controls.{controls_now}
 use Rattle.device_history.specs.Ranges.{ranges_now}
-use Rattle.device_history.specs.Grabs.{grabbed}
 use Rattle.device_history.specs.Values.{now, values_after}
 use Rattle.device_history.specs.Flags.{flags_now}
 use Rattle.device_history.specs.Snapshots.{begun_pairs}

@@ -11,11 +11,8 @@ use Rattle.ctrl_types.specs.declared.ids.RequestId.{RequestId}
 use Rattle.ctrl_settle.specs.Control.{Control, with_range}
 use Rattle.ctrl_settle.specs.Settle.{settled_anew}
 use Rattle.ctrl_clusters.specs.ControlsData.{ControlsData, given_range}
-use Rattle.ctrl_clusters.specs.Overlay.{overlay, refused_clusters}
-use Rattle.ctrl_clusters.specs.Ranges.{modified}
-use Rattle.ctrl_clusters.specs.Rows.{Grabs, Values, value_at}
+use Rattle.ctrl_clusters.specs.Rows.{Values, value_at}
 use Rattle.ctrl_events.specs.Events.{events_of, no_events, only_at}
-use Rattle.ctrl_forecast.specs.Applied.{applied_pairs}
 use Rattle.ctrl_handlers.specs.Plan.{PlanData, control_in}
 use Rattle.req_book.specs.Requests.{find}
 use Rattle.req_book.specs.declared.state.RequestState.{RequestState}

@@ -39,18 +39,23 @@ use Rattle.device_state.specs.Beginning.{IsBegun}
 use Rattle.device_state.specs.Changed.{IsChangedBy}
 use Rattle.device_state.specs.Device.{DeviceData, Handles}
 use Rattle.device_parts.specs.Makes.{Makes}
-use Rattle.device_parts.specs.State.{StateData}
+use Rattle.device_parts.specs.State.{StateData, IsMade}
 use Rattle.device_state.specs.Kept.{Caches, IsKept}
 use Rattle.device_state.proofs.HandleLemmas.{at_rest, handles_changed}
-use Rattle.device_state.proofs.BoardLemmas.{board_after}
 use Rattle.device_state.proofs.ForecastLemmas.{forecast_each, none_within}
 use Rattle.device_history.proofs.StretchLemmas.{begun_row}
-use Rattle.ctrl_forecast.specs.Boards.{BoardData, board_of, named_clusters}
+use Rattle.ctrl_forecast.specs.Boards.{BoardData, named_clusters}
 use Rattle.ctrl_forecast.specs.Forecasts.{QueuedData, forecasts}
 use Rattle.ctrl_forecast.specs.declared.board.Forecast.{Forecast}
 use Rattle.ctrl_clusters.specs.Overlay.{overlay}
-use Rattle.device_history.specs.Forecasts.{board, forecast, queued_frame, queued_frames}
+use Rattle.device_history.specs.Forecasts.{board, forecast, queued_frame, queued_frames, board_over}
 use Rattle.device_state.proofs.KeptLemmas.{kept_makes, set_room}
+use Rattle.ctrl_clusters.specs.ControlsData.{ControlsData}
+use Rattle.device_state.proofs.BoardLemmas.{board_same}
+use Rattle.device_history.specs.Controls.{controls_now}
+use Rattle.device_history.proofs.ControlsLemmas.{controls_add}
+use Rattle.device_history.specs.Laid.{laid}
+use Rattle.history.specs.declared.entry.Entry.{Entry}
 
 -- what a begin is answered by its queue, where none runs
 answered_first : (verdicts : Verdicts) (plan : PlanData) (older : Past) (r : ℕ) → running older ≡ None → first_of (queue older) ≡ Some r

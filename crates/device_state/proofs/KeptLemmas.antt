@@ -15,12 +15,12 @@ use Rattle.ctrl_clusters.specs.Changes.{members_change}
 use Rattle.ctrl_clusters.specs.ControlsData.{ControlsData}
 use Rattle.ctrl_clusters.specs.NewRows.{clusters_of, written}
 use Rattle.ctrl_clusters.specs.Notified.{HaveWords, AreNotified}
-use Rattle.ctrl_clusters.specs.Rows.{AreControlsOf, Grabs, Values, row_of}
+use Rattle.ctrl_clusters.specs.Rows.{AreControlsOf, Values, row_of}
 use Rattle.ctrl_clusters.proofs.NotifyLemmas.{words_between}
 use Rattle.ctrl_clusters.specs.declared.new_row.NewRow.{NewRow}
 use Rattle.ctrl_lists.specs.Touched.{TouchedData}
 use Rattle.ctrl_lists.proofs.TouchedLemmas.{touched_is}
-use Rattle.ctrl_forecast.specs.Boards.{BoardData, board_of, no_board}
+use Rattle.ctrl_forecast.specs.Boards.{BoardData, no_board}
 use Rattle.device_history.specs.declared.limits.TheConstants.{MAX_STEPS}
 use Rattle.device_history.specs.declared.ask.Ask.TheVariants as asks
 use Rattle.device_history.specs.declared.ask.Step.{Step}
@@ -33,10 +33,9 @@ use Rattle.device_history.specs.Values.{now}
 use Rattle.device_history.specs.Refusals.{fault_of, is_full, step_check}
 use Rattle.device_history.specs.Legal.{MayFollow}
 use Rattle.device_history.proofs.PresentLemmas.{length_now}
-use Rattle.device_history.proofs.ControlsLemmas.{grabs_of, ranges_of, values_of}
+use Rattle.device_history.proofs.ControlsLemmas.{values_of}
 use Rattle.device_parts.specs.Leaving.{leaves_controls}
 use Rattle.device_parts.specs.QueuedFrames.{queued_after}
-use Rattle.device_parts.proofs.LeavingLemmas.{grabbed_controls_left, ranges_left, values_left}
 use Rattle.device_history.specs.Laid.{laid}
 use Rattle.device_parts.specs.Makes.{Cover, Makes}
 use Rattle.device_parts.specs.State.{IsMade, IsReady, StateData}
@@ -44,9 +43,12 @@ use Rattle.device_parts.proofs.MadeLemmas.{made_fresh, made_ready}
 use Rattle.device_state.specs.Kept.{Caches, IsKept}
 use Rattle.device_state.specs.Changed.{values_then}
 use Rattle.device_state.specs.Setting.{CanBeSet}
-use Rattle.device_state.proofs.BoardLemmas.{board_add, board_after, board_same, board_start, line_kept}
+use Rattle.device_state.proofs.BoardLemmas.{board_same, board_start, line_kept}
 use Rattle.device_state.proofs.SetLemmas.{laid_written}
 use Rattle.device_state.proofs.StepLemmas.{step_answered, step_passes}
+use Rattle.device_history.specs.Forecasts.{board_over, queued_frames, waiting_after}
+use Rattle.device_history.proofs.QueuedFrames.{waiting_add}
+use Rattle.ctrl_forecast.specs.Forecasts.{QueuedData}
 
 -- a device without steps
 pub kept_start : (verdicts : Verdicts) (told : Words) (plan : PlanData) (steps : History) (caches : Caches) → steps ≡ [] → IsMade verdicts plan [] caches.state → HaveWords told plan caches.state.controls.values caches.words → IsFinished plan

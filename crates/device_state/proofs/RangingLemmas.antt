@@ -26,36 +26,33 @@ use Rattle.ctrl_settle.proofs.WellFormed.{fault_found, nothing_found}
 use Rattle.ctrl_handlers.specs.ClusterData.{ClusterData}
 use Rattle.ctrl_handlers.specs.Plan.{IsPlan, PlanData, calls_of, cluster_of, control, control_in, members, no_cluster}
 use Rattle.ctrl_handlers.proofs.ClusterLemmas.{cluster_of_member, cluster_of_within, none_of}
-use Rattle.ctrl_clusters.specs.ControlsData.{ControlsData, given_range}
 use Rattle.ctrl_clusters.specs.Ranges.{modified}
 use Rattle.ctrl_clusters.specs.Rows.{Values, row_of, value_at}
 use Rattle.ctrl_clusters.specs.Changes.{members_change}
 use Rattle.ctrl_clusters.specs.Notified.{AreNotified, IsNotified, MaySay, after_change, notified_count}
 use Rattle.ctrl_clusters.proofs.NotifyLemmas.{words_between}
 use Rattle.ctrl_clusters.proofs.OverlayLemmas.{none_any}
-use Rattle.ctrl_forecast.specs.Boards.{BoardData, board_of}
+use Rattle.ctrl_forecast.specs.Boards.{BoardData}
 use Rattle.device_history.specs.declared.ask.Ask.TheVariants as asks
 use Rattle.device_history.specs.declared.ask.Reply.TheVariants.{Done}
 use Rattle.device_history.specs.declared.limits.TheConstants.{MAX_STEPS}
 use Rattle.device_history.specs.Steps.{History, Past}
 use Rattle.device_history.specs.Ranges.{range_answer, range_check, ranges_after, ranges_now}
 use Rattle.device_history.specs.Refusals.{fault_of, is_full, step_check, unless_refused}
-use Rattle.device_history.specs.Grabs.{grabbed}
 use Rattle.device_history.specs.Values.{now}
 use Rattle.device_history.specs.Words.{changes}
 use Rattle.device_history.proofs.WordLemmas.{changed_row}
-use Rattle.device_history.proofs.ControlsLemmas.{grabs_of, ranges_of, values_of}
 use Rattle.device_state.specs.Device.{DeviceData, Handles, cluster_asks}
 use Rattle.device_parts.specs.Makes.{Makes}
 use Rattle.device_parts.specs.State.{StateData}
 use Rattle.device_state.specs.Kept.{Caches, IsKept}
 use Rattle.device_state.specs.Changed.{IsChangedBy, values_then}
 use Rattle.device_state.specs.Ranging.{IsRanged, range_step}
-use Rattle.device_state.proofs.BoardLemmas.{board_same}
 use Rattle.device_state.proofs.KeptLemmas.{kept_makes, set_room}
 use Rattle.device_state.proofs.HandleLemmas.{at_rest, handles_changed}
 use Rattle.device_state.proofs.SetLemmas.{and_false, none_from, unchanged}
 use Rattle.device_state.proofs.StepLemmas.{step_answered, step_free, step_passes}
+use Rattle.device_history.specs.Forecasts.{board_over}
 
 -- a control that is there is no unknown one
 there : (plan : PlanData) (c : ℕ) → c < length plan.controls → nat_le (length plan.controls) c ≡ false

@@ -1,5 +1,5 @@
 -- In which clusters a set, the begin of a frame, and a grab change something.
-use Rattle.std.proofs.Common.{◌≡◌, ◌∙◌, ◌<◌, ◌≤◌, ◌⊎◌, ℕ, true, false, nat_eq, List, [], ◌∷◌, length, slice_get, Some, inl, inr, map, refl, sym, ap, subst}
+use Rattle.std.proofs.Common.{◌≡◌, ◌∙◌, ◌<◌, ◌≤◌, ◌⊎◌, ℕ, true, false, nat_eq, List, [], ◌∷◌, length, slice_get, Some, inl, inr, map, sym, ap, subst}
 use Rattle.std.specs.List.{list_any}
 use Rattle.std.proofs.Math.Dec.{leb}
 use Rattle.std.proofs.lemmas.Bool.Decides.{leb_tells}
@@ -9,24 +9,20 @@ use Rattle.ctrl_calls.specs.Meanings.{Verdicts}
 use Rattle.ctrl_handlers.specs.ClusterData.{ClusterData}
 use Rattle.ctrl_handlers.specs.Plan.{PlanData, IsPlan, members, no_cluster}
 use Rattle.ctrl_clusters.specs.Changes.{members_change, row_changes}
-use Rattle.ctrl_clusters.specs.ControlsData.{ControlsData, as_one, is_in_one_of}
-use Rattle.ctrl_clusters.specs.Overlay.{overlay}
+use Rattle.ctrl_clusters.specs.ControlsData.{ControlsData, is_in_one_of}
 use Rattle.ctrl_clusters.specs.Rows.{row_of, value_at}
 use Rattle.ctrl_clusters.proofs.OverlayLemmas.{same_each}
-use Rattle.ctrl_forecast.specs.Applied.{applied_pairs}
 use Rattle.ctrl_forecast.specs.Boards.{named_clusters}
 use Rattle.ctrl_forecast.specs.Forecasts.{QueuedData}
-use Rattle.ctrl_forecast.proofs.ApartLemmas.{applied_apart, not_named, overlaid_apart}
 use Rattle.ctrl_raises.specs.Within.{DifferWithin}
 use Rattle.device_history.specs.Forecasts.{queued_frame, queued_frames}
 use Rattle.device_history.specs.Frames.{first_of, queue}
-use Rattle.device_history.specs.Grabs.{grabbed}
-use Rattle.device_history.specs.Ranges.{ranges_now}
 use Rattle.device_history.specs.Requests.{asked}
 use Rattle.device_history.specs.Snapshots.{begun_pairs, begun_refused, begun_values}
-use Rattle.device_history.specs.Values.{now}
 use Rattle.device_history.specs.Steps.{Past}
 use Rattle.device_state.proofs.SetLemmas.{changes_same}
+use Rattle.device_history.specs.Controls.{controls_now}
+use Rattle.device_parts.proofs.CoverLemmas.{begin_within, named_cover}
 
 -- What the begin of a frame changes lies in the clusters that it names.
 pub begun_within : (verdicts : Verdicts) (plan : PlanData) (older : Past) (r : ℕ) (controls : ControlsData) → controls ≡ controls_now verdicts plan older

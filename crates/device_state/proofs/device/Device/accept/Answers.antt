@@ -5,10 +5,6 @@ use Rattle.ctrl_calls.specs.declared.work.Work.{Work}
 use Rattle.ctrl_forecast.specs.Boards.{BoardData}
 use Rattle.device_history.specs.declared.ask.Step.{Step}
 use Rattle.device_history.specs.Forecasts.{queued_frames}
-use Rattle.device_history.specs.Grabs.{grabbed}
-use Rattle.device_history.specs.Ranges.{ranges_now}
-use Rattle.device_history.specs.Values.{now}
-use Rattle.device_history.proofs.ControlsLemmas.{grabs_of, ranges_of, values_of}
 use Rattle.device_parts.specs.Leaving.{FitsIn}
 use Rattle.device_parts.specs.Makes.{Makes}
 use Rattle.device_parts.proofs.FitLemmas.{fits_in}

@@ -23,7 +23,7 @@ use Rattle.ctrl_clusters.specs.Moments.{parts, parts_after}
 use Rattle.ctrl_forecast.specs.Boards.{named_clusters}
 use Rattle.ctrl_raises.specs.Within.{DifferWithin}
 use Rattle.device_history.specs.Requests.{asked}
-use Rattle.device_history.proofs.ControlsLemmas.{grabs_of, ranges_of, values_of}
+use Rattle.device_history.proofs.ControlsLemmas.{values_of}
 use Rattle.device_state.proofs.KeptLemmas.{ranges_kept, ready}
 use Rattle.device_state.proofs.WithinLemmas.{begun_within, first_named, unmoved}
 use Rattle.device_parts.proofs.CoverLemmas.{within_same}

@@ -9,18 +9,17 @@ use Rattle.ctrl_forecast.specs.Boards.{BoardData}
 use Rattle.ctrl_forecast.specs.Forecasts.{named_by_frames}
 use Rattle.device_history.specs.declared.ask.Step.{Step}
 use Rattle.device_history.specs.declared.ask.Step.TheVariants.{Grab}
-use Rattle.device_history.specs.Grabs.{grab_check, grabbed}
+use Rattle.device_history.specs.Grabs.{grab_check}
 use Rattle.device_history.specs.Refusals.{step_check}
-use Rattle.device_history.specs.Ranges.{ranges_now}
-use Rattle.device_history.specs.Values.{now}
 use Rattle.device_history.specs.Forecasts.{queued_frames}
-use Rattle.device_history.proofs.ControlsLemmas.{grabs_of, ranges_of, values_of}
 use Rattle.device_parts.specs.Makes.{Makes}
 use Rattle.device_parts.specs.State.{IsReady, StateData}
 use Rattle.device_state.specs.Device.{DeviceData, cluster_asks}
 use Rattle.device_parts.proofs.CoverLemmas.{set_apart}
 use Rattle.device_state.proofs.BoardLemmas.{board_own, board_same}
 use Rattle.device_state.proofs.KeptLemmas.{grab_known, kept_grab, ranges_kept, ready}
+use Rattle.ctrl_clusters.specs.Moments.{parts}
+use Rattle.device_history.proofs.ControlsLemmas.{all_of}
 use Rattle.device_state.proofs.device.Device.accept_grab.Goals as goal
 
 -- the state is ready for a step

@@ -17,11 +17,10 @@ use Rattle.ctrl_forecast.specs.Boards.{BoardData}
 use Rattle.ctrl_forecast.specs.Forecasts.{QueuedData, named_by_frames}
 use Rattle.device_history.specs.declared.ask.Step.{Step}
 use Rattle.device_history.specs.declared.ask.Step.TheVariants.{Set}
-use Rattle.device_history.specs.Grabs.{grabbed}
 use Rattle.device_history.specs.Ranges.{ranges_now}
 use Rattle.device_history.specs.Values.{now}
 use Rattle.device_history.specs.Forecasts.{queued_frames}
-use Rattle.device_history.proofs.ControlsLemmas.{grabs_of, ranges_of, values_of}
+use Rattle.device_history.proofs.ControlsLemmas.{values_of, all_of}
 use Rattle.ctrl_raises.specs.Within.{DifferWithin}
 use Rattle.device_parts.proofs.CoverLemmas.{set_within, within_same}
 use Rattle.device_history.specs.Laid.{laid}

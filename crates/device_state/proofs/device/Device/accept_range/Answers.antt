@@ -17,12 +17,9 @@ use Rattle.ctrl_forecast.specs.Boards.{BoardData}
 use Rattle.ctrl_forecast.specs.Forecasts.{named_by_frames}
 use Rattle.device_history.specs.declared.ask.Step.{Step}
 use Rattle.device_history.specs.declared.ask.Step.TheVariants.{ModifyRange}
-use Rattle.device_history.specs.Grabs.{grabbed}
-use Rattle.device_history.specs.Ranges.{ranges_now}
-use Rattle.device_history.specs.Values.{now}
 use Rattle.device_history.specs.Forecasts.{queued_frames}
 use Rattle.device_history.proofs.RangeLemmas.{ranges_more, ranges_own}
-use Rattle.device_history.proofs.ControlsLemmas.{grabs_of, ranges_of, values_of}
+use Rattle.device_history.proofs.ControlsLemmas.{ranges_of, values_of, all_of}
 use Rattle.device_state.specs.Device.{cluster_asks}
 use Rattle.device_state.specs.Changed.{values_then}
 use Rattle.device_state.specs.Ranging.{range_step}
@@ -30,6 +27,7 @@ use Rattle.device_parts.proofs.CoverLemmas.{set_apart}
 use Rattle.device_state.proofs.BoardLemmas.{board_own, board_same}
 use Rattle.device_state.proofs.KeptLemmas.{ranges_kept, ready}
 use Rattle.device_state.proofs.RangingLemmas.{counted_alone, kept_range, range_known, ranges_ranged, told_alone, values_ranged}
+use Rattle.ctrl_clusters.specs.Moments.{parts}
 use Rattle.device_state.proofs.device.Device.accept_range.Goals as goal
 
 -- the state is ready for a step

@@ -8,6 +8,8 @@ use Rattle.device_parts.specs.Makes.{Makes}
 use Rattle.device_parts.specs.State.{IsReady, StateData}
 use Rattle.history_audit.proofs.MadeLemmas.{behind_next, replay_makes, replay_ready}
 use Rattle.history_audit.proofs.WriteLemmas.{set_cover, set_makes, set_rows}
+use Rattle.ctrl_clusters.specs.ControlsData.{ControlsData}
+use Rattle.device_history.specs.Laid.{laid}
 use Rattle.history_audit.proofs.replay.Replay.write.Goals as goal
 
 -- there is a value for each control
