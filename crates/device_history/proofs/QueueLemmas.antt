@@ -61,9 +61,11 @@ ended test off None = refl
 ended test off (Some s) = off s
 
 waits_not : (s : RequestState) → is_queued (ended_state s) ≡ false
+waits_not states.Queued = refl
 waits_not _ = refl
 
 runs_not : (s : RequestState) → is_running (ended_state s) ≡ false
+runs_not states.Running = refl
 runs_not _ = refl
 
 -- a request is in a state after one more entry where the entry's step makes it so
